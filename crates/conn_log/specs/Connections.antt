@@ -1,0 +1,116 @@
+-- What a log says of its connections. A log is read with its newest entry first, so that the entries
+-- before an entry are the rest of the list.
+use Rattle.std.specs.Prelude.{ℕ, ◌-◌, max, Bool, false, not, ◌||◌, ◌==◌, if◌then◌else◌, List, [], ◌∷◌, filter, Option, Some, None, is_none}
+use Rattle.std.specs.Option.{option_map, option_map_or}
+use Rattle.std.specs.List.{list_any}
+use Rattle.persistence.specs.Persistent.{is_persistent}
+use Rattle.conn_log.specs.declared.entry.Want.{Want}
+use Rattle.conn_log.specs.declared.entry.Event.{Event}
+use Rattle.conn_log.specs.declared.entry.Event.TheVariants.{Opened, Leased, Returned, Closed}
+use Rattle.conn_log.specs.declared.entry.Entry.{Entry}
+
+-- the number is one of these
+abbrev pub is_among : ℕ → List ℕ → Bool
+is_among c numbers = list_any (λ d. d == c) numbers
+
+-- the moment of the newest entry, and 0 before any
+abbrev pub last_moment : List Entry → ℕ
+last_moment [] = 0
+last_moment (e ∷ before) = e.moment
+
+-- opened: the numbers of the connections that were opened
+abbrev pub opened_after : Event → List ℕ → List ℕ
+opened_after (Opened c want) numbers = c ∷ numbers
+opened_after _ numbers = numbers
+
+abbrev pub opened : List Entry → List ℕ
+opened [] = []
+opened (e ∷ before) = opened_after e.event (opened before)
+
+-- the greatest number used; before any is used, one less than the host's first number
+abbrev pub greatest : ℕ → List ℕ → ℕ
+greatest first [] = first - 1
+greatest first (c ∷ numbers) = max c (greatest first numbers)
+
+-- closed: the connection was closed
+abbrev pub closes : Event → ℕ → Bool
+closes (Closed d cause) c = d == c
+closes _ c = false
+
+abbrev pub is_closed : List Entry → ℕ → Bool
+is_closed [] c = false
+is_closed (e ∷ before) c = closes e.event c || is_closed before c
+
+-- open: opened and not closed
+abbrev pub open_connections : List Entry → List ℕ
+open_connections log = filter (λ c. not (is_closed log c)) (opened log)
+
+abbrev pub is_open : List Entry → ℕ → Bool
+is_open log c = is_among c (open_connections log)
+
+-- holder: the transfer of the connection's last start, unless it came back or was closed since; told
+-- with all that this transfer wanted
+abbrev pub held_after : Event → ℕ → Option Want → Option Want
+held_after (Opened d want) c held = if d == c then Some want else held
+held_after (Leased d want) c held = if d == c then Some want else held
+held_after (Returned d facts) c held = if d == c then None else held
+held_after (Closed d cause) c held = if d == c then None else held
+held_after _ c held = held
+
+abbrev pub holder_want : List Entry → ℕ → Option Want
+holder_want [] c = None
+holder_want (e ∷ before) c = held_after e.event c (holder_want before c)
+
+abbrev pub holder : List Entry → ℕ → Option ℕ
+holder log c = option_map (λ (want : Want). want.transfer) (holder_want log c)
+
+-- the transfer holds that connection
+abbrev pub is_held_by : List Entry → ℕ → ℕ → Bool
+is_held_by log transfer c = option_map_or (λ (want : Want). want.transfer == transfer) (holder_want log c) false
+
+-- the transfer holds an open connection
+abbrev pub holds : List Entry → ℕ → Bool
+holds log transfer = list_any (is_held_by log transfer) (open_connections log)
+
+-- idle: open and without a holder
+abbrev pub idle_connections : List Entry → List ℕ
+idle_connections log = filter (λ c. is_none (holder_want log c)) (open_connections log)
+
+abbrev pub is_idle : List Entry → ℕ → Bool
+is_idle log c = is_among c (idle_connections log)
+
+-- born: the moment in which the connection was opened
+abbrev pub born_after : ℕ → Event → ℕ → ℕ → ℕ
+born_after moment (Opened d want) c born = if d == c then moment else born
+born_after moment _ c born = born
+
+abbrev pub born : List Entry → ℕ → ℕ
+born [] c = 0
+born (e ∷ before) c = born_after e.moment e.event c (born before c)
+
+-- lane: the lane for which the connection was opened
+abbrev pub lane_after : Event → ℕ → ℕ → ℕ
+lane_after (Opened d want) c lane = if d == c then want.lane else lane
+lane_after _ c lane = lane
+
+abbrev pub lane : List Entry → ℕ → ℕ
+lane [] c = 0
+lane (e ∷ before) c = lane_after e.event c (lane before c)
+
+-- since: the moment in which the connection last came back
+abbrev pub since_after : ℕ → Event → ℕ → ℕ → ℕ
+since_after moment (Returned d facts) c since = if d == c then moment else since
+since_after moment _ c since = since
+
+abbrev pub since : List Entry → ℕ → ℕ
+since [] c = 0
+since (e ∷ before) c = since_after e.moment e.event c (since before c)
+
+-- persistent: the facts with which the connection last came back let it persist
+abbrev pub persists_after : Event → ℕ → Bool → Bool
+persists_after (Returned d facts) c persists = if d == c then is_persistent facts else persists
+persists_after _ c persists = persists
+
+abbrev pub came_back_persistent : List Entry → ℕ → Bool
+came_back_persistent [] c = false
+came_back_persistent (e ∷ before) c = persists_after e.event c (came_back_persistent before c)

@@ -1,0 +1,100 @@
+-- Which entries a log may have, and what holds of it between two calls.
+use Rattle.std.specs.Prelude.{◌≡◌, ℕ, ◌+◌, ◌<◌, ◌≤◌, Bool, false, not, ◌&&◌, if◌then◌else◌, List, [], ◌∷◌, length, Option, Some, None, IsSome, IsTrue, ◌⊎◌}
+use Rattle.std.specs.Option.{option_and_then}
+use Rattle.persistence.specs.declared.facts.Facts.{Facts}
+use Rattle.persistence.specs.Persistent.{is_persistent}
+use Rattle.conn_log.specs.declared.entry.Want.{Want}
+use Rattle.conn_log.specs.declared.entry.Cause.{Cause}
+use Rattle.conn_log.specs.declared.entry.Cause.TheVariants.{NotPersistent, Cut, Forbidden, Dropped, Withdrawn}
+use Rattle.conn_log.specs.declared.entry.Event.{Event}
+use Rattle.conn_log.specs.declared.entry.Event.TheVariants.{Opened, Leased, Returned, Closed, Waited, Left}
+use Rattle.conn_log.specs.declared.entry.Entry.{Entry}
+use Rattle.conn_log.specs.Connections.{last_moment, opened, greatest, open_connections, holder_want, holds, idle_connections, is_idle}
+use Rattle.conn_log.specs.Waiting.{waiting, waits}
+use Rattle.conn_log.specs.Fit.{is_fit}
+
+-- the host's limit on open connections (CURLMOPT_MAX_HOST_CONNECTIONS) and its first connection number
+pub record Terms : Type 0 where
+  pub limit : ℕ
+  pub first : ℕ
+
+-- a use ends with facts that do not let the connection persist, or with a want that forbids reuse
+-- (CURLOPT_FORBID_REUSE); then this is why it is closed
+abbrev pub ends_use : Facts → Want → Bool
+ends_use facts want = not (is_persistent facts && not want.forbid_reuse)
+
+abbrev pub ending_cause : Facts → Want → Cause
+ending_cause facts want = if not facts.whole then Cut else (if want.forbid_reuse then Forbidden else NotPersistent)
+
+-- owed: where the newest entry is a Returned that ends its use, the connection to be closed next, and why
+abbrev pub owed_for : ℕ → Facts → Want → Option (ℕ × Cause)
+owed_for c facts want = if ends_use facts want then Some (c, ending_cause facts want) else None
+
+abbrev pub owed_by : Event → List Entry → Option (ℕ × Cause)
+owed_by (Returned c facts) before = option_and_then (owed_for c facts) (holder_want before c)
+owed_by _ before = None
+
+abbrev pub owed : List Entry → Option (ℕ × Cause)
+owed [] = None
+owed (e ∷ before) = owed_by e.event before
+
+-- may start: the first one that waits, and where nobody waits whoever holds nothing
+abbrev pub IsFirst : List Want → Bool → Want → Type 0
+IsFirst [] is_holding want = is_holding ≡ false
+IsFirst (head ∷ others) is_holding want = want ≡ head
+
+abbrev pub MayStart : List Entry → Want → Type 0
+MayStart log want = IsFirst (waiting log) (holds log want.transfer) want
+
+-- the number is the next one, there is room at the host, and the transfer may start
+pub record MayOpen (terms : Terms) (before : List Entry) (c : ℕ) (want : Want) : Type 0 where
+  pub next : c ≡ greatest terms.first (opened before) + 1
+  pub room : length (open_connections before) < terms.limit
+  pub start : MayStart before want
+
+-- the connection is fit for the want at that moment, and the transfer may start
+pub record MayLease (before : List Entry) (c : ℕ) (want : Want) (moment : ℕ) : Type 0 where
+  pub fit : IsTrue (is_fit before want moment c)
+  pub start : MayStart before want
+
+-- the transfer neither holds nor waits, and nothing is idle
+pub record MayWait (before : List Entry) (want : Want) : Type 0 where
+  pub holds_nothing : holds before want.transfer ≡ false
+  pub waits_not : waits before want.transfer ≡ false
+  pub none_idle : idle_connections before ≡ []
+
+-- what each cause of closing asks: a holder, an ended use, or that the connection is idle
+abbrev pub MayClose : List Entry → ℕ → Cause → Type 0
+MayClose before c Dropped = (owed before ≡ None) × IsSome (holder_want before c)
+MayClose before c Withdrawn = (owed before ≡ None) × IsSome (holder_want before c)
+MayClose before c Cut = owed before ≡ Some (c, Cut)
+MayClose before c Forbidden = owed before ≡ Some (c, Forbidden)
+MayClose before c NotPersistent = owed before ≡ Some (c, NotPersistent)
+MayClose before c _ = (owed before ≡ None) × IsTrue (is_idle before c)
+
+-- what the log before an event must show; every event but the close of an ended use comes where no
+-- close is owed
+abbrev pub Allows : Terms → List Entry → ℕ → Event → Type 0
+Allows terms before moment (Opened c want) = (owed before ≡ None) × MayOpen terms before c want
+Allows terms before moment (Leased c want) = (owed before ≡ None) × MayLease before c want moment
+Allows terms before moment (Returned c facts) = (owed before ≡ None) × IsSome (holder_want before c)
+Allows terms before moment (Closed c cause) = MayClose before c cause
+Allows terms before moment (Waited want) = (owed before ≡ None) × MayWait before want
+Allows terms before moment (Left transfer) = (owed before ≡ None) × IsTrue (waits before transfer)
+
+-- legal: no moment is below the one before it, and each entry is one that the log before it allows
+abbrev pub IsLegal : Terms → List Entry → Type 0
+IsLegal terms [] = Unit {0}
+IsLegal terms (e ∷ before) = (last_moment before ≤ e.moment) × Allows terms before e.moment e.event × IsLegal terms before
+
+abbrev pub IsAnyone : List Want → Type 0
+IsAnyone [] = ⊥
+IsAnyone (want ∷ others) = Unit {0}
+
+-- quiet: nobody waits beside an idle connection or beside room at the host, unless the host is queued
+-- for room among all hosts; it is queued only for one who waits beside room; and no close is owed
+pub record IsQuiet (terms : Terms) (queued : Bool) (log : List Entry) : Type 0 where
+  pub none_idle : IsAnyone (waiting log) → idle_connections log ≡ []
+  pub no_room : IsAnyone (waiting log) → (length (open_connections log) ≡ terms.limit) ⊎ IsTrue queued
+  pub queued_for : IsTrue queued → IsAnyone (waiting log) × (length (open_connections log) < terms.limit)
+  pub settled : owed log ≡ None

@@ -1,0 +1,5 @@
+pub mod Connections
+pub mod Waiting
+pub mod Fit
+pub mod Legal
+pub mod Log

@@ -1,0 +1,8 @@
+-- A log as callers see it.
+use Rattle.std.specs.Prelude.{ℕ, List}
+use Rattle.conn_log.specs.declared.entry.Entry.{Entry}
+
+-- the entries, newest first, and how many more it takes without more memory
+pub record Recorded : Type 0 where
+  pub entries : List Entry
+  pub room : ℕ

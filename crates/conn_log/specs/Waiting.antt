@@ -1,0 +1,44 @@
+-- What a log says of the transfers that wait.
+use Rattle.std.specs.Prelude.{ℕ, Bool, false, not, ◌==◌, ◌||◌, List, [], ◌∷◌, ◌++◌, filter}
+use Rattle.std.specs.List.{list_any}
+use Rattle.conn_log.specs.declared.entry.Want.{Want}
+use Rattle.conn_log.specs.declared.entry.Event.{Event}
+use Rattle.conn_log.specs.declared.entry.Event.TheVariants.{Opened, Leased, Waited, Left}
+use Rattle.conn_log.specs.declared.entry.Entry.{Entry}
+
+-- the wants of the other transfers
+abbrev pub without : ℕ → List Want → List Want
+without transfer wants = filter (λ (want : Want). not (want.transfer == transfer)) wants
+
+-- waiting: the wants that waited and whose transfer neither started nor left since, first come first
+abbrev pub waiting_after : Event → List Want → List Want
+waiting_after (Waited want) wants = wants ++ want ∷ []
+waiting_after (Opened c want) wants = without want.transfer wants
+waiting_after (Leased c want) wants = without want.transfer wants
+waiting_after (Left transfer) wants = without transfer wants
+waiting_after _ wants = wants
+
+abbrev pub waiting : List Entry → List Want
+waiting [] = []
+waiting (e ∷ before) = waiting_after e.event (waiting before)
+
+-- the transfer waits
+abbrev pub waits : List Entry → ℕ → Bool
+waits log transfer = list_any (λ (want : Want). want.transfer == transfer) (waiting log)
+
+-- the event starts the transfer, or lets it leave
+abbrev pub takes : Event → ℕ → Bool
+takes (Opened c want) transfer = transfer == want.transfer
+takes (Leased c want) transfer = transfer == want.transfer
+takes (Left other) transfer = transfer == other
+takes _ transfer = false
+
+-- some entry of these takes the transfer
+abbrev pub is_taken : List Entry → ℕ → Bool
+is_taken [] transfer = false
+is_taken (e ∷ others) transfer = takes e.event transfer || is_taken others transfer
+
+-- the event begins a wait that none of these entries ends
+abbrev pub is_left_waiting : Event → List Entry → Bool
+is_left_waiting (Waited want) others = not (is_taken others want.transfer)
+is_left_waiting _ others = false

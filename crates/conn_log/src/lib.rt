@@ -1,0 +1,13 @@
+//! What happens to one host's connections, as a log: its entries, the questions that it answers,
+//! and the plain readers that answer them by scanning.
+#![tactic(auto)]
+
+mod entry;
+mod log;
+mod readers;
+mod stamp;
+
+pub use entry::{Cause, Entry, Event, Want};
+pub use log::{Log, LogFault};
+pub use readers::{holder, idle_oldest, open_count, waiting_len};
+pub use stamp::Stamp;
