@@ -1,2 +1,6 @@
 pub mod Logs
 pub mod Waits
+pub mod Numbers
+pub mod Steps
+pub mod Soundness
+pub mod Firsts

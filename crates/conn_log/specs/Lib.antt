@@ -3,3 +3,4 @@ pub mod Waiting
 pub mod Fit
 pub mod Legal
 pub mod Log
+pub mod Sound

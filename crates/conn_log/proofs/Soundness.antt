@@ -1,0 +1,140 @@
+-- What a step adds keeps a log sound.
+use Rattle.std.proofs.Common.{◌≡◌, ℕ, ◌+◌, ◌<◌, ◌≤◌, Bool, true, false, not, ◌&&◌, ◌||◌, List, [], ◌∷◌, length, Option, Some, None, IsSome, IsTrue, is_some, is_none, refl, sym, ap, subst, inl, inr, ◌∙◌, arith}
+use Rattle.std.specs.Prelude.{◌==◌, if◌then◌else◌}
+use Rattle.std.specs.Option.{option_map, option_map_or, option_and_then}
+use Rattle.std.specs.List.{list_any}
+use mathlib.Core.Bool.{false≢true}
+use Rattle.std.proofs.lemmas.Bool.Decides.{nat_tests, eqb_tells}
+use Rattle.persistence.specs.declared.facts.Facts.{Facts}
+use Rattle.persistence.specs.Persistent.{is_persistent}
+use Rattle.conn_log.specs.declared.entry.Want.{Want}
+use Rattle.conn_log.specs.declared.entry.Cause.{Cause}
+use Rattle.conn_log.specs.declared.entry.Cause.TheVariants.{NotPersistent, Cut, Forbidden, TooOld, HostRoom, TotalRoom, CacheFull, Dropped, Withdrawn, Pruned}
+use Rattle.conn_log.specs.declared.entry.Event.{Event}
+use Rattle.conn_log.specs.declared.entry.Event.TheVariants.{Opened, Leased, Returned, Closed, Waited, Left}
+use Rattle.conn_log.specs.declared.entry.Entry.{Entry}
+use Rattle.conn_log.specs.Connections.{is_among, last_moment, opened, greatest, is_closed, open_connections, is_open, holder_want, is_held_by, holds, idle_connections, is_idle}
+use Rattle.conn_log.specs.Waiting.{waiting}
+use Rattle.conn_log.specs.Fit.{is_fit, suits}
+use Rattle.conn_log.specs.Legal.{Terms, ends_use, ending_cause, owed, owed_for, IsFirst, MayStart, IsLegal, IsQuiet, IsAnyone, MayClose}
+use Rattle.conn_log.specs.Sound.{IsOrderly, IsSound, held_number, has_number}
+use Rattle.conn_log.proofs.Numbers.{le-greatest}
+use Rattle.conn_log.proofs.Steps.{is_open_is, is_idle_is, opened_not_closed, idle_open_unheld, gone_closed, gone_ended, orderly_open, orderly_lease, orderly_return, orderly_gone}
+
+pub and_left : (a b : Bool) → (a && b) ≡ true → a ≡ true
+and_left true b both = refl
+and_left false b both = both
+
+pub and_right : (a b : Bool) → (a && b) ≡ true → b ≡ true
+and_right true b both = both
+and_right false b both = absurd (false≢true both)
+
+-- the cause of an ended use is one that the owed close allows
+ended_close : (whole forbids : Bool) (before : List Entry) (c : ℕ) → owed before ≡ Some (c, if not whole then Cut else (if forbids then Forbidden else NotPersistent)) → MayClose before c (if not whole then Cut else (if forbids then Forbidden else NotPersistent))
+ended_close true true before c owes = owes
+ended_close true false before c owes = owes
+ended_close false forbids before c owes = owes
+
+any_passes : (p : ℕ → Bool) (c : ℕ) (xs : List ℕ) → is_among c xs ≡ true → p c ≡ true → list_any p xs ≡ true
+any_passes p c [] among passes = grind arith
+any_passes p c (x ∷ xs) among passes = grind (arith, nat_tests, λ (e : x ≡ c). ap p e, passes, λ (h : is_among c xs ≡ true). any_passes p c xs h passes)
+
+none_passes : (p : ℕ → Bool) (xs : List ℕ) → ((c : ℕ) → p c ≡ false) → list_any p xs ≡ false
+none_passes p [] none = refl
+none_passes p (x ∷ xs) none = grind (arith, none x, none_passes p xs none)
+
+module _ (terms : Terms) (log : List Entry) (orderly : IsOrderly terms log) where
+  held_is_open : (c transfer : ℕ) → is_held_by log transfer c ≡ true → is_open log c ≡ true
+  held_is_open c transfer held = orderly.held_open c (some_held (holder_want log c) held)
+    where
+      some_held : (want : Option Want) → option_map_or (λ (w : Want). w.transfer == transfer) want false ≡ true → is_some want ≡ true
+      some_held None held' = absurd (false≢true held')
+      some_held (Some w) held' = refl
+
+  -- a transfer holds where it has a number
+  pub holds_is : (transfer : ℕ) → holds log transfer ≡ is_some (held_number log transfer)
+  holds_is transfer = numbered (held_number log transfer) refl
+    where
+      numbered : (held : Option ℕ) → held_number log transfer ≡ held → holds log transfer ≡ is_some held
+      numbered None is = none_passes (is_held_by log transfer) (open_connections log) (λ c. orderly.held_once c transfer ∙ ap (λ h. has_number h c) is)
+      numbered (Some c) is =
+          let held : is_held_by log transfer c ≡ true = orderly.held_once c transfer ∙ ap (λ h. has_number h c) is ∙ grind (arith, nat_tests) in
+          any_passes (is_held_by log transfer) c (open_connections log) (held_is_open c transfer held) held
+
+  -- nobody waits, so who holds nothing may start
+  pub may_start : (want : Want) → held_number log want.transfer ≡ None → MayStart log want
+  may_start want free = subst (λ ws. IsFirst ws (holds log want.transfer) want) (sym orderly.nobody_waits) (holds_is want.transfer ∙ ap is_some free)
+
+  -- nobody waits, so it is quiet where no close is owed
+  pub quiet : owed log ≡ None → IsQuiet terms false log
+  quiet settled = record {
+    none_idle = λ anyone. absurd (subst IsAnyone orderly.nobody_waits anyone);
+    no_room = λ anyone. absurd (subst IsAnyone orderly.nobody_waits anyone);
+    queued_for = λ never. absurd (false≢true never);
+    settled = settled;
+  }
+
+  next_is_new : (c : ℕ) → c ≡ greatest terms.first (opened log) + 1 → is_among c (opened log) ≡ false
+  next_is_new c next = elim (is_among c (opened log)) as (λ b. is_among c (opened log) ≡ b → b ≡ false) [
+    | true ↦ λ among. absurd (omega (arith, next, le-greatest terms.first c (opened log) among))
+    | false ↦ λ among. refl
+  ] refl
+
+module _ (terms : Terms) (log : List Entry) (sound : IsSound terms log) (moment : ℕ) (later : last_moment log ≤ moment) where
+  pub sound_open : (c : ℕ) (want : Want) → c ≡ greatest terms.first (opened log) + 1 → length (open_connections log) < terms.limit → held_number log want.transfer ≡ None → IsSound terms (record { moment = moment; event = Opened c want } ∷ log)
+  sound_open c want next room free = record {
+    legal = (later, (sound.settled, record { next = next; room = room; start = may_start terms log sound.orderly want free }), sound.legal);
+    settled = refl;
+    orderly = orderly_open terms log sound.orderly moment c want (next_is_new terms log sound.orderly c next) free room;
+  }
+
+  pub sound_lease : (c : ℕ) (want : Want) → is_fit log want moment c ≡ true → held_number log want.transfer ≡ None → IsSound terms (record { moment = moment; event = Leased c want } ∷ log)
+  sound_lease c want fit free = record {
+    legal = (later, (sound.settled, record { fit = fit; start = may_start terms log sound.orderly want free }), sound.legal);
+    settled = refl;
+    orderly = orderly_lease terms log sound.orderly moment c want (and_left (is_idle log c) (suits log want moment c) fit) free;
+  }
+
+  pub sound_return : (c : ℕ) (facts : Facts) (want : Want) → holder_want log c ≡ Some want → ends_use facts want ≡ false → IsSound terms (record { moment = moment; event = Returned c facts } ∷ log)
+  sound_return c facts want held stays = record {
+    legal = (later, (sound.settled, rw held refl), sound.legal);
+    settled = rw (held, stays) refl;
+    orderly = orderly_return terms log sound.orderly moment c facts (grind (arith, stays));
+  }
+
+  pub sound_end : (c : ℕ) (facts : Facts) (want : Want) → holder_want log c ≡ Some want → ends_use facts want ≡ true → IsSound terms (record { moment = moment; event = Closed c (ending_cause facts want) } ∷ record { moment = moment; event = Returned c facts } ∷ log)
+  sound_end c facts want held ends = record {
+    legal = (omega arith, ended_close facts.whole want.forbid_reuse (record { moment = moment; event = Returned c facts } ∷ log) c (rw (held, ends) refl), (later, (sound.settled, rw held refl), sound.legal));
+    settled = refl;
+    orderly = orderly_gone terms log sound.orderly c _ (gone_ended moment c facts (ending_cause facts want) log) (sound.orderly.held_open c (rw held refl));
+  }
+
+  pub sound_drop : (c : ℕ) → is_some (holder_want log c) ≡ true → IsSound terms (record { moment = moment; event = Closed c Dropped } ∷ log)
+  sound_drop c held = record {
+    legal = (later, (sound.settled, held), sound.legal);
+    settled = refl;
+    orderly = orderly_gone terms log sound.orderly c _ (gone_closed moment c Dropped log) (sound.orderly.held_open c held);
+  }
+
+  pub sound_room : (c : ℕ) → is_idle log c ≡ true → IsSound terms (record { moment = moment; event = Closed c HostRoom } ∷ log)
+  sound_room c idle = record {
+    legal = (later, (sound.settled, idle), sound.legal);
+    settled = refl;
+    orderly = let open_unheld = idle_open_unheld log c idle in orderly_gone terms log sound.orderly c _ (gone_closed moment c HostRoom log) open_unheld.0;
+  }
+
+-- the empty log
+pub sound_empty : (terms : Terms) → IsSound terms []
+sound_empty terms = record {
+  legal = tt;
+  settled = refl;
+  orderly = record {
+    distinct = tt;
+    closed_opened = λ c closed. absurd (false≢true closed);
+    held_open = λ c held. absurd (false≢true held);
+    held_once = λ c transfer. refl;
+    idle_persists = λ c idle. absurd (false≢true idle);
+    within = omega arith;
+    nobody_waits = refl;
+  };
+}

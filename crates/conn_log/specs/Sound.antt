@@ -1,0 +1,78 @@
+-- What holds of a bundle's log after every step.
+use Rattle.std.specs.Prelude.{◌≡◌, ℕ, ◌≤◌, Bool, true, false, ◌==◌, if◌then◌else◌, List, [], ◌∷◌, length, Option, Some, None, is_some}
+use Rattle.std.specs.Option.{option_map, option_map_or}
+use Rattle.conn_log.specs.declared.entry.Want.{Want}
+use Rattle.conn_log.specs.declared.entry.Event.{Event}
+use Rattle.conn_log.specs.declared.entry.Event.TheVariants.{Opened, Leased, Returned, Closed, Waited, Left}
+use Rattle.conn_log.specs.declared.entry.Entry.{Entry}
+use Rattle.conn_log.specs.Connections.{is_among, opened, is_closed, open_connections, is_open, holder_want, is_held_by, is_idle, born, since, lane, came_back_persistent}
+use Rattle.conn_log.specs.Waiting.{waiting}
+use Rattle.conn_log.specs.Legal.{Terms, owed, IsLegal}
+
+-- each number stands once
+abbrev pub AreDistinct : List ℕ → Type 0
+AreDistinct [] = Unit {0}
+AreDistinct (c ∷ numbers) = (is_among c numbers ≡ false) × AreDistinct numbers
+
+-- the connection that a transfer holds: that of its last start, unless it came back or was closed since
+abbrev pub unless_it_is : ℕ → Option ℕ → Option ℕ
+unless_it_is c None = None
+unless_it_is c (Some d) = if d == c then None else Some d
+
+abbrev pub held_number_after : Event → ℕ → Option ℕ → Option ℕ
+held_number_after (Opened c want) transfer held = if want.transfer == transfer then Some c else held
+held_number_after (Leased c want) transfer held = if want.transfer == transfer then Some c else held
+held_number_after (Returned c facts) transfer held = unless_it_is c held
+held_number_after (Closed c cause) transfer held = unless_it_is c held
+held_number_after _ transfer held = held
+
+abbrev pub held_number : List Entry → ℕ → Option ℕ
+held_number [] transfer = None
+held_number (e ∷ before) transfer = held_number_after e.event transfer (held_number before transfer)
+
+-- the option has that number
+abbrev pub has_number : Option ℕ → ℕ → Bool
+has_number held c = option_map_or (λ d. d == c) held false
+
+-- numbers stand once; a closed or held connection was opened, and a held one is open; each transfer
+-- holds one connection at most; each idle connection came back persistent; and nobody waits
+pub record IsOrderly (terms : Terms) (log : List Entry) : Type 0 where
+  pub distinct : AreDistinct (opened log)
+  pub closed_opened : (c : ℕ) → is_closed log c ≡ true → is_among c (opened log) ≡ true
+  pub held_open : (c : ℕ) → is_some (holder_want log c) ≡ true → is_open log c ≡ true
+  pub held_once : (c transfer : ℕ) → is_held_by log transfer c ≡ has_number (held_number log transfer) c
+  pub idle_persists : (c : ℕ) → is_idle log c ≡ true → came_back_persistent log c ≡ true
+  pub within : length (open_connections log) ≤ terms.limit
+  pub nobody_waits : waiting log ≡ []
+
+-- sound: legal, with no close owed, and orderly
+pub record IsSound (terms : Terms) (log : List Entry) : Type 0 where
+  pub legal : IsLegal terms log
+  pub settled : owed log ≡ None
+  pub orderly : IsOrderly terms log
+
+-- what is kept of an idle connection, and of a held one
+pub record IdleFacts : Type 0 where
+  pub lane : ℕ
+  pub born : ℕ
+  pub since : ℕ
+
+pub record HeldFacts : Type 0 where
+  pub number : ℕ
+  pub lane : ℕ
+  pub born : ℕ
+  pub forbids_reuse : Bool
+
+abbrev pub facts_if_idle : List Entry → ℕ → IdleFacts
+facts_if_idle log c = record { lane = lane log c; born = born log c; since = since log c }
+
+-- of that connection, where it is idle
+abbrev pub idle_facts : List Entry → ℕ → Option IdleFacts
+idle_facts log c = if is_idle log c then Some (facts_if_idle log c) else None
+
+-- of the connection that the transfer holds, if it holds one
+abbrev pub facts_if_held : List Entry → ℕ → HeldFacts
+facts_if_held log c = record { number = c; lane = lane log c; born = born log c; forbids_reuse = option_map_or (λ (want : Want). want.forbid_reuse) (holder_want log c) false }
+
+abbrev pub held_facts : List Entry → ℕ → Option HeldFacts
+held_facts log transfer = option_map (facts_if_held log) (held_number log transfer)
