@@ -57,8 +57,8 @@ module _ (log : List Entry) where
   newest_is want moment c idle suited before =
       let among = is_among-filter (suits log want moment) in
       first_by_is (λ d e. is_earlier log e d) (λ d e. one_way e d) c (filter (suits log want moment) (idle_connections log))
-        (among c (idle_connections log) ∙ both idle suited)
-        (λ d there other. let parts = split (is_idle log d) (suits log want moment d) (sym (among d (idle_connections log)) ∙ there) in before d parts.0 parts.1 other)
+      (among c (idle_connections log) ∙ both idle suited)
+      (λ d there other. let parts = split (is_idle log d) (suits log want moment d) (sym (among d (idle_connections log)) ∙ there) in before d parts.0 parts.1 other)
     where
       both : {a b : Bool} → a ≡ true → b ≡ true → (a && b) ≡ true
       both e f = rw (e, f) refl

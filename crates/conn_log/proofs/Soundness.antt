@@ -13,11 +13,11 @@ use Rattle.conn_log.specs.declared.entry.Cause.TheVariants.{NotPersistent, Cut, 
 use Rattle.conn_log.specs.declared.entry.Event.{Event}
 use Rattle.conn_log.specs.declared.entry.Event.TheVariants.{Opened, Leased, Returned, Closed, Waited, Left}
 use Rattle.conn_log.specs.declared.entry.Entry.{Entry}
-use Rattle.conn_log.specs.Connections.{is_among, last_moment, opened, greatest, is_closed, open_connections, is_open, holder_want, is_held_by, holds, idle_connections, is_idle}
+use Rattle.conn_log.specs.Connections.{held_number, unless_it_is, is_among, last_moment, opened, greatest, is_closed, open_connections, is_open, holder_want, is_held_by, holds, idle_connections, is_idle}
 use Rattle.conn_log.specs.Waiting.{waiting}
 use Rattle.conn_log.specs.Fit.{is_fit, suits}
 use Rattle.conn_log.specs.Legal.{Terms, ends_use, ending_cause, owed, owed_for, IsFirst, MayStart, IsLegal, IsQuiet, IsAnyone, MayClose}
-use Rattle.conn_log.specs.Sound.{IsOrderly, IsSound, held_number, has_number}
+use Rattle.conn_log.specs.Sound.{IsOrderly, IsSound, has_number}
 use Rattle.conn_log.proofs.Numbers.{le-greatest}
 use Rattle.conn_log.proofs.Steps.{is_open_is, is_idle_is, opened_not_closed, idle_open_unheld, gone_closed, gone_ended, orderly_open, orderly_lease, orderly_return, orderly_gone}
 

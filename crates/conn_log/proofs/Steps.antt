@@ -11,10 +11,10 @@ use Rattle.conn_log.specs.declared.entry.Cause.{Cause}
 use Rattle.conn_log.specs.declared.entry.Event.{Event}
 use Rattle.conn_log.specs.declared.entry.Event.TheVariants.{Opened, Leased, Returned, Closed, Waited, Left}
 use Rattle.conn_log.specs.declared.entry.Entry.{Entry}
-use Rattle.conn_log.specs.Connections.{is_among, opened, is_closed, open_connections, is_open, holder_want, is_held_by, idle_connections, is_idle, born, since, lane, came_back_persistent}
+use Rattle.conn_log.specs.Connections.{held_number, unless_it_is, is_among, opened, is_closed, open_connections, is_open, holder_want, is_held_by, idle_connections, is_idle, born, since, lane, came_back_persistent}
 use Rattle.conn_log.specs.Waiting.{waiting, without}
 use Rattle.conn_log.specs.Legal.{Terms}
-use Rattle.conn_log.specs.Sound.{IsOrderly, held_number, has_number, unless_it_is, IdleFacts, HeldFacts, idle_facts, facts_if_idle, held_facts, facts_if_held}
+use Rattle.conn_log.specs.Sound.{IsOrderly, has_number, IdleFacts, HeldFacts, idle_facts, facts_if_idle, held_facts, facts_if_held}
 use Rattle.conn_log.proofs.Waits.{filter-filter}
 use Rattle.conn_log.proofs.Numbers.{is_among-filter, filter_agree, parted, length-filter_flip}
 
@@ -123,19 +123,19 @@ module _ (terms : Terms) (log : List Entry) (orderly : IsOrderly terms log) wher
   held_once_start : (c d transfer : ℕ) (want : Want) → holder_want log c ≡ None → held_number log want.transfer ≡ None → option_map_or (λ (w : Want). w.transfer == transfer) (if c == d then Some want else holder_want log d) false ≡ has_number (if want.transfer == transfer then Some c else held_number log transfer) d
   held_once_start c d transfer want nobody free = elim (eqb_tells c d) [
     | inl here ↦ elim (eqb_tells want.transfer transfer) [
-        | inl same ↦ rw (here.0, same.0) (sym here.0)
-        | inr other ↦
-            let old = orderly.held_once c transfer in
-            let none : is_held_by log transfer c ≡ false = rw nobody refl in
-            rw (here.0, other.0) (sym none ∙ old ∙ ap (has_number (held_number log transfer)) here.1)
-      ]
+      | inl same ↦ rw (here.0, same.0) (sym here.0)
+      | inr other ↦
+          let old = orderly.held_once c transfer in
+          let none : is_held_by log transfer c ≡ false = rw nobody refl in
+          rw (here.0, other.0) (sym none ∙ old ∙ ap (has_number (held_number log transfer)) here.1)
+    ]
     | inr elsewhere ↦ elim (eqb_tells want.transfer transfer) [
-        | inl same ↦
-            let old = orderly.held_once d transfer in
-            let none : held_number log transfer ≡ None = ap (held_number log) (sym same.1) ∙ free in
-            rw (elsewhere.0, same.0) (old ∙ ap (λ held. has_number held d) none ∙ sym elsewhere.0)
-        | inr other ↦ rw (elsewhere.0, other.0) (orderly.held_once d transfer)
-      ]
+      | inl same ↦
+          let old = orderly.held_once d transfer in
+          let none : held_number log transfer ≡ None = ap (held_number log) (sym same.1) ∙ free in
+          rw (elsewhere.0, same.0) (old ∙ ap (λ held. has_number held d) none ∙ sym elsewhere.0)
+      | inr other ↦ rw (elsewhere.0, other.0) (orderly.held_once d transfer)
+    ]
   ]
 
   -- a new connection for a transfer that holds none

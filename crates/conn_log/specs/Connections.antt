@@ -72,6 +72,23 @@ is_held_by log transfer c = option_map_or (λ (want : Want). want.transfer == tr
 abbrev pub holds : List Entry → ℕ → Bool
 holds log transfer = list_any (is_held_by log transfer) (open_connections log)
 
+-- none, where it is that one
+abbrev pub unless_it_is : ℕ → Option ℕ → Option ℕ
+unless_it_is c None = None
+unless_it_is c (Some d) = if d == c then None else Some d
+
+abbrev pub held_number_after : Event → ℕ → Option ℕ → Option ℕ
+held_number_after (Opened c want) transfer held = if want.transfer == transfer then Some c else held
+held_number_after (Leased c want) transfer held = if want.transfer == transfer then Some c else held
+held_number_after (Returned c facts) transfer held = unless_it_is c held
+held_number_after (Closed c cause) transfer held = unless_it_is c held
+held_number_after _ transfer held = held
+
+-- the connection that a transfer holds: that of its last start, unless it came back or was closed since
+abbrev pub held_number : List Entry → ℕ → Option ℕ
+held_number [] transfer = None
+held_number (e ∷ before) transfer = held_number_after e.event transfer (held_number before transfer)
+
 -- idle: open and without a holder
 abbrev pub idle_connections : List Entry → List ℕ
 idle_connections log = filter (λ c. is_none (holder_want log c)) (open_connections log)

@@ -5,7 +5,7 @@ use Rattle.conn_log.specs.declared.entry.Want.{Want}
 use Rattle.conn_log.specs.declared.entry.Event.{Event}
 use Rattle.conn_log.specs.declared.entry.Event.TheVariants.{Opened, Leased, Returned, Closed, Waited, Left}
 use Rattle.conn_log.specs.declared.entry.Entry.{Entry}
-use Rattle.conn_log.specs.Connections.{is_among, opened, is_closed, open_connections, is_open, holder_want, is_held_by, is_idle, born, since, lane, came_back_persistent}
+use Rattle.conn_log.specs.Connections.{is_among, opened, is_closed, open_connections, is_open, holder_want, is_held_by, is_idle, born, since, lane, came_back_persistent, held_number}
 use Rattle.conn_log.specs.Waiting.{waiting}
 use Rattle.conn_log.specs.Legal.{Terms, owed, IsLegal}
 
@@ -13,22 +13,6 @@ use Rattle.conn_log.specs.Legal.{Terms, owed, IsLegal}
 abbrev pub AreDistinct : List ℕ → Type 0
 AreDistinct [] = Unit {0}
 AreDistinct (c ∷ numbers) = (is_among c numbers ≡ false) × AreDistinct numbers
-
--- the connection that a transfer holds: that of its last start, unless it came back or was closed since
-abbrev pub unless_it_is : ℕ → Option ℕ → Option ℕ
-unless_it_is c None = None
-unless_it_is c (Some d) = if d == c then None else Some d
-
-abbrev pub held_number_after : Event → ℕ → Option ℕ → Option ℕ
-held_number_after (Opened c want) transfer held = if want.transfer == transfer then Some c else held
-held_number_after (Leased c want) transfer held = if want.transfer == transfer then Some c else held
-held_number_after (Returned c facts) transfer held = unless_it_is c held
-held_number_after (Closed c cause) transfer held = unless_it_is c held
-held_number_after _ transfer held = held
-
-abbrev pub held_number : List Entry → ℕ → Option ℕ
-held_number [] transfer = None
-held_number (e ∷ before) transfer = held_number_after e.event transfer (held_number before transfer)
 
 -- the option has that number
 abbrev pub has_number : Option ℕ → ℕ → Bool

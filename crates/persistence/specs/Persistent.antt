@@ -14,17 +14,17 @@ defines_its_length Chunked = true
 defines_its_length UntilClose = false
 defines_its_length Faulty = false
 
--- HTTP/1.1 persists of itself (RFC 9112, section 9.3)
-abbrev pub is_current : Version → Bool
-is_current V10 = false
-is_current V11 = true
+-- HTTP/1.1 persists where nothing says otherwise (RFC 9112, section 9.3)
+abbrev pub persists_by_default : Version → Bool
+persists_by_default V10 = false
+persists_by_default V11 = true
 
--- close was sent or received (RFC 9112, section 9.6), or the protocol changes, or both lengths are
--- given (RFC 9112, section 6.3, item 3)
+-- close was sent or received (RFC 9112, section 9.6); and, by this project's own choice, the status is
+-- 101, or both lengths are given (RFC 9112, section 6.3, item 3, calls that an error)
 abbrev pub ends_its_connection : Facts → Bool
 ends_its_connection f = f.close || f.request_close || f.upgraded || f.both_lengths
 
 -- read whole and nothing after it, of a length of its own, not the last on its connection, and of
 -- HTTP/1.1 or with keep-alive
 abbrev pub is_persistent : Facts → Bool
-is_persistent f = f.whole && not f.surplus && defines_its_length f.framing && not (ends_its_connection f) && (is_current f.version || f.keep_alive)
+is_persistent f = f.whole && not f.surplus && defines_its_length f.framing && not (ends_its_connection f) && (persists_by_default f.version || f.keep_alive)

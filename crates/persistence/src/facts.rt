@@ -47,8 +47,9 @@ pub struct Facts {
 }
 
 /// Whether the connection persists after the response: it was read whole, with nothing after it,
-/// it said itself where it ends, neither side asked for a close, and it is of HTTP/1.1 or asked to
-/// be kept alive (RFC 9112, sections 9.3 and 9.6).
+/// it said itself where it ends, neither side asked for a close, its status is not 101, it does not
+/// give both lengths, and it is of HTTP/1.1 or asked to be kept alive (RFC 9112, sections 9.3 and
+/// 9.6; what is said of 101 and of both lengths is this project's own choice).
 pub fn persists(facts: &Facts) -> bool
     ensures { result ≡ is_persistent facts.now }
 {
