@@ -74,7 +74,7 @@ module _ (terms : Terms) (log : List Entry) (orderly : IsOrderly terms log) wher
     settled = settled;
   }
 
-  next_is_new : (c : ℕ) → c ≡ greatest terms.first (opened log) + 1 → is_among c (opened log) ≡ false
+  pub next_is_new : (c : ℕ) → c ≡ greatest terms.first (opened log) + 1 → is_among c (opened log) ≡ false
   next_is_new c next = elim (is_among c (opened log)) as (λ b. is_among c (opened log) ≡ b → b ≡ false) [
     | true ↦ λ among. absurd (omega (arith, next, le-greatest terms.first c (opened log) among))
     | false ↦ λ among. refl

@@ -38,6 +38,10 @@ is_free log c = not (is_closed log c) && is_none (holder_want log c)
 idle_of_opened : (log : List Entry) → idle_connections log ≡ filter (is_free log) (opened log)
 idle_of_opened log = filter-filter (λ c. is_none (holder_want log c)) (λ c. not (is_closed log c)) (is_free log) (λ c. refl) (opened log)
 
+-- what is open beside the one just opened was open before
+pub open_before : (c d moment : ℕ) (want : Want) (log : List Entry) → (c == d) ≡ false → is_open (record { moment = moment; event = Opened c want } ∷ log) d ≡ true → is_open log d ≡ true
+open_before c d moment want log other still = grind (arith, other, still, is_open_is (record { moment = moment; event = Opened c want } ∷ log) d, is_open_is log d)
+
 -- a connection is gone: closed, and nobody's
 pub record IsGone (c : ℕ) (log after : List Entry) : Type 0 where
   pub opened : opened after ≡ opened log
@@ -93,6 +97,11 @@ one_holder : (held : Option Want) (transfer t : ℕ) → option_map_or (λ (w : 
 one_holder None transfer t mine other = refl
 one_holder (Some w) transfer t mine other = grind (arith, nat_tests, mine, other)
 
+-- none but that one
+unless_other : (c : ℕ) (held : Option ℕ) → has_number held c ≡ false → unless_it_is c held ≡ held
+unless_other c None out = refl
+unless_other c (Some d) out = rw out refl
+
 -- the facts as a function of their parts
 abbrev made : Bool → ℕ → ℕ → ℕ → Option IdleFacts
 made idle l b s = if idle then Some (record { lane = l; born = b; since = s }) else None
@@ -116,7 +125,7 @@ module _ (terms : Terms) (log : List Entry) (orderly : IsOrderly terms log) wher
   pub new_not_held : (c : ℕ) → is_among c (opened log) ≡ false → is_some (holder_want log c) ≡ false
   new_not_held c new = grind (arith, orderly.held_open c, is_open_is log c)
 
-  unheld : (c : ℕ) → is_some (holder_want log c) ≡ false → holder_want log c ≡ None
+  pub unheld : (c : ℕ) → is_some (holder_want log c) ≡ false → holder_want log c ≡ None
   unheld c none = grind (arith, none)
 
   -- a transfer that holds none starts on a connection that nobody holds
@@ -204,13 +213,27 @@ module _ (terms : Terms) (log : List Entry) (orderly : IsOrderly terms log) wher
       let mine : is_held_by log transfer c ≡ true = orderly.held_once c transfer ∙ ap (λ held. has_number held c) holds ∙ grind (arith, nat_tests) in
       sym (orderly.held_once c t) ∙ one_holder (holder_want log c) transfer t mine other
 
-  others_kept : (c t : ℕ) (after : List Entry) → ((d : ℕ) → holder_want after d ≡ (if c == d then None else holder_want log d)) → ((d : ℕ) → lane after d ≡ lane log d) → ((d : ℕ) → born after d ≡ born log d) → (held : Option ℕ) → has_number held c ≡ false → option_map (facts_if_held after) (unless_it_is c held) ≡ option_map (facts_if_held log) held
+  pub others_kept : (c t : ℕ) (after : List Entry) → ((d : ℕ) → holder_want after d ≡ (if c == d then None else holder_want log d)) → ((d : ℕ) → lane after d ≡ lane log d) → ((d : ℕ) → born after d ≡ born log d) → (held : Option ℕ) → has_number held c ≡ false → option_map (facts_if_held after) (unless_it_is c held) ≡ option_map (facts_if_held log) held
   others_kept c t after held' same_lane same_born None out = refl
   others_kept c t after held' same_lane same_born (Some d) out =
       let apart : (c == d) ≡ false = grind (arith, nat_tests, out) in
       let holder : holder_want after d ≡ holder_want log d = grind (arith, held' d, apart) in
       let forbids = ap (λ held. option_map_or (λ (w : Want). w.forbid_reuse) held false) holder in
       rw out (grind (arith, same_lane d, same_born d, forbids))
+
+  -- who holds what, where it is one that someone holds, and where it is nobody's
+  pub taken_end : (c transfer : ℕ) → held_number log transfer ≡ Some c → (t : ℕ) → unless_it_is c (held_number log t) ≡ (if transfer == t then None else held_number log t)
+  taken_end c transfer holds t = elim (eqb_tells transfer t) [
+    | inl same ↦
+        let it : held_number log t ≡ Some c = ap (held_number log) (sym same.1) ∙ holds in
+        rw same.0 (rw it (grind (arith, nat_tests)))
+    | inr other ↦ rw other.0 (unless_other c (held_number log t) (not_held_by_other c transfer t holds other.0))
+  ]
+
+  pub taken_same : (c : ℕ) → holder_want log c ≡ None → (t : ℕ) → unless_it_is c (held_number log t) ≡ held_number log t
+  taken_same c none t =
+      let nobody : is_held_by log t c ≡ false = rw none refl in
+      unless_other c (held_number log t) (sym (orderly.held_once c t) ∙ nobody)
 
   -- what is kept of held ones, once a connection is nobody's
   held_facts_end : (c transfer : ℕ) → held_number log transfer ≡ Some c → (after : List Entry) → ((d : ℕ) → holder_want after d ≡ (if c == d then None else holder_want log d)) → ((d : ℕ) → lane after d ≡ lane log d) → ((d : ℕ) → born after d ≡ born log d) → (t : ℕ) → option_map (facts_if_held after) (unless_it_is c (held_number log t)) ≡ (if transfer == t then None else held_facts log t)
@@ -306,7 +329,7 @@ module _ (terms : Terms) (log : List Entry) (orderly : IsOrderly terms log) wher
 
   -- a connection is gone
   module _ (c : ℕ) (after : List Entry) (gone : IsGone c log after) where
-    gone_open : (d : ℕ) → is_open after d ≡ (not (c == d) && is_open log d)
+    pub gone_open : (d : ℕ) → is_open after d ≡ (not (c == d) && is_open log d)
     gone_open d = grind (arith, nat_tests, is_open_is after d, is_open_is log d, gone.closed d, ap (is_among d) gone.opened)
 
     -- one fewer is open
