@@ -1,0 +1,5 @@
+pub mod Order
+pub mod Kept
+pub mod Replaying
+pub mod Transitions
+pub mod Growth

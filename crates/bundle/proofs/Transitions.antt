@@ -1,0 +1,275 @@
+-- Each step leaves a state that replays the log with what the step added.
+use Rattle.std.proofs.Common.{◌≡◌, ℕ, ◌+◌, ◌-◌, ◌<◌, ◌≤◌, Bool, true, false, not, ◌&&◌, List, [], ◌∷◌, length, get_or, Option, Some, None, is_some, is_none, refl, sym, ap, subst, inl, inr, ◌∙◌, arith}
+use Rattle.std.specs.Prelude.{◌==◌, if◌then◌else◌}
+use Rattle.std.specs.List.{insert, remove}
+use Rattle.std.specs.Option.{option_map, option_map_or, IfNone}
+use mathlib.Core.Bool.{false≢true}
+use Rattle.std.proofs.lemmas.Bool.Decides.{nat_tests, eqb_tells}
+use Rattle.std.proofs.lemmas.List.Edits.{length-insert, length-remove}
+use Rattle.persistence.specs.declared.facts.Facts.{Facts}
+use Rattle.persistence.specs.Persistent.{is_persistent}
+use Rattle.conn_log.specs.declared.entry.Want.{Want}
+use Rattle.conn_log.specs.declared.entry.Cause.{Cause}
+use Rattle.conn_log.specs.declared.entry.Cause.TheVariants.{HostRoom, Dropped}
+use Rattle.conn_log.specs.declared.entry.Event.TheVariants.{Opened, Leased, Returned, Closed}
+use Rattle.conn_log.specs.declared.entry.Entry.{Entry}
+use Rattle.conn_log.specs.Connections.{last_moment, is_among, opened, greatest, open_connections, is_idle, holder_want, held_number, born, lane}
+use Rattle.conn_log.specs.Fit.{is_fit}
+use Rattle.conn_log.specs.Legal.{Terms, ends_use, ending_cause}
+use Rattle.conn_log.specs.Sound.{IsSound, IdleFacts, HeldFacts, facts_if_idle, facts_if_held, idle_facts, held_facts}
+use Rattle.conn_log.proofs.Steps.{IsGone, gone_closed, gone_ended, is_idle_is, idle_open_unheld, idle_facts_open, held_facts_open, more_open, as_many_idle_open, idle_facts_lease, held_facts_lease, fewer_idle_lease, idle_facts_return, held_facts_return, more_idle, fewer_open, as_many_idle, fewer_idle, idle_facts_gone, held_facts_gone, others_kept}
+use Rattle.conn_log.proofs.Soundness.{next_is_new, and_left, sound_open, sound_lease, sound_return, sound_end, sound_drop, sound_room, sound_empty}
+use Rattle.bundle.specs.declared.idle.Idle.{Idle}
+use Rattle.bundle.specs.declared.held.Held.{Held}
+use Rattle.bundle.specs.Calls.{add, with_owed_close, is_full}
+use Rattle.bundle.specs.Idle.{find_number, numbers, facts_of, item_suits, LastSuits, IsPlaceFor}
+use Rattle.bundle.specs.State.{Replays, held_facts_of}
+use Rattle.bundle.proofs.Kept.{is_some-find_number, find_number-insert, find_number-remove, distinct-insert, distinct-remove, order-insert, order-remove}
+use Rattle.bundle.proofs.Replaying.{found_idle, at_place, suits_is, table_some, table_number, table_held}
+
+-- a fact that holds whatever the option
+pub if_none_always : {A : Type 0} {P : Type 0} (x : Option A) → P → IfNone x P
+if_none_always None p = p
+if_none_always (Some y) p = tt
+
+-- a map over a choice
+map_if : {A B : Type 0} (f : A → B) (b : Bool) (x y : Option A) → option_map f (if b then x else y) ≡ (if b then option_map f x else option_map f y)
+map_if f true x y = refl
+map_if f false x y = refl
+
+if_alike : {A : Type 0} (b : Bool) (x y u v : A) → x ≡ u → y ≡ v → (if b then x else y) ≡ (if b then u else v)
+if_alike true x y u v e f = e
+if_alike false x y u v e f = f
+
+none_of : {A B : Type 0} (f : A → B) (x : Option A) → option_map f x ≡ None → x ≡ None
+none_of f None e = refl
+none_of f (Some y) e = absurd (cc)
+
+module _ {S : Type 0} (terms : Terms) (log : List Entry) (greatest_used : ℕ) (idle : List (Idle S)) (held : ℕ → Option Held) (held_len : ℕ) (r : Replays {S = S} terms log greatest_used idle held held_len) where
+  pub table_absent : (transfer : ℕ) → held_number log transfer ≡ None → held transfer ≡ None
+  table_absent transfer free = none_of held_facts_of (held transfer) (r.held_at transfer ∙ ap (option_map (facts_if_held log)) free)
+
+  pub below_limit : is_full terms log ≡ false → length (open_connections log) < terms.limit
+  below_limit not_full = grind (arith, nat_tests, not_full, r.sound.orderly.within)
+
+  -- the one that was read is fit
+  pub read_fit : (want : Want) (moment place : ℕ) (x : Idle S) → LastSuits want moment idle place → x ≡ get_or idle place x → is_fit log want moment x.number ≡ true
+  read_fit want moment place x last is =
+      let there = at_place r place x last.in_range is in
+      let told = found_idle r x.number x there in
+      rw (told.0, suits_is r want moment x there) (subst (λ (y : Idle S). item_suits want moment y ≡ true) (sym is) (last.here x))
+
+  -- what the idle list has, with the one at a place taken out
+  idle_without : (place : ℕ) (x : Idle S) → place < length idle → x ≡ get_or idle place x → (after : List Entry) → ((c : ℕ) → idle_facts after c ≡ (if x.number == c then None else idle_facts log c)) → (c : ℕ) → option_map facts_of (find_number (remove idle place) c) ≡ idle_facts after c
+  idle_without place x within is after facts c =
+      let number_is : (get_or idle place x).number ≡ x.number = sym (ap (λ (y : Idle S). y.number) is) in
+      let found : find_number (remove idle place) c ≡ (if x.number == c then None else find_number idle c) = find_number-remove idle place x c r.idle_distinct within ∙ ap (λ (n : ℕ). if n == c then None else find_number idle c) number_is in
+      ap (option_map facts_of) found ∙ map_if facts_of (x.number == c) None (find_number idle c) ∙ if_alike (x.number == c) None (option_map facts_of (find_number idle c)) None (idle_facts log c) refl (r.idle_at c) ∙ sym (facts c)
+
+  -- what the table has, with one more
+  held_with : (transfer : ℕ) (h : Held) (after : List Entry) (held' : ℕ → Option Held) → ((t : ℕ) → held' t ≡ (if transfer == t then Some h else held t)) → ((t : ℕ) → held_facts after t ≡ (if transfer == t then Some (held_facts_of h) else held_facts log t)) → (t : ℕ) → option_map held_facts_of (held' t) ≡ held_facts after t
+  held_with transfer h after held' put facts t =
+      ap (option_map held_facts_of) (put t) ∙ map_if held_facts_of (transfer == t) (Some h) (held t) ∙ if_alike (transfer == t) (Some (held_facts_of h)) (option_map held_facts_of (held t)) (Some (held_facts_of h)) (held_facts log t) refl (r.held_at t) ∙ sym (facts t)
+
+  -- what the table has, with one fewer
+  held_without : (transfer : ℕ) (after : List Entry) (held' : ℕ → Option Held) → ((t : ℕ) → held' t ≡ (if transfer == t then None else held t)) → ((t : ℕ) → held_facts after t ≡ (if transfer == t then None else held_facts log t)) → (t : ℕ) → option_map held_facts_of (held' t) ≡ held_facts after t
+  held_without transfer after held' cut facts t =
+      ap (option_map held_facts_of) (cut t) ∙ map_if held_facts_of (transfer == t) None (held t) ∙ if_alike (transfer == t) None (option_map held_facts_of (held t)) None (held_facts log t) refl (r.held_at t) ∙ sym (facts t)
+
+  module _ (moment : ℕ) (later : last_moment log ≤ moment) where
+    -- a lease on an idle connection
+    pub replays_lease : (want : Want) (place : ℕ) (x : Idle S) → place < length idle → x ≡ get_or idle place x → is_fit log want moment x.number ≡ true → held_number log want.transfer ≡ None → (held' : ℕ → Option Held) (more : ℕ) → more ≡ held_len + 1 → ((t : ℕ) → held' t ≡ (if want.transfer == t then Some (record { number = x.number; lane = x.lane; born = x.born; forbids_reuse = want.forbid_reuse }) else held t)) → Replays terms (record { moment = moment; event = Leased x.number want } ∷ log) greatest_used (remove idle place) held' more
+    replays_lease want place x within is fit free held' more counted put =
+        let after = record { moment = moment; event = Leased x.number want } ∷ log in
+        let h : Held = record { number = x.number; lane = x.lane; born = x.born; forbids_reuse = want.forbid_reuse } in
+        let nothing = free in
+        let told = found_idle r x.number x (at_place r place x within is) in
+        let l : lane log x.number ≡ x.lane = sym (ap (λ (f : IdleFacts). f.lane) told.1) in
+        let b : born log x.number ≡ x.born = sym (ap (λ (f : IdleFacts). f.born) told.1) in
+        record {
+          sound = sound_lease terms log r.sound moment later x.number want fit nothing;
+          greatest_is = r.greatest_is;
+          idle_at = idle_without place x within is after (idle_facts_lease terms log r.sound.orderly moment x.number want told.0 nothing);
+          idle_distinct = distinct-remove idle place r.idle_distinct;
+          idle_in_order = order-remove idle place within r.idle_in_order;
+          idle_len = omega (arith, length-remove idle place within, r.idle_len, fewer_idle_lease terms log r.sound.orderly moment x.number want told.0 nothing);
+          held_at = held_with want.transfer h after held' put (λ t. held_facts_lease terms log r.sound.orderly moment x.number want told.0 nothing t ∙ ap (λ (f : HeldFacts). if want.transfer == t then Some f else held_facts log t) (same_parts x.number (lane log x.number) (born log x.number) x.lane x.born want.forbid_reuse l b));
+          open_len = omega (arith, length-remove idle place within, r.open_len, counted);
+        }
+      where
+        same_parts : (n l b k a : ℕ) (f : Bool) → l ≡ k → b ≡ a → (let first : HeldFacts = record { number = n; lane = l; born = b; forbids_reuse = f } in let second : HeldFacts = record { number = n; lane = k; born = a; forbids_reuse = f } in first ≡ second)
+        same_parts n l b k a f e g = cc
+
+    -- a new connection
+    pub replays_open : (want : Want) (c : ℕ) → c ≡ greatest_used + 1 → length (open_connections log) < terms.limit → held_number log want.transfer ≡ None → (held' : ℕ → Option Held) (more : ℕ) → more ≡ held_len + 1 → ((t : ℕ) → held' t ≡ (if want.transfer == t then Some (record { number = c; lane = want.lane; born = moment; forbids_reuse = want.forbid_reuse }) else held t)) → Replays terms (record { moment = moment; event = Opened c want } ∷ log) c idle held' more
+    replays_open want c next room free held' more counted put =
+        let after = record { moment = moment; event = Opened c want } ∷ log in
+        let h : Held = record { number = c; lane = want.lane; born = moment; forbids_reuse = want.forbid_reuse } in
+        let nothing = free in
+        let next_of_log : c ≡ greatest terms.first (opened log) + 1 = omega (arith, next, r.greatest_is) in
+        let new = next_is_new terms log r.sound.orderly c next_of_log in
+        record {
+          sound = sound_open terms log r.sound moment later c want next_of_log room nothing;
+          greatest_is = omega (arith, next_of_log);
+          idle_at = λ d. r.idle_at d ∙ sym (idle_facts_open terms log r.sound.orderly moment c want new nothing room d);
+          idle_distinct = r.idle_distinct;
+          idle_in_order = r.idle_in_order;
+          idle_len = r.idle_len ∙ sym (as_many_idle_open terms log r.sound.orderly moment c want new nothing room);
+          held_at = held_with want.transfer h after held' put (held_facts_open terms log r.sound.orderly moment c want new nothing room);
+          open_len = omega (arith, r.open_len, counted, more_open terms log r.sound.orderly moment c want new nothing room);
+        }
+
+  -- who holds a connection that the table has
+  pub want_of_held : (transfer : ℕ) (h : Held) → held transfer ≡ Some h → (want : Want) × (holder_want log h.number ≡ Some want) × (want.forbid_reuse ≡ h.forbids_reuse)
+  want_of_held transfer h is = seen (holder_want log h.number) refl (table_held r transfer h is)
+    where
+      facts_there : held_facts log transfer ≡ Some (facts_if_held log h.number)
+      facts_there = ap (option_map (facts_if_held log)) (table_number r transfer h is)
+
+      forbids : option_map_or (λ (w : Want). w.forbid_reuse) (holder_want log h.number) false ≡ h.forbids_reuse
+      forbids =
+          let both : Some (facts_if_held log h.number) ≡ Some (held_facts_of h) = sym facts_there ∙ table_some r transfer h is in
+          let same : facts_if_held log h.number ≡ held_facts_of h = cc in
+          ap (λ (f : HeldFacts). f.forbids_reuse) same
+
+      seen : (w : Option Want) → holder_want log h.number ≡ w → option_map_or (λ (v : Want). v.transfer == transfer) w false ≡ true → (want : Want) × (holder_want log h.number ≡ Some want) × (want.forbid_reuse ≡ h.forbids_reuse)
+      seen None e told = absurd (false≢true told)
+      seen (Some w) e told = (w, e, ap (λ (v : Option Want). option_map_or (λ (u : Want). u.forbid_reuse) v false) (sym e) ∙ forbids)
+
+  module _ (transfer : ℕ) (h : Held) (is : held transfer ≡ Some h) where
+    is_held : is_some (holder_want log h.number) ≡ true
+    is_held = let w = want_of_held transfer h is in ap is_some w.1
+
+    pub held_not_found : find_number idle h.number ≡ None
+    held_not_found =
+        let not_idle : is_idle log h.number ≡ false = grind (arith, is_idle_is log h.number, is_held) in
+        none_of facts_of (find_number idle h.number) (r.idle_at h.number ∙ ap (λ (b : Bool). if b then Some (facts_if_idle log h.number) else None) not_idle)
+
+    pub replays_return : (moment : ℕ) → last_moment log ≤ moment → (facts : Facts) → (is_persistent facts && not h.forbids_reuse) ≡ true → (place : ℕ) (stream : S) → IsPlaceFor moment h.number idle place → (held' : ℕ → Option Held) (less : ℕ) → ((t : ℕ) → held' t ≡ (if transfer == t then None else held t)) → less + 1 ≡ held_len → Replays terms (record { moment = moment; event = Returned h.number facts } ∷ log) greatest_used (insert idle place (record { number = h.number; lane = h.lane; born = h.born; since = moment; stream = stream })) held' less
+    replays_return moment later facts stays place stream fits held' less cut counted =
+        let n = h.number in
+        let after = record { moment = moment; event = Returned n facts } ∷ log in
+        let x : Idle S = record { number = n; lane = h.lane; born = h.born; since = moment; stream = stream } in
+        let w = want_of_held transfer h is in
+        let ends : ends_use facts w.0 ≡ false = rw w.2 (ap not stays) in
+        let persists = and_left (is_persistent facts) (not h.forbids_reuse) stays in
+        let was_open = r.sound.orderly.held_open n is_held in
+        let same : facts_if_held log n ≡ held_facts_of h = some_same (sym (ap (option_map (facts_if_held log)) (table_number r transfer h is)) ∙ table_some r transfer h is) in
+        let l : h.lane ≡ lane log n = sym (ap (λ (f : HeldFacts). f.lane) same) in
+        let b : h.born ≡ born log n = sym (ap (λ (f : HeldFacts). f.born) same) in
+        let new : is_among n (numbers idle) ≡ false = sym (is_some-find_number idle n) ∙ ap is_some held_not_found in
+        let back : Option IdleFacts = Some (record { lane = lane log n; born = born log n; since = moment }) in
+        record {
+          sound = sound_return terms log r.sound moment later n facts w.0 w.1 ends;
+          greatest_is = r.greatest_is;
+          idle_at = λ d.
+              ap (option_map facts_of) (find_number-insert idle place x d held_not_found)
+              ∙ map_if facts_of (n == d) (Some x) (find_number idle d)
+              ∙ if_alike (n == d) (Some (facts_of x)) (option_map facts_of (find_number idle d)) back (idle_facts log d) (same_idle h.lane h.born (lane log n) (born log n) moment l b) (r.idle_at d)
+              ∙ sym (idle_facts_return terms log r.sound.orderly moment n facts persists was_open d);
+          idle_distinct = distinct-insert idle place x r.idle_distinct new;
+          idle_in_order = order-insert idle place x fits new r.idle_in_order;
+          idle_len = length-insert idle place x fits.in_range ∙ ap (λ (k : ℕ). k + 1) r.idle_len ∙ sym (more_idle terms log r.sound.orderly moment n facts persists was_open is_held);
+          held_at = held_without transfer after held' cut (held_facts_return terms log r.sound.orderly moment n facts persists transfer (table_number r transfer h is));
+          open_len = omega (arith, length-insert idle place x fits.in_range, r.open_len, counted);
+        }
+      where
+        some_same : {A : Type 0} {x y : A} → Some x ≡ Some y → x ≡ y
+        some_same e = cc
+
+        same_idle : (l b k a s : ℕ) → l ≡ k → b ≡ a → (let first : IdleFacts = record { lane = l; born = b; since = s } in let second : IdleFacts = record { lane = k; born = a; since = s } in Some first ≡ Some second)
+        same_idle l b k a s e f = cc
+
+    -- the connection is gone
+    pub replays_gone : (after : List Entry) → IsGone h.number log after → IsSound terms after → (held' : ℕ → Option Held) (less : ℕ) → ((t : ℕ) → held' t ≡ (if transfer == t then None else held t)) → less + 1 ≡ held_len → Replays terms after greatest_used idle held' less
+    replays_gone after gone sound held' less cut counted =
+        let was_open = r.sound.orderly.held_open h.number is_held in
+        record {
+          sound = sound;
+          greatest_is = r.greatest_is ∙ ap (greatest terms.first) (sym gone.opened);
+          idle_at = λ d. r.idle_at d ∙ sym (idle_facts_gone terms log r.sound.orderly h.number after gone d ∙ kept_idle d);
+          idle_distinct = r.idle_distinct;
+          idle_in_order = r.idle_in_order;
+          idle_len = r.idle_len ∙ sym (as_many_idle terms log r.sound.orderly h.number after gone is_held);
+          held_at = held_without transfer after held' cut (held_facts_gone terms log r.sound.orderly h.number after gone transfer (table_number r transfer h is));
+          open_len = omega (arith, r.open_len, counted, fewer_open terms log r.sound.orderly h.number after gone was_open);
+        }
+      where
+        kept_idle : (d : ℕ) → (if h.number == d then None else idle_facts log d) ≡ idle_facts log d
+        kept_idle d = elim (eqb_tells h.number d) [
+          | inl same ↦
+              let none : idle_facts log h.number ≡ None = sym (r.idle_at h.number) ∙ ap (option_map facts_of) held_not_found in
+              rw same.0 (sym (subst (λ (n : ℕ). idle_facts log n ≡ None) same.1 none))
+          | inr other ↦ rw other.0 refl
+        ]
+
+  -- who held it
+  module _ (transfer : ℕ) (h : Held) (is : held transfer ≡ Some h) (moment : ℕ) (later : last_moment log ≤ moment) where
+    pub replays_drop : (held' : ℕ → Option Held) (less : ℕ) → ((t : ℕ) → held' t ≡ (if transfer == t then None else held t)) → less + 1 ≡ held_len → Replays terms (record { moment = moment; event = Closed h.number Dropped } ∷ log) greatest_used idle held' less
+    replays_drop held' less cut counted = replays_gone transfer h is (record { moment = moment; event = Closed h.number Dropped } ∷ log) (gone_closed moment h.number Dropped log) (sound_drop terms log r.sound moment later h.number (is_held transfer h is)) held' less cut counted
+
+    pub replays_end : (facts : Facts) (cause : Cause) → (is_persistent facts && not h.forbids_reuse) ≡ false → ((want : Want) → want.forbid_reuse ≡ h.forbids_reuse → cause ≡ ending_cause facts want) → (held' : ℕ → Option Held) (less : ℕ) → ((t : ℕ) → held' t ≡ (if transfer == t then None else held t)) → less + 1 ≡ held_len → Replays terms (record { moment = moment; event = Closed h.number cause } ∷ record { moment = moment; event = Returned h.number facts } ∷ log) greatest_used idle held' less
+    replays_end facts cause ends why held' less cut counted =
+        let w = want_of_held transfer h is in
+        let over : ends_use facts w.0 ≡ true = rw w.2 (ap not ends) in
+        let because = why w.0 w.2 in
+        rw because (replays_gone transfer h is (record { moment = moment; event = Closed h.number (ending_cause facts w.0) } ∷ record { moment = moment; event = Returned h.number facts } ∷ log) (gone_ended moment h.number facts (ending_cause facts w.0) log) (sound_end terms log r.sound moment later h.number facts w.0 w.1 over) held' less cut counted)
+
+    -- the close that is owed after a return
+    pub owed_close : (facts : Facts) (cause : Cause) → (is_persistent facts && not h.forbids_reuse) ≡ false → ((want : Want) → want.forbid_reuse ≡ h.forbids_reuse → cause ≡ ending_cause facts want) → add moment (Closed h.number cause) (add moment (Returned h.number facts) log) ≡ with_owed_close moment (add moment (Returned h.number facts) log)
+    owed_close facts cause ends why =
+        let w = want_of_held transfer h is in
+        let over : ends_use facts w.0 ≡ true = rw w.2 (ap not ends) in
+        rw (w.1, over, why w.0 w.2) refl
+
+    pub no_owed_close : (facts : Facts) → (is_persistent facts && not h.forbids_reuse) ≡ true → add moment (Returned h.number facts) log ≡ with_owed_close moment (add moment (Returned h.number facts) log)
+    no_owed_close facts stays =
+        let w = want_of_held transfer h is in
+        let on : ends_use facts w.0 ≡ false = rw w.2 (ap not stays) in
+        rw (w.1, on) refl
+
+  -- where it made room, the host is no longer full
+  pub room_made : (moment : ℕ) (place : ℕ) (x : Idle S) → place < length idle → x ≡ get_or idle place x → is_full terms (record { moment = moment; event = Closed x.number HostRoom } ∷ log) ≡ false
+  room_made moment place x within is =
+      let told = found_idle r x.number x (at_place r place x within is) in
+      let open_unheld = idle_open_unheld log x.number told.0 in
+      let fewer = fewer_open terms log r.sound.orderly x.number (record { moment = moment; event = Closed x.number HostRoom } ∷ log) (gone_closed moment x.number HostRoom log) open_unheld.0 in
+      differs _ _ (omega (arith, fewer, r.sound.orderly.within))
+    where
+      differs : (a b : ℕ) → a < b → (a == b) ≡ false
+      differs a b lt = grind (arith, nat_tests, lt)
+
+  -- the one at a place makes room
+  pub replays_room : (moment : ℕ) → last_moment log ≤ moment → (place : ℕ) (x : Idle S) → place < length idle → x ≡ get_or idle place x → Replays terms (record { moment = moment; event = Closed x.number HostRoom } ∷ log) greatest_used (remove idle place) held held_len
+  replays_room moment later place x within is =
+      let after = record { moment = moment; event = Closed x.number HostRoom } ∷ log in
+      let gone = gone_closed moment x.number HostRoom log in
+      let told = found_idle r x.number x (at_place r place x within is) in
+      let open_unheld = idle_open_unheld log x.number told.0 in
+      record {
+        sound = sound_room terms log r.sound moment later x.number told.0;
+        greatest_is = r.greatest_is;
+        idle_at = idle_without place x within is after (idle_facts_gone terms log r.sound.orderly x.number after gone);
+        idle_distinct = distinct-remove idle place r.idle_distinct;
+        idle_in_order = order-remove idle place within r.idle_in_order;
+        idle_len = omega (arith, length-remove idle place within, r.idle_len, fewer_idle terms log r.sound.orderly x.number after gone told.0);
+        held_at = λ t. r.held_at t ∙ sym (others_kept terms log r.sound.orderly x.number t after gone.held gone.lane gone.born (held_number log t) (sym (r.sound.orderly.held_once x.number t) ∙ nobodys (holder_want log x.number) t open_unheld.1));
+        open_len = omega (arith, length-remove idle place within, r.open_len, fewer_open terms log r.sound.orderly x.number after gone open_unheld.0);
+      }
+    where
+      nobodys : (w : Option Want) (t : ℕ) → is_none w ≡ true → option_map_or (λ (v : Want). v.transfer == t) w false ≡ false
+      nobodys None t e = refl
+      nobodys (Some v) t e = absurd (cc)
+
+-- no connection yet
+pub replays_new : {S : Type 0} (terms : Terms) (greatest_used : ℕ) (held : ℕ → Option Held) → greatest_used ≡ terms.first - 1 → ((t : ℕ) → held t ≡ None) → Replays {S = S} terms [] greatest_used [] held 0
+replays_new terms greatest_used held first none = record {
+  sound = sound_empty terms;
+  greatest_is = first;
+  idle_at = λ c. refl;
+  idle_distinct = tt;
+  idle_in_order = λ i j d lt range. absurd (omega (arith, range));
+  idle_len = refl;
+  held_at = λ t. ap (option_map held_facts_of) (none t);
+  open_len = omega arith;
+}

@@ -1,0 +1,53 @@
+use Rattle.std.proofs.Common.{◌≡◌, ◌≤◌, true, not, ◌&&◌, None, Some, sym, ap, subst, ◌∙◌, arith}
+use Rattle.std.specs.Prelude.{◌==◌, if◌then◌else◌}
+use Rattle.std.proofs.lemmas.Bool.Decides.{nat_tests}
+use Rattle.conn_log.specs.Connections.{last_moment, held_number, is_open}
+use Rattle.conn_log.specs.declared.entry.Event.TheVariants.{Returned}
+use Rattle.conn_log.specs.Sound.{held_facts}
+use Rattle.bundle.specs.Calls.{add, with_owed_close}
+use Rattle.bundle.specs.State.{HostState, held_facts_of}
+use Rattle.conn_log.proofs.Steps.{taken_end, gone_ended, gone_open}
+use Rattle.bundle.proofs.Replaying.{table_number, table_from_log}
+use Rattle.bundle.proofs.Transitions.{replays_end, owed_close}
+use Rattle.bundle.proofs.state.State.end_use.Goals as goal
+
+pub invariant_of-self : goal.invariant_of-self
+invariant_of-self g c =
+    let kept = c.self.invariant.replays in
+    let room = c.self.invariant.room in
+    let log_is = ap (λ (v : HostState g.row.S.Denot). v.log) c.self.view_is in
+    let there = table_from_log kept c.args.transfer c.args.held (subst (λ log. held_facts log c.args.transfer ≡ Some (held_facts_of c.args.held)) (sym log_is) c.requires.held) in
+    let later = subst (λ log. last_moment log ≤ c.args.moment) (sym log_is) c.requires.later in
+    record {
+      replays = rw (c.append-2.ensures.entries, c.append.ensures.entries) (replays_end _ _ _ _ _ _ kept c.args.transfer c.args.held there c.args.moment later c.args.facts _ c.requires.ends c.ending_cause-cause.ensures _ _ c.take_out.ensures.taken c.take_out.ensures.len);
+      room = record {
+        log_room = omega (arith, room.log_room, c.append.ensures.room, c.append-2.ensures.room, c.take_out.ensures.len);
+        idle_room = omega (arith, room.idle_room, c.take_out.ensures.len);
+        held_room = omega (arith, room.held_room, c.take_out.ensures.room);
+      };
+    }
+
+pub returns-clause-log : goal.returns-clause-log
+returns-clause-log g c =
+    let kept = c.self.invariant.replays in
+    let log_is = ap (λ (v : HostState g.row.S.Denot). v.log) c.self.view_is in
+    let there = table_from_log kept c.args.transfer c.args.held (subst (λ log. held_facts log c.args.transfer ≡ Some (held_facts_of c.args.held)) (sym log_is) c.requires.held) in
+    let later = subst (λ log. last_moment log ≤ c.args.moment) (sym log_is) c.requires.later in
+    rw (c.append-2.ensures.entries, c.append.ensures.entries) (owed_close _ _ _ _ _ _ kept c.args.transfer c.args.held there c.args.moment later c.args.facts _ c.requires.ends c.ending_cause-cause.ensures ∙ ap (λ log. with_owed_close c.args.moment (add c.args.moment (Returned c.args.held.number c.args.facts) log)) log_is)
+
+pub returns-clause-closed : goal.returns-clause-closed
+returns-clause-closed g c =
+    let kept = c.self.invariant.replays in
+    let log_is = ap (λ (v : HostState g.row.S.Denot). v.log) c.self.view_is in
+    let n = c.args.held.number in
+    let it : (n == n) ≡ true = grind (arith, nat_tests) in
+    let parts = gone_open _ _ kept.sound.orderly n _ (gone_ended c.args.moment n c.args.facts c.ending_cause-cause.result c.self.inside.log.entries) n in
+    rw (c.append-2.ensures.entries, c.append.ensures.entries) (parts ∙ ap (λ b. not b && is_open c.self.inside.log.entries n) it)
+
+pub returns-clause-holders : goal.returns-clause-holders
+returns-clause-holders g c t =
+    let kept = c.self.invariant.replays in
+    let log_is = ap (λ (v : HostState g.row.S.Denot). v.log) c.self.view_is in
+    let there = table_from_log kept c.args.transfer c.args.held (subst (λ log. held_facts log c.args.transfer ≡ Some (held_facts_of c.args.held)) (sym log_is) c.requires.held) in
+    rw (c.append-2.ensures.entries, c.append.ensures.entries) ((gone_ended c.args.moment c.args.held.number c.args.facts c.ending_cause-cause.result c.self.inside.log.entries).taken t ∙
+    taken_end _ _ kept.sound.orderly c.args.held.number c.args.transfer (table_number kept c.args.transfer c.args.held there) t ∙ ap (λ log. if c.args.transfer == t then None else held_number log t) log_is)

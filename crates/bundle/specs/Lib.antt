@@ -1,0 +1,4 @@
+pub mod Calls
+pub mod Idle
+pub mod State
+pub mod Lease

@@ -1,0 +1,71 @@
+-- What a bundle's state has to do with its log.
+use Rattle.std.specs.Prelude.{◌≡◌, ℕ, ◌+◌, ◌*◌, ◌≤◌, Bool, false, not, ◌&&◌, ◌==◌, List, length, Option, Some}
+use Rattle.std.specs.Option.{option_map}
+use Rattle.persistence.specs.declared.facts.Facts.{Facts}
+use Rattle.persistence.specs.Persistent.{is_persistent}
+use Rattle.conn_log.specs.declared.entry.Want.{Want}
+use Rattle.conn_log.specs.declared.entry.Event.TheVariants.{Leased}
+use Rattle.conn_log.specs.declared.entry.Entry.{Entry}
+use Rattle.conn_log.specs.Connections.{opened, greatest, open_connections, idle_connections}
+use Rattle.conn_log.specs.Fit.{newest_fit}
+use Rattle.conn_log.specs.Legal.{Terms}
+use Rattle.conn_log.specs.Sound.{IsSound, AreDistinct, HeldFacts, idle_facts, held_facts}
+use Rattle.bundle.specs.declared.idle.Idle.{Idle}
+use Rattle.bundle.specs.declared.held.Held.{Held}
+use Rattle.bundle.specs.Calls.{add}
+use Rattle.bundle.specs.Idle.{find_number, numbers, facts_of, stream_of, AreInOrder}
+
+-- a host as a step sees it: its log, its limit and first number, its index, the streams of its idle
+-- connections by number, and how many acquires are halfway
+pub record HostState (S : Type 0) : Type 0 where
+  pub log : List Entry
+  pub terms : Terms
+  pub host : ℕ
+  pub streams : List (ℕ × S)
+  pub booked : ℕ
+
+-- what the log knows of a held connection
+abbrev pub held_facts_of : Held → HeldFacts
+held_facts_of held = record { number = held.number; lane = held.lane; born = held.born; forbids_reuse = held.forbids_reuse }
+
+-- the state says of each connection and of each transfer what the log says; beside that, how many are
+-- idle and how many are held, and the greatest number
+pub record Replays {S : Type 0} (terms : Terms) (log : List Entry) (greatest_used : ℕ) (idle : List (Idle S)) (held : ℕ → Option Held) (held_len : ℕ) : Type 0 where
+  pub sound : IsSound terms log
+  pub greatest_is : greatest_used ≡ greatest terms.first (opened log)
+  pub idle_at : (c : ℕ) → option_map facts_of (find_number idle c) ≡ idle_facts log c
+  pub idle_distinct : AreDistinct (numbers idle)
+  pub idle_in_order : AreInOrder idle
+  pub idle_len : length idle ≡ length (idle_connections log)
+  pub held_at : (transfer : ℕ) → option_map held_facts_of (held transfer) ≡ held_facts log transfer
+  pub open_len : length (open_connections log) ≡ length idle + held_len
+
+-- room for what is to come: two entries for each held connection and one for each idle one, and three
+-- for each acquire halfway; a place in the idle list for each connection; one in the table for each
+-- acquire halfway
+pub record HasRoom (booked idle_len held_len free_entries idle_capacity held_spare : ℕ) : Type 0 where
+  pub log_room : 3 * booked + (2 * held_len + idle_len) ≤ free_entries
+  pub idle_room : booked + (idle_len + held_len) ≤ idle_capacity
+  pub held_room : booked ≤ held_spare
+
+-- the host stays, with its limit and first number
+pub record IsSameHost {S : Type 0} (old new : HostState S) : Type 0 where
+  pub terms : new.terms ≡ old.terms
+  pub host : new.host ≡ old.host
+
+-- a lease on the newest fit connection, with the stream kept under its number
+pub record LeasesNewest {S : Type 0} (old new : HostState S) (want : Want) (moment c : ℕ) (stream : S) : Type 0 where
+  pub newest : newest_fit old.log want moment ≡ Some c
+  pub log : new.log ≡ add moment (Leased c want) old.log
+  pub kept : stream_of old.streams c ≡ Some stream
+  pub others : (d : ℕ) → (c == d) ≡ false → stream_of new.streams d ≡ stream_of old.streams d
+  pub booked : new.booked ≡ 0
+  pub same : IsSameHost old new
+
+-- what a step asks of a held connection: that the log shows it held so by that transfer
+abbrev pub IsHeldAs : {S : Type 0} → HostState S → ℕ → Held → Type 0
+IsHeldAs state transfer held = held_facts state.log transfer ≡ Some (held_facts_of held)
+
+-- whether it stays open after that response
+abbrev pub stays_open : Facts → Held → Bool
+stays_open facts held = is_persistent facts && not held.forbids_reuse

@@ -1,0 +1,150 @@
+ghost use Rattle.std.specs.Prelude.{◌≡◌, is_some, None, Some, true, false};
+ghost use Rattle.bundle.specs.Lease.{Leasing};
+
+use conn_log::Want;
+use std::marker::Model;
+
+/// One transfer's use of one connection. It has to be spent: given back, or abandoned.
+pub struct Lease<S> {
+    number: u32,
+    want: Want,
+    moment: u64,
+    reused: bool,
+    stream: Option<S>,
+}
+
+impl<S> Model for Lease<S> {
+    ghost use Rattle.bundle.specs.Lease.{Leasing};
+
+    ghost Value = { Leasing S };
+
+    ghost view = { λ lease. record { start = record { number = lease.number; want = lease.want; moment = lease.moment; reused = lease.reused }; stream = lease.stream } };
+}
+
+impl<S> Lease<S> {
+    // A lease on a new connection, which has no stream yet.
+    pub(crate) fn opened(number: u32, want: Want, moment: u64) -> Self
+        ensures { result ≡ record { start = record { number = number; want = want; moment = moment; reused = false }; stream = None } }
+    {
+        Lease {
+            number,
+            want,
+            moment,
+            reused: false,
+            stream: None,
+        }
+    }
+
+    // A lease on a connection that was idle, with its stream.
+    pub(crate) fn reusing(number: u32, want: Want, moment: u64, stream: S) -> Self
+        ensures { result ≡ record { start = record { number = number; want = want; moment = moment; reused = true }; stream = Some stream } }
+    {
+        Lease {
+            number,
+            want,
+            moment,
+            reused: true,
+            stream: Some(stream),
+        }
+    }
+
+    // The stream, once the lease is spent.
+    pub(crate) fn into_stream(self) -> Option<S>
+        ensures { result ≡ self.stream }
+    {
+        let Lease {
+            number: _,
+            want: _,
+            moment: _,
+            reused: _,
+            stream,
+        } = self;
+        stream
+    }
+
+    /// The number of its connection.
+    pub fn number(&self) -> u32
+        ensures { result ≡ self.now.start.number }
+    {
+        self.number
+    }
+
+    /// The transfer whose lease it is.
+    pub fn transfer(&self) -> u64
+        ensures { result ≡ self.now.start.want.transfer }
+    {
+        self.want.transfer
+    }
+
+    /// What the transfer wanted.
+    pub fn want(&self) -> Want
+        ensures { result ≡ self.now.start.want }
+    {
+        self.want
+    }
+
+    /// The moment of its start, in seconds.
+    pub fn moment(&self) -> u64
+        ensures { result ≡ self.now.start.moment }
+    {
+        self.moment
+    }
+
+    /// Whether its connection was idle before.
+    pub fn reused(&self) -> bool
+        ensures { result ≡ self.now.start.reused }
+    {
+        self.reused
+    }
+
+    /// Whether it has its connection's stream.
+    pub fn has_stream(&self) -> bool
+        ensures { result ≡ is_some self.now.stream }
+    {
+        self.stream.is_some()
+    }
+}
+
+impl<S: Drop> Lease<S> {
+    /// Gives it the stream of its new connection.
+    pub fn attach(&mut self, stream: S)
+        requires { self.old.stream ≡ None }
+        ensures { self.new ≡ record self.old { stream = Some stream } }
+    {
+        self.stream = Some(stream);
+    }
+}
+
+/// What was not taken: it comes back, to be kept or scrapped. Only a refusal makes one.
+pub struct Stray<T> {
+    value: T,
+}
+
+impl<T> Model for Stray<T> {
+    ghost Value = { T };
+
+    ghost view = { λ stray. stray.value };
+}
+
+impl<T> Stray<T> {
+    pub(crate) fn new(value: T) -> Self
+        ensures { result ≡ value }
+    {
+        Stray { value }
+    }
+
+    /// Gives it back.
+    pub fn keep(self) -> T
+        ensures { result ≡ self }
+    {
+        let Stray { value } = self;
+        value
+    }
+}
+
+impl<S: Drop> Stray<Lease<S>> {
+    /// Gives the lease up, and drops the stream that it may have.
+    pub fn scrap(self) {
+        let _ = self.keep().into_stream();
+    }
+}

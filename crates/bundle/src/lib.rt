@@ -1,0 +1,15 @@
+//! One host's connections: which of them are open, idle or leased, and which one a transfer gets.
+#![tactic(auto)]
+
+mod held;
+mod host;
+mod idle;
+mod lease;
+mod refusal;
+mod snapshot;
+mod state;
+
+pub use host::Bundle;
+pub use lease::{Lease, Stray};
+pub use refusal::Refusal;
+pub use snapshot::Snapshot;

@@ -1,0 +1,390 @@
+ghost use Rattle.std.specs.Prelude.{◌≡◌, ℕ, ◌+◌, ◌-◌, ◌*◌, ◌<◌, ◌≤◌, List, [], ◌∷◌, Bool, true, false, not, ◌&&◌, ◌==◌, length, Some, None, IfOk, OnOk, OnErr, IfSome, IfNone, OnSome, is_some, if◌then◌else◌};
+ghost use Rattle.conn_log.specs.declared.entry.Entry.{Entry};
+ghost use Rattle.conn_log.specs.declared.entry.Event.TheVariants.{Opened, Leased, Returned, Closed};
+ghost use Rattle.conn_log.specs.declared.entry.Cause.TheVariants.{Dropped};
+ghost use Rattle.persistence.specs.Persistent.{is_persistent};
+ghost use Rattle.conn_log.specs.Connections.{last_moment, held_number, is_open, open_connections, idle_connections, holds, is_held_by};
+ghost use Rattle.conn_log.specs.Fit.{newest_fit, oldest_stamp};
+ghost use Rattle.conn_log.specs.Sound.{held_facts, IsSound};
+ghost use Rattle.bundle.specs.Calls.{add, next_number, with_host_room, with_owed_close, is_full, is_at_limit, is_exhausted, moment_at};
+ghost use Rattle.bundle.specs.Idle.{stream_of};
+ghost use Rattle.bundle.specs.Lease.{snapshot_of};
+ghost use Rattle.bundle.specs.State.{HostState, held_facts_of, IsSameHost, LeasesNewest, IsHeldAs, stays_open};
+ghost use Rattle.conn_log.specs.Legal.{ending_cause};
+ghost use Rattle.conn_log.specs.declared.entry.Want.{Want};
+
+use crate::held::{Held, enter, take_out};
+use crate::idle::{Idle, newest_suiting, place_for};
+use crate::snapshot::Snapshot;
+use conn_log::{Cause, Entry, Event, Log, LogFault, Stamp, Want};
+use persistence::Facts;
+use std::alloc::Global;
+use std::collections::HashMap;
+use std::marker::Model;
+
+/// How many entries an acquire may add, with those of the lease's end.
+const ENTRIES_OF_A_LEASE: usize = 3;
+
+/// The state of one host, which replays its log. Each step adds the entries that it is named for.
+#[derive(Drop)]
+pub(crate) struct State<S: Drop> {
+    host_limit: u32,
+    host: u32,
+    first: u32,
+    greatest: u32,
+    booked: u32,
+    log: Log,
+    idle: Vec<Idle<S>>,
+    held: HashMap<u64, Held>,
+}
+
+impl<S: Drop> Model for State<S> {
+    ghost use Rattle.std.specs.Prelude.{ℕ, nat_eq, vec_len, vec_capacity};
+    ghost use Rattle.std.specs.HashMap.{get, hash_map_len, spare};
+    ghost use Rattle.bundle.specs.Lease.{snapshot_of};
+    ghost use Rattle.bundle.specs.State.{HostState, Replays, HasRoom};
+    ghost use Rattle.bundle.specs.Idle.{streams_of};
+
+    ghost Value = { HostState S };
+
+    ghost view = { λ state. record { log = state.log.entries; terms = record { limit = state.host_limit; first = state.first }; host = state.host; streams = streams_of state.idle.items; booked = state.booked } };
+
+    ghost invariant = { λ state. record {
+      replays : Replays (record { limit = state.host_limit; first = state.first }) state.log.entries state.greatest state.idle.items (get nat_eq state.held) (hash_map_len state.held);
+      room : HasRoom state.booked (vec_len state.idle) (hash_map_len state.held) state.log.room (vec_capacity state.idle) (spare state.held);
+    } };
+}
+
+impl<S: Drop> State<S> {
+    /// A host without connections.
+    pub(crate) fn new(
+        alloc: Global,
+        host_limit: u32,
+        host: u32,
+        first: u32,
+    ) -> Result<Self, LogFault>
+        ensures { IfOk result (λ state. state ≡ record { log = []; terms = record { limit = host_limit; first = first }; host = host; streams = []; booked = 0 }) }
+    {
+        Ok(State {
+            host_limit,
+            host,
+            first,
+            greatest: first.saturating_sub(1),
+            booked: 0,
+            log: Log::new(alloc)?,
+            idle: Vec::new(alloc),
+            held: HashMap::new(alloc),
+        })
+    }
+
+    /// The host's index.
+    pub(crate) fn host(&self) -> u32
+        ensures { result ≡ self.now.host }
+    {
+        self.host
+    }
+
+    /// The host's log, which is sound.
+    pub(crate) fn log(&self) -> &Log
+        ensures entries { result.now.entries ≡ self.now.log }
+        ensures sound { IsSound self.now.terms self.now.log }
+        ensures room { let leased = length (open_connections self.now.log) - length (idle_connections self.now.log) in 2 * leased + length (idle_connections self.now.log) ≤ result.now.room }
+    {
+        &self.log
+    }
+
+    /// How many connections are idle.
+    pub(crate) fn idle_len(&self) -> u32
+        ensures { result ≡ length (idle_connections self.now.log) }
+    {
+        let _limit = self.host_limit;
+        self.idle.len() as u32
+    }
+
+    /// How many connections are open.
+    pub(crate) fn open_len(&self) -> u32
+        ensures { result ≡ length (open_connections self.now.log) }
+    {
+        let _limit = self.host_limit;
+        (self.idle.len() + self.held.len()) as u32
+    }
+
+    /// The counts of the host.
+    pub(crate) fn look(&self) -> Snapshot
+        ensures { result ≡ snapshot_of self.now.log false }
+    {
+        let _limit = self.host_limit;
+        let idle = self.idle.len() as u32;
+        let leased = self.held.len() as u32;
+        Snapshot {
+            alive: idle + leased,
+            idle,
+            leased,
+            waiting: 0,
+            queued: false,
+        }
+    }
+
+    /// Whether as many connections are open as the host may have.
+    pub(crate) fn is_full(&self) -> bool
+        ensures { result ≡ is_full self.now.terms self.now.log }
+    {
+        self.open_len() == self.host_limit
+    }
+
+    /// Whether the last connection number is used.
+    pub(crate) fn is_exhausted(&self) -> bool
+        ensures { result ≡ is_exhausted self.now.terms self.now.log }
+    {
+        self.greatest == u32::MAX
+    }
+
+    /// Whether the transfer holds a connection.
+    pub(crate) fn holds(&self, transfer: u64) -> bool
+        ensures holds { result ≡ holds self.now.log transfer }
+        ensures number { result ≡ is_some (held_number self.now.log transfer) }
+    {
+        self.held.contains_key(&transfer)
+    }
+
+    /// What is kept of that connection, where that transfer holds it.
+    pub(crate) fn held(&self, transfer: u64, number: u32) -> Option<Held>
+        ensures none { IfNone result (is_held_by self.now.log transfer number ≡ false) }
+        ensures number { IfSome result (λ held. held.number ≡ number) }
+        ensures some { IfSome result (λ held. IsHeldAs self.now transfer held) }
+        ensures known { OnSome result (is_held_by self.now.log transfer number ≡ true) }
+    {
+        match self.held.get(&transfer) {
+            Some(held) if held.number == number => Some(*held),
+            _ => None,
+        }
+    }
+
+    /// The moment of an event that is to be added: the greater of `now` and the last one.
+    pub(crate) fn moment(&self, now: u64) -> u64
+        ensures { result ≡ moment_at self.now.log now }
+    {
+        now.max(self.log.last_moment())
+    }
+
+    /// The stamp of the connection that is idle for the longest.
+    pub(crate) fn oldest(&self) -> Option<Stamp>
+        ensures { result ≡ oldest_stamp self.now.log self.now.host }
+    {
+        let oldest = self.idle.first()?;
+        Some(Stamp {
+            since: oldest.since,
+            host: self.host,
+            number: oldest.number,
+        })
+    }
+
+    /// Makes room for all that an acquire and the end of its lease will add. No other step takes
+    /// memory.
+    pub(crate) fn book(&mut self) -> Result<(), LogFault>
+        requires { self.old.booked ≡ 0 }
+        ensures ok { OnOk result (self.new ≡ record self.old { booked = 1 }) }
+        ensures err { OnErr result (self.new ≡ self.old) }
+    {
+        let held = self.held.len();
+        let open = self.idle.len() + held;
+        self.log.reserve(ENTRIES_OF_A_LEASE + open + held)?;
+        self.idle.reserve(held + 1)?;
+        self.held.reserve(1)?;
+        self.booked = 1;
+        Ok(())
+    }
+
+    /// Leases the newest fit connection to the transfer, if there is one.
+    pub(crate) fn lease_newest_fit(&mut self, want: &Want, moment: u64) -> Option<(u32, S)>
+        requires booked { self.old.booked ≡ 1 }
+        requires later { last_moment self.old.log ≤ moment }
+        requires free { held_number self.old.log want.now.transfer ≡ None }
+        ensures none { IfNone result ((newest_fit self.old.log want.now moment ≡ None) × (self.new ≡ self.old)) }
+        ensures some { IfSome result (λ leased. LeasesNewest self.old self.new want.now moment leased.0 leased.1) }
+    {
+        let place = newest_suiting(&self.idle, want, moment)?;
+        let Idle {
+            number,
+            lane,
+            born,
+            since: _,
+            stream,
+        } = self.idle.remove(place);
+        self.booked = 0;
+        self.log.append(Entry {
+            moment,
+            event: Event::Leased {
+                connection: number,
+                want: *want,
+            },
+        });
+        let held = Held {
+            number,
+            lane,
+            born,
+            forbids_reuse: want.forbid_reuse,
+        };
+        enter(&mut self.held, want.transfer, held);
+        Some((number, stream))
+    }
+
+    /// At the host's limit, closes the connection that is idle for the longest, if one is idle.
+    pub(crate) fn make_room(&mut self, moment: u64)
+        requires { last_moment self.old.log ≤ moment }
+        ensures log { self.new.log ≡ with_host_room self.old.terms moment self.old.log }
+        ensures room { is_at_limit self.old.terms self.old.log ≡ false → is_full self.new.terms self.new.log ≡ false }
+        ensures holders { (t : ℕ) → held_number self.new.log t ≡ held_number self.old.log t }
+        ensures streams { (d : ℕ) → is_open self.new.log d ≡ true → stream_of self.new.streams d ≡ stream_of self.old.streams d }
+        ensures booked { self.new.booked ≡ self.old.booked }
+        ensures same { IsSameHost self.old self.new }
+    {
+        if self.is_full() && !self.idle.is_empty() {
+            let oldest = self.idle.remove(0);
+            self.log.append(Entry {
+                moment,
+                event: Event::Closed {
+                    connection: oldest.number,
+                    cause: Cause::HostRoom,
+                },
+            });
+        }
+    }
+
+    /// Opens a connection for the transfer, and answers its number.
+    pub(crate) fn open(&mut self, want: &Want, moment: u64) -> u32
+        requires booked { self.old.booked ≡ 1 }
+        requires later { last_moment self.old.log ≤ moment }
+        requires free { held_number self.old.log want.now.transfer ≡ None }
+        requires room { is_full self.old.terms self.old.log ≡ false }
+        requires number { is_exhausted self.old.terms self.old.log ≡ false }
+        ensures number { result ≡ next_number self.old.terms self.old.log }
+        ensures log { self.new.log ≡ add moment (Opened result want.now) self.old.log }
+        ensures opened { (d : ℕ) → (result == d) ≡ false → is_open self.new.log d ≡ true → is_open self.old.log d ≡ true }
+        ensures streams { self.new.streams ≡ self.old.streams }
+        ensures booked { self.new.booked ≡ 0 }
+        ensures same { IsSameHost self.old self.new }
+    {
+        self.booked = 0;
+        self.greatest += 1;
+        let number = self.greatest;
+        self.log.append(Entry {
+            moment,
+            event: Event::Opened {
+                connection: number,
+                want: *want,
+            },
+        });
+        let held = Held {
+            number,
+            lane: want.lane,
+            born: moment,
+            forbids_reuse: want.forbid_reuse,
+        };
+        enter(&mut self.held, want.transfer, held);
+        number
+    }
+
+    /// The connection comes back and is idle from then on, with its stream.
+    pub(crate) fn come_back(
+        &mut self,
+        transfer: u64,
+        held: Held,
+        facts: Facts,
+        stream: S,
+        moment: u64,
+    )
+        requires held { IsHeldAs self.old transfer held }
+        requires stays { stays_open facts held ≡ true }
+        requires later { last_moment self.old.log ≤ moment }
+        ensures log { self.new.log ≡ with_owed_close moment (add moment (Returned held.number facts) self.old.log) }
+        ensures holders { (t : ℕ) → held_number self.new.log t ≡ (if transfer == t then None else held_number self.old.log t) }
+        ensures stream { stream_of self.new.streams held.number ≡ Some stream }
+        ensures others { (d : ℕ) → (held.number == d) ≡ false → stream_of self.new.streams d ≡ stream_of self.old.streams d }
+        ensures booked { self.new.booked ≡ self.old.booked }
+        ensures same { IsSameHost self.old self.new }
+    {
+        take_out(&mut self.held, transfer);
+        self.log.append(Entry {
+            moment,
+            event: Event::Returned {
+                connection: held.number,
+                facts,
+            },
+        });
+        let place = place_for(&self.idle, moment, held.number);
+        let idle = Idle {
+            number: held.number,
+            lane: held.lane,
+            born: held.born,
+            since: moment,
+            stream,
+        };
+        let Ok(()) = self.idle.insert(place, idle) else {
+            unreachable!();
+        };
+    }
+
+    /// The connection comes back after a response that ends its use, and is closed.
+    pub(crate) fn end_use(&mut self, transfer: u64, held: Held, facts: Facts, moment: u64)
+        requires held { IsHeldAs self.old transfer held }
+        requires ends { stays_open facts held ≡ false }
+        requires later { last_moment self.old.log ≤ moment }
+        ensures log { self.new.log ≡ with_owed_close moment (add moment (Returned held.number facts) self.old.log) }
+        ensures closed { is_open self.new.log held.number ≡ false }
+        ensures holders { (t : ℕ) → held_number self.new.log t ≡ (if transfer == t then None else held_number self.old.log t) }
+        ensures streams { self.new.streams ≡ self.old.streams }
+        ensures booked { self.new.booked ≡ self.old.booked }
+        ensures same { IsSameHost self.old self.new }
+    {
+        let cause = ending_cause(&facts, held.forbids_reuse);
+        take_out(&mut self.held, transfer);
+        self.log.append(Entry {
+            moment,
+            event: Event::Returned {
+                connection: held.number,
+                facts,
+            },
+        });
+        self.log.append(Entry {
+            moment,
+            event: Event::Closed {
+                connection: held.number,
+                cause,
+            },
+        });
+    }
+
+    /// The connection is closed without a response.
+    pub(crate) fn drop_held(&mut self, transfer: u64, held: Held, moment: u64)
+        requires held { IsHeldAs self.old transfer held }
+        requires later { last_moment self.old.log ≤ moment }
+        ensures log { self.new.log ≡ add moment (Closed held.number Dropped) self.old.log }
+        ensures holders { (t : ℕ) → held_number self.new.log t ≡ (if transfer == t then None else held_number self.old.log t) }
+        ensures streams { self.new.streams ≡ self.old.streams }
+        ensures booked { self.new.booked ≡ self.old.booked }
+        ensures same { IsSameHost self.old self.new }
+    {
+        take_out(&mut self.held, transfer);
+        self.log.append(Entry {
+            moment,
+            event: Event::Closed {
+                connection: held.number,
+                cause: Cause::Dropped,
+            },
+        });
+    }
+}
+
+// Why a connection is closed after a response that ends its use.
+fn ending_cause(facts: &Facts, forbids_reuse: bool) -> Cause
+    ensures { (want : Want) → want.forbid_reuse ≡ forbids_reuse → result ≡ ending_cause facts.now want }
+{
+    if !facts.whole {
+        Cause::Cut
+    } else if forbids_reuse {
+        Cause::Forbidden
+    } else {
+        Cause::NotPersistent
+    }
+}
