@@ -2,5 +2,6 @@ pub mod Connections
 pub mod Waiting
 pub mod Fit
 pub mod Legal
+pub mod Worked
 pub mod Log
 pub mod Sound

@@ -6,6 +6,7 @@ mod entry;
 mod log;
 mod readers;
 mod stamp;
+pub mod worked;
 
 pub use entry::{Cause, Entry, Event, Want};
 pub use log::{Log, LogFault};
