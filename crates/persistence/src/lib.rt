@@ -4,3 +4,6 @@
 mod facts;
 
 pub use facts::{Facts, Framing, Version, persists};
+
+#[cfg(test)]
+mod tests;
