@@ -1,0 +1,90 @@
+ghost use Rattle.std.specs.Prelude.{IfOk, IfErr};
+ghost use Rattle.conn_key.specs.Target.{LeadsTo, GivesTarget, Refuses};
+
+use std::alloc::{AllocError, Global};
+use thiserror::Error;
+use url::{ParseError, Url};
+
+/// The most bytes that a URL may have.
+const MOST_URL_BYTES: usize = 2048;
+
+/// Where a transfer leads to: what is opened, and what is asked for there.
+#[derive(Debug, Drop)]
+pub struct Target {
+    /// The host of the URL: a name in lower case, an IPv4 address, or an IPv6 address in brackets.
+    pub host: String,
+    /// The port of the URL, 80 where it has none.
+    pub port: u16,
+    /// The path of the URL, and its query with the `?` where it has one.
+    pub path: String,
+}
+
+/// Why a text gives no target.
+#[derive(Clone, Copy, Debug, PartialEq, Eq, Error)]
+pub enum KeyError {
+    /// There is no memory for the URL or its target.
+    #[error("out of memory")]
+    Memory,
+    /// The URL Standard's parser refuses the text.
+    #[error("not a URL")]
+    NotUrl,
+    /// The URL's scheme isn't `http`.
+    #[error("not an http URL")]
+    NotHttp,
+    /// The text has more than 2,048 bytes.
+    #[error("a URL of more than 2048 bytes")]
+    TooLong,
+}
+
+impl From<AllocError> for KeyError {
+    ghost use Rattle.std.specs.Prelude.{◌≡◌};
+    ghost use Rattle.conn_key.specs.declared.read.KeyError.TheVariants.{Memory};
+
+    ghost from_gives = { λ _ e. e ≡ Memory };
+
+    fn from(_: AllocError) -> KeyError {
+        KeyError::Memory
+    }
+}
+
+/// The target that a text leads to: the host, port and path of the URL that the text is by the URL
+/// Standard's parser, without its user data and fragment.
+///
+/// Errors, in this order: `TooLong` where the text has more than 2,048 bytes, `NotUrl` where the
+/// parser refuses it, `NotHttp` where the scheme isn't `http`. `Memory` may come in place of all
+/// but `TooLong`.
+pub fn read_target(alloc: Global, text: &str) -> Result<Target, KeyError>
+    ensures target { IfOk result (GivesTarget text.now) }
+    ensures refused { IfErr result (Refuses text.now) }
+{
+    if text.len() > MOST_URL_BYTES {
+        return Err(KeyError::TooLong);
+    }
+    let url = match Url::parse(alloc, text) {
+        Ok(url) => url,
+        Err(ParseError::OutOfMemory | ParseError::Overflow) => return Err(KeyError::Memory),
+        Err(_) => return Err(KeyError::NotUrl),
+    };
+    if url.scheme() != "http" {
+        return Err(KeyError::NotHttp);
+    }
+    let target = target_of(alloc, &url)?;
+    Ok(target)
+}
+
+/// The target that an http URL leads to.
+fn target_of(alloc: Global, url: &Url) -> Result<Target, AllocError>
+    ensures { IfOk result (LeadsTo url.now) }
+{
+    let host = String::from_str(alloc, url.host_str().unwrap_or(""))?;
+    let mut path = String::from_str(alloc, url.path())?;
+    if let Some(query) = url.query() {
+        path.push('?')?;
+        path.push_str(query)?;
+    }
+    Ok(Target {
+        host,
+        port: url.port().unwrap_or(80),
+        path,
+    })
+}
