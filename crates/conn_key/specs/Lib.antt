@@ -1,1 +1,4 @@
+pub mod Index
+pub mod Site
+pub mod Sites
 pub mod Target

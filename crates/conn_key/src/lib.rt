@@ -4,6 +4,8 @@
 
 mod key;
 mod read;
+mod table;
 
 pub use key::Key;
 pub use read::{KeyError, Target, read_target};
+pub use table::{Site, Sites, SitesFault};
