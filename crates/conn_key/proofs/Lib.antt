@@ -1,1 +1,2 @@
 pub mod SitesLemmas
+pub mod UrlLemmas

@@ -1,8 +1,8 @@
 -- What a URL says of where a transfer leads to.
-use Rattle.std.specs.Prelude.{◌≡◌, ◌≢◌, ℕ, ◌<◌, ◌≤◌, List, [], ◌++◌, length, codes, string_bytes, Option, None, Some, unwrap_or, Ok}
+use Rattle.std.specs.Prelude.{◌≡◌, ◌≢◌, ℕ, ◌<◌, ◌≤◌, List, [], ◌++◌, length, codes, string_bytes, Option, None, Some, unwrap_or, option_map, Ok}
 use Rattle.std.specs.Result.{IsErr}
 use Rattle.url.specs.Parser.{parse_url}
-use Rattle.url.specs.Parts.{Parts, host_or_empty}
+use Rattle.url.specs.Parts.{Parts, nonempty_host}
 use Rattle.url.specs.Host.{host_text}
 use Rattle.conn_key.specs.declared.read.Target.{Target}
 use Rattle.conn_key.specs.declared.read.KeyError.{KeyError}
@@ -14,10 +14,10 @@ abbrev pub query_text : Option (List ℕ) → List ℕ
 query_text None = []
 query_text (Some query) = codes "?" ++ query
 
--- the URL leads to the target: its host, its port or else 80 (RFC 9110, section 4.2.1), and its
--- path and query; user data and fragment don't count
+-- the URL leads to the target: its host, which isn't empty, its port or else 80 (RFC 9110, section
+-- 4.2.1), and its path and query; user data and fragment don't count
 pub record LeadsTo (url : Parts) (target : Target) : Type 0 where
-  pub host : string_bytes target.host ≡ host_text (host_or_empty url)
+  pub host : Some (string_bytes target.host) ≡ option_map host_text (nonempty_host url)
   pub port : target.port ≡ unwrap_or url.port 80
   pub path : string_bytes target.path ≡ url.path ++ query_text url.query
 

@@ -5,6 +5,8 @@
 mod key;
 mod read;
 mod table;
+#[cfg(test)]
+mod tests;
 
 pub use key::Key;
 pub use read::{KeyError, Target, read_target};

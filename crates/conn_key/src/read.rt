@@ -1,5 +1,5 @@
 ghost use Rattle.std.specs.Prelude.{IfOk, IfErr};
-ghost use Rattle.conn_key.specs.Target.{LeadsTo, GivesTarget, Refuses};
+ghost use Rattle.conn_key.specs.Target.{IsHttp, LeadsTo, GivesTarget, Refuses};
 
 use std::alloc::{AllocError, Global};
 use thiserror::Error;
@@ -74,14 +74,16 @@ pub fn read_target(alloc: Global, text: &str) -> Result<Target, KeyError>
 
 /// The target that an http URL leads to.
 fn target_of(alloc: Global, url: &Url) -> Result<Target, AllocError>
+    requires { IsHttp url.now }
     ensures { IfOk result (LeadsTo url.now) }
 {
-    let host = String::from_str(alloc, url.host_str().unwrap_or(""))?;
     let mut path = String::from_str(alloc, url.path())?;
     if let Some(query) = url.query() {
         path.push('?')?;
         path.push_str(query)?;
     }
+    // An http URL has a host.
+    let host = String::from_str(alloc, url.host_str().unwrap())?;
     Ok(Target {
         host,
         port: url.port().unwrap_or(80),
