@@ -19,19 +19,16 @@ pub struct Target {
     pub path: String,
 }
 
-/// Why a text gives no target.
+/// Why a text gives no target: there is no memory for it, the URL Standard's parser refuses it, its
+/// scheme isn't `http`, or it has more than 2,048 bytes.
 #[derive(Clone, Copy, Debug, PartialEq, Eq, Error)]
 pub enum KeyError {
-    /// There is no memory for the URL or its target.
     #[error("out of memory")]
     Memory,
-    /// The URL Standard's parser refuses the text.
     #[error("not a URL")]
     NotUrl,
-    /// The URL's scheme isn't `http`.
     #[error("not an http URL")]
     NotHttp,
-    /// The text has more than 2,048 bytes.
     #[error("a URL of more than 2048 bytes")]
     TooLong,
 }

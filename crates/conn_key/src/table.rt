@@ -44,13 +44,11 @@ impl Site {
     }
 }
 
-/// Why a site wasn't added.
+/// Why a site wasn't added: there is no memory for it, or it is new and 1,024 are there.
 #[derive(Clone, Copy, Debug, PartialEq, Eq, Error)]
 pub enum SitesFault {
-    /// There is no memory for the site.
     #[error("out of memory")]
     Memory,
-    /// The site is new, and 1,024 are there.
     #[error("more than 1024 sites")]
     TooMany,
 }

@@ -179,19 +179,45 @@ fn a_site_is_a_host_and_a_port(rt: HostRuntime) -> Result<(), Fail> {
     Ok(())
 }
 
+/// Targets at so many hosts, with names of one length, and their sites.
+fn hosts(alloc: Global, count: u32) -> Result<(Vec<Target>, Sites), Fail> {
+    let mut targets = Vec::new(alloc);
+    let mut sites = Sites::new(alloc)?;
+    for n in 0..count.min(8000) {
+        let text = format!(in alloc; "http://host-{}.test/", 1000 + n)?;
+        let target = read_target(alloc, text.as_str())?;
+        sites.add(&target)?;
+        targets.push(target)?;
+    }
+    Ok((targets, sites))
+}
+
+/// Whether each target is found at its own index. A count of its instructions tells what finding
+/// costs, so it isn't inlined.
+#[inline(never)]
+fn finds_each(sites: &Sites, targets: &[Target]) -> bool {
+    targets
+        .iter()
+        .zip(0..1024u32)
+        .all(|(target, index)| sites.find(target) == Some(index))
+}
+
+#[test]
+fn each_of_8_sites_is_found(rt: HostRuntime) -> Result<(), Fail> {
+    let (targets, sites) = hosts(rt.alloc(), 8)?;
+    assert!(rt; finds_each(&sites, targets.as_slice()));
+    Ok(())
+}
+
 #[test]
 fn at_most_1024_sites_are_kept(rt: HostRuntime) -> Result<(), Fail> {
-    let mut sites = Sites::new(rt.alloc())?;
-    for n in 0..1024u32 {
-        let text = format!(in rt.alloc(); "http://host-{n}.test/")?;
-        let target = read_target(rt.alloc(), text.as_str())?;
-        assert_eq!(rt; sites.add(&target)?, n);
-    }
-    let more = read_target(rt.alloc(), "http://host-1024.test/")?;
+    let (targets, mut sites) = hosts(rt.alloc(), 1024)?;
+    assert!(rt; finds_each(&sites, targets.as_slice()));
+    let more = read_target(rt.alloc(), "http://host-999.test/")?;
     assert_eq!(rt; sites.add(&more), Err(SitesFault::TooMany));
     assert_eq!(rt; sites.find(&more), None);
     assert_eq!(rt; sites.len(), 1024);
-    let old = read_target(rt.alloc(), "http://host-700.test/b")?;
+    let old = read_target(rt.alloc(), "http://host-1700.test/b")?;
     assert_eq!(rt; sites.add(&old)?, 700);
     assert_eq!(rt; sites.find(&old), Some(700));
     Ok(())
