@@ -1,24 +1,27 @@
--- One more site at the end of the list.
-use Rattle.std.proofs.Common.{◌≡◌, ℕ, ◌<◌, ◌⊎◌, String, length-append, Bool, true, false, cond, List, [], ◌∷◌, ◌++◌, length, Some, None, Option, refl, arith, slice_get, zero, suc, inl, inr, ap, subst, sym, ◌∙◌}
+-- What the index of a site says, and what one more site at the end of the list changes.
+use Rattle.std.proofs.Common.{◌≡◌, ℕ, ◌<◌, ◌⊎◌, String, length-append, Bool, true, false, cond, List, [], ◌∷◌, ◌++◌, length, Some, None, Option, refl, arith, slice_get, get_or, IfSome, zero, suc, inl, inr, ap, subst, sym, ◌∙◌}
 use Rattle.std.specs.Bool.{Decides}
+use Rattle.std.specs.HashMap.{HashMap}
 use Rattle.std.specs.List.{position}
 use Rattle.std.specs.Option.{option_or}
 use Rattle.std.proofs.lemmas.Grind.{common_steps}
 use Rattle.std.proofs.lemmas.List.Folds.{position_or_len_push}
+use Rattle.std.proofs.lemmas.List.Quantifiers.{position-Some}
 use Rattle.std.proofs.lemmas.List.Sums.{prefix_len-le-length}
+use Rattle.std.proofs.lemmas.Option.{slice_get-get_or}
 use Rattle.std.proofs.lemmas.Slice.Eq.{bytes_eq-Decides}
+use Rattle.conn_key.specs.Index.{IsIndexed, Notes}
 use Rattle.conn_key.specs.Site.{is_same_site}
-use Rattle.std.specs.HashMap.{HashMap}
-use Rattle.conn_key.specs.Sites.{index_of, AreDistinct}
-use Rattle.conn_key.specs.Index.{AreKept, Notes}
+use Rattle.conn_key.specs.Sites.{index_of, IsSiteList}
+use Rattle.conn_key.specs.declared.site.Site.{Site}
 
 -- the first place that passes, in a list with one more element
-pub position-push : {X : Type 0} (p : X → Bool) (xs : List X) (y : X)
+position-push : {X : Type 0} (p : X → Bool) (xs : List X) (y : X)
     → position p (xs ++ y ∷ []) ≡ option_or (position p xs) (cond (p y) (Some (length xs)) None)
 position-push p xs y = grind (arith, common_steps, position_or_len_push p xs y, prefix_len-le-length)
 
 -- what stands in a list with one more element stood there before, or is that element
-pub slice_get-push : {X : Type 0} (xs : List X) (y : X) (i : ℕ) (x : X) → slice_get (xs ++ y ∷ []) i ≡ Some x
+slice_get-push : {X : Type 0} (xs : List X) (y : X) (i : ℕ) (x : X) → slice_get (xs ++ y ∷ []) i ≡ Some x
     → (slice_get xs i ≡ Some x) ⊎ ((i ≡ length xs) × (y ≡ x))
 slice_get-push [] y zero x h = inr (refl, grind (arith, h))
 slice_get-push [] y (suc i) x h = grind (arith, h)
@@ -26,7 +29,7 @@ slice_get-push (z ∷ xs) y zero x h = inl h
 slice_get-push (z ∷ xs) y (suc i) x h = grind (arith, common_steps, slice_get-push xs y i x h)
 
 -- the test says whether the two are one site
-pub is_same_site-Decides : (a b : List ℕ × ℕ) → Decides (is_same_site a b) (a ≡ b)
+is_same_site-Decides : (a b : Site) → Decides (is_same_site a b) (a ≡ b)
 is_same_site-Decides a b = grind (arith, common_steps, bytes_eq-Decides a.0 b.0)
 
 -- a place that is new only where there was none
@@ -39,8 +42,8 @@ option_or-cond false false None n forth back none = refl
 option_or-cond false false (Some i) n forth back none = refl
 
 -- a new site at the end has the next index, and the others keep theirs
-pub index_of-push : (sites : List (List ℕ × ℕ)) (site : List ℕ × ℕ) → index_of sites site ≡ None
-    → (other : List ℕ × ℕ) → index_of (sites ++ site ∷ []) other ≡ cond (is_same_site site other) (Some (length sites)) (index_of sites other)
+index_of-push : (sites : List Site) (site : Site) → index_of sites site ≡ None
+    → (other : Site) → index_of (sites ++ site ∷ []) other ≡ cond (is_same_site site other) (Some (length sites)) (index_of sites other)
 index_of-push sites site new other =
     let there = is_same_site-Decides site other in
     let back = is_same_site-Decides other site in
@@ -54,26 +57,40 @@ cond-other : (b : Bool) (o : Option ℕ) (n i : ℕ) → (b ≡ true → ⊥) �
 cond-other true o n i apart has = absurd (apart refl)
 cond-other false o n i apart has = has
 
--- the sites stay distinct
-pub AreDistinct-push : (sites : List (List ℕ × ℕ)) (site : List ℕ × ℕ) → index_of sites site ≡ None → AreDistinct sites → AreDistinct (sites ++ site ∷ [])
-AreDistinct-push sites site new distinct i other stands =
-    index_of-push sites site new other
-    ∙ (elim (slice_get-push sites site i other stands) [
-      | inl before ↦ cond-other (is_same_site site other) (index_of sites other) (length sites) i
-          (λ e.
-          let none : index_of sites other ≡ None = subst (λ s. index_of sites s ≡ None) ((is_same_site-Decides site other).0 e) new in
-          grind (arith, none, distinct i other before))
-          (distinct i other before)
-      | inr last ↦ ap (λ b. cond b (Some (length sites)) (index_of sites other)) ((is_same_site-Decides site other).1 last.1) ∙ ap Some (sym last.0)
-    ])
-
--- all that is kept of the sites stays with a new one at the end
-pub AreKept-push : {A S T : Type 0} (old new : HashMap ℕ (HashMap (String A) ℕ S) T) (sites : List (List ℕ × ℕ)) (site : List ℕ × ℕ) (room : ℕ)
-    → AreKept old sites room → index_of sites site ≡ None → length sites < 1024 → Notes old new site (length sites)
-    → AreKept new (sites ++ site ∷ []) room
-AreKept-push old new sites site room kept absent small notes = record {
-  distinct = AreDistinct-push sites site absent kept.distinct;
-  indexed = λ other. notes other ∙ ap (λ o. cond (is_same_site site other) (Some (length sites)) o) (kept.indexed other) ∙ sym (index_of-push sites site absent other);
+-- the sites stay distinct, and one more stands within the limit
+pub IsSiteList-push : (sites : List Site) (site : Site) → index_of sites site ≡ None → length sites < 1024 → IsSiteList sites
+    → IsSiteList (sites ++ site ∷ [])
+IsSiteList-push sites site new small valid = record {
+  distinct = λ i other stands.
+      index_of-push sites site new other
+      ∙ (elim (slice_get-push sites site i other stands) [
+        | inl before ↦ cond-other (is_same_site site other) (index_of sites other) (length sites) i
+            (λ e.
+            let none : index_of sites other ≡ None = subst (λ s. index_of sites s ≡ None) ((is_same_site-Decides site other).0 e) new in
+            grind (arith, none, valid.distinct i other before))
+            (valid.distinct i other before)
+        | inr last ↦ ap (λ b. cond b (Some (length sites)) (index_of sites other)) ((is_same_site-Decides site other).1 last.1) ∙ ap Some (sym last.0)
+      ]);
   within = omega (arith, length-append sites (site ∷ []));
-  reserved = kept.reserved;
+}
+
+-- what has an index stands there
+slice_get-index_of : (sites : List Site) (site : Site) (i : ℕ) → index_of sites site ≡ Some i → slice_get sites i ≡ Some site
+slice_get-index_of sites site i e =
+    let found = position-Some (is_same_site site) sites i site e in
+    slice_get-get_or sites i site found.0 ∙ ap Some (sym ((is_same_site-Decides site (get_or sites i site)).0 found.1))
+
+pub IfSome-index_of : (found : Option ℕ) (sites : List Site) (site : Site) → found ≡ index_of sites site
+    → IfSome found (λ i. slice_get sites i ≡ Some site)
+IfSome-index_of None sites site e = tt
+IfSome-index_of (Some i) sites site e = slice_get-index_of sites site i (sym e)
+
+-- the index stays beside the list with a new site at its end
+pub IsIndexed-push : {A S T : Type 0} (old new : HashMap ℕ (HashMap (String A) ℕ S) T) (sites : List Site) (site : Site) (room : ℕ)
+    → IsIndexed old sites room → index_of sites site ≡ None → length sites < 1024 → Notes old new site (length sites)
+    → IsIndexed new (sites ++ site ∷ []) room
+IsIndexed-push old new sites site room kept absent small notes = record {
+  valid = IsSiteList-push sites site absent small kept.valid;
+  index = λ other. notes other ∙ ap (λ o. cond (is_same_site site other) (Some (length sites)) o) (kept.index other) ∙ sym (index_of-push sites site absent other);
+  room_for_all = kept.room_for_all;
 }

@@ -1,8 +1,9 @@
 -- The index beside the list of sites: by port, and then by host.
-use Rattle.std.specs.Prelude.{◌≡◌, ℕ, ◌≤◌, length, List, Option, Some, String, bytes_eq, nat_eq, option_and_then, if◌then◌else◌}
+use Rattle.std.specs.Prelude.{◌≡◌, ℕ, ◌≤◌, List, Option, Some, String, bytes_eq, nat_eq, option_and_then, if◌then◌else◌}
 use Rattle.std.specs.HashMap.{HashMap, get, get_by_text}
 use Rattle.conn_key.specs.Site.{is_same_site}
-use Rattle.conn_key.specs.Sites.{index_of, AreDistinct}
+use Rattle.conn_key.specs.Sites.{index_of, IsSiteList}
+use Rattle.conn_key.specs.declared.site.Site.{Site}
 
 module _ {A S : Type 0} where
   -- new has this index for the host, and for each other one what old has
@@ -12,25 +13,21 @@ module _ {A S : Type 0} where
 
 module _ {A S T : Type 0} where
   -- the index that is noted for the site, if there is one
-  abbrev pub noted : HashMap ℕ (HashMap (String A) ℕ S) T → List ℕ × ℕ → Option ℕ
+  abbrev pub noted : HashMap ℕ (HashMap (String A) ℕ S) T → Site → Option ℕ
   noted places site = option_and_then (λ hosts. get_by_text hosts site.0) (get nat_eq places site.1)
 
-  -- what is noted for each site is its index among the sites
-  abbrev pub IsIndexOf : HashMap ℕ (HashMap (String A) ℕ S) T → List (List ℕ × ℕ) → Type 0
-  IsIndexOf places sites = (site : List ℕ × ℕ) → noted places site ≡ index_of sites site
-
   -- new has this index for the site, and for each other one what old has
-  abbrev pub Notes : HashMap ℕ (HashMap (String A) ℕ S) T → HashMap ℕ (HashMap (String A) ℕ S) T → List ℕ × ℕ → ℕ → Type 0
+  abbrev pub Notes : HashMap ℕ (HashMap (String A) ℕ S) T → HashMap ℕ (HashMap (String A) ℕ S) T → Site → ℕ → Type 0
   Notes old new site index =
-      (other : List ℕ × ℕ) → noted new other ≡ (if is_same_site site other then Some index else noted old other)
+      (other : Site) → noted new other ≡ (if is_same_site site other then Some index else noted old other)
 
   -- new has for each site what old has
   abbrev pub IsSameIndex : HashMap ℕ (HashMap (String A) ℕ S) T → HashMap ℕ (HashMap (String A) ℕ S) T → Type 0
-  IsSameIndex old new = (site : List ℕ × ℕ) → noted new site ≡ noted old site
+  IsSameIndex old new = (site : Site) → noted new site ≡ noted old site
 
-  -- what holds of a list of sites, the index beside it, and the room that the list has
-  pub record AreKept (places : HashMap ℕ (HashMap (String A) ℕ S) T) (sites : List (List ℕ × ℕ)) (room : ℕ) : Type 0 where
-    pub distinct : AreDistinct sites
-    pub indexed : IsIndexOf places sites
-    pub within : length sites ≤ 1024
-    pub reserved : 1024 ≤ room
+  -- a list of sites, the index beside it, which has for each site its index in the list, and the
+  -- room that the list has
+  pub record IsIndexed (places : HashMap ℕ (HashMap (String A) ℕ S) T) (sites : List Site) (room : ℕ) : Type 0 where
+    pub valid : IsSiteList sites
+    pub index : (site : Site) → noted places site ≡ index_of sites site
+    pub room_for_all : 1024 ≤ room

@@ -1,24 +1,25 @@
 -- The list of the sites.
-use Rattle.std.specs.Prelude.{◌≡◌, ℕ, ◌<◌, List, [], ◌∷◌, ◌++◌, length, slice_get, position, Option, None, Some, is_some, if◌then◌else◌}
+use Rattle.std.specs.Prelude.{◌≡◌, ℕ, ◌<◌, ◌≤◌, List, [], ◌∷◌, ◌++◌, length, slice_get, position, Option, None, Some, is_some, if◌then◌else◌}
 use Rattle.conn_key.specs.Site.{is_same_site}
-use Rattle.conn_key.specs.declared.table.SitesFault.{SitesFault}
-use Rattle.conn_key.specs.declared.table.SitesFault.TheVariants.{Memory, TooMany}
+use Rattle.conn_key.specs.declared.site.Site.{Site}
+use Rattle.conn_key.specs.declared.sites.SitesFault.{SitesFault}
+use Rattle.conn_key.specs.declared.sites.SitesFault.TheVariants.{Memory, TooMany}
 
 -- the index of the site among the sites, if it is there
-abbrev pub index_of : List (List ℕ × ℕ) → List ℕ × ℕ → Option ℕ
+abbrev pub index_of : List Site → Site → Option ℕ
 index_of sites site = position (is_same_site site) sites
 
 -- the sites with this one: as they are where it is there, else with it at the end
-abbrev pub with_site : List (List ℕ × ℕ) → List ℕ × ℕ → List (List ℕ × ℕ)
+abbrev pub with_site : List Site → Site → List Site
 with_site sites site = if is_some (index_of sites site) then sites else sites ++ site ∷ []
 
--- no site is there twice: each has the index at which it stands
-abbrev pub AreDistinct : List (List ℕ × ℕ) → Type 0
-AreDistinct sites =
-    (i : ℕ) (site : List ℕ × ℕ) → slice_get sites i ≡ Some site → index_of sites site ≡ Some i
+-- no site is there twice, since each has the index at which it stands, and there are at most 1,024
+pub record IsSiteList (sites : List Site) : Type 0 where
+  pub distinct : (i : ℕ) (site : Site) → slice_get sites i ≡ Some site → index_of sites site ≡ Some i
+  pub within : length sites ≤ 1024
 
 -- what a refusal says of the sites and the one that was to be added: it is new, and there is room
 -- for it where memory ran out, or none
-abbrev pub RefusesSite : List (List ℕ × ℕ) → List ℕ × ℕ → SitesFault → Type 0
+abbrev pub RefusesSite : List Site → Site → SitesFault → Type 0
 RefusesSite sites site Memory = (index_of sites site ≡ None) × (length sites < 1024)
 RefusesSite sites site TooMany = (index_of sites site ≡ None) × (length sites ≡ 1024)

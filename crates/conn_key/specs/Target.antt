@@ -4,9 +4,9 @@ use Rattle.std.specs.Result.{IsErr}
 use Rattle.url.specs.Parser.{parse_url}
 use Rattle.url.specs.Parts.{Parts, nonempty_host}
 use Rattle.url.specs.Host.{host_text}
-use Rattle.conn_key.specs.declared.read.Target.{Target}
-use Rattle.conn_key.specs.declared.read.KeyError.{KeyError}
-use Rattle.conn_key.specs.declared.read.KeyError.TheVariants.{Memory, NotUrl, NotHttp, TooLong}
+use Rattle.conn_key.specs.declared.target.Target.{Target}
+use Rattle.conn_key.specs.declared.target.KeyError.{KeyError}
+use Rattle.conn_key.specs.declared.target.KeyError.TheVariants.{Memory, NotUrl, NotHttp, TooLong}
 
 -- a query as a request writes it behind the path: with its `?`, or nothing where there is none
 -- (RFC 9112, section 3.2.1)

@@ -3,11 +3,13 @@
 #![tactic(auto)]
 
 mod key;
-mod read;
-mod table;
+mod site;
+mod sites;
+mod target;
 #[cfg(test)]
 mod tests;
 
 pub use key::Key;
-pub use read::{KeyError, Target, read_target};
-pub use table::{Site, Sites, SitesFault};
+pub use site::Site;
+pub use sites::{Sites, SitesFault};
+pub use target::{KeyError, Target, read_target};

@@ -35,7 +35,7 @@ pub enum KeyError {
 
 impl From<AllocError> for KeyError {
     ghost use Rattle.std.specs.Prelude.{◌≡◌};
-    ghost use Rattle.conn_key.specs.declared.read.KeyError.TheVariants.{Memory};
+    ghost use Rattle.conn_key.specs.declared.target.KeyError.TheVariants.{Memory};
 
     ghost from_gives = { λ _ e. e ≡ Memory };
 

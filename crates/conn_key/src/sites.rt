@@ -1,11 +1,12 @@
-ghost use Rattle.std.specs.Prelude.{◌≡◌, ◌≤◌, [], length, slice_get, option_copied, unwrap_or, IsTrue, ◌↔◌, IfOk, IfErr, OnOk, OnErr, string_bytes};
+ghost use Rattle.std.specs.Prelude.{◌≡◌, [], length, slice_get, option_copied, unwrap_or, IsTrue, ◌↔◌, IfSome, IfOk, IfErr, OnOk, OnErr, string_bytes};
 ghost use Rattle.std.specs.Result.{IsOkUnless};
 ghost use Rattle.std.specs.HashMap.{IsUnchanged};
 ghost use Rattle.conn_key.specs.Site.{site_of};
-ghost use Rattle.conn_key.specs.Sites.{index_of, with_site, AreDistinct, RefusesSite};
+ghost use Rattle.conn_key.specs.Sites.{index_of, with_site, IsSiteList, RefusesSite};
 ghost use Rattle.conn_key.specs.Index.{Notes, NotesHost, IsSameIndex};
 
-use crate::read::Target;
+use crate::site::Site;
+use crate::target::Target;
 use std::alloc::{AllocError, Global};
 use std::collections::HashMap;
 use std::marker::Model;
@@ -13,36 +14,6 @@ use thiserror::Error;
 
 /// The most sites that a list takes.
 const MOST_SITES: usize = 1024;
-
-/// What connections are opened to: a host and a port. Contracts see it as that pair.
-#[derive(Debug, Drop)]
-pub struct Site {
-    host: String,
-    port: u16,
-}
-
-impl Model for Site {
-    ghost use Rattle.std.specs.Prelude.{ℕ, List, string_bytes};
-
-    ghost Value = { List ℕ × ℕ };
-
-    ghost view = { λ site. (string_bytes site.host, site.port) };
-}
-
-impl Site {
-    /// The host as a URL writes it: a name, an IPv4 address, or an IPv6 address in brackets.
-    pub fn host(&self) -> &str
-        ensures { result.now ≡ self.now.0 }
-    {
-        self.host.as_str()
-    }
-
-    pub fn port(&self) -> u16
-        ensures { result ≡ self.now.1 }
-    {
-        self.port
-    }
-}
 
 /// Why a site wasn't added: there is no memory for it, or it is new and 1,024 are there.
 #[derive(Clone, Copy, Debug, PartialEq, Eq, Error)]
@@ -55,7 +26,7 @@ pub enum SitesFault {
 
 impl From<AllocError> for SitesFault {
     ghost use Rattle.std.specs.Prelude.{◌≡◌};
-    ghost use Rattle.conn_key.specs.declared.table.SitesFault.TheVariants.{Memory};
+    ghost use Rattle.conn_key.specs.declared.sites.SitesFault.TheVariants.{Memory};
 
     ghost from_gives = { λ _ e. e ≡ Memory };
 
@@ -75,13 +46,13 @@ pub struct Sites {
 
 impl Model for Sites {
     ghost use Rattle.std.specs.Prelude.{ℕ, List, vec_capacity};
-    ghost use Rattle.conn_key.specs.Index.{AreKept};
+    ghost use Rattle.conn_key.specs.Index.{IsIndexed};
 
     ghost Value = { List (List ℕ × ℕ) };
 
     ghost view = { λ s. s.list.items };
 
-    ghost invariant = { λ s. AreKept s.places s.list.items (vec_capacity s.list) };
+    ghost invariant = { λ s. IsIndexed s.places s.list.items (vec_capacity s.list) };
 }
 
 impl Sites {
@@ -105,13 +76,13 @@ impl Sites {
     /// After an error nothing has changed.
     pub fn add(&mut self, target: &Target) -> Result<u32, SitesFault>
         ensures index { IfOk result (λ i. i ≡ unwrap_or (index_of self.old (site_of target.now)) (length self.old)) }
+        ensures stands { IfOk result (λ i. slice_get self.new i ≡ Some (site_of target.now)) }
         ensures added { OnOk result (self.new ≡ with_site self.old (site_of target.now)) }
 
         ensures refused { IfErr result (RefusesSite self.old (site_of target.now)) }
         ensures unchanged { OnErr result (self.new ≡ self.old) }
 
-        ensures distinct { AreDistinct self.new }
-        ensures within { length self.new ≤ 1024 }
+        ensures valid { IsSiteList self.new }
     {
         if let Some(index) = self.find(target) {
             return Ok(index);
@@ -132,9 +103,9 @@ impl Sites {
 
     /// The index of the target's site, if it is there.
     pub fn find(&self, target: &Target) -> Option<u32>
-        ensures place { result ≡ index_of self.now (site_of target.now) }
-        ensures distinct { AreDistinct self.now }
-        ensures within { length self.now ≤ 1024 }
+        ensures index { result ≡ index_of self.now (site_of target.now) }
+        ensures stands { IfSome result (λ i. slice_get self.now i ≡ Some (site_of target.now)) }
+        ensures valid { IsSiteList self.now }
     {
         let hosts = self.places.get(&target.port)?;
         hosts.get(target.host.as_str()).copied()
@@ -143,8 +114,7 @@ impl Sites {
     /// How many sites there are.
     pub fn len(&self) -> usize
         ensures count { result ≡ length self.now }
-        ensures distinct { AreDistinct self.now }
-        ensures within { length self.now ≤ 1024 }
+        ensures valid { IsSiteList self.now }
     {
         self.list.len()
     }
