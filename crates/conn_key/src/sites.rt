@@ -1,8 +1,8 @@
-ghost use Rattle.std.specs.Prelude.{◌≡◌, [], length, slice_get, option_copied, unwrap_or, IsTrue, ◌↔◌, IfSome, IfOk, IfErr, OnOk, OnErr, string_bytes};
+ghost use Rattle.std.specs.Prelude.{◌≡◌, [], length, slice_get, option_copied, IsTrue, ◌↔◌, IfSome, IfOk, IfErr, OnOk, OnErr, string_bytes};
 ghost use Rattle.std.specs.Result.{IsOkUnless};
 ghost use Rattle.std.specs.HashMap.{IsUnchanged};
 ghost use Rattle.conn_key.specs.Site.{site_of};
-ghost use Rattle.conn_key.specs.Sites.{index_of, with_site, IsSiteList, RefusesSite};
+ghost use Rattle.conn_key.specs.Sites.{index_of, index_or_next, with_site, IsSiteList, RefusesSite};
 ghost use Rattle.conn_key.specs.Index.{Notes, NotesHost, IsSameIndex};
 
 use crate::site::Site;
@@ -75,7 +75,7 @@ impl Sites {
     /// Errors, only where the site is new: `TooMany` where 1,024 sites are there, else `Memory`.
     /// After an error nothing has changed.
     pub fn add(&mut self, target: &Target) -> Result<u32, SitesFault>
-        ensures index { IfOk result (λ i. i ≡ unwrap_or (index_of self.old (site_of target.now)) (length self.old)) }
+        ensures index { IfOk result (λ i. i ≡ index_or_next self.old (site_of target.now)) }
         ensures stands { IfOk result (λ i. slice_get self.new i ≡ Some (site_of target.now)) }
         ensures added { OnOk result (self.new ≡ with_site self.old (site_of target.now)) }
 
