@@ -2,3 +2,4 @@ pub mod Calls
 pub mod Idle
 pub mod State
 pub mod Lease
+pub mod Worked

@@ -8,6 +8,7 @@ mod lease;
 mod refusal;
 mod snapshot;
 mod state;
+pub mod worked;
 
 pub use host::Bundle;
 pub use lease::{Lease, Stray};

@@ -1,0 +1,87 @@
+-- What calls answer on small logs: each command of a worked script takes its log from the transcript's
+-- lines before the command to those after it.
+use Rattle.std.specs.Prelude.{◌≡◌, true, false, List, [], ◌∷◌, Some, None}
+use Rattle.conn_log.specs.declared.entry.Cause.TheVariants.{Dropped}
+use Rattle.conn_log.specs.declared.entry.Entry.{Entry}
+use Rattle.conn_log.specs.Legal.{Terms}
+use Rattle.conn_log.specs.Worked.{opened◌for◌at◌, closed◌for◌at◌, log_after, get, get_of_age_0, get_of_life_60, get_of_lane_1, keep, close, cut, limits, busy_and_no_such_site, reuse_then_drop, newest_is_reused, not_persistent_at_the_limit, idle_as_long_as_the_age, as_old_as_the_lifetime, another_lane_at_the_host_limit, forbidden_and_cut, moment_goes_back, moments_clamped_per_host}
+use Rattle.bundle.specs.declared.refusal.Refusal.TheVariants.{TransferBusy, Exhausted, AtLimit}
+use Rattle.bundle.specs.Calls.{after_acquire, after_give_back, after_abandon, refusal, is_stranger, newest_start}
+
+-- get 1 at 0; a second get by transfer 1 is refused busy
+pub record BusyAndNoSuchSite : Type 0 where
+  pub first_get : after_acquire (limits 4) [] (get 1) 0 ≡ log_after 1 busy_and_no_such_site
+  pub second_get : refusal (limits 4) (log_after 1 busy_and_no_such_site) (get 1) ≡ Some TransferBusy
+  pub another_get : refusal (limits 4) (log_after 1 busy_and_no_such_site) (get 2) ≡ None
+
+-- get 1 at 0, back 1 keep at 2, get 2 at 3, drop 2 at 4
+pub record ReuseThenDrop : Type 0 where
+  pub first_get : after_acquire (limits 1) [] (get 1) 0 ≡ log_after 1 reuse_then_drop
+  pub back : after_give_back (log_after 1 reuse_then_drop) 1 keep 2 ≡ log_after 2 reuse_then_drop
+  pub accepted : refusal (limits 1) (log_after 2 reuse_then_drop) (get 2) ≡ None
+  pub second_get : after_acquire (limits 1) (log_after 2 reuse_then_drop) (get 2) 3 ≡ log_after 3 reuse_then_drop
+  pub new : newest_start (log_after 1 reuse_then_drop) ≡ Some (record { number = 1; want = get 1; moment = 0; reused = false })
+  pub reused : newest_start (log_after 3 reuse_then_drop) ≡ Some (record { number = 1; want = get 2; moment = 3; reused = true })
+  pub no_stranger : is_stranger (log_after 3 reuse_then_drop) 2 1 ≡ false
+  pub stranger : is_stranger (log_after 3 reuse_then_drop) 1 1 ≡ true
+  pub dropped : after_abandon (log_after 3 reuse_then_drop) 1 4 ≡ log_after 4 reuse_then_drop
+
+-- get 1 at 0, get 2 at 0, back 1 keep at 5, back 2 keep at 9, get 3 at 9
+pub record NewestIsReused : Type 0 where
+  pub first_get : after_acquire (limits 4) [] (get 1) 0 ≡ log_after 1 newest_is_reused
+  pub second_get : after_acquire (limits 4) (log_after 1 newest_is_reused) (get 2) 0 ≡ log_after 2 newest_is_reused
+  pub first_back : after_give_back (log_after 2 newest_is_reused) 1 keep 5 ≡ log_after 3 newest_is_reused
+  pub second_back : after_give_back (log_after 3 newest_is_reused) 2 keep 9 ≡ log_after 4 newest_is_reused
+  pub third_get : after_acquire (limits 4) (log_after 4 newest_is_reused) (get 3) 9 ≡ log_after 5 newest_is_reused
+  pub reused : newest_start (log_after 5 newest_is_reused) ≡ Some (record { number = 2; want = get 3; moment = 9; reused = true })
+
+-- get 1 at 0; get 2 at 1 is refused at the limit; back 1 close at 2
+pub record NotPersistentAtTheLimit : Type 0 where
+  pub first_get : after_acquire (limits 1) [] (get 1) 0 ≡ log_after 1 not_persistent_at_the_limit
+  pub second_get : refusal (limits 1) (log_after 1 not_persistent_at_the_limit) (get 2) ≡ Some AtLimit
+  pub back : after_give_back (log_after 1 not_persistent_at_the_limit) 1 close 2 ≡ log_after 3 not_persistent_at_the_limit
+
+-- back 1 keep at 10, get 2 at 128
+pub record IdleAsLongAsTheAge : Type 0 where
+  pub back : after_give_back (log_after 1 idle_as_long_as_the_age) 1 keep 10 ≡ log_after 2 idle_as_long_as_the_age
+  pub second_get : after_acquire (limits 4) (log_after 2 idle_as_long_as_the_age) (get 2) 128 ≡ log_after 3 idle_as_long_as_the_age
+
+-- back 1 keep at 60, get 2 at 60 life 60
+pub record AsOldAsTheLifetime : Type 0 where
+  pub back : after_give_back (log_after 1 as_old_as_the_lifetime) 1 keep 60 ≡ log_after 2 as_old_as_the_lifetime
+  pub second_get : after_acquire (limits 4) (log_after 2 as_old_as_the_lifetime) get_of_life_60 60 ≡ log_after 3 as_old_as_the_lifetime
+
+-- back 1 keep at 2; get 2 of lane 1 at 3 closes the idle connection for room at the host
+pub record AnotherLaneAtTheHostLimit : Type 0 where
+  pub back : after_give_back (log_after 1 another_lane_at_the_host_limit) 1 keep 2 ≡ log_after 2 another_lane_at_the_host_limit
+  pub accepted : refusal (limits 1) (log_after 2 another_lane_at_the_host_limit) get_of_lane_1 ≡ None
+  pub second_get : after_acquire (limits 1) (log_after 2 another_lane_at_the_host_limit) get_of_lane_1 3 ≡ log_after 4 another_lane_at_the_host_limit
+
+-- back 1 keep at 1 of a get that forbids reuse, get 2 at 2, back 2 cut at 3
+pub record ForbiddenAndCut : Type 0 where
+  pub first_back : after_give_back (log_after 1 forbidden_and_cut) 1 keep 1 ≡ log_after 3 forbidden_and_cut
+  pub second_get : after_acquire (limits 4) (log_after 3 forbidden_and_cut) (get 2) 2 ≡ log_after 4 forbidden_and_cut
+  pub second_back : after_give_back (log_after 4 forbidden_and_cut) 2 cut 3 ≡ log_after 6 forbidden_and_cut
+
+-- back 1 keep at 20, get 2 at 15 age 0
+pub record MomentGoesBack : Type 0 where
+  pub back : after_give_back (log_after 1 moment_goes_back) 1 keep 20 ≡ log_after 2 moment_goes_back
+  pub second_get : after_acquire (limits 4) (log_after 2 moment_goes_back) get_of_age_0 15 ≡ log_after 3 moment_goes_back
+
+-- get 1 at 9, drop 1 at 1
+pub record MomentsClampedPerHost : Type 0 where
+  pub first_get : after_acquire (limits 1) [] (get 1) 9 ≡ log_after 1 moments_clamped_per_host
+  pub dropped : after_abandon (log_after 1 moments_clamped_per_host) 1 1 ≡ closed 1 for Dropped at 9 ∷ log_after 1 moments_clamped_per_host
+
+-- a host whose first connection number is the last one there is
+abbrev pub last_one : Terms
+last_one = record { limit = 1; first = 4294967295 }
+
+abbrev pub last_opened : List Entry
+last_opened = opened 4294967295 for get 1 at 0 ∷ []
+
+pub record NumbersRunOut : Type 0 where
+  pub first_get : after_acquire last_one [] (get 1) 0 ≡ last_opened
+  pub another_get : refusal last_one last_opened (get 2) ≡ Some Exhausted
+  pub second_get : refusal last_one last_opened (get 1) ≡ Some TransferBusy
+  pub once_idle : refusal last_one (after_give_back last_opened 4294967295 keep 1) (get 2) ≡ Some Exhausted

@@ -1,0 +1,18 @@
+//! Small logs whose answers are known, against which the definitions of the calls were tried.
+
+ghost use Rattle.bundle.specs.Worked.{BusyAndNoSuchSite, ReuseThenDrop, NewestIsReused, NotPersistentAtTheLimit, IdleAsLongAsTheAge, AsOldAsTheLifetime, AnotherLaneAtTheHostLimit, ForbiddenAndCut, MomentGoesBack, MomentsClampedPerHost, NumbersRunOut};
+
+/// What calls answer on small logs, by computation: each clause is named for the script of its log.
+pub fn worked_calls()
+    ensures busy_and_no_such_site { BusyAndNoSuchSite }
+    ensures reuse_then_drop { ReuseThenDrop }
+    ensures newest_is_reused { NewestIsReused }
+    ensures not_persistent_at_the_limit { NotPersistentAtTheLimit }
+    ensures idle_as_long_as_the_age { IdleAsLongAsTheAge }
+    ensures as_old_as_the_lifetime { AsOldAsTheLifetime }
+    ensures another_lane_at_the_host_limit { AnotherLaneAtTheHostLimit }
+    ensures forbidden_and_cut { ForbiddenAndCut }
+    ensures moment_goes_back { MomentGoesBack }
+    ensures moments_clamped_per_host { MomentsClampedPerHost }
+    ensures numbers_run_out { NumbersRunOut }
+{}
