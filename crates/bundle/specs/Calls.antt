@@ -71,7 +71,7 @@ with_owed_close moment log = close_if_owed moment log (owed log)
 abbrev pub after_give_back : List Entry → ℕ → Facts → ℕ → List Entry
 after_give_back log c facts now = let moment = moment_at log now in with_owed_close moment (add moment (Returned c facts) log)
 
--- the log after a lease is after_abandon
+-- the log after a lease is abandoned
 abbrev pub after_abandon : List Entry → ℕ → ℕ → List Entry
 after_abandon log c now = add (moment_at log now) (Closed c Dropped) log
 

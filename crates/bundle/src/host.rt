@@ -3,6 +3,7 @@ ghost use Rattle.conn_log.specs.declared.entry.Entry.{Entry};
 ghost use Rattle.conn_log.specs.Connections.{is_open, is_held_by, held_number, open_connections, idle_connections};
 ghost use Rattle.conn_log.specs.Fit.{oldest_stamp};
 ghost use Rattle.conn_log.specs.Legal.{IsLegal, IsQuiet};
+ghost use Rattle.conn_log.specs.Sound.{IsSound};
 ghost use Rattle.bundle.specs.Calls.{after_acquire, after_give_back, after_abandon, newest_start, refusal, is_at_limit, GrowsBy};
 ghost use Rattle.bundle.specs.Idle.{stream_of};
 ghost use Rattle.bundle.specs.Lease.{OneHost, Leasing, KeepsOthers, StaysThere, snapshot_of, FindsNoneTooOld};
@@ -59,6 +60,7 @@ impl<S: Drop> Bundle<S> {
     /// connection and one for each idle one, so that spending a lease takes no memory.
     pub fn log(&self) -> &Log
         ensures entries { result.now.entries ≡ self.now.log }
+        ensures sound { IsSound self.now.terms self.now.log }
         ensures legal { IsLegal self.now.terms self.now.log }
         ensures quiet { IsQuiet self.now.terms false self.now.log }
         ensures room { let leased = length (open_connections self.now.log) - length (idle_connections self.now.log) in 2 * leased + length (idle_connections self.now.log) ≤ result.now.room }

@@ -7,7 +7,7 @@ use std::marker::Model;
 /// One transfer's use of one connection. It has to be spent: given back, or abandoned.
 pub struct Lease<S> {
     number: u32,
-    want: Want,
+    wanted: Want,
     moment: u64,
     reused: bool,
     stream: Option<S>,
@@ -18,7 +18,7 @@ impl<S> Model for Lease<S> {
 
     ghost Value = { Leasing S };
 
-    ghost view = { λ lease. record { start = record { number = lease.number; want = lease.want; moment = lease.moment; reused = lease.reused }; stream = lease.stream } };
+    ghost view = { λ lease. record { start = record { number = lease.number; want = lease.wanted; moment = lease.moment; reused = lease.reused }; stream = lease.stream } };
 }
 
 impl<S> Lease<S> {
@@ -28,7 +28,7 @@ impl<S> Lease<S> {
     {
         Lease {
             number,
-            want,
+            wanted: want,
             moment,
             reused: false,
             stream: None,
@@ -41,7 +41,7 @@ impl<S> Lease<S> {
     {
         Lease {
             number,
-            want,
+            wanted: want,
             moment,
             reused: true,
             stream: Some(stream),
@@ -54,7 +54,7 @@ impl<S> Lease<S> {
     {
         let Lease {
             number: _,
-            want: _,
+            wanted: _,
             moment: _,
             reused: _,
             stream,
@@ -73,14 +73,14 @@ impl<S> Lease<S> {
     pub fn transfer(&self) -> u64
         ensures { result ≡ self.now.start.want.transfer }
     {
-        self.want.transfer
+        self.want().transfer
     }
 
     /// What the transfer wanted.
     pub fn want(&self) -> Want
         ensures { result ≡ self.now.start.want }
     {
-        self.want
+        self.wanted
     }
 
     /// The moment of its start, in seconds.

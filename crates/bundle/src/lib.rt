@@ -8,6 +8,8 @@ mod lease;
 mod refusal;
 mod snapshot;
 mod state;
+#[cfg(test)]
+mod tests;
 pub mod worked;
 
 pub use host::Bundle;

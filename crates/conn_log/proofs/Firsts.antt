@@ -6,7 +6,7 @@ use mathlib.Core.Bool.{false≢true}
 use Rattle.std.proofs.lemmas.Bool.Decides.{nat_tests, eqb_tells}
 use Rattle.conn_log.specs.declared.entry.Want.{Want}
 use Rattle.conn_log.specs.declared.entry.Entry.{Entry}
-use Rattle.conn_log.specs.Connections.{is_among, idle_connections, is_idle, since}
+use Rattle.conn_log.specs.Connections.{is_among, idle_connections, is_idle}
 use Rattle.conn_log.specs.Fit.{first_by, is_earlier, suits, newest_fit, oldest}
 use Rattle.conn_log.proofs.Numbers.{is_among-filter}
 

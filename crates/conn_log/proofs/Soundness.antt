@@ -1,25 +1,21 @@
 -- What a step adds keeps a log sound.
-use Rattle.std.proofs.Common.{◌≡◌, ℕ, ◌+◌, ◌<◌, ◌≤◌, Bool, true, false, not, ◌&&◌, ◌||◌, List, [], ◌∷◌, length, Option, Some, None, IsSome, IsTrue, is_some, is_none, refl, sym, ap, subst, inl, inr, ◌∙◌, arith}
+use Rattle.std.proofs.Common.{◌≡◌, ℕ, ◌+◌, ◌<◌, ◌≤◌, Bool, true, false, not, ◌&&◌, List, [], ◌∷◌, length, Option, Some, None, is_some, refl, sym, ap, subst, ◌∙◌, arith}
 use Rattle.std.specs.Prelude.{◌==◌, if◌then◌else◌}
-use Rattle.std.specs.Option.{option_map, option_map_or, option_and_then}
+use Rattle.std.specs.Option.{option_map_or}
 use Rattle.std.specs.List.{list_any}
 use mathlib.Core.Bool.{false≢true}
-use Rattle.std.proofs.lemmas.Bool.Decides.{nat_tests, eqb_tells}
+use Rattle.std.proofs.lemmas.Bool.Decides.{nat_tests}
 use Rattle.persistence.specs.declared.facts.Facts.{Facts}
-use Rattle.persistence.specs.Persistent.{is_persistent}
 use Rattle.conn_log.specs.declared.entry.Want.{Want}
-use Rattle.conn_log.specs.declared.entry.Cause.{Cause}
-use Rattle.conn_log.specs.declared.entry.Cause.TheVariants.{NotPersistent, Cut, Forbidden, TooOld, HostRoom, TotalRoom, CacheFull, Dropped, Withdrawn, Pruned}
-use Rattle.conn_log.specs.declared.entry.Event.{Event}
-use Rattle.conn_log.specs.declared.entry.Event.TheVariants.{Opened, Leased, Returned, Closed, Waited, Left}
+use Rattle.conn_log.specs.declared.entry.Cause.TheVariants.{NotPersistent, Cut, Forbidden, HostRoom, Dropped}
+use Rattle.conn_log.specs.declared.entry.Event.TheVariants.{Opened, Leased, Returned, Closed}
 use Rattle.conn_log.specs.declared.entry.Entry.{Entry}
-use Rattle.conn_log.specs.Connections.{held_number, unless_it_is, is_among, last_moment, opened, greatest, is_closed, open_connections, is_open, holder_want, is_held_by, holds, idle_connections, is_idle}
-use Rattle.conn_log.specs.Waiting.{waiting}
+use Rattle.conn_log.specs.Connections.{held_number, is_among, last_moment, opened, greatest, open_connections, is_open, holder_want, is_held_by, holds, is_idle}
 use Rattle.conn_log.specs.Fit.{is_fit, suits}
-use Rattle.conn_log.specs.Legal.{Terms, ends_use, ending_cause, owed, owed_for, IsFirst, MayStart, IsLegal, IsQuiet, IsAnyone, MayClose}
+use Rattle.conn_log.specs.Legal.{Terms, ends_use, ending_cause, owed, MayStartAmong, MayStart, IsQuiet, IsAnyone, MayClose}
 use Rattle.conn_log.specs.Sound.{IsOrderly, IsSound, has_number}
 use Rattle.conn_log.proofs.Numbers.{le-greatest}
-use Rattle.conn_log.proofs.Steps.{is_open_is, is_idle_is, opened_not_closed, idle_open_unheld, gone_closed, gone_ended, orderly_open, orderly_lease, orderly_return, orderly_gone}
+use Rattle.conn_log.proofs.Steps.{idle_open_unheld, gone_closed, gone_ended, orderly_open, orderly_lease, orderly_return, orderly_gone}
 
 pub and_left : (a b : Bool) → (a && b) ≡ true → a ≡ true
 and_left true b both = refl
@@ -63,7 +59,7 @@ module _ (terms : Terms) (log : List Entry) (orderly : IsOrderly terms log) wher
 
   -- nobody waits, so who holds nothing may start
   pub may_start : (want : Want) → held_number log want.transfer ≡ None → MayStart log want
-  may_start want free = subst (λ ws. IsFirst ws (holds log want.transfer) want) (sym orderly.nobody_waits) (holds_is want.transfer ∙ ap is_some free)
+  may_start want free = subst (λ ws. MayStartAmong ws (holds log want.transfer) want) (sym orderly.nobody_waits) (holds_is want.transfer ∙ ap is_some free)
 
   -- nobody waits, so it is quiet where no close is owed
   pub quiet : owed log ≡ None → IsQuiet terms false log

@@ -8,11 +8,12 @@ use Rattle.conn_log.specs.declared.entry.Want.{Want}
 use Rattle.conn_log.specs.declared.entry.Event.{Event}
 use Rattle.conn_log.specs.declared.entry.Event.TheVariants.{Opened, Leased, Returned, Closed, Waited, Left}
 use Rattle.conn_log.specs.declared.entry.Entry.{Entry}
-use Rattle.conn_log.specs.Waiting.{waiting, is_taken, is_left_waiting}
+use Rattle.conn_log.specs.Waiting.{waiting}
+use Rattle.conn_log.specs.Scan.{is_wait_ended, is_left_waiting}
 
 -- none of the entries takes the want's transfer
 abbrev pub is_untaken : List Entry → Want → Bool
-is_untaken others want = not (is_taken others want.transfer)
+is_untaken others want = not (is_wait_ended others want.transfer)
 
 -- a filter of a filter asks both tests
 pub filter-filter : {X : Type 0} (p q r : X → Bool) → ((x : X) → r x ≡ (q x && p x)) → (xs : List X) → filter p (filter q xs) ≡ filter r xs

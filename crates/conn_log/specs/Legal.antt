@@ -39,12 +39,12 @@ owed [] = None
 owed (e ∷ before) = owed_by e.event before
 
 -- may start: the first one that waits, and where nobody waits whoever holds nothing
-abbrev pub IsFirst : List Want → Bool → Want → Type 0
-IsFirst [] is_holding want = is_holding ≡ false
-IsFirst (head ∷ others) is_holding want = want ≡ head
+abbrev pub MayStartAmong : List Want → Bool → Want → Type 0
+MayStartAmong [] is_holding want = is_holding ≡ false
+MayStartAmong (head ∷ others) is_holding want = want ≡ head
 
 abbrev pub MayStart : List Entry → Want → Type 0
-MayStart log want = IsFirst (waiting log) (holds log want.transfer) want
+MayStart log want = MayStartAmong (waiting log) (holds log want.transfer) want
 
 -- the number is the next one, there is room at the host, and the transfer may start
 pub record MayOpen (terms : Terms) (before : List Entry) (c : ℕ) (want : Want) : Type 0 where
@@ -87,12 +87,13 @@ abbrev pub IsLegal : Terms → List Entry → Type 0
 IsLegal terms [] = Unit {0}
 IsLegal terms (e ∷ before) = (last_moment before ≤ e.moment) × Allows terms before e.moment e.event × IsLegal terms before
 
+-- someone waits
 abbrev pub IsAnyone : List Want → Type 0
 IsAnyone [] = ⊥
 IsAnyone (want ∷ others) = Unit {0}
 
--- quiet: nobody waits beside an idle connection or beside room at the host, unless the host is queued
--- for room among all hosts; it is queued only for one who waits beside room; and no close is owed
+-- quiet: where anyone waits nothing is idle, and the host is at its limit or queued for room among all
+-- hosts; it is queued only where someone waits and the host has room; and no close is owed
 pub record IsQuiet (terms : Terms) (queued : Bool) (log : List Entry) : Type 0 where
   pub none_idle : IsAnyone (waiting log) → idle_connections log ≡ []
   pub no_room : IsAnyone (waiting log) → (length (open_connections log) ≡ terms.limit) ⊎ IsTrue queued

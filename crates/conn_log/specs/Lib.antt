@@ -1,5 +1,6 @@
 pub mod Connections
 pub mod Waiting
+pub mod Scan
 pub mod Fit
 pub mod Legal
 pub mod Worked

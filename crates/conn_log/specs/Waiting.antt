@@ -1,5 +1,5 @@
 -- What a log says of the transfers that wait.
-use Rattle.std.specs.Prelude.{ℕ, Bool, false, not, ◌==◌, ◌||◌, List, [], ◌∷◌, ◌++◌, filter}
+use Rattle.std.specs.Prelude.{ℕ, Bool, not, ◌==◌, List, [], ◌∷◌, ◌++◌, filter}
 use Rattle.std.specs.List.{list_any}
 use Rattle.conn_log.specs.declared.entry.Want.{Want}
 use Rattle.conn_log.specs.declared.entry.Event.{Event}
@@ -25,20 +25,3 @@ waiting (e ∷ before) = waiting_after e.event (waiting before)
 -- the transfer waits
 abbrev pub waits : List Entry → ℕ → Bool
 waits log transfer = list_any (λ (want : Want). want.transfer == transfer) (waiting log)
-
--- the event starts the transfer, or lets it leave
-abbrev pub takes : Event → ℕ → Bool
-takes (Opened c want) transfer = transfer == want.transfer
-takes (Leased c want) transfer = transfer == want.transfer
-takes (Left other) transfer = transfer == other
-takes _ transfer = false
-
--- some entry of these takes the transfer
-abbrev pub is_taken : List Entry → ℕ → Bool
-is_taken [] transfer = false
-is_taken (e ∷ others) transfer = takes e.event transfer || is_taken others transfer
-
--- the event begins a wait that none of these entries ends
-abbrev pub is_left_waiting : Event → List Entry → Bool
-is_left_waiting (Waited want) others = not (is_taken others want.transfer)
-is_left_waiting _ others = false

@@ -2,7 +2,8 @@
 
 ghost use Rattle.std.specs.Prelude.{◌≡◌, ℕ, ◌+◌, ◌<◌, ◌≤◌, List, ◌∷◌, length, reverse, filter, not};
 ghost use Rattle.conn_log.specs.Connections.{open_connections, is_closed, holder as holder_of, since as since_of};
-ghost use Rattle.conn_log.specs.Waiting.{waiting, is_taken, is_left_waiting};
+ghost use Rattle.conn_log.specs.Waiting.{waiting};
+ghost use Rattle.conn_log.specs.Scan.{is_wait_ended, is_left_waiting};
 ghost use Rattle.conn_log.specs.Fit.{oldest_stamp};
 
 use crate::entry::{Entry, Event};
@@ -148,18 +149,18 @@ fn still_waits(entry: &Entry, later: &[Entry]) -> bool
     ensures { result ≡ is_left_waiting entry.now.event later.now }
 {
     match entry.event {
-        Event::Waited { want } => !is_taken_in(later, want.transfer),
+        Event::Waited { want } => !ends_wait_of(later, want.transfer),
         _ => false,
     }
 }
 
-// Whether the entries start the transfer or let it leave.
-fn is_taken_in(entries: &[Entry], transfer: u64) -> bool
-    ensures { result ≡ is_taken entries.now transfer }
+// Whether one of the entries ends the transfer's wait.
+fn ends_wait_of(entries: &[Entry], transfer: u64) -> bool
+    ensures { result ≡ is_wait_ended entries.now transfer }
 {
-    let mut taken = false;
+    let mut ended = false;
     for entry in entries {
-        taken = taken
+        ended = ended
             || match entry.event {
                 Event::Opened { want, .. } | Event::Leased { want, .. } => transfer
                     == want.transfer,
@@ -167,5 +168,5 @@ fn is_taken_in(entries: &[Entry], transfer: u64) -> bool
                 _ => false,
             };
     }
-    taken
+    ended
 }

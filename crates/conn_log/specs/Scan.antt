@@ -1,0 +1,23 @@
+-- What the plain readers ask of a part of a log: whether what waits in one entry still waits after
+-- the entries that came later. The model of a log needs none of it.
+use Rattle.std.specs.Prelude.{ℕ, Bool, false, not, ◌==◌, ◌||◌, List, [], ◌∷◌}
+use Rattle.conn_log.specs.declared.entry.Event.{Event}
+use Rattle.conn_log.specs.declared.entry.Event.TheVariants.{Opened, Leased, Waited, Left}
+use Rattle.conn_log.specs.declared.entry.Entry.{Entry}
+
+-- the event ends that transfer's wait: it starts, or leaves
+abbrev pub ends_wait : Event → ℕ → Bool
+ends_wait (Opened c want) transfer = transfer == want.transfer
+ends_wait (Leased c want) transfer = transfer == want.transfer
+ends_wait (Left other) transfer = transfer == other
+ends_wait _ transfer = false
+
+-- some entry of these ends it
+abbrev pub is_wait_ended : List Entry → ℕ → Bool
+is_wait_ended [] transfer = false
+is_wait_ended (e ∷ others) transfer = ends_wait e.event transfer || is_wait_ended others transfer
+
+-- the event begins a wait that none of these entries ends
+abbrev pub is_left_waiting : Event → List Entry → Bool
+is_left_waiting (Waited want) others = not (is_wait_ended others want.transfer)
+is_left_waiting _ others = false
