@@ -1,0 +1,9 @@
+pub mod Splits
+pub mod LineSplits
+pub mod Numbers
+pub mod Streaming
+pub mod Growth
+pub mod Leases
+pub mod Answering
+pub mod Running
+pub mod Asking

@@ -1,0 +1,299 @@
+-- The lines of a script that were run, and those that are left.
+use Rattle.std.proofs.Common.{◌≡◌, ℕ, ◌+◌, ◌<◌, ◌≤◌, Bool, true, false, cond, List, [], ◌∷◌, ◌++◌, length, refl, ap, sym, ◌∙◌, arith, Option, Some, None, Result, Ok, Err, append_assoc, append-nil, subst, inl, inr}
+use Rattle.std.specs.Io.KnownBytes.{Appends, Consumes, IsAtEnd}
+use Rattle.std.proofs.KnownBytes.{Appends-nil, Appends-trans}
+use Rattle.pool_cli.specs.declared.fault.FaultKind.{FaultKind}
+use Rattle.pool_cli.specs.declared.fault.FaultKind.TheVariants.{Memory, Read, Write, ScriptTooLong, LineTooLong, Unknown, Form, Place, BadLimits, BadSite, TooManySites}
+use Rattle.pool_cli.specs.declared.fault.ScriptFault.{ScriptFault}
+use Rattle.pool_cli.specs.declared.command.Command.{Command}
+use Rattle.pool_cli.specs.declared.command.Command.TheVariants as commands
+use Rattle.pool_cli.specs.declared.command.Limits.{Limits}
+use Rattle.pool_cli.specs.Words.{words}
+use Rattle.pool_cli.specs.Grammar.{reading, reading_of, present, command_of, formed, limits_form, site_form, get_form, back_form, drop_form, look_form}
+use Rattle.std.specs.Str.{bytes_eq}
+use Rattle.std.specs.Prelude.{codes}
+use Rattle.pool_cli.specs.Lines.{lines}
+use Rattle.pool_cli.specs.Meaning.{Run, start, step, with_limits, with_site, with_command}
+use Rattle.pool_cli.specs.Transcript.{Transcript, told, before_others, line_step, line_step_of, Ends, EndsBy, FailsBy, transcript}
+use Rattle.pool_cli.specs.Running.{RunsLines, LineFails, RunsScript, ReadsAll, ReadsOn}
+use Rattle.pool_cli.specs.Streams.{ReadFails}
+use Rattle.std.proofs.lemmas.Bool.{le-ltb, lt-ltb}
+use Rattle.std.proofs.lemmas.List.{length-append}
+
+-- the faults that a line can have
+is_of_line : FaultKind → Bool
+is_of_line LineTooLong = true
+is_of_line Unknown = true
+is_of_line Form = true
+is_of_line Place = true
+is_of_line BadLimits = true
+is_of_line BadSite = true
+is_of_line TooManySites = true
+is_of_line _ = false
+
+-- what a line means fails by no other
+abbrev OfLine : {A : Type 0} → Result A FaultKind → Type 0
+OfLine r = (kind : FaultKind) → r ≡ Err kind → is_of_line kind ≡ true
+
+ok-of : {A : Type 0} (x : A) → OfLine (Ok x)
+ok-of x = λ kind e. cc
+
+err-of : {A : Type 0} (of : FaultKind) → is_of_line of ≡ true → OfLine {A = A} (Err of)
+err-of of h = λ kind e. let same : of ≡ kind = cc in subst (λ k. is_of_line k ≡ true) same h
+
+either-of : {A : Type 0} (b : Bool) (x y : Result A FaultKind) → OfLine x → OfLine y → OfLine (cond b x y)
+either-of true x y p q = p
+either-of false x y p q = q
+
+formed-of : (c : Option Command) → OfLine (formed c)
+unfolding is_of_line
+formed-of None = err-of Form refl
+formed-of (Some c) = ok-of c
+
+command-of : (name : List ℕ) (rest : List (List ℕ)) → OfLine (command_of name rest)
+unfolding command_of is_of_line
+command-of name rest = either-of (bytes_eq name (codes "limits")) (formed (limits_form rest)) _ (formed-of (limits_form rest)) (either-of (bytes_eq name (codes "site")) (formed (site_form rest)) _ (formed-of (site_form rest)) (either-of (bytes_eq name (codes "get")) (formed (get_form rest)) _ (formed-of (get_form rest)) (either-of (bytes_eq name (codes "back")) (formed (back_form rest)) _ (formed-of (back_form rest)) (either-of (bytes_eq name (codes "drop")) (formed (drop_form rest)) _ (formed-of (drop_form rest)) (either-of (bytes_eq name (codes "look")) (formed (look_form rest)) _ (formed-of (look_form rest)) (err-of Unknown refl))))))
+
+present-of : (r : Result Command FaultKind) → OfLine r → OfLine (present r)
+present-of (Ok c) h = ok-of (Some c)
+present-of (Err of) h = err-of of (h of refl)
+
+words-of : (ws : List (List ℕ)) → OfLine (reading_of ws)
+words-of [] = ok-of None
+words-of (name ∷ rest) = present-of (command_of name rest) (command-of name rest)
+
+reading-of : (line : List ℕ) → OfLine (reading line)
+unfolding reading is_of_line
+reading-of line = either-of _ _ _ (err-of LineTooLong refl) (either-of _ _ _ (ok-of None) (words-of (words line)))
+
+limits-of : (run : Run) (limits : Limits) (before : Option Limits) → OfLine (with_limits run limits before)
+unfolding is_of_line
+limits-of run limits (Some others) = err-of Place refl
+limits-of run limits None = either-of _ _ _ (ok-of _) (err-of BadLimits refl)
+
+site-of : (run : Run) (is_url : Bool) (before : Option Limits) → OfLine (with_site run is_url before)
+unfolding is_of_line
+site-of run is_url None = err-of Place refl
+site-of run is_url (Some limits) = either-of _ _ _ (err-of Place refl) (either-of _ _ _ (err-of BadSite refl) (either-of _ _ _ (err-of TooManySites refl) (ok-of _)))
+
+asked-of : (run : Run) (command : Command) (before : Option Limits) → OfLine (with_command run command before)
+unfolding is_of_line
+asked-of run command None = err-of Place refl
+asked-of run command (Some limits) = ok-of _
+
+step-of : (run : Run) (command : Command) → OfLine (step run command)
+unfolding step
+step-of run (commands.Limits limits) = limits-of run limits run.limits
+step-of run (commands.Site is_url) = site-of run is_url run.limits
+step-of run (commands.Get transfer site moment) = asked-of run (commands.Get transfer site moment) run.limits
+step-of run (commands.Back transfer site ending moment) = asked-of run (commands.Back transfer site ending moment) run.limits
+step-of run (commands.Drop transfer site moment) = asked-of run (commands.Drop transfer site moment) run.limits
+step-of run (commands.Look site) = asked-of run (commands.Look site) run.limits
+
+line-step-of : (run : Run) (r : Result (Option Command) FaultKind) → OfLine r → OfLine (line_step_of run r)
+line-step-of run (Err of) h = err-of of (h of refl)
+line-step-of run (Ok None) h = ok-of _
+line-step-of run (Ok (Some command)) h = step-of run command
+
+line-of : (run : Run) (line : List ℕ) → OfLine (line_step run line)
+unfolding line_step
+line-of run line = line-step-of run (reading line) (reading-of line)
+
+not-read : (run : Run) (line : List ℕ) → line_step run line ≡ Err Read → ⊥
+unfolding is_of_line
+not-read run line e = let no : false ≡ true = line-of run line Read e in cc
+
+not-write : (run : Run) (line : List ℕ) → line_step run line ≡ Err Write → ⊥
+unfolding is_of_line
+not-write run line e = let no : false ≡ true = line-of run line Write e in cc
+
+-- a line that fails before it writes
+pub line-fails : (contents : Option (List ℕ)) (run : Run) (line : List ℕ) (kind : FaultKind) → FailsBy (line_step run line) kind → LineFails contents contents (line_step run line) kind
+line-fails contents run line Memory fails = Appends-nil contents
+line-fails contents run line Write fails = absurd (not-write run line fails)
+line-fails contents run line Read fails = (fails, Appends-nil contents)
+line-fails contents run line ScriptTooLong fails = (fails, Appends-nil contents)
+line-fails contents run line LineTooLong fails = (fails, Appends-nil contents)
+line-fails contents run line Unknown fails = (fails, Appends-nil contents)
+line-fails contents run line Form fails = (fails, Appends-nil contents)
+line-fails contents run line Place fails = (fails, Appends-nil contents)
+line-fails contents run line BadLimits fails = (fails, Appends-nil contents)
+line-fails contents run line BadSite fails = (fails, Appends-nil contents)
+line-fails contents run line TooManySites fails = (fails, Appends-nil contents)
+
+-- what is written so far, and the transcript of what is left, is all
+abbrev pub after_written : List ℕ → Transcript → Transcript
+after_written written t = record { written = written ++ t.written; fault = t.fault }
+
+pub record RunSoFar (old mid : Option (List ℕ)) (all left : Transcript) : Type 0 where
+  pub written : List ℕ
+  pub appended : Appends old mid written
+  pub whole : all ≡ after_written written left
+
+pub run-none : (old : Option (List ℕ)) (all : Transcript) → RunSoFar old old all all
+run-none old all = record { written = []; appended = Appends-nil old; whole = refl }
+
+pub run-more : (old mid new : Option (List ℕ)) (all : Transcript) (run next : Run) (n : ℕ) (line text : List ℕ) (others : List (List ℕ))
+    → RunSoFar old mid all (told run n (line ∷ others)) → line_step run line ≡ Ok (next, text) → Appends mid new text → RunSoFar old new all (told next (n + 1) others)
+run-more old mid new all run next n line text others so_far e more =
+    record {
+      written = so_far.written ++ text;
+      appended = Appends-trans old mid new so_far.written text so_far.appended more;
+      whole = so_far.whole
+          ∙ ap (λ r. after_written so_far.written (before_others n r (λ next. told next (n + 1) others))) e
+          ∙ ap (λ w. record { written = w; fault = (told next (n + 1) others).fault }) (sym (append_assoc so_far.written text (told next (n + 1) others).written));
+    }
+
+pub run-end : {A : Type 0} (old mid : Option (List ℕ)) (all : Transcript) (run : Run) (n : ℕ) (left : List (List ℕ)) (done : A) → left ≡ []
+    → RunSoFar old mid all (told run n left) → RunsLines old mid all (Ok done)
+run-end old mid all run n left done none so_far =
+    record {
+      written = so_far.written;
+      appended = so_far.appended;
+      ends = so_far.whole ∙ ap (λ l. after_written so_far.written (told run n l)) none ∙ ap (λ w. record { written = w; fault = None }) (append-nil so_far.written);
+    }
+
+-- want of memory leaves a front
+pub run-short : {A : Type 0} (old mid : Option (List ℕ)) (all left : Transcript) (fault : ScriptFault) → fault.kind ≡ Memory → RunSoFar old mid all left → RunsLines {A = A} old mid all (Err fault)
+run-short old mid all left fault is so_far =
+    record {
+      written = so_far.written;
+      appended = so_far.appended;
+      ends = subst (EndsBy all fault so_far.written) (sym is) (left.written, ap (λ t. t.written) so_far.whole);
+    }
+
+kept : (old mid new : Option (List ℕ)) (written : List ℕ) → Appends old mid written → Appends mid new [] → Appends old new written
+kept old mid new written p q = rw (sym (append-nil written)) (Appends-trans old mid new written [] p q)
+
+-- a line that fails ends the run
+stopped : (old mid new : Option (List ℕ)) (all : Transcript) (run : Run) (n : ℕ) (line : List ℕ) (others : List (List ℕ)) (kind : FaultKind)
+    → RunSoFar old mid all (told run n (line ∷ others)) → line_step run line ≡ Err kind → Appends mid new []
+    → (written : List ℕ) × Appends old new written × (all ≡ record { written = written; fault = Some (record { line = n; kind = kind }) })
+stopped old mid new all run n line others kind so_far e same = (
+  so_far.written,
+  kept old mid new so_far.written so_far.appended same,
+  so_far.whole ∙ ap (λ r. after_written so_far.written (before_others n r (λ next. told next (n + 1) others))) e
+      ∙ ap (λ w. record { written = w; fault = Some (record { line = n; kind = kind }) }) (append-nil so_far.written),
+)
+
+pub run-fails : {A : Type 0} (old mid new : Option (List ℕ)) (all : Transcript) (run : Run) (n : ℕ) (line : List ℕ) (others : List (List ℕ)) (kind : FaultKind)
+    → RunSoFar old mid all (told run n (line ∷ others)) → LineFails mid new (line_step run line) kind → RunsLines {A = A} old new all (Err (record { line = n; kind = kind }))
+run-fails old mid new all run n line others Memory so_far fails =
+    record { written = so_far.written; appended = kept old mid new so_far.written so_far.appended fails; ends = ((told run n (line ∷ others)).written, ap (λ t. t.written) so_far.whole) }
+run-fails old mid new all run n line others Write so_far (next, front, e, is_front, appended) =
+    let rest = told next.0 (n + 1) others in
+    record {
+      written = so_far.written ++ front;
+      appended = Appends-trans old mid new so_far.written front so_far.appended appended;
+      ends = (
+        is_front.0 ++ rest.written,
+        ap (λ t. t.written) (so_far.whole ∙ ap (λ r. after_written so_far.written (before_others n r (λ next. told next (n + 1) others))) e)
+            ∙ ap (λ text. so_far.written ++ (text ++ rest.written)) is_front.1
+            ∙ ap (λ l. so_far.written ++ l) (append_assoc front is_front.0 rest.written)
+            ∙ sym (append_assoc so_far.written front (is_front.0 ++ rest.written)),
+      );
+    }
+run-fails old mid new all run n line others Read so_far fails = absurd (not-read run line fails.0)
+run-fails old mid new all run n line others ScriptTooLong so_far fails = let s = stopped old mid new all run n line others _ so_far fails.0 fails.1 in record { written = s.0; appended = s.1; ends = s.2 }
+run-fails old mid new all run n line others LineTooLong so_far fails = let s = stopped old mid new all run n line others _ so_far fails.0 fails.1 in record { written = s.0; appended = s.1; ends = s.2 }
+run-fails old mid new all run n line others Unknown so_far fails = let s = stopped old mid new all run n line others _ so_far fails.0 fails.1 in record { written = s.0; appended = s.1; ends = s.2 }
+run-fails old mid new all run n line others Form so_far fails = let s = stopped old mid new all run n line others _ so_far fails.0 fails.1 in record { written = s.0; appended = s.1; ends = s.2 }
+run-fails old mid new all run n line others Place so_far fails = let s = stopped old mid new all run n line others _ so_far fails.0 fails.1 in record { written = s.0; appended = s.1; ends = s.2 }
+run-fails old mid new all run n line others BadLimits so_far fails = let s = stopped old mid new all run n line others _ so_far fails.0 fails.1 in record { written = s.0; appended = s.1; ends = s.2 }
+run-fails old mid new all run n line others BadSite so_far fails = let s = stopped old mid new all run n line others _ so_far fails.0 fails.1 in record { written = s.0; appended = s.1; ends = s.2 }
+run-fails old mid new all run n line others TooManySites so_far fails = let s = stopped old mid new all run n line others _ so_far fails.0 fails.1 in record { written = s.0; appended = s.1; ends = s.2 }
+
+pub no-lines : (rest : List ℕ) → length rest ≡ 0 → lines rest ≡ []
+unfolding lines
+no-lines [] none = refl
+no-lines (x ∷ xs) none = absurd (omega arith)
+
+-- a script that is not too long
+pub short-script : (script : List ℕ) → length script ≤ 1048576 → transcript script ≡ told start 1 (lines script)
+unfolding transcript
+short-script script h = rw (le-ltb 1048576 (length script) h) refl
+
+-- a script that could not be read
+pub unread-script : {A : Type 0} (unread left contents : Option (List ℕ)) (kind : FaultKind) → ReadFails unread left kind
+    → RunsScript {A = A} unread left contents contents (Err (record { line = 0; kind = kind }))
+unfolding transcript
+unread-script unread left contents Memory (script, consumed) =
+    record { script = script; consumed = consumed; lines = record { written = []; appended = Appends-nil contents; ends = ((transcript script).written, refl) }; whole = inr refl }
+unread-script unread left contents Read (script, consumed) =
+    record { script = script; consumed = consumed; lines = record { written = []; appended = Appends-nil contents; ends = refl }; whole = tt }
+unread-script unread left contents ScriptTooLong (script, consumed, long) =
+    record { script = script; consumed = consumed; lines = record { written = []; appended = Appends-nil contents; ends = rw (lt-ltb 1048576 (length script) long) refl }; whole = inr long }
+unread-script unread left contents Write fails = absurd fails
+unread-script unread left contents LineTooLong fails = absurd fails
+unread-script unread left contents Unknown fails = absurd fails
+unread-script unread left contents Form fails = absurd fails
+unread-script unread left contents Place fails = absurd fails
+unread-script unread left contents BadLimits fails = absurd fails
+unread-script unread left contents BadSite fails = absurd fails
+unread-script unread left contents TooManySites fails = absurd fails
+
+-- a script that was read to its end
+all-read : {A : Type 0} (left : Option (List ℕ)) (script written : List ℕ) (r : Result A ScriptFault) → IsAtEnd left → ReadsAll left script written r
+all-read left script written (Ok done) end = end
+all-read left script written (Err fault) end =
+    let at : (kind : FaultKind) → ReadsOn left script written kind = elim [
+      | Memory ↦ inl end
+      | Read ↦ tt
+      | Write ↦ end
+      | ScriptTooLong ↦ inl end
+      | LineTooLong ↦ end
+      | Unknown ↦ end
+      | Form ↦ end
+      | Place ↦ end
+      | BadLimits ↦ end
+      | BadSite ↦ end
+      | TooManySites ↦ end
+    ] in
+    at fault.kind
+
+pub run-read : {A : Type 0} (unread left old new : Option (List ℕ)) (script : List ℕ) (r : Result A ScriptFault) → Consumes unread left script → IsAtEnd left
+    → RunsLines old new (transcript script) r → RunsScript unread left old new r
+run-read unread left old new script r consumed end lines = record { script = script; consumed = consumed; lines = lines; whole = all-read left script lines.written r end }
+
+-- any script that is too long
+too-long : (script : List ℕ) → 1048576 < length script → transcript script ≡ record { written = []; fault = Some (record { line = 0; kind = ScriptTooLong }) }
+unfolding transcript
+too-long script long = rw (lt-ltb 1048576 (length script) long) refl
+
+read-whole : (script front rest : List ℕ) → script ≡ front ++ rest → rest ≡ [] → front ≡ script
+read-whole script front rest split end = sym (append-nil front) ∙ ap (λ r. front ++ r) (sym end) ∙ sym split
+
+longer : (script front rest : List ℕ) → script ≡ front ++ rest → 1048576 < length front → 1048576 < length script
+longer script front rest split long = omega (arith, simp length-append at (ap length split))
+
+-- what a run of the bytes that were read tells of all
+ends-all : (script front rest : List ℕ) (fault : ScriptFault) (written : List ℕ) (kind : FaultKind) → script ≡ front ++ rest
+    → EndsBy (transcript front) fault written kind → ReadsOn (Some rest) front written kind → EndsBy (transcript script) fault written kind
+ends-all script front rest fault written Memory split ends (inl end) = subst (λ s. EndsBy (transcript s) fault written Memory) (read-whole script front rest split end) ends
+ends-all script front rest fault written Memory split ends (inr none) = ((transcript script).written, ap (λ w. w ++ (transcript script).written) (sym none))
+ends-all script front rest fault written Read split ends on = ends
+ends-all script front rest fault written ScriptTooLong split ends (inl end) = subst (λ s. EndsBy (transcript s) fault written ScriptTooLong) (read-whole script front rest split end) ends
+ends-all script front rest fault written ScriptTooLong split ends (inr long) = too-long script (longer script front rest split long) ∙ sym (too-long front long) ∙ ends
+ends-all script front rest fault written Write split ends end = subst (λ s. EndsBy (transcript s) fault written Write) (read-whole script front rest split end) ends
+ends-all script front rest fault written LineTooLong split ends end = subst (λ s. EndsBy (transcript s) fault written LineTooLong) (read-whole script front rest split end) ends
+ends-all script front rest fault written Unknown split ends end = subst (λ s. EndsBy (transcript s) fault written Unknown) (read-whole script front rest split end) ends
+ends-all script front rest fault written Form split ends end = subst (λ s. EndsBy (transcript s) fault written Form) (read-whole script front rest split end) ends
+ends-all script front rest fault written Place split ends end = subst (λ s. EndsBy (transcript s) fault written Place) (read-whole script front rest split end) ends
+ends-all script front rest fault written BadLimits split ends end = subst (λ s. EndsBy (transcript s) fault written BadLimits) (read-whole script front rest split end) ends
+ends-all script front rest fault written BadSite split ends end = subst (λ s. EndsBy (transcript s) fault written BadSite) (read-whole script front rest split end) ends
+ends-all script front rest fault written TooManySites split ends end = subst (λ s. EndsBy (transcript s) fault written TooManySites) (read-whole script front rest split end) ends
+
+all-ends : {A : Type 0} (script front rest written : List ℕ) (r : Result A ScriptFault) → script ≡ front ++ rest
+    → Ends (transcript front) r written → ReadsAll (Some rest) front written r → Ends (transcript script) r written
+all-ends script front rest written (Ok done) split ends end = subst (λ s. Ends (transcript s) (Ok done) written) (read-whole script front rest split end) ends
+all-ends script front rest written (Err fault) split ends on = ends-all script front rest fault written fault.kind split ends on
+
+-- a script that lies in memory
+pub run-memory : {A : Type 0} (script : List ℕ) (left old new : Option (List ℕ)) (r : Result A ScriptFault) → RunsScript (Some script) left old new r → RunsLines old new (transcript script) r
+run-memory script None old new r runs = absurd runs.consumed
+run-memory script (Some rest) old new r runs =
+    record {
+      written = runs.lines.written;
+      appended = runs.lines.appended;
+      ends = all-ends script runs.script rest runs.lines.written r runs.consumed runs.lines.ends runs.whole;
+    }

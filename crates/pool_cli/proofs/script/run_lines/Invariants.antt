@@ -1,0 +1,17 @@
+use Rattle.std.proofs.Common.{◌≤◌, ◌+◌, length}
+use Rattle.pool_cli.specs.Lines.{lines}
+use Rattle.pool_cli.specs.Transcript.{told}
+use Rattle.pool_cli.proofs.Running.{RunSoFar}
+use Rattle.pool_cli.proofs.script.run_lines.Given as goal
+
+abbrev pub invariant-loop-rest : goal.invariant-loop-rest
+invariant-loop-rest g l =
+    let run = g.M.Machine.run in
+    let contents = g.W.Write.contents in
+    record {
+      count : l.line + length l.rest ≤ 1048576;
+      so_far : RunSoFar (contents l.fn.writer) (contents l.writer) (told (run l.fn.machine) 1 (lines l.script)) (told (run l.machine) (l.line + 1) (lines l.rest));
+    }
+
+abbrev pub decreases-loop-rest : goal.decreases-loop-rest
+decreases-loop-rest g l = length l.rest

@@ -1,0 +1,10 @@
+pub mod Lines
+pub mod Words
+pub mod Grammar
+pub mod Printing
+pub mod Meaning
+pub mod Hosted
+pub mod Transcript
+pub mod Streams
+pub mod Running
+pub mod Worked

@@ -1,0 +1,74 @@
+-- The transcript of a script: a function of its bytes.
+use Rattle.std.specs.Prelude.{◌≡◌, ℕ, ◌+◌, nat_lt, if◌then◌else◌, List, [], ◌∷◌, ◌++◌, length, Option, Some, None, Result, Ok, Err}
+use Rattle.pool_cli.specs.Lines.{lines}
+use Rattle.pool_cli.specs.Grammar.{reading}
+use Rattle.conn_log.specs.declared.entry.Entry.{Entry}
+use Rattle.pool_cli.specs.Meaning.{Run, Answer, start, step}
+use Rattle.pool_cli.specs.declared.command.Command.{Command}
+use Rattle.pool_cli.specs.declared.fault.FaultKind.{FaultKind}
+use Rattle.pool_cli.specs.declared.fault.FaultKind.TheVariants.{Memory, Read, Write, ScriptTooLong}
+use Rattle.pool_cli.specs.declared.fault.ScriptFault.{ScriptFault}
+
+-- what is written, and where the script is wrong
+pub record Transcript : Type 0 where
+  pub written : List ℕ
+  pub fault : Option ScriptFault
+
+-- what a line makes of a run, and its lines in the transcript
+abbrev pub line_step_of : Run → Result (Option Command) FaultKind → Result (Run × List ℕ) FaultKind
+line_step_of run (Err kind) = Err kind
+line_step_of run (Ok None) = Ok (run, [])
+line_step_of run (Ok (Some command)) = step run command
+
+unfoldable pub line_step : Run → List ℕ → Result (Run × List ℕ) FaultKind
+line_step run line = line_step_of run (reading line)
+
+-- the transcript ends at a fault, with its line; else the line's text goes before what the others write
+abbrev pub before_others : ℕ → Result (Run × List ℕ) FaultKind → (Run → Transcript) → Transcript
+before_others number (Err kind) others = record { written = []; fault = Some (record { line = number; kind = kind }) }
+before_others number (Ok next) others = let rest = others next.0 in record { written = next.1 ++ rest.written; fault = rest.fault }
+
+abbrev pub told : Run → ℕ → List (List ℕ) → Transcript
+told run number [] = record { written = []; fault = None }
+told run number (line ∷ others) = before_others number (line_step run line) (λ next. told next (number + 1) others)
+
+-- a script holds so many bytes at most
+abbrev pub LONGEST_SCRIPT : ℕ
+LONGEST_SCRIPT = 1048576
+
+unfoldable pub transcript : List ℕ → Transcript
+transcript script = if nat_lt LONGEST_SCRIPT (length script) then record { written = []; fault = Some (record { line = 0; kind = ScriptTooLong }) } else told start 1 (lines script)
+
+-- a front of the bytes
+abbrev pub IsFront : List ℕ → List ℕ → Type 0
+IsFront front bytes = (rest : List ℕ) × (bytes ≡ front ++ rest)
+
+-- how a run ends that has this transcript and wrote that
+abbrev pub EndsBy : Transcript → ScriptFault → List ℕ → FaultKind → Type 0
+EndsBy transcript fault written Memory = IsFront written transcript.written
+EndsBy transcript fault written Write = IsFront written transcript.written
+EndsBy transcript fault written Read = written ≡ []
+EndsBy transcript fault written _ = transcript ≡ record { written = written; fault = Some fault }
+
+abbrev pub Ends : {A : Type 0} → Transcript → Result A ScriptFault → List ℕ → Type 0
+Ends transcript (Ok done) written = transcript ≡ record { written = written; fault = None }
+Ends transcript (Err fault) written = EndsBy transcript fault written fault.kind
+
+-- what a machine answers to a command that means this, and the run after it
+abbrev pub FailsBy : Result (Run × List ℕ) FaultKind → FaultKind → Type 0
+FailsBy meant Memory = Unit {0}
+FailsBy meant kind = meant ≡ Err kind
+
+abbrev pub Answers : {T : Type 0} → (T → List ℕ) → Result (Run × List ℕ) FaultKind → Result T FaultKind → Run → Type 0
+Answers bytes meant (Ok text) run = meant ≡ Ok (run, bytes text)
+Answers bytes meant (Err kind) run = FailsBy meant kind
+
+-- the same of a host, whose commands fail only for want of memory
+abbrev pub Gives : {T : Type 0} → (T → List ℕ) → Answer → Result T FaultKind → List Entry → Type 0
+Gives bytes meant (Ok text) log = meant ≡ record { log = log; text = bytes text }
+Gives bytes meant (Err kind) log = kind ≡ Memory
+
+-- a text that is that, unless memory ran out
+abbrev pub GivesText : {T : Type 0} → (T → List ℕ) → List ℕ → Result T FaultKind → Type 0
+GivesText bytes meant (Ok text) = bytes text ≡ meant
+GivesText bytes meant (Err kind) = kind ≡ Memory

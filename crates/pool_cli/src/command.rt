@@ -1,0 +1,102 @@
+ghost use Rattle.std.specs.Prelude.{◌≡◌};
+ghost use Rattle.pool_cli.specs.Meaning.{facts_of};
+
+use persistence::{Facts, Framing, Version};
+
+/// The limits of a run.
+#[derive(Clone, Copy, Debug, PartialEq, Eq)]
+pub struct Limits {
+    /// The most open connections of one host.
+    pub host: u32,
+    /// The most open connections of all hosts; 0 for no limit.
+    pub total: u32,
+    /// The most connections that are kept idle.
+    pub kept: u32,
+}
+
+/// How a response ended.
+#[derive(Clone, Copy, Debug, PartialEq, Eq)]
+pub enum Ending {
+    /// It lets its connection persist.
+    Keep,
+    /// It has the connection option `close`.
+    Close,
+    /// It is of HTTP/1.0.
+    Old,
+    /// It is of HTTP/1.0 with the connection option `keep-alive`.
+    OldKeep,
+    /// Its body lasts until the connection ends.
+    Eof,
+    /// It was not read whole.
+    Cut,
+    /// Bytes came after its end.
+    Surplus,
+}
+
+/// One command of a script.
+#[derive(Clone, Copy, Debug, PartialEq, Eq)]
+pub enum Command {
+    /// Sets the limits.
+    Limits(Limits),
+    /// Adds a host.
+    Site {
+        /// The word is UTF-8 and begins with `http://`.
+        is_url: bool,
+    },
+    /// A transfer acquires a connection.
+    Get {
+        transfer: u64,
+        site: u32,
+        moment: u64,
+    },
+    /// A transfer gives its connection back.
+    Back {
+        transfer: u64,
+        site: u32,
+        ending: Ending,
+        moment: u64,
+    },
+    /// A transfer abandons its connection.
+    Drop {
+        transfer: u64,
+        site: u32,
+        moment: u64,
+    },
+    /// Asks what a host's connections do.
+    Look {
+        site: u32,
+    },
+}
+
+/// A response of HTTP/1.1 whose body was counted and read whole.
+const PLAIN: Facts = Facts {
+    version: Version::V11,
+    close: false,
+    keep_alive: false,
+    request_close: false,
+    framing: Framing::Counted,
+    both_lengths: false,
+    upgraded: false,
+    whole: true,
+    surplus: false,
+};
+
+/// The facts of a response that ended so.
+pub fn facts_of(ending: Ending) -> Facts
+    ensures { result ≡ facts_of ending }
+{
+    let mut facts = PLAIN;
+    match ending {
+        Ending::Keep => {}
+        Ending::Close => facts.close = true,
+        Ending::Old => facts.version = Version::V10,
+        Ending::OldKeep => {
+            facts.version = Version::V10;
+            facts.keep_alive = true;
+        }
+        Ending::Eof => facts.framing = Framing::UntilClose,
+        Ending::Cut => facts.whole = false,
+        Ending::Surplus => facts.surplus = true,
+    }
+    facts
+}

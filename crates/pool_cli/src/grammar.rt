@@ -1,0 +1,207 @@
+ghost use Rattle.std.specs.Prelude.{◌≡◌, ℕ, List, [], ◌∷◌};
+ghost use Rattle.pool_cli.specs.Words.{words};
+ghost use Rattle.pool_cli.specs.Grammar.{ending_of, ending_first, at_end, limits_form, site_form, get_form, back_form, drop_form, look_form, command_of, is_url, reading};
+ghost use Rattle.std.specs.Option.{option_map};
+ghost use Rattle.std.specs.Str.{is_utf8};
+
+use crate::command::{Command, Ending, Limits};
+use crate::fault::FaultKind;
+use crate::words::{first_word, is_blank, is_word, text_first, u32_first, u64_first};
+use std::str;
+
+/// How the response ended, and the line after it.
+fn ending_first(line: &[u8]) -> Option<(Ending, &[u8])>
+    ensures { option_map (λ found. (found.0, words found.1.now)) result ≡ ending_first (words line.now) }
+{
+    let (word, others) = first_word(line)?;
+    let ending = ending_of(word)?;
+    Some((ending, others))
+}
+
+/// How the response ended that the word names.
+#[tactic(auto, unfolding(crate::specs::Grammar::ending_of))]
+fn ending_of(word: &[u8]) -> Option<Ending>
+    ensures { result ≡ ending_of word.now }
+{
+    if is_word(word, "keep") {
+        Some(Ending::Keep)
+    } else if is_word(word, "close") {
+        Some(Ending::Close)
+    } else if is_word(word, "old") {
+        Some(Ending::Old)
+    } else if is_word(word, "old-keep") {
+        Some(Ending::OldKeep)
+    } else if is_word(word, "eof") {
+        Some(Ending::Eof)
+    } else if is_word(word, "cut") {
+        Some(Ending::Cut)
+    } else if is_word(word, "surplus") {
+        Some(Ending::Surplus)
+    } else {
+        None
+    }
+}
+
+/// `limits H T C`.
+#[tactic(auto, unfolding(crate::specs::Grammar::limits_form))]
+fn limits_form(line: &[u8]) -> Option<Command>
+    ensures { result ≡ limits_form (words line.now) }
+{
+    let (host, line) = u32_first(line)?;
+    let (total, line) = u32_first(line)?;
+    let (kept, line) = u32_first(line)?;
+    at_end(line, Command::Limits(Limits { host, total, kept }))
+}
+
+/// `site URL`.
+#[tactic(auto, unfolding(crate::specs::Grammar::site_form))]
+fn site_form(line: &[u8]) -> Option<Command>
+    ensures { result ≡ site_form (words line.now) }
+{
+    let (word, line) = first_word(line)?;
+    at_end(
+        line,
+        Command::Site {
+            is_url: is_url(word),
+        },
+    )
+}
+
+/// `get T S L at M`, in lane 0.
+#[tactic(auto, unfolding(crate::specs::Grammar::get_form))]
+fn get_form(line: &[u8]) -> Option<Command>
+    ensures { result ≡ get_form (words line.now) }
+{
+    let (transfer, line) = u64_first(line)?;
+    let (site, line) = u32_first(line)?;
+    let (lane, line) = u32_first(line)?;
+    if lane != 0 {
+        return None;
+    }
+    let line = text_first("at", line)?;
+    let (moment, line) = u64_first(line)?;
+    at_end(
+        line,
+        Command::Get {
+            transfer,
+            site,
+            moment,
+        },
+    )
+}
+
+/// `back T S KIND at M`.
+#[tactic(auto, unfolding(crate::specs::Grammar::back_form))]
+fn back_form(line: &[u8]) -> Option<Command>
+    ensures { result ≡ back_form (words line.now) }
+{
+    let (transfer, line) = u64_first(line)?;
+    let (site, line) = u32_first(line)?;
+    let (ending, line) = ending_first(line)?;
+    let line = text_first("at", line)?;
+    let (moment, line) = u64_first(line)?;
+    at_end(
+        line,
+        Command::Back {
+            transfer,
+            site,
+            ending,
+            moment,
+        },
+    )
+}
+
+/// `drop T S at M`.
+#[tactic(auto, unfolding(crate::specs::Grammar::drop_form))]
+fn drop_form(line: &[u8]) -> Option<Command>
+    ensures { result ≡ drop_form (words line.now) }
+{
+    let (transfer, line) = u64_first(line)?;
+    let (site, line) = u32_first(line)?;
+    let line = text_first("at", line)?;
+    let (moment, line) = u64_first(line)?;
+    at_end(
+        line,
+        Command::Drop {
+            transfer,
+            site,
+            moment,
+        },
+    )
+}
+
+/// `look S`.
+#[tactic(auto, unfolding(crate::specs::Grammar::look_form))]
+fn look_form(line: &[u8]) -> Option<Command>
+    ensures { result ≡ look_form (words line.now) }
+{
+    let (site, line) = u32_first(line)?;
+    at_end(line, Command::Look { site })
+}
+
+/// The command, where no word is left.
+fn at_end(line: &[u8], command: Command) -> Option<Command>
+    ensures { result ≡ at_end (words line.now) command }
+{
+    if is_blank(line) { Some(command) } else { None }
+}
+
+/// Whether the word is UTF-8 and begins with `http://`.
+#[tactic(auto, unfolding(crate::specs::Grammar::is_url))]
+fn is_url(word: &[u8]) -> bool
+    ensures { result ≡ is_url word.now }
+{
+    is_utf8(word) && word.starts_with(b"http://".as_slice())
+}
+
+/// Whether the word is UTF-8.
+fn is_utf8(word: &[u8]) -> bool
+    ensures { result ≡ is_utf8 word.now }
+{
+    match str::from_utf8(word) {
+        Ok(_) => true,
+        Err(_) => false,
+    }
+}
+
+/// The command of that name, with the words after it.
+#[tactic(auto, unfolding(crate::specs::Grammar::command_of))]
+fn command_of(name: &[u8], line: &[u8]) -> Result<Command, FaultKind>
+    ensures { result ≡ command_of name.now (words line.now) }
+{
+    if is_word(name, "limits") {
+        limits_form(line).ok_or(FaultKind::Form)
+    } else if is_word(name, "site") {
+        site_form(line).ok_or(FaultKind::Form)
+    } else if is_word(name, "get") {
+        get_form(line).ok_or(FaultKind::Form)
+    } else if is_word(name, "back") {
+        back_form(line).ok_or(FaultKind::Form)
+    } else if is_word(name, "drop") {
+        drop_form(line).ok_or(FaultKind::Form)
+    } else if is_word(name, "look") {
+        look_form(line).ok_or(FaultKind::Form)
+    } else {
+        Err(FaultKind::Unknown)
+    }
+}
+
+/// The most bytes of a line, without its line end.
+pub const LINE_LIMIT: usize = 2304;
+
+/// What a line says: a command, nothing where it is skipped, or what is wrong with it.
+#[tactic(auto, unfolding(crate::specs::Grammar::reading))]
+pub fn read_line(line: &[u8]) -> Result<Option<Command>, FaultKind>
+    ensures { result ≡ reading line.now }
+{
+    if line.len() > LINE_LIMIT {
+        return Err(FaultKind::LineTooLong);
+    }
+    if line.first() == Some(&b'#') {
+        return Ok(None);
+    }
+    match first_word(line) {
+        Some((name, others)) => Ok(Some(command_of(name, others)?)),
+        None => Ok(None),
+    }
+}

@@ -1,0 +1,249 @@
+//! What a script's commands do, one after another.
+
+ghost use Rattle.std.specs.Prelude.{◌≡◌, ℕ, List, [], ◌∷◌, IfErr, IfOk, OnOk, OnErr, Some, None, true, string_bytes};
+ghost use Rattle.pool_cli.specs.Meaning.{Run, start, step, with_limits, with_site, with_command, at_host, at_no_host, site_of, are_good, terms_of};
+ghost use Rattle.pool_cli.specs.Transcript.{Answers, Gives};
+ghost use Rattle.conn_log.specs.declared.entry.Entry.{Entry};
+
+use crate::command::{Command, Limits};
+use crate::fault::FaultKind;
+use crate::host::{OneHost, reply};
+use std::alloc::Global;
+use std::marker::Model;
+use std::mem;
+
+/// What answers a script's commands.
+pub trait Machine {
+    ghost use Rattle.pool_cli.specs.Meaning.{Run};
+
+    /// What the commands so far came to.
+    ghost run: { Self → Run };
+
+    /// Does what a command says, and gives the lines that tell of it.
+    fn answer(&mut self, command: Command) -> Result<String, FaultKind>
+        ensures { Answers string_bytes (step (run self.old) command) result (run self.new) };
+
+    /// What is due at the script's end.
+    fn end_of_script(&mut self) -> Result<(), FaultKind>
+        ensures { IfErr result (λ kind. kind ≡ FaultKind.Memory) };
+}
+
+/// A run of a script over at most one host.
+pub struct Engine {
+    alloc: Global,
+    limits: Option<Limits>,
+    has_site: bool,
+    has_begun: bool,
+    host: Option<OneHost>,
+}
+
+impl Model for Engine {
+    ghost use Rattle.std.specs.Prelude.{◌≡◌, None, false, ◌&&◌, if◌then◌else◌};
+    ghost use Rattle.std.specs.Option.{option_map, option_map_or};
+    ghost use Rattle.pool_cli.specs.Hosted.{Hosted};
+    ghost use Rattle.pool_cli.specs.Meaning.{Run, terms_of};
+    ghost use Rattle.std.specs.Prelude.{[]};
+
+    ghost Value = { Run };
+
+    ghost view = { λ e. record { limits = e.limits; has_site = e.has_site; has_begun = e.has_begun; log = option_map_or (λ (h : Hosted). h.log) e.host [] } };
+
+    ghost invariant = { λ e. (option_map (λ (h : Hosted). h.terms) e.host ≡ (if e.has_begun && e.has_site then option_map terms_of e.limits else None)) × (e.limits ≡ None → e.has_begun ≡ false) };
+}
+
+impl Machine for Engine {
+    ghost run = { λ e. e };
+
+    #[tactic(auto, unfolding(crate::specs::Meaning::step))]
+    fn answer(&mut self, command: Command) -> Result<String, FaultKind> {
+        match command {
+            Command::Limits(limits) => self.set_limits(limits),
+            Command::Site { is_url } => self.add_site(is_url),
+            Command::Get { .. } => self.ask(command),
+            Command::Back { .. } => self.ask(command),
+            Command::Drop { .. } => self.ask(command),
+            Command::Look { .. } => self.ask(command),
+        }
+    }
+
+    fn end_of_script(&mut self) -> Result<(), FaultKind> {
+        match self.limits {
+            Some(limits) => self.begin(limits),
+            None => Ok(()),
+        }
+    }
+}
+
+impl Engine {
+    /// A run before its first command.
+    pub fn new(alloc: Global) -> Engine
+        ensures { result ≡ start }
+    {
+        Engine {
+            alloc,
+            limits: None,
+            has_site: false,
+            has_begun: false,
+            host: None,
+        }
+    }
+
+    /// Abandons the leases that are left.
+    pub fn end(self) {
+        let Engine {
+            alloc: _,
+            limits: _,
+            has_site: _,
+            has_begun: _,
+            host,
+        } = self;
+        end_host(host);
+    }
+
+    /// `limits`: once, before all others.
+    fn set_limits(&mut self, limits: Limits) -> Result<String, FaultKind>
+        ensures { Answers string_bytes (with_limits self.old limits self.old.limits) result self.new }
+    {
+        if self.limits.is_some() {
+            return Err(FaultKind::Place);
+        }
+        if !are_good(limits) {
+            return Err(FaultKind::BadLimits);
+        }
+        self.limits = Some(limits);
+        Ok(String::new(self.alloc))
+    }
+
+    /// `site`: after the limits, before all others.
+    fn add_site(&mut self, is_url: bool) -> Result<String, FaultKind>
+        ensures { Answers string_bytes (with_site self.old is_url self.old.limits) result self.new }
+    {
+        if self.limits.is_none() || self.has_begun {
+            return Err(FaultKind::Place);
+        }
+        if !is_url {
+            return Err(FaultKind::BadSite);
+        }
+        if self.has_site {
+            return Err(FaultKind::TooManySites);
+        }
+        self.has_site = true;
+        Ok(String::new(self.alloc))
+    }
+
+    /// The other commands.
+    fn ask(&mut self, command: Command) -> Result<String, FaultKind>
+        ensures { Answers string_bytes (with_command self.old command self.old.limits) result self.new }
+    {
+        let Some(limits) = self.limits else {
+            return Err(FaultKind::Place);
+        };
+        self.begin(limits)?;
+        self.ask_host(limits, command)
+    }
+
+    /// Makes the host, where there is a site, at the first command after the sites.
+    fn begin(&mut self, limits: Limits) -> Result<(), FaultKind>
+        requires limits { self.old.limits ≡ Some limits }
+        ensures ok { OnOk result (self.new ≡ record self.old { has_begun = true }) }
+        ensures err { IfErr result (λ kind. kind ≡ FaultKind.Memory) }
+    {
+        if self.has_begun {
+            return Ok(());
+        }
+        if self.has_site {
+            let host = OneHost::new(self.alloc, limits)?;
+            end_host(mem::replace(&mut self.host, Some(host)));
+        }
+        self.has_begun = true;
+        Ok(())
+    }
+
+    /// Hands the command to the host, where it is for the host.
+    fn ask_host(&mut self, limits: Limits, command: Command) -> Result<String, FaultKind>
+        requires begun { self.old.has_begun ≡ true }
+        requires limits { self.old.limits ≡ Some limits }
+        ensures { Answers string_bytes (with_command self.old command (Some limits)) result self.new }
+    {
+        let alloc = self.alloc;
+        if site_of(command) != 0 {
+            return answer_without_host(alloc, command);
+        }
+        let Some(host) = &mut self.host else {
+            return answer_without_host(alloc, command);
+        };
+        answer_at(host, alloc, command)
+    }
+}
+
+/// Whether these limits can be kept: no limit on all hosts yet, and a host's of one or more, and no
+/// more than are kept idle.
+fn are_good(limits: Limits) -> bool
+    ensures { result ≡ are_good limits }
+{
+    limits.total == 0 && 1 <= limits.host && limits.host <= limits.kept && limits.kept <= 65_535
+}
+
+/// The site that a command names.
+fn site_of(command: Command) -> u32
+    ensures { result ≡ site_of command }
+{
+    match command {
+        Command::Limits(_) => 0,
+        Command::Site { .. } => 0,
+        Command::Get { site, .. } => site,
+        Command::Back { site, .. } => site,
+        Command::Drop { site, .. } => site,
+        Command::Look { site } => site,
+    }
+}
+
+/// What the host answers.
+fn answer_at(host: &mut OneHost, alloc: Global, command: Command) -> Result<String, FaultKind>
+    ensures answer { Gives string_bytes (at_host host.old.terms host.old.log command) result host.new.log }
+    ensures terms { host.new.terms ≡ host.old.terms }
+{
+    match command {
+        Command::Limits(_) => Ok(String::new(alloc)),
+        Command::Site { .. } => Ok(String::new(alloc)),
+        Command::Get {
+            transfer,
+            moment,
+            ..
+        } => host.get(alloc, transfer, moment),
+        Command::Back {
+            transfer,
+            ending,
+            moment,
+            ..
+        } => host.back(alloc, transfer, ending, moment),
+        Command::Drop {
+            transfer,
+            moment,
+            ..
+        } => host.abandon(alloc, transfer, moment),
+        Command::Look { .. } => host.look(alloc),
+    }
+}
+
+/// The answer at a site that is not there.
+fn answer_without_host(alloc: Global, command: Command) -> Result<String, FaultKind>
+    ensures { (log : List Entry) → Gives string_bytes (at_no_host log command) result log }
+{
+    match command {
+        Command::Limits(_) => Ok(String::new(alloc)),
+        Command::Site { .. } => Ok(String::new(alloc)),
+        Command::Get { .. } => reply(alloc, "bad-site"),
+        Command::Back { .. } => reply(alloc, "stranger"),
+        Command::Drop { .. } => reply(alloc, "stranger"),
+        Command::Look { .. } => reply(alloc, "bad-site"),
+    }
+}
+
+/// Ends a host, where there is one.
+fn end_host(host: Option<OneHost>) {
+    match host {
+        Some(host) => host.end(),
+        None => {}
+    }
+}

@@ -1,0 +1,47 @@
+//! The program curlpool: it runs a script of connection events through a bundle and writes the
+//! transcript.
+#![tactic(auto)]
+
+mod command;
+mod fault;
+mod grammar;
+mod host;
+mod lines;
+mod machine;
+mod printing;
+mod program;
+mod script;
+mod streams;
+mod words;
+mod worked;
+
+use program::{Words, run_program};
+use std::env;
+use std::io::ErrorKind;
+use std::process::ExitCode;
+
+/// The words with which the program was started.
+fn given_words(rt: &HostRuntime) -> Words {
+    match env::args(rt) {
+        Ok(words) => match words.collect(rt.alloc()) {
+            Ok(words) => Words::Given(words),
+            Err(_) => Words::NoMemory,
+        },
+        Err(error) => {
+            if error.kind() == ErrorKind::OutOfMemory {
+                Words::NoMemory
+            } else {
+                Words::NotText
+            }
+        }
+    }
+}
+
+fn main(rt: HostRuntime) -> ExitCode {
+    let words = given_words(&rt);
+    let mut input = rt.stdin();
+    let mut output = rt.stdout();
+    let mut errors = rt.stderr();
+    let status = run_program(rt.alloc(), words, &mut input, &mut output, &mut errors);
+    ExitCode::from(status)
+}

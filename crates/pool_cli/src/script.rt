@@ -1,0 +1,102 @@
+//! A script, from its bytes to its transcript.
+
+ghost use Rattle.std.specs.Prelude.{◌≡◌, ◌≤◌, ℕ, length, List, Some, string_bytes};
+ghost use Rattle.pool_cli.specs.Lines.{lines};
+ghost use Rattle.pool_cli.specs.Transcript.{told, line_step, transcript, Answers};
+ghost use Rattle.pool_cli.specs.Running.{RunsLine, RunsLines, RunsScript};
+
+use crate::fault::{FaultKind, ScriptFault};
+use crate::grammar::read_line;
+use crate::lines::first_line;
+use crate::machine::{Engine, Machine};
+use crate::streams::{put, read_script};
+use std::alloc::Global;
+use std::io::{Read, Write};
+
+/// Runs the script that the reader gives, and writes its transcript: the lines of each event and
+/// reply, in order. The fault says at which line the script ended, and why. What was written before
+/// a fault stays.
+pub fn run_script<R: Read, W: Write>(
+    alloc: Global,
+    reader: &mut R,
+    writer: &mut W,
+) -> Result<(), ScriptFault>
+    ensures { RunsScript (R.remaining reader.old) (R.remaining reader.new) (W.contents writer.old) (W.contents writer.new) result }
+{
+    match read_script(alloc, reader) {
+        Ok(script) => run_engine(alloc, script.as_slice(), writer),
+        Err(kind) => Err(ScriptFault { line: 0, kind }),
+    }
+}
+
+/// Runs a script that lies in memory. Its transcript goes to the end of `out`.
+pub fn run_bytes(alloc: Global, script: &[u8], out: &mut Vec<u8>) -> Result<(), ScriptFault>
+    ensures { RunsLines (Some out.old.items) (Some out.new.items) (transcript script.now) result }
+{
+    let mut reader = script;
+    run_script(alloc, &mut reader, out)
+}
+
+/// Runs the lines of a script on an engine of its own.
+fn run_engine<W: Write>(alloc: Global, script: &[u8], writer: &mut W) -> Result<(), ScriptFault>
+    requires { length script.now ≤ 1048576 }
+    ensures { RunsLines (W.contents writer.old) (W.contents writer.new) (transcript script.now) result }
+{
+    let mut engine = Engine::new(alloc);
+    let result = run_lines(alloc, &mut engine, script, writer);
+    engine.end();
+    result
+}
+
+/// Runs the lines of a script, one after another.
+fn run_lines<M: Machine, W: Write>(
+    alloc: Global,
+    machine: &mut M,
+    script: &[u8],
+    writer: &mut W,
+) -> Result<(), ScriptFault>
+    requires { length script.now ≤ 1048576 }
+    ensures { RunsLines (W.contents writer.old) (W.contents writer.new) (told (M.run machine.old) 1 (lines script.now)) result }
+{
+    let mut rest = script;
+    let mut line: u32 = 0;
+    while !rest.is_empty() {
+        line += 1;
+        let (first, others) = first_line(rest);
+        match run_line(alloc, machine, first, writer) {
+            Ok(()) => rest = others,
+            Err(kind) => return Err(ScriptFault { line, kind }),
+        }
+    }
+    match machine.end_of_script() {
+        Ok(()) => Ok(()),
+        Err(kind) => Err(ScriptFault { line: 0, kind }),
+    }
+}
+
+/// Does what a line says, and writes the lines that tell of it.
+fn run_line<M: Machine, W: Write>(
+    alloc: Global,
+    machine: &mut M,
+    line: &[u8],
+    writer: &mut W,
+) -> Result<(), FaultKind>
+    ensures { RunsLine (W.contents writer.old) (W.contents writer.new) (line_step (M.run machine.old) line.now) (M.run machine.new) result }
+{
+    match line_text(alloc, machine, line) {
+        Ok(text) => put(writer, text.as_bytes()),
+        Err(kind) => Err(kind),
+    }
+}
+
+/// Does what a line says, and gives the lines that tell of it.
+#[tactic(auto, unfolding(crate::specs::Transcript::line_step))]
+fn line_text<M: Machine>(alloc: Global, machine: &mut M, line: &[u8]) -> Result<String, FaultKind>
+    ensures { Answers string_bytes (line_step (M.run machine.old) line.now) result (M.run machine.new) }
+{
+    match read_line(line) {
+        Ok(Some(command)) => machine.answer(command),
+        Ok(None) => Ok(String::new(alloc)),
+        Err(kind) => Err(kind),
+    }
+}
