@@ -3,3 +3,4 @@ pub mod Kept
 pub mod Replaying
 pub mod Transitions
 pub mod Growth
+pub mod KeptSound

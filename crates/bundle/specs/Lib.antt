@@ -3,3 +3,4 @@ pub mod Idle
 pub mod State
 pub mod Lease
 pub mod Worked
+pub mod Laws

@@ -4,6 +4,7 @@
 mod held;
 mod host;
 mod idle;
+pub mod laws;
 mod lease;
 mod refusal;
 mod snapshot;

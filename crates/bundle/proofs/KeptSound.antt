@@ -1,0 +1,116 @@
+-- What a call answers is a sound log, where the log before it is.
+use Rattle.std.proofs.Common.{◌≡◌, ℕ, ◌+◌, ◌-◌, ◌<◌, ◌≤◌, max, Bool, true, false, not, ◌&&◌, List, [], ◌∷◌, length, filter, Option, Some, None, is_some, refl, sym, ap, subst, inl, inr, ◌∙◌, arith}
+use Rattle.std.specs.Prelude.{◌==◌, nat_le, if◌then◌else◌}
+use Rattle.std.specs.Option.{option_map_or}
+use mathlib.Core.Bool.{false≢true}
+use Rattle.std.proofs.lemmas.Bool.Decides.{nat_tests, eqb_tells}
+use Rattle.persistence.specs.declared.facts.Facts.{Facts}
+use Rattle.conn_log.specs.declared.entry.Want.{Want}
+use Rattle.conn_log.specs.declared.entry.Cause.TheVariants.{HostRoom, Dropped}
+use Rattle.conn_log.specs.declared.entry.Event.TheVariants.{Opened, Leased, Returned, Closed}
+use Rattle.conn_log.specs.declared.entry.Entry.{Entry}
+use Rattle.conn_log.specs.Connections.{is_among, last_moment, opened, greatest, open_connections, idle_connections, is_idle, is_held_by, holds, holder_want, held_number}
+use Rattle.conn_log.specs.Fit.{suits, is_fit, is_earlier, first_by, newest_fit, oldest}
+use Rattle.conn_log.specs.Legal.{Terms, owed, ends_use, ending_cause}
+use Rattle.conn_log.specs.Sound.{IsSound, has_number}
+use Rattle.conn_log.proofs.Numbers.{is_among-filter}
+use Rattle.conn_log.proofs.Steps.{idle_open_unheld, fewer_open, gone_closed}
+use Rattle.conn_log.proofs.Firsts.{first_among}
+use Rattle.conn_log.proofs.Soundness.{holds_is, sound_open, sound_lease, sound_return, sound_end, sound_drop, sound_room}
+use Rattle.bundle.specs.declared.refusal.Refusal.{Refusal}
+use Rattle.bundle.specs.declared.refusal.Refusal.TheVariants.{TransferBusy, Exhausted, AtLimit}
+use Rattle.bundle.specs.Calls.{moment_at, add, is_full, is_at_limit, is_exhausted, close_for_room, with_host_room, start_new, start_on, with_start, after_acquire, close_if_owed, with_owed_close, after_give_back, after_abandon, refusal}
+
+-- the moment of a call is not below the last one
+later : (log : List Entry) (now : ℕ) → last_moment log ≤ moment_at log now
+later log now = omega arith
+
+-- what no refusal says
+module _ (terms : Terms) (log : List Entry) (want : Want) where
+  not_refused : (busy exhausted at_limit : Bool) → (if busy then Some TransferBusy else (if exhausted then Some Exhausted else (if at_limit then Some AtLimit else None))) ≡ None → (busy ≡ false) × (at_limit ≡ false)
+  not_refused true exhausted at_limit e = absurd (cc)
+  not_refused false true at_limit e = absurd (cc)
+  not_refused false false true e = absurd (cc)
+  not_refused false false false e = (refl, refl)
+
+module _ (terms : Terms) (log : List Entry) (sound : IsSound terms log) where
+  free_of : (transfer : ℕ) → holds log transfer ≡ false → held_number log transfer ≡ None
+  free_of transfer none = nothing (held_number log transfer) (sym (holds_is terms log sound.orderly transfer) ∙ none)
+    where
+      nothing : (n : Option ℕ) → is_some n ≡ false → n ≡ None
+      nothing None e = refl
+      nothing (Some c) e = absurd (cc)
+
+  newest_is_fit : (want : Want) (moment c : ℕ) → newest_fit log want moment ≡ Some c → is_fit log want moment c ≡ true
+  newest_is_fit want moment c is = sym (is_among-filter (suits log want moment) c (idle_connections log)) ∙ first_among (λ c d. is_earlier log d c) (filter (suits log want moment) (idle_connections log)) c is
+
+  -- there is room once the oldest has made it
+  not_full_after : (moment c : ℕ) → is_idle log c ≡ true → is_full terms (add moment (Closed c HostRoom) log) ≡ false
+  not_full_after moment c idle =
+      let open_unheld = idle_open_unheld log c idle in
+      let fewer = fewer_open terms log sound.orderly c (add moment (Closed c HostRoom) log) (gone_closed moment c HostRoom log) open_unheld.0 in
+      differs _ _ (omega (arith, fewer, sound.orderly.within))
+    where
+      differs : (a b : ℕ) → a < b → (a == b) ≡ false
+      differs a b lt = grind (arith, nat_tests, lt)
+
+  still_free : (moment c transfer : ℕ) → is_idle log c ≡ true → held_number log transfer ≡ None → held_number (add moment (Closed c HostRoom) log) transfer ≡ None
+  still_free moment c transfer idle free = rw free refl
+
+-- opening where the host has room
+open_with_room : (terms : Terms) (log : List Entry) (want : Want) (moment : ℕ) → IsSound terms log → last_moment log ≤ moment → held_number log want.transfer ≡ None → is_full terms log ≡ false → IsSound terms (add moment (Opened (greatest terms.first (opened log) + 1) want) log)
+open_with_room terms log want moment sound later free room =
+    sound_open terms log sound moment later (greatest terms.first (opened log) + 1) want refl (grind (arith, nat_tests, room, sound.orderly.within)) free
+
+-- the first of none is none
+none_first : (goes_before : ℕ → ℕ → Bool) (numbers : List ℕ) → first_by goes_before numbers ≡ None → numbers ≡ []
+none_first goes_before [] is = refl
+none_first goes_before (c ∷ numbers) is = absurd (cc)
+
+-- a full host with nothing idle is at its limit
+not_at_limit : (full : Bool) (idle : List ℕ) → full ≡ true → idle ≡ [] → (full && (length idle == 0)) ≡ false → ⊥
+not_at_limit full idle is none off = false≢true (sym off ∙ rw (is, none) refl)
+
+pub sound_acquire : (terms : Terms) (log : List Entry) (want : Want) (now : ℕ) → IsSound terms log → refusal terms log want ≡ None → IsSound terms (after_acquire terms log want now)
+sound_acquire terms log want now sound allowed = by_fit (newest_fit log want moment) refl
+  where
+    moment : ℕ
+    moment = moment_at log now
+
+    reasons : (holds log want.transfer ≡ false) × (is_at_limit terms log ≡ false)
+    reasons = not_refused terms log want (holds log want.transfer) (is_exhausted terms log) (is_at_limit terms log) allowed
+
+    with_room : (full : Bool) → is_full terms log ≡ full → (first : Option ℕ) → oldest log ≡ first → IsSound terms (start_new terms want (moment_at log now) (if full then close_for_room (moment_at log now) log first else log))
+    with_room false is first first_is = open_with_room terms log want (moment_at log now) sound (later log now) (free_of terms log sound want.transfer reasons.0) is
+    with_room true is None none = absurd (not_at_limit (is_full terms log) (idle_connections log) is (none_first (is_earlier log) (idle_connections log) none) reasons.1)
+    with_room true is (Some c) first_is =
+        let idle = first_among (is_earlier log) (idle_connections log) c first_is in
+        let m = moment_at log now in
+        open_with_room terms (add m (Closed c HostRoom) log) want m (sound_room terms log sound m (later log now) c idle) (omega arith) (still_free terms log sound m c want.transfer idle (free_of terms log sound want.transfer reasons.0)) (not_full_after terms log sound m c idle)
+
+    by_fit : (fit : Option ℕ) → newest_fit log want (moment_at log now) ≡ fit → IsSound terms (start_on terms want (moment_at log now) log fit)
+    by_fit (Some c) is = sound_lease terms log sound (moment_at log now) (later log now) c want (newest_is_fit terms log sound want (moment_at log now) c is) (free_of terms log sound want.transfer reasons.0)
+    by_fit None is = with_room (is_full terms log) refl (oldest log) refl
+
+-- who holds it, from what the transfer holds
+held_want : (terms : Terms) (log : List Entry) → IsSound terms log → (transfer c : ℕ) → held_number log transfer ≡ Some c → (want : Want) × (holder_want log c ≡ Some want)
+held_want terms log sound transfer c held = seen (holder_want log c) refl (sound.orderly.held_once c transfer ∙ ap (λ n. has_number n c) held ∙ grind (arith, nat_tests))
+  where
+    seen : (w : Option Want) → holder_want log c ≡ w → option_map_or (λ (v : Want). v.transfer == transfer) w false ≡ true → (want : Want) × (holder_want log c ≡ Some want)
+    seen None e told = absurd (false≢true told)
+    seen (Some w) e told = (w, e)
+
+pub sound_give_back : (terms : Terms) (log : List Entry) (transfer c : ℕ) (facts : Facts) (now : ℕ) → IsSound terms log → held_number log transfer ≡ Some c → IsSound terms (after_give_back log c facts now)
+sound_give_back terms log transfer c facts now sound held =
+    let m = moment_at log now in
+    let w = held_want terms log sound transfer c held in
+    rw w.1 (by_end m w.0 w.1 (later log now) (ends_use facts w.0) refl)
+  where
+    by_end : (m : ℕ) (w : Want) → holder_want log c ≡ Some w → last_moment log ≤ m → (ends : Bool) → ends_use facts w ≡ ends → IsSound terms (close_if_owed m (add m (Returned c facts) log) (if ends then Some (c, ending_cause facts w) else None))
+    by_end m w is le true ends = sound_end terms log sound m le c facts w is ends
+    by_end m w is le false ends = sound_return terms log sound m le c facts w is ends
+
+pub sound_abandon : (terms : Terms) (log : List Entry) (transfer c now : ℕ) → IsSound terms log → held_number log transfer ≡ Some c → IsSound terms (after_abandon log c now)
+sound_abandon terms log transfer c now sound held =
+    let w = held_want terms log sound transfer c held in
+    sound_drop terms log sound (moment_at log now) (later log now) c (ap is_some w.1)
