@@ -7,3 +7,4 @@ pub mod Leases
 pub mod Answering
 pub mod Running
 pub mod Asking
+pub mod Lawful

@@ -8,3 +8,4 @@ pub mod Transcript
 pub mod Streams
 pub mod Running
 pub mod Worked
+pub mod Law

@@ -1,0 +1,185 @@
+-- Each command keeps the log sound, so the log behind a script is legal.
+use Rattle.std.proofs.Common.{◌≡◌, ℕ, Bool, true, false, not, ◌&&◌, List, [], ◌∷◌, Option, Some, None, Result, Ok, Err, is_none, refl, sym, ap, subst, ◌∙◌, arith}
+use Rattle.std.specs.Prelude.{◌==◌, if◌then◌else◌, IsTrue}
+use Rattle.std.specs.Option.{option_map}
+use Rattle.conn_log.specs.declared.entry.Event.{Event}
+use Rattle.conn_log.specs.declared.entry.Event.TheVariants.{Opened, Leased, Returned, Closed, Waited, Left}
+use Rattle.conn_log.specs.declared.entry.Want.{Want}
+use Rattle.conn_log.specs.declared.entry.Entry.{Entry}
+use Rattle.conn_log.specs.Connections.{is_open, is_idle, holder, holder_want, held_number, came_back_persistent}
+use Rattle.conn_log.specs.Fit.{suits}
+use Rattle.conn_log.specs.Legal.{Terms, IsLegal, Allows}
+use Rattle.conn_log.specs.Sound.{IsSound}
+use Rattle.conn_log.proofs.Steps.{idle_open_unheld}
+use Rattle.conn_log.proofs.Soundness.{and_left, and_right, sound_empty}
+use Rattle.bundle.specs.declared.refusal.Refusal.{Refusal}
+use Rattle.bundle.specs.Calls.{refusal}
+use Rattle.bundle.proofs.KeptSound.{sound_acquire, sound_give_back, sound_abandon}
+use Rattle.pool_cli.specs.Lines.{lines}
+use Rattle.pool_cli.specs.Grammar.{reading}
+use Rattle.pool_cli.specs.Meaning.{Run, Answer, start, step, terms_of, want_of, facts_of, get_at, get_unless, back_at, back_of, drop_at, drop_of, look_at, at_host, at_no_host, answer_of, with_limits, with_site, with_command, are_good, site_of}
+use Rattle.pool_cli.specs.Transcript.{line_step, line_step_of}
+use Rattle.pool_cli.specs.Law.{run_after, after_line, IsLegalUnder, WasFree, LeasesFree, EachLeaseWasFree, EveryLogIsLegal, EveryLeaseWasFree}
+use Rattle.pool_cli.specs.declared.command.Limits.{Limits}
+use Rattle.pool_cli.specs.declared.command.Command.{Command}
+use Rattle.pool_cli.specs.declared.command.Command.TheVariants as commands
+use Rattle.pool_cli.specs.declared.command.Ending.{Ending}
+use Rattle.pool_cli.specs.declared.fault.FaultKind.{FaultKind}
+use Rattle.pool_cli.specs.declared.fault.FaultKind.TheVariants.{Place, BadLimits, BadSite, TooManySites}
+
+-- sound under these limits; without limits nothing happened
+abbrev SoundUnder : Option Limits → List Entry → Type 0
+SoundUnder None log = log ≡ []
+SoundUnder (Some limits) log = IsSound (terms_of limits) log
+
+abbrev SoundRun : Run → Type 0
+SoundRun run = SoundUnder run.limits run.log
+
+-- what a step makes, if it makes anything
+abbrev SoundStep : Result (Run × List ℕ) FaultKind → Type 0
+SoundStep (Err kind) = Unit {0}
+SoundStep (Ok next) = SoundRun next.0
+
+module _ (terms : Terms) (log : List Entry) (sound : IsSound terms log) where
+  sound_get : (transfer moment : ℕ) → IsSound terms (get_at terms transfer moment log).log
+  unfolding get_at
+  sound_get transfer moment = by_refusal (refusal terms log (want_of transfer)) refl
+    where
+      by_refusal : (reason : Option Refusal) → refusal terms log (want_of transfer) ≡ reason → IsSound terms (get_unless terms transfer moment log reason).log
+      by_refusal (Some r) is = sound
+      by_refusal None is = sound_acquire terms log (want_of transfer) moment sound is
+
+  sound_back : (transfer : ℕ) (ending : Ending) (moment : ℕ) → IsSound terms (back_at transfer ending moment log).log
+  unfolding back_at
+  sound_back transfer ending moment = by_held (held_number log transfer) refl
+    where
+      by_held : (held : Option ℕ) → held_number log transfer ≡ held → IsSound terms (back_of ending moment log held).log
+      by_held None is = sound
+      by_held (Some c) is = sound_give_back terms log transfer c (facts_of ending) moment sound is
+
+  sound_drop : (transfer moment : ℕ) → IsSound terms (drop_at transfer moment log).log
+  unfolding drop_at
+  sound_drop transfer moment = by_held (held_number log transfer) refl
+    where
+      by_held : (held : Option ℕ) → held_number log transfer ≡ held → IsSound terms (drop_of moment log held).log
+      by_held None is = sound
+      by_held (Some c) is = sound_abandon terms log transfer c moment sound is
+
+  sound_look : IsSound terms (look_at log).log
+  unfolding look_at
+  sound_look = sound
+
+  sound_at_host : (command : Command) → IsSound terms (at_host terms log command).log
+  sound_at_host (commands.Limits limits) = sound
+  sound_at_host (commands.Site is_url) = sound
+  sound_at_host (commands.Get transfer site moment) = sound_get transfer moment
+  sound_at_host (commands.Back transfer site ending moment) = sound_back transfer ending moment
+  sound_at_host (commands.Drop transfer site moment) = sound_drop transfer moment
+  sound_at_host (commands.Look site) = sound_look
+
+same_at_no_host : (log : List Entry) (command : Command) → (at_no_host log command).log ≡ log
+same_at_no_host log (commands.Limits limits) = refl
+same_at_no_host log (commands.Site is_url) = refl
+same_at_no_host log (commands.Get transfer site moment) = refl
+same_at_no_host log (commands.Back transfer site ending moment) = refl
+same_at_no_host log (commands.Drop transfer site moment) = refl
+same_at_no_host log (commands.Look site) = refl
+
+sound_answer : (limits : Limits) (has_site : Bool) (log : List Entry) (command : Command) → IsSound (terms_of limits) log → IsSound (terms_of limits) (answer_of limits has_site log command).log
+sound_answer limits has_site log command sound = by_test (has_site && (site_of command == 0))
+  where
+    by_test : (there : Bool) → IsSound (terms_of limits) (if there then at_host (terms_of limits) log command else at_no_host log command).log
+    by_test true = sound_at_host (terms_of limits) log sound command
+    by_test false = subst (IsSound (terms_of limits)) (sym (same_at_no_host log command)) sound
+
+-- limits come once, before anything happened
+sound_limits : (run : Run) (limits : Limits) (old : Option Limits) → SoundUnder old run.log → SoundStep (with_limits run limits old)
+sound_limits run limits (Some others) sound = tt
+sound_limits run limits None nothing = by_good (are_good limits)
+  where
+    by_good : (good : Bool) → SoundStep (if good then Ok (record run { limits = Some limits }, []) else Err BadLimits)
+    by_good true = subst (IsSound (terms_of limits)) (sym nothing) (sound_empty (terms_of limits))
+    by_good false = tt
+
+sound_site : (run : Run) (is_url : Bool) (old : Option Limits) → run.limits ≡ old → SoundUnder old run.log → SoundStep (with_site run is_url old)
+sound_site run is_url None same sound = tt
+sound_site run is_url (Some limits) same sound = by_tests run.has_begun is_url run.has_site
+  where
+    by_tests : (begun url site : Bool) → SoundStep (if begun then Err Place else (if not url then Err BadSite else (if site then Err TooManySites else Ok (record run { has_site = true }, []))))
+    by_tests true url site = tt
+    by_tests false false site = tt
+    by_tests false true true = tt
+    by_tests false true false = subst (λ l. SoundUnder l run.log) (sym same) sound
+
+sound_command : (run : Run) (command : Command) (old : Option Limits) → run.limits ≡ old → SoundUnder old run.log → SoundStep (with_command run command old)
+sound_command run command None same sound = tt
+sound_command run command (Some limits) same sound =
+    subst (λ l. SoundUnder l (answer_of limits run.has_site run.log command).log) (sym same) (sound_answer limits run.has_site run.log command sound)
+
+sound_step : (run : Run) (command : Command) → SoundRun run → SoundStep (step run command)
+unfolding step
+sound_step run (commands.Limits limits) sound = sound_limits run limits run.limits sound
+sound_step run (commands.Site is_url) sound = sound_site run is_url run.limits refl sound
+sound_step run (commands.Get transfer site moment) sound = sound_command run (commands.Get transfer site moment) run.limits refl sound
+sound_step run (commands.Back transfer site ending moment) sound = sound_command run (commands.Back transfer site ending moment) run.limits refl sound
+sound_step run (commands.Drop transfer site moment) sound = sound_command run (commands.Drop transfer site moment) run.limits refl sound
+sound_step run (commands.Look site) sound = sound_command run (commands.Look site) run.limits refl sound
+
+sound_line : (run : Run) (line : List ℕ) → SoundRun run → SoundStep (line_step run line)
+unfolding line_step
+sound_line run line sound = by_reading (reading line)
+  where
+    by_reading : (read : Result (Option Command) FaultKind) → SoundStep (line_step_of run read)
+    by_reading (Err kind) = tt
+    by_reading (Ok None) = sound
+    by_reading (Ok (Some command)) = sound_step run command sound
+
+sound_after : (run : Run) (lines : List (List ℕ)) → SoundRun run → SoundRun (run_after run lines)
+sound_after run [] sound = sound
+sound_after run (line ∷ others) sound = by_step (line_step run line) (sound_line run line sound) (λ next next_sound. sound_after next others next_sound)
+  where
+    by_step : (made : Result (Run × List ℕ) FaultKind) → SoundStep made → ((next : Run) → SoundRun next → SoundRun (run_after next others)) → SoundRun (after_line run made (λ next. run_after next others))
+    by_step (Err kind) made_sound rest = sound
+    by_step (Ok next) made_sound rest = rest next.0 made_sound
+
+pub every_log_is_legal : EveryLogIsLegal
+every_log_is_legal script = legal_under (run_after start (lines script)).limits (run_after start (lines script)).log (sound_after start (lines script) refl)
+  where
+    legal_under : (limits : Option Limits) (log : List Entry) → SoundUnder limits log → IsLegalUnder limits log
+    legal_under None log nothing = nothing
+    legal_under (Some limits) log sound = sound.legal
+
+-- what may be leased was free
+free_if_fit : (before : List Entry) (want : Want) (moment c : ℕ) → (is_idle before c && suits before want moment c) ≡ true → WasFree before c
+free_if_fit before want moment c fit =
+    let idle = and_left (is_idle before c) (suits before want moment c) fit in
+    let suited = and_right (is_idle before c) (suits before want moment c) fit in
+    let open_unheld = idle_open_unheld before c idle in
+    record {
+      opened = open_unheld.0;
+      held_by_nobody = nobody (holder_want before c) open_unheld.1;
+      persistent = and_right _ (came_back_persistent before c) suited;
+    }
+  where
+    nobody : (w : Option Want) → is_none w ≡ true → option_map (λ (v : Want). v.transfer) w ≡ None
+    nobody None e = refl
+    nobody (Some v) e = absurd (cc)
+
+leases_free : (terms : Terms) (before : List Entry) (moment : ℕ) (event : Event) → Allows terms before moment event → LeasesFree before event
+leases_free terms before moment (Opened c want) allowed = tt
+leases_free terms before moment (Leased c want) allowed = free_if_fit before want moment c allowed.1.fit
+leases_free terms before moment (Returned c facts) allowed = tt
+leases_free terms before moment (Closed c cause) allowed = tt
+leases_free terms before moment (Waited want) allowed = tt
+leases_free terms before moment (Left transfer) allowed = tt
+
+each_lease : (terms : Terms) (log : List Entry) → IsLegal terms log → EachLeaseWasFree log
+each_lease terms [] legal = tt
+each_lease terms (e ∷ before) legal = (leases_free terms before e.moment e.event legal.1, each_lease terms before legal.2)
+
+pub every_lease_was_free : EveryLeaseWasFree
+every_lease_was_free script = under (run_after start (lines script)).limits (run_after start (lines script)).log (every_log_is_legal script)
+  where
+    under : (limits : Option Limits) (log : List Entry) → IsLegalUnder limits log → EachLeaseWasFree log
+    under None log nothing = subst EachLeaseWasFree (sym nothing) tt
+    under (Some limits) log legal = each_lease (terms_of limits) log legal
