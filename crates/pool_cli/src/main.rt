@@ -13,6 +13,8 @@ mod printing;
 mod program;
 mod script;
 mod streams;
+#[cfg(test)]
+mod tests;
 mod words;
 mod worked;
 
