@@ -17,6 +17,7 @@ use Rattle.pool_cli.specs.Meaning.{Run, start, step, with_limits, with_site, wit
 use Rattle.pool_cli.specs.Transcript.{Transcript, told, before_others, line_step, line_step_of, Ends, EndsBy, FailsBy, transcript}
 use Rattle.pool_cli.specs.Running.{RunsLines, LineFails, RunsScript, ReadsAll, ReadsOn}
 use Rattle.pool_cli.specs.Streams.{ReadFails}
+use Rattle.pool_cli.proofs.Streaming.{proper-front}
 use Rattle.std.proofs.lemmas.Bool.{le-ltb, lt-ltb}
 use Rattle.std.proofs.lemmas.List.{length-append}
 
@@ -180,18 +181,16 @@ pub run-fails : {A : Type 0} (old mid new : Option (List ℕ)) (all : Transcript
     → RunSoFar old mid all (told run n (line ∷ others)) → LineFails mid new (line_step run line) kind → RunsLines {A = A} old new all (Err (record { line = n; kind = kind }))
 run-fails old mid new all run n line others Memory so_far fails =
     record { written = so_far.written; appended = kept old mid new so_far.written so_far.appended fails; ends = ((told run n (line ∷ others)).written, ap (λ t. t.written) so_far.whole) }
-run-fails old mid new all run n line others Write so_far (next, front, e, is_front, appended) =
+run-fails old mid new all run n line others Write so_far (next, front, e, (is_front, shorter), appended) =
     let rest = told next.0 (n + 1) others in
+    let whole = ap (λ t. t.written) (so_far.whole ∙ ap (λ r. after_written so_far.written (before_others n r (λ next. told next (n + 1) others))) e)
+            ∙ ap (λ text. so_far.written ++ (text ++ rest.written)) is_front.1
+            ∙ ap (λ l. so_far.written ++ l) (append_assoc front is_front.0 rest.written)
+            ∙ sym (append_assoc so_far.written front (is_front.0 ++ rest.written)) in
     record {
       written = so_far.written ++ front;
       appended = Appends-trans old mid new so_far.written front so_far.appended appended;
-      ends = (
-        is_front.0 ++ rest.written,
-        ap (λ t. t.written) (so_far.whole ∙ ap (λ r. after_written so_far.written (before_others n r (λ next. told next (n + 1) others))) e)
-            ∙ ap (λ text. so_far.written ++ (text ++ rest.written)) is_front.1
-            ∙ ap (λ l. so_far.written ++ l) (append_assoc front is_front.0 rest.written)
-            ∙ sym (append_assoc so_far.written front (is_front.0 ++ rest.written)),
-      );
+      ends = proper-front (so_far.written ++ front) (is_front.0 ++ rest.written) all.written whole (λ none. omega (arith, none, length-append is_front.0 rest.written, ap length is_front.1, length-append front is_front.0, shorter));
     }
 run-fails old mid new all run n line others Read so_far fails = absurd (not-read run line fails.0)
 run-fails old mid new all run n line others ScriptTooLong so_far fails = let s = stopped old mid new all run n line others _ so_far fails.0 fails.1 in record { written = s.0; appended = s.1; ends = s.2 }
@@ -219,8 +218,8 @@ pub unread-script : {A : Type 0} (unread left contents : Option (List ℕ)) (kin
 unfolding transcript
 unread-script unread left contents Memory (script, consumed) =
     record { script = script; consumed = consumed; lines = record { written = []; appended = Appends-nil contents; ends = ((transcript script).written, refl) }; whole = inr refl }
-unread-script unread left contents Read (script, consumed) =
-    record { script = script; consumed = consumed; lines = record { written = []; appended = Appends-nil contents; ends = refl }; whole = tt }
+unread-script unread left contents Read (script, consumed, short) =
+    record { script = script; consumed = consumed; lines = record { written = []; appended = Appends-nil contents; ends = (refl, refl) }; whole = short }
 unread-script unread left contents ScriptTooLong (script, consumed, long) =
     record { script = script; consumed = consumed; lines = record { written = []; appended = Appends-nil contents; ends = rw (lt-ltb 1048576 (length script) long) refl }; whole = inr long }
 unread-script unread left contents Write fails = absurd fails
@@ -233,12 +232,12 @@ unread-script unread left contents BadSite fails = absurd fails
 unread-script unread left contents TooManySites fails = absurd fails
 
 -- a script that was read to its end
-all-read : {A : Type 0} (left : Option (List ℕ)) (script written : List ℕ) (r : Result A ScriptFault) → IsAtEnd left → ReadsAll left script written r
-all-read left script written (Ok done) end = end
-all-read left script written (Err fault) end =
+all-read : {A : Type 0} (left : Option (List ℕ)) (script written : List ℕ) (r : Result A ScriptFault) → IsAtEnd left → length script ≤ 1048576 → ReadsAll left script written r
+all-read left script written (Ok done) end short = end
+all-read left script written (Err fault) end short =
     let at : (kind : FaultKind) → ReadsOn left script written kind = elim [
       | Memory ↦ inl end
-      | Read ↦ tt
+      | Read ↦ short
       | Write ↦ end
       | ScriptTooLong ↦ inl end
       | LineTooLong ↦ end
@@ -251,9 +250,9 @@ all-read left script written (Err fault) end =
     ] in
     at fault.kind
 
-pub run-read : {A : Type 0} (unread left old new : Option (List ℕ)) (script : List ℕ) (r : Result A ScriptFault) → Consumes unread left script → IsAtEnd left
+pub run-read : {A : Type 0} (unread left old new : Option (List ℕ)) (script : List ℕ) (r : Result A ScriptFault) → Consumes unread left script → IsAtEnd left → length script ≤ 1048576
     → RunsLines old new (transcript script) r → RunsScript unread left old new r
-run-read unread left old new script r consumed end lines = record { script = script; consumed = consumed; lines = lines; whole = all-read left script lines.written r end }
+run-read unread left old new script r consumed end short lines = record { script = script; consumed = consumed; lines = lines; whole = all-read left script lines.written r end short }
 
 -- any script that is too long
 too-long : (script : List ℕ) → 1048576 < length script → transcript script ≡ record { written = []; fault = Some (record { line = 0; kind = ScriptTooLong }) }

@@ -1,16 +1,16 @@
 -- What running a script does to reader and writer.
-use Rattle.std.specs.Prelude.{◌≡◌, ◌<◌, ◌⊎◌, ℕ, length, List, [], Option, Result, Ok, Err}
+use Rattle.std.specs.Prelude.{◌≡◌, ◌<◌, ◌≤◌, ◌⊎◌, ℕ, length, List, [], Option, Result, Ok, Err}
 use Rattle.std.specs.Io.KnownBytes.{Appends, Consumes, IsAtEnd}
 use Rattle.pool_cli.specs.declared.fault.FaultKind.{FaultKind}
 use Rattle.pool_cli.specs.declared.fault.FaultKind.TheVariants.{Memory, Read, Write, ScriptTooLong}
 use Rattle.pool_cli.specs.declared.fault.ScriptFault.{ScriptFault}
-use Rattle.pool_cli.specs.Transcript.{Transcript, transcript, Ends, IsFront, LONGEST_SCRIPT}
+use Rattle.pool_cli.specs.Transcript.{Transcript, transcript, Ends, IsProperFront, LONGEST_SCRIPT}
 use Rattle.pool_cli.specs.Meaning.{Run}
 
 -- what a line wrote that means this, and the run after it
 abbrev pub LineFails : Option (List ℕ) → Option (List ℕ) → Result (Run × List ℕ) FaultKind → FaultKind → Type 0
 LineFails old new meant Memory = Appends old new []
-LineFails old new meant Write = (next : Run × List ℕ) × (front : List ℕ) × (meant ≡ Ok next) × IsFront front next.1 × Appends old new front
+LineFails old new meant Write = (next : Run × List ℕ) × (front : List ℕ) × (meant ≡ Ok next) × IsProperFront front next.1 × Appends old new front
 LineFails old new meant kind = (meant ≡ Err kind) × Appends old new []
 
 abbrev pub RunsLine : {A : Type 0} → Option (List ℕ) → Option (List ℕ) → Result (Run × List ℕ) FaultKind → Run → Result A FaultKind → Type 0
@@ -26,7 +26,7 @@ pub record RunsLines {A : Type 0} (old new : Option (List ℕ)) (meant : Transcr
 -- all was read; or nothing was written, since reading came to an end before
 abbrev pub ReadsOn : Option (List ℕ) → List ℕ → List ℕ → FaultKind → Type 0
 ReadsOn left script written Memory = IsAtEnd left ⊎ (written ≡ [])
-ReadsOn left script written Read = Unit {0}
+ReadsOn left script written Read = length script ≤ LONGEST_SCRIPT
 ReadsOn left script written ScriptTooLong = IsAtEnd left ⊎ (LONGEST_SCRIPT < length script)
 ReadsOn left script written kind = IsAtEnd left
 

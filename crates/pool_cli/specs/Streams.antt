@@ -3,12 +3,12 @@ use Rattle.std.specs.Prelude.{◌≡◌, ℕ, ◌<◌, ◌≤◌, List, length, 
 use Rattle.std.specs.Io.KnownBytes.{Appends, Consumes, IsAtEnd}
 use Rattle.pool_cli.specs.declared.fault.FaultKind.{FaultKind}
 use Rattle.pool_cli.specs.declared.fault.FaultKind.TheVariants.{Memory, Read, Write, ScriptTooLong}
-use Rattle.pool_cli.specs.Transcript.{IsFront, LONGEST_SCRIPT}
+use Rattle.pool_cli.specs.Transcript.{IsProperFront, LONGEST_SCRIPT}
 
--- all of the bytes are written, or a front of them
+-- all of the bytes are written, or, where a write failed, not all
 abbrev pub Puts : {A : Type 0} → Option (List ℕ) → Option (List ℕ) → List ℕ → Result A FaultKind → Type 0
 Puts old new bytes (Ok done) = Appends old new bytes
-Puts old new bytes (Err kind) = (kind ≡ Write) × (front : List ℕ) × IsFront front bytes × Appends old new front
+Puts old new bytes (Err kind) = (kind ≡ Write) × (front : List ℕ) × IsProperFront front bytes × Appends old new front
 
 -- the script is all that there was, and not too long; or why it could not be had
 abbrev pub ReadsAll : Option (List ℕ) → Option (List ℕ) → List ℕ → Type 0
@@ -16,7 +16,7 @@ ReadsAll old new script = Consumes old new script × IsAtEnd new × (length scri
 
 abbrev pub ReadFails : Option (List ℕ) → Option (List ℕ) → FaultKind → Type 0
 ReadFails old new Memory = (script : List ℕ) × Consumes old new script
-ReadFails old new Read = (script : List ℕ) × Consumes old new script
+ReadFails old new Read = (script : List ℕ) × Consumes old new script × (length script ≤ LONGEST_SCRIPT)
 ReadFails old new ScriptTooLong = (script : List ℕ) × Consumes old new script × (LONGEST_SCRIPT < length script)
 ReadFails old new kind = ⊥
 

@@ -1,5 +1,5 @@
 -- The transcript of a script: a function of its bytes.
-use Rattle.std.specs.Prelude.{◌≡◌, ℕ, ◌+◌, nat_lt, if◌then◌else◌, List, [], ◌∷◌, ◌++◌, length, Option, Some, None, Result, Ok, Err}
+use Rattle.std.specs.Prelude.{◌≡◌, ℕ, ◌+◌, ◌<◌, nat_lt, if◌then◌else◌, List, [], ◌∷◌, ◌++◌, length, Option, Some, None, Result, Ok, Err}
 use Rattle.pool_cli.specs.Lines.{lines}
 use Rattle.pool_cli.specs.Grammar.{reading}
 use Rattle.conn_log.specs.declared.entry.Entry.{Entry}
@@ -43,11 +43,15 @@ transcript script = if nat_lt LONGEST_SCRIPT (length script) then record { writt
 abbrev pub IsFront : List ℕ → List ℕ → Type 0
 IsFront front bytes = (rest : List ℕ) × (bytes ≡ front ++ rest)
 
+-- a front of the bytes that is not all of them
+abbrev pub IsProperFront : List ℕ → List ℕ → Type 0
+IsProperFront front bytes = IsFront front bytes × (length front < length bytes)
+
 -- how a run ends that has this transcript and wrote that
 abbrev pub EndsBy : Transcript → ScriptFault → List ℕ → FaultKind → Type 0
 EndsBy transcript fault written Memory = IsFront written transcript.written
-EndsBy transcript fault written Write = IsFront written transcript.written
-EndsBy transcript fault written Read = written ≡ []
+EndsBy transcript fault written Write = IsProperFront written transcript.written
+EndsBy transcript fault written Read = (fault.line ≡ 0) × (written ≡ [])
 EndsBy transcript fault written _ = transcript ≡ record { written = written; fault = Some fault }
 
 abbrev pub Ends : {A : Type 0} → Transcript → Result A ScriptFault → List ℕ → Type 0
