@@ -184,9 +184,9 @@ run-fails old mid new all run n line others Memory so_far fails =
 run-fails old mid new all run n line others Write so_far (next, front, e, (is_front, shorter), appended) =
     let rest = told next.0 (n + 1) others in
     let whole = ap (λ t. t.written) (so_far.whole ∙ ap (λ r. after_written so_far.written (before_others n r (λ next. told next (n + 1) others))) e)
-            ∙ ap (λ text. so_far.written ++ (text ++ rest.written)) is_front.1
-            ∙ ap (λ l. so_far.written ++ l) (append_assoc front is_front.0 rest.written)
-            ∙ sym (append_assoc so_far.written front (is_front.0 ++ rest.written)) in
+    ∙ ap (λ text. so_far.written ++ (text ++ rest.written)) is_front.1
+    ∙ ap (λ l. so_far.written ++ l) (append_assoc front is_front.0 rest.written)
+    ∙ sym (append_assoc so_far.written front (is_front.0 ++ rest.written)) in
     record {
       written = so_far.written ++ front;
       appended = Appends-trans old mid new so_far.written front so_far.appended appended;

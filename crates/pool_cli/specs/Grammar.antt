@@ -19,7 +19,14 @@ None >>= f = None
 
 -- KIND: how a response ended
 unfoldable pub ending_of : List ℕ → Option Ending
-ending_of word = if bytes_eq word (codes "keep") then Some Keep else (if bytes_eq word (codes "close") then Some Close else (if bytes_eq word (codes "old") then Some Old else (if bytes_eq word (codes "old-keep") then Some OldKeep else (if bytes_eq word (codes "eof") then Some Eof else (if bytes_eq word (codes "cut") then Some Cut else (if bytes_eq word (codes "surplus") then Some Surplus else None))))))
+ending_of word =
+    if bytes_eq word (codes "keep") then Some Keep else (
+    if bytes_eq word (codes "close") then Some Close else (
+    if bytes_eq word (codes "old") then Some Old else (
+    if bytes_eq word (codes "old-keep") then Some OldKeep else (
+    if bytes_eq word (codes "eof") then Some Eof else (
+    if bytes_eq word (codes "cut") then Some Cut else (
+    if bytes_eq word (codes "surplus") then Some Surplus else None))))))
 
 abbrev pub ending_first : List (List ℕ) → Option (Ending × List (List ℕ))
 ending_first [] = None
@@ -37,7 +44,7 @@ limits_form rest = do
   kept ← number_first (2 ^ 32) total.1
   at_end kept.1 (commands.Limits (record { host = host.0; total = total.0; kept = kept.0 }))
 
--- a URL: UTF-8 that begins with http://
+-- what this program takes for a URL: UTF-8 that begins with http://
 unfoldable pub is_url : List ℕ → Bool
 is_url word = is_utf8 word && starts_with (λ a b. a == b) word (codes "http://")
 
@@ -90,7 +97,13 @@ formed None = Err Form
 formed (Some command) = Ok command
 
 unfoldable pub command_of : List ℕ → List (List ℕ) → Result Command FaultKind
-command_of name rest = if bytes_eq name (codes "limits") then formed (limits_form rest) else (if bytes_eq name (codes "site") then formed (site_form rest) else (if bytes_eq name (codes "get") then formed (get_form rest) else (if bytes_eq name (codes "back") then formed (back_form rest) else (if bytes_eq name (codes "drop") then formed (drop_form rest) else (if bytes_eq name (codes "look") then formed (look_form rest) else Err Unknown)))))
+command_of name rest =
+    if bytes_eq name (codes "limits") then formed (limits_form rest) else (
+    if bytes_eq name (codes "site") then formed (site_form rest) else (
+    if bytes_eq name (codes "get") then formed (get_form rest) else (
+    if bytes_eq name (codes "back") then formed (back_form rest) else (
+    if bytes_eq name (codes "drop") then formed (drop_form rest) else (
+    if bytes_eq name (codes "look") then formed (look_form rest) else Err Unknown)))))
 
 -- a line holds so many bytes at most, without its line end
 abbrev pub LONGEST_LINE : ℕ

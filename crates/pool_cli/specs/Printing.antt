@@ -21,11 +21,7 @@ cause_word Dropped = codes "dropped"
 cause_word Withdrawn = codes "withdrawn"
 cause_word Pruned = codes "pruned"
 
--- H.C: the connection, by its host's index and its number
-abbrev pub connection_name : ℕ → ℕ → List ℕ
-connection_name host c = decimal host ++ (codes "." ++ decimal c)
-
--- the line of one event, less its moment; `by` is the transfer that a connection comes back from
+-- the line of one event, less its moment: H.C is the connection, by its host's index and its number; `by` is the transfer that a connection comes back from
 abbrev pub event_text : ℕ → ℕ → Event → List ℕ
 event_text host by (Opened c want) = codes "opened " ++ (decimal host ++ (codes "." ++ (decimal c ++ (codes " for " ++ decimal want.transfer))))
 event_text host by (Leased c want) = codes "leased " ++ (decimal host ++ (codes "." ++ (decimal c ++ (codes " to " ++ decimal want.transfer))))
@@ -48,7 +44,7 @@ newest_lines zero log = []
 newest_lines (suc n) [] = []
 newest_lines (suc n) (e ∷ before) = newest_lines n before ++ entry_line 0 (returned_by before e.event) e
 
--- the lines of the entries that the old log had not
+-- the lines of the entries that were added
 unfoldable pub lines_since : List Entry → List Entry → List ℕ
 lines_since old new = newest_lines (length new - length old) new
 
@@ -61,4 +57,7 @@ yes_or_no answer = if answer then codes "yes" else codes "no"
 
 -- the reply to a look
 abbrev pub look_line : ℕ → ℕ → ℕ → ℕ → ℕ → Bool → List ℕ
-look_line host alive idle leased waiting queued = codes "host " ++ (decimal host ++ (codes " open " ++ (decimal alive ++ (codes " idle " ++ (decimal idle ++ (codes " leased " ++ (decimal leased ++ (codes " waiting " ++ (decimal waiting ++ (codes " queued " ++ (yes_or_no queued ++ codes "\n")))))))))))
+look_line host alive idle leased waiting queued =
+    codes "host " ++ (decimal host ++ (codes " open " ++ (decimal alive ++ (codes " idle " ++ (decimal idle
+    ++ (codes " leased " ++ (decimal leased ++ (codes " waiting " ++ (decimal waiting
+    ++ (codes " queued " ++ (yes_or_no queued ++ codes "\n")))))))))))
