@@ -1,12 +1,12 @@
 -- Each command keeps the log sound, so the log behind a script is legal.
-use Rattle.std.proofs.Common.{◌≡◌, ℕ, Bool, true, false, not, ◌&&◌, List, [], ◌∷◌, Option, Some, None, Result, Ok, Err, is_none, refl, sym, ap, subst, ◌∙◌, arith}
-use Rattle.std.specs.Prelude.{◌==◌, if◌then◌else◌, IsTrue}
+use Rattle.std.proofs.Common.{◌≡◌, ℕ, Bool, true, false, not, ◌&&◌, List, [], ◌∷◌, Option, Some, None, Result, Ok, Err, is_none, refl, sym, subst}
+use Rattle.std.specs.Prelude.{◌==◌, if◌then◌else◌}
 use Rattle.std.specs.Option.{option_map}
 use Rattle.conn_log.specs.declared.entry.Event.{Event}
 use Rattle.conn_log.specs.declared.entry.Event.TheVariants.{Opened, Leased, Returned, Closed, Waited, Left}
 use Rattle.conn_log.specs.declared.entry.Want.{Want}
 use Rattle.conn_log.specs.declared.entry.Entry.{Entry}
-use Rattle.conn_log.specs.Connections.{is_open, is_idle, holder, holder_want, held_number, came_back_persistent}
+use Rattle.conn_log.specs.Connections.{is_idle, holder_want, held_number, came_back_persistent}
 use Rattle.conn_log.specs.Fit.{suits}
 use Rattle.conn_log.specs.Legal.{Terms, IsLegal, Allows}
 use Rattle.conn_log.specs.Sound.{IsSound}
@@ -17,7 +17,7 @@ use Rattle.bundle.specs.Calls.{refusal}
 use Rattle.bundle.proofs.KeptSound.{sound_acquire, sound_give_back, sound_abandon}
 use Rattle.pool_cli.specs.Lines.{lines}
 use Rattle.pool_cli.specs.Grammar.{reading}
-use Rattle.pool_cli.specs.Meaning.{Run, Answer, start, step, terms_of, want_of, facts_of, get_at, get_unless, back_at, back_of, drop_at, drop_of, look_at, at_host, at_no_host, answer_of, with_limits, with_site, with_command, are_good, site_of}
+use Rattle.pool_cli.specs.Meaning.{Run, start, step, terms_of, want_of, facts_of, get_at, get_unless, back_at, back_of, drop_at, drop_of, look_at, at_host, at_no_host, answer_of, with_limits, with_site, with_command, are_good, site_of}
 use Rattle.pool_cli.specs.Transcript.{line_step, line_step_of}
 use Rattle.pool_cli.specs.Law.{run_after, after_line, IsLegalUnder, WasFree, LeasesFree, EachLeaseWasFree, EveryLogIsLegal, EveryLeaseWasFree}
 use Rattle.pool_cli.specs.declared.command.Limits.{Limits}

@@ -1,7 +1,7 @@
 -- The log behind a script's transcript, and what holds of it.
 use Rattle.std.specs.Prelude.{◌≡◌, ℕ, true, IsTrue, List, [], ◌∷◌, Option, Some, None, Result, Ok, Err}
 use Rattle.conn_log.specs.declared.entry.Event.{Event}
-use Rattle.conn_log.specs.declared.entry.Event.TheVariants.{Opened, Leased, Returned, Closed, Waited, Left}
+use Rattle.conn_log.specs.declared.entry.Event.TheVariants.{Leased}
 use Rattle.conn_log.specs.declared.entry.Entry.{Entry}
 use Rattle.conn_log.specs.Connections.{is_open, holder, came_back_persistent}
 use Rattle.conn_log.specs.Legal.{IsLegal}
