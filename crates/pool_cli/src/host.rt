@@ -250,7 +250,7 @@ fn with_stream(lease: Lease<()>) -> Lease<()>
     lease
 }
 
-/// Keeps a lease for its transfer, with an empty stream. Where memory is short, it is after_abandon.
+/// Keeps a lease for its transfer, with an empty stream. Where memory is short, it is abandoned.
 fn store(
     bundle: &mut Bundle<()>,
     leases: &mut BTreeMap<u64, Lease<()>>,
