@@ -1,25 +1,24 @@
 -- What a call answers is a sound log, where the log before it is.
-use Rattle.std.proofs.Common.{◌≡◌, ℕ, ◌+◌, ◌-◌, ◌<◌, ◌≤◌, max, Bool, true, false, not, ◌&&◌, List, [], ◌∷◌, length, filter, Option, Some, None, is_some, refl, sym, ap, subst, inl, inr, ◌∙◌, arith}
-use Rattle.std.specs.Prelude.{◌==◌, nat_le, if◌then◌else◌}
+use Rattle.std.proofs.Common.{◌≡◌, ℕ, ◌+◌, ◌<◌, ◌≤◌, Bool, true, false, ◌&&◌, List, [], ◌∷◌, length, filter, Option, Some, None, is_some, refl, sym, ap, ◌∙◌, arith}
+use Rattle.std.specs.Prelude.{◌==◌, if◌then◌else◌}
 use Rattle.std.specs.Option.{option_map_or}
 use mathlib.Core.Bool.{false≢true}
-use Rattle.std.proofs.lemmas.Bool.Decides.{nat_tests, eqb_tells}
+use Rattle.std.proofs.lemmas.Bool.Decides.{nat_tests}
 use Rattle.persistence.specs.declared.facts.Facts.{Facts}
 use Rattle.conn_log.specs.declared.entry.Want.{Want}
-use Rattle.conn_log.specs.declared.entry.Cause.TheVariants.{HostRoom, Dropped}
-use Rattle.conn_log.specs.declared.entry.Event.TheVariants.{Opened, Leased, Returned, Closed}
+use Rattle.conn_log.specs.declared.entry.Cause.TheVariants.{HostRoom}
+use Rattle.conn_log.specs.declared.entry.Event.TheVariants.{Opened, Returned, Closed}
 use Rattle.conn_log.specs.declared.entry.Entry.{Entry}
-use Rattle.conn_log.specs.Connections.{is_among, last_moment, opened, greatest, open_connections, idle_connections, is_idle, is_held_by, holds, holder_want, held_number}
+use Rattle.conn_log.specs.Connections.{last_moment, opened, greatest, idle_connections, is_idle, holds, holder_want, held_number}
 use Rattle.conn_log.specs.Fit.{suits, is_fit, is_earlier, first_by, newest_fit, oldest}
-use Rattle.conn_log.specs.Legal.{Terms, owed, ends_use, ending_cause}
+use Rattle.conn_log.specs.Legal.{Terms, ends_use, ending_cause}
 use Rattle.conn_log.specs.Sound.{IsSound, has_number}
 use Rattle.conn_log.proofs.Numbers.{is_among-filter}
 use Rattle.conn_log.proofs.Steps.{idle_open_unheld, fewer_open, gone_closed}
 use Rattle.conn_log.proofs.Firsts.{first_among}
 use Rattle.conn_log.proofs.Soundness.{holds_is, sound_open, sound_lease, sound_return, sound_end, sound_drop, sound_room}
-use Rattle.bundle.specs.declared.refusal.Refusal.{Refusal}
 use Rattle.bundle.specs.declared.refusal.Refusal.TheVariants.{TransferBusy, Exhausted, AtLimit}
-use Rattle.bundle.specs.Calls.{moment_at, add, is_full, is_at_limit, is_exhausted, close_for_room, with_host_room, start_new, start_on, with_start, after_acquire, close_if_owed, with_owed_close, after_give_back, after_abandon, refusal}
+use Rattle.bundle.specs.Calls.{moment_at, add, is_full, is_at_limit, is_exhausted, close_for_room, start_new, start_on, after_acquire, close_if_owed, after_give_back, after_abandon, refusal}
 
 -- the moment of a call is not below the last one
 later : (log : List Entry) (now : ℕ) → last_moment log ≤ moment_at log now
