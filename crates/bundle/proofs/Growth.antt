@@ -1,12 +1,17 @@
 -- Each call's log grows from the log before it.
-use Rattle.std.proofs.Common.{◌≡◌, ℕ, Bool, true, false, List, [], ◌∷◌, Option, Some, None, refl, ap, subst, ◌∙◌}
+use Rattle.std.proofs.Common.{◌≡◌, ℕ, zero, suc, length, Bool, true, false, List, [], ◌∷◌, ◌++◌, Option, Some, None, refl, sym, ap, ◌∙◌}
+use Rattle.std.proofs.lemmas.List.{append_assoc}
 use Rattle.std.specs.Prelude.{if◌then◌else◌}
+use Rattle.conn_log.specs.declared.entry.Want.{Want}
 use Rattle.conn_log.specs.declared.entry.Cause.{Cause}
+use Rattle.conn_log.specs.declared.entry.Cause.TheVariants.{TooOld}
 use Rattle.conn_log.specs.declared.entry.Event.{Event}
+use Rattle.conn_log.specs.declared.entry.Event.TheVariants.{Closed}
 use Rattle.conn_log.specs.declared.entry.Entry.{Entry}
-use Rattle.conn_log.specs.Fit.{oldest}
+use Rattle.conn_log.specs.Connections.{idle_connections}
+use Rattle.conn_log.specs.Fit.{oldest_too_old, oldest}
 use Rattle.conn_log.specs.Legal.{Terms, owed}
-use Rattle.bundle.specs.Calls.{add, close_if_owed, with_owed_close, close_for_room, with_host_room, is_full, GrowsBy}
+use Rattle.bundle.specs.Calls.{add, close_before, close_too_old, without_too_old, close_if_owed, with_owed_close, close_for_room, with_host_room, is_full, GrowsBy}
 
 pub grows_same : (log : List Entry) → GrowsBy log log
 grows_same log = ([], refl)
@@ -32,6 +37,17 @@ grows_room terms moment log = by_case (is_full terms log) (oldest log)
     by_case true first = by_oldest first
     by_case false first = grows_same log
 
+grows_so_many : (n : ℕ) (want : Want) (moment : ℕ) (old log : List Entry) → GrowsBy old log → GrowsBy old (close_too_old n want moment log)
+grows_so_many zero want moment old log grew = grew
+grows_so_many (suc n) want moment old log grew = by_first (oldest_too_old log want moment) (λ c. grows_so_many n want moment old (add moment (Closed c TooOld) log) (grows_by_one moment (Closed c TooOld) old log grew))
+  where
+    by_first : (first : Option ℕ) → ((c : ℕ) → GrowsBy old (close_too_old n want moment (add moment (Closed c TooOld) log))) → GrowsBy old (close_before moment log first (close_too_old n want moment))
+    by_first None rest = grew
+    by_first (Some c) rest = rest c
+
+pub grows_too_old : (want : Want) (moment : ℕ) (old log : List Entry) → GrowsBy old log → GrowsBy old (without_too_old want moment log)
+grows_too_old want moment old log grew = grows_so_many (length (idle_connections log)) want moment old log grew
+
 -- a log that is another grows as that one does
 pub grows_as : (old log other : List Entry) → other ≡ log → GrowsBy old log → GrowsBy old other
 grows_as old log other same grew = (grew.0, same ∙ grew.1)
@@ -40,5 +56,11 @@ grows_as old log other same grew = (grew.0, same ∙ grew.1)
 pub grows_from : (old base : List Entry) → base ≡ old → GrowsBy old base
 grows_from old base same = ([], same)
 
-pub grows_room_from : (terms : Terms) (moment : ℕ) (old log : List Entry) → log ≡ old → GrowsBy old (with_host_room terms moment log)
-grows_room_from terms moment old log same = subst (λ base. GrowsBy base (with_host_room terms moment log)) same (grows_room terms moment log)
+pub grows_too_old_from : (want : Want) (moment : ℕ) (old log : List Entry) → log ≡ old → GrowsBy old (without_too_old want moment log)
+grows_too_old_from want moment old log same = grows_too_old want moment old log (grows_from old log same)
+
+pub grows_room_of : (terms : Terms) (moment : ℕ) (old log : List Entry) → GrowsBy old log → GrowsBy old (with_host_room terms moment log)
+grows_room_of terms moment old log grew = let more = grows_room terms moment log in joined more.0 grew.0 more.1 grew.1
+  where
+    joined : (later sooner : List Entry) → with_host_room terms moment log ≡ later ++ log → log ≡ sooner ++ old → GrowsBy old (with_host_room terms moment log)
+    joined later sooner more grew = (later ++ sooner, more ∙ ap (λ before. later ++ before) grew ∙ sym (append_assoc later sooner old))

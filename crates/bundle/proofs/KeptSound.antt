@@ -1,24 +1,25 @@
 -- What a call answers is a sound log, where the log before it is.
-use Rattle.std.proofs.Common.{◌≡◌, ℕ, ◌+◌, ◌<◌, ◌≤◌, Bool, true, false, ◌&&◌, List, [], ◌∷◌, length, filter, Option, Some, None, is_some, refl, sym, ap, ◌∙◌, arith}
+use Rattle.std.proofs.Common.{◌≡◌, ℕ, zero, suc, ◌+◌, ◌<◌, ◌≤◌, Bool, true, false, ◌&&◌, List, [], ◌∷◌, length, filter, Option, Some, None, is_some, refl, sym, ap, ◌∙◌, arith}
 use Rattle.std.specs.Prelude.{◌==◌, if◌then◌else◌}
 use Rattle.std.specs.Option.{option_map_or}
 use mathlib.Core.Bool.{false≢true}
 use Rattle.std.proofs.lemmas.Bool.Decides.{nat_tests}
 use Rattle.persistence.specs.declared.facts.Facts.{Facts}
 use Rattle.conn_log.specs.declared.entry.Want.{Want}
-use Rattle.conn_log.specs.declared.entry.Cause.TheVariants.{HostRoom}
+use Rattle.conn_log.specs.declared.entry.Cause.{Cause}
+use Rattle.conn_log.specs.declared.entry.Cause.TheVariants.{TooOld, HostRoom}
 use Rattle.conn_log.specs.declared.entry.Event.TheVariants.{Opened, Returned, Closed}
 use Rattle.conn_log.specs.declared.entry.Entry.{Entry}
 use Rattle.conn_log.specs.Connections.{last_moment, opened, greatest, idle_connections, is_idle, holds, holder_want, held_number}
-use Rattle.conn_log.specs.Fit.{suits, is_fit, is_earlier, first_by, newest_fit, oldest}
+use Rattle.conn_log.specs.Fit.{suits, is_fit, is_earlier, first_by, newest_fit, is_too_old_in_lane, oldest_too_old, oldest}
 use Rattle.conn_log.specs.Legal.{Terms, ends_use, ending_cause}
 use Rattle.conn_log.specs.Sound.{IsSound, has_number}
 use Rattle.conn_log.proofs.Numbers.{is_among-filter}
 use Rattle.conn_log.proofs.Steps.{idle_open_unheld, fewer_open, gone_closed}
 use Rattle.conn_log.proofs.Firsts.{first_among}
-use Rattle.conn_log.proofs.Soundness.{holds_is, sound_open, sound_lease, sound_return, sound_end, sound_drop, sound_room}
+use Rattle.conn_log.proofs.Soundness.{and_left, holds_is, sound_open, sound_lease, sound_return, sound_end, sound_drop, sound_close}
 use Rattle.bundle.specs.declared.refusal.Refusal.TheVariants.{TransferBusy, Exhausted, AtLimit}
-use Rattle.bundle.specs.Calls.{moment_at, add, is_full, is_at_limit, is_exhausted, close_for_room, start_new, start_on, after_acquire, close_if_owed, after_give_back, after_abandon, refusal}
+use Rattle.bundle.specs.Calls.{moment_at, add, close_before, close_too_old, without_too_old, with_start, is_full, is_at_limit, is_exhausted, close_for_room, start_new, start_on, after_acquire, close_if_owed, after_give_back, after_abandon, refusal}
 
 -- the moment of a call is not below the last one
 later : (log : List Entry) (now : ℕ) → last_moment log ≤ moment_at log now
@@ -43,18 +44,18 @@ module _ (terms : Terms) (log : List Entry) (sound : IsSound terms log) where
   newest_is_fit : (want : Want) (moment c : ℕ) → newest_fit log want moment ≡ Some c → is_fit log want moment c ≡ true
   newest_is_fit want moment c is = sym (is_among-filter (suits log want moment) c (idle_connections log)) ∙ first_among (λ c d. is_earlier log d c) (filter (suits log want moment) (idle_connections log)) c is
 
-  -- there is room once the oldest has made it
-  not_full_after : (moment c : ℕ) → is_idle log c ≡ true → is_full terms (add moment (Closed c HostRoom) log) ≡ false
-  not_full_after moment c idle =
+  -- there is room once an idle one has made it
+  not_full_after : (moment c : ℕ) (cause : Cause) → is_idle log c ≡ true → is_full terms (add moment (Closed c cause) log) ≡ false
+  not_full_after moment c cause idle =
       let open_unheld = idle_open_unheld log c idle in
-      let fewer = fewer_open terms log sound.orderly c (add moment (Closed c HostRoom) log) (gone_closed moment c HostRoom log) open_unheld.0 in
+      let fewer = fewer_open terms log sound.orderly c (add moment (Closed c cause) log) (gone_closed moment c cause log) open_unheld.0 in
       differs _ _ (omega (arith, fewer, sound.orderly.within))
     where
       differs : (a b : ℕ) → a < b → (a == b) ≡ false
       differs a b lt = grind (arith, nat_tests, lt)
 
-  still_free : (moment c transfer : ℕ) → is_idle log c ≡ true → held_number log transfer ≡ None → held_number (add moment (Closed c HostRoom) log) transfer ≡ None
-  still_free moment c transfer idle free = rw free refl
+  still_free : (moment c : ℕ) (cause : Cause) (transfer : ℕ) → is_idle log c ≡ true → held_number log transfer ≡ None → held_number (add moment (Closed c cause) log) transfer ≡ None
+  still_free moment c cause transfer idle free = rw free refl
 
 -- opening where the host has room
 open_with_room : (terms : Terms) (log : List Entry) (want : Want) (moment : ℕ) → IsSound terms log → last_moment log ≤ moment → held_number log want.transfer ≡ None → is_full terms log ≡ false → IsSound terms (add moment (Opened (greatest terms.first (opened log) + 1) want) log)
@@ -70,26 +71,45 @@ none_first goes_before (c ∷ numbers) is = absurd (cc)
 not_at_limit : (full : Bool) (idle : List ℕ) → full ≡ true → idle ≡ [] → (full && (length idle == 0)) ≡ false → ⊥
 not_at_limit full idle is none off = false≢true (sym off ∙ rw (is, none) refl)
 
-pub sound_acquire : (terms : Terms) (log : List Entry) (want : Want) (now : ℕ) → IsSound terms log → refusal terms log want ≡ None → IsSound terms (after_acquire terms log want now)
-sound_acquire terms log want now sound allowed = by_fit (newest_fit log want moment) refl
+-- what closing the too old ones keeps
+record AfterClosing (terms : Terms) (moment transfer : ℕ) (after : List Entry) : Type 0 where
+  pub sound : IsSound terms after
+  pub later : last_moment after ≤ moment
+  pub free : held_number after transfer ≡ None
+  pub room : is_at_limit terms after ≡ false
+
+closing_keeps : (terms : Terms) (want : Want) (moment transfer : ℕ) (n : ℕ) (log : List Entry) → IsSound terms log → last_moment log ≤ moment → held_number log transfer ≡ None → is_at_limit terms log ≡ false → AfterClosing terms moment transfer (close_too_old n want moment log)
+closing_keeps terms want moment transfer zero log sound le free room = record { sound = sound; later = le; free = free; room = room; }
+closing_keeps terms want moment transfer (suc n) log sound le free room = by_first (oldest_too_old log want moment) refl (λ c idle. closing_keeps terms want moment transfer n (add moment (Closed c TooOld) log) (sound_close terms log sound moment le c TooOld (sound.settled, idle) idle) (omega arith) (still_free terms log sound moment c TooOld transfer idle free) (ap (λ full. full && (length (idle_connections (add moment (Closed c TooOld) log)) == 0)) (not_full_after terms log sound moment c TooOld idle)))
   where
-    moment : ℕ
-    moment = moment_at log now
+    among_idle : (goes_before : ℕ → ℕ → Bool) (test : ℕ → Bool) (c : ℕ) → first_by goes_before (filter test (idle_connections log)) ≡ Some c → is_idle log c ≡ true
+    among_idle goes_before test c is = and_left (is_idle log c) (test c) (sym (is_among-filter test c (idle_connections log)) ∙ first_among goes_before (filter test (idle_connections log)) c is)
 
-    reasons : (holds log want.transfer ≡ false) × (is_at_limit terms log ≡ false)
-    reasons = not_refused terms log want (holds log want.transfer) (is_exhausted terms log) (is_at_limit terms log) allowed
+    by_first : (first : Option ℕ) → oldest_too_old log want moment ≡ first → ((c : ℕ) → is_idle log c ≡ true → AfterClosing terms moment transfer (close_too_old n want moment (add moment (Closed c TooOld) log))) → AfterClosing terms moment transfer (close_before moment log first (close_too_old n want moment))
+    by_first None is rest = record { sound = sound; later = le; free = free; room = room; }
+    by_first (Some c) is rest = rest c (among_idle (is_earlier log) (is_too_old_in_lane log want moment) c is)
 
-    with_room : (full : Bool) → is_full terms log ≡ full → (first : Option ℕ) → oldest log ≡ first → IsSound terms (start_new terms want (moment_at log now) (if full then close_for_room (moment_at log now) log first else log))
-    with_room false is first first_is = open_with_room terms log want (moment_at log now) sound (later log now) (free_of terms log sound want.transfer reasons.0) is
-    with_room true is None none = absurd (not_at_limit (is_full terms log) (idle_connections log) is (none_first (is_earlier log) (idle_connections log) none) reasons.1)
+-- a start where a transfer that holds nothing is not refused
+sound_start : (terms : Terms) (want : Want) (m : ℕ) (log : List Entry) → IsSound terms log → last_moment log ≤ m → held_number log want.transfer ≡ None → is_at_limit terms log ≡ false → IsSound terms (with_start terms want m log)
+sound_start terms want m log sound le free room = by_fit (newest_fit log want m) refl
+  where
+    with_room : (full : Bool) → is_full terms log ≡ full → (first : Option ℕ) → oldest log ≡ first → IsSound terms (start_new terms want m (if full then close_for_room m log first else log))
+    with_room false is first first_is = open_with_room terms log want m sound le free is
+    with_room true is None none = absurd (not_at_limit (is_full terms log) (idle_connections log) is (none_first (is_earlier log) (idle_connections log) none) room)
     with_room true is (Some c) first_is =
         let idle = first_among (is_earlier log) (idle_connections log) c first_is in
-        let m = moment_at log now in
-        open_with_room terms (add m (Closed c HostRoom) log) want m (sound_room terms log sound m (later log now) c idle) (omega arith) (still_free terms log sound m c want.transfer idle (free_of terms log sound want.transfer reasons.0)) (not_full_after terms log sound m c idle)
+        open_with_room terms (add m (Closed c HostRoom) log) want m (sound_close terms log sound m le c HostRoom (sound.settled, idle) idle) (omega arith) (still_free terms log sound m c HostRoom want.transfer idle free) (not_full_after terms log sound m c HostRoom idle)
 
-    by_fit : (fit : Option ℕ) → newest_fit log want (moment_at log now) ≡ fit → IsSound terms (start_on terms want (moment_at log now) log fit)
-    by_fit (Some c) is = sound_lease terms log sound (moment_at log now) (later log now) c want (newest_is_fit terms log sound want (moment_at log now) c is) (free_of terms log sound want.transfer reasons.0)
+    by_fit : (fit : Option ℕ) → newest_fit log want m ≡ fit → IsSound terms (start_on terms want m log fit)
+    by_fit (Some c) is = sound_lease terms log sound m le c want (newest_is_fit terms log sound want m c is) free
     by_fit None is = with_room (is_full terms log) refl (oldest log) refl
+
+pub sound_acquire : (terms : Terms) (log : List Entry) (want : Want) (now : ℕ) → IsSound terms log → refusal terms log want ≡ None → IsSound terms (after_acquire terms log want now)
+sound_acquire terms log want now sound allowed =
+    let reasons = not_refused terms log want (holds log want.transfer) (is_exhausted terms log) (is_at_limit terms log) allowed in
+    let m = moment_at log now in
+    let closed = closing_keeps terms want m want.transfer (length (idle_connections log)) log sound (later log now) (free_of terms log sound want.transfer reasons.0) reasons.1 in
+    sound_start terms want m (without_too_old want m log) closed.sound closed.later closed.free closed.room
 
 -- who holds it, from what the transfer holds
 held_want : (terms : Terms) (log : List Entry) → IsSound terms log → (transfer c : ℕ) → held_number log transfer ≡ Some c → (want : Want) × (holder_want log c ≡ Some want)

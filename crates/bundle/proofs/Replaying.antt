@@ -8,15 +8,15 @@ use Rattle.std.proofs.lemmas.List.{get_or_default}
 use Rattle.conn_log.specs.declared.entry.Want.{Want}
 use Rattle.conn_log.specs.declared.entry.Entry.{Entry}
 use Rattle.conn_log.specs.Connections.{is_idle, is_held_by, holds, holder_want, held_number, born, since, lane, came_back_persistent}
-use Rattle.conn_log.specs.Fit.{is_earlier, suits, newest_fit, oldest, oldest_stamp}
+use Rattle.conn_log.specs.Fit.{is_earlier, suits, newest_fit, is_too_old_in_lane, oldest_too_old, oldest, oldest_stamp}
 use Rattle.conn_log.specs.Legal.{Terms}
 use Rattle.conn_log.specs.Sound.{has_number, IdleFacts, HeldFacts, facts_if_idle, facts_if_held, held_facts}
 use Rattle.conn_log.proofs.Steps.{idle_open_unheld}
 use Rattle.conn_log.proofs.Soundness.{holds_is}
-use Rattle.conn_log.proofs.Firsts.{newest_is, newest_none, oldest_is}
+use Rattle.conn_log.proofs.Firsts.{newest_is, newest_none, oldest_too_old_is, none_too_old, oldest_is}
 use Rattle.bundle.specs.declared.idle.Idle.{Idle}
 use Rattle.bundle.specs.declared.held.Held.{Held}
-use Rattle.bundle.specs.Idle.{find_number, facts_of, item_before, item_suits, LastSuits, NoneSuits}
+use Rattle.bundle.specs.Idle.{find_number, facts_of, item_before, item_suits, item_too_old, LastSuits, NoneSuits, FirstTooOld, NoneTooOld}
 use Rattle.bundle.specs.State.{Replays, held_facts_of}
 use Rattle.bundle.proofs.Kept.{find_number_place, place_of}
 
@@ -149,6 +149,42 @@ module _ {S : Type 0} {terms : Terms} {log : List Entry} {greatest_used : ℕ} {
       and_true : (a : Bool) → (a && true) ≡ a
       and_true true = refl
       and_true false = refl
+
+  -- one that is idle is too old in its lane as the log has it
+  pub too_old_is : (want : Want) (moment : ℕ) (x : Idle S) → find_number idle x.number ≡ Some x → is_too_old_in_lane log want moment x.number ≡ item_too_old want moment x
+  too_old_is want moment x there =
+      let told = found_idle x.number x there in
+      let l : lane log x.number ≡ x.lane = sym (ap (λ (f : IdleFacts). f.lane) told.1) in
+      let b : born log x.number ≡ x.born = sym (ap (λ (f : IdleFacts). f.born) told.1) in
+      let s : since log x.number ≡ x.since = sym (ap (λ (f : IdleFacts). f.since) told.1) in
+      rw (l, b, s) refl
+
+  -- the first that is too old is the oldest too old
+  pub oldest_too_old_read : (want : Want) (moment place : ℕ) (x : Idle S) → FirstTooOld want moment idle place → x ≡ get_or idle place x → oldest_too_old log want moment ≡ Some x.number
+  oldest_too_old_read want moment place x first is =
+      let x_there = at_place place x first.in_range is in
+      oldest_too_old_is log want moment x.number (found_idle x.number x x_there).0 (too_old_is want moment x x_there ∙ subst (λ (y : Idle S). item_too_old want moment y ≡ true) (sym is) (first.here x))
+      (λ d d_idle d_old other.
+      let found = idle_found d d_idle in
+      let y = found.0 in
+      let where_it_is = place_of idle d y found.1 in
+      let y_there : find_number idle y.number ≡ Some y = ap (find_number idle) where_it_is.3 ∙ found.1 in
+      let y_old : item_too_old want moment y ≡ true = sym (too_old_is want moment y y_there) ∙ ap (is_too_old_in_lane log want moment) where_it_is.3 ∙ d_old in
+      let not_before : where_it_is.0 < place → ⊥ = λ sooner. false≢true (sym (first.none_before where_it_is.0 y sooner) ∙ ap (item_too_old want moment) (sym where_it_is.2) ∙ y_old) in
+      let apart : where_it_is.0 ≡ place → ⊥ = λ same_place.
+      let same : x ≡ y = is ∙ get_or_default idle place x y first.in_range ∙ sym (where_it_is.2 ∙ ap (λ (k : ℕ). get_or idle k y) same_place) in
+      let equal : x.number ≡ d = ap (λ (z : Idle S). z.number) same ∙ where_it_is.3 in
+      false≢true (sym other ∙ grind (arith, nat_tests, equal)) in
+      let before : item_before x y ≡ true = subst (λ (z : Idle S). item_before z y ≡ true) (sym (is ∙ get_or_default idle place x y first.in_range)) (subst (λ (z : Idle S). item_before (get_or idle place y) z ≡ true) (sym where_it_is.2) (r.idle_in_order place where_it_is.0 y (omega (arith, not_before, apart)) where_it_is.1)) in
+      subst (λ (n : ℕ). is_earlier log x.number n ≡ true) where_it_is.3 (order_told x y x_there y_there before))
+
+  pub none_too_old_read : (want : Want) (moment : ℕ) → NoneTooOld want moment idle → oldest_too_old log want moment ≡ None
+  none_too_old_read want moment none = none_too_old log want moment (λ d d_idle.
+      let found = idle_found d d_idle in
+      let y = found.0 in
+      let where_it_is = place_of idle d y found.1 in
+      let y_there : find_number idle y.number ≡ Some y = ap (find_number idle) where_it_is.3 ∙ found.1 in
+      ap (is_too_old_in_lane log want moment) (sym where_it_is.3) ∙ too_old_is want moment y y_there ∙ ap (item_too_old want moment) where_it_is.2 ∙ none where_it_is.0 y where_it_is.1)
 
   -- the newest that suits is the newest fit
   pub newest_read : (want : Want) (moment place : ℕ) (x : Idle S) → LastSuits want moment idle place → x ≡ get_or idle place x → newest_fit log want moment ≡ Some x.number

@@ -10,22 +10,22 @@ use Rattle.persistence.specs.declared.facts.Facts.{Facts}
 use Rattle.persistence.specs.Persistent.{is_persistent}
 use Rattle.conn_log.specs.declared.entry.Want.{Want}
 use Rattle.conn_log.specs.declared.entry.Cause.{Cause}
-use Rattle.conn_log.specs.declared.entry.Cause.TheVariants.{HostRoom, Dropped}
+use Rattle.conn_log.specs.declared.entry.Cause.TheVariants.{TooOld, Dropped}
 use Rattle.conn_log.specs.declared.entry.Event.TheVariants.{Opened, Leased, Returned, Closed}
 use Rattle.conn_log.specs.declared.entry.Entry.{Entry}
-use Rattle.conn_log.specs.Connections.{last_moment, is_among, opened, greatest, open_connections, is_idle, holder_want, held_number, born, lane}
+use Rattle.conn_log.specs.Connections.{last_moment, is_among, opened, greatest, open_connections, is_open, idle_connections, is_idle, holder_want, held_number, born, lane}
 use Rattle.conn_log.specs.Fit.{is_fit}
-use Rattle.conn_log.specs.Legal.{Terms, ends_use, ending_cause}
+use Rattle.conn_log.specs.Legal.{Terms, ends_use, ending_cause, MayClose}
 use Rattle.conn_log.specs.Sound.{IsSound, IdleFacts, HeldFacts, facts_if_idle, facts_if_held, idle_facts, held_facts}
-use Rattle.conn_log.proofs.Steps.{IsGone, gone_closed, gone_ended, is_idle_is, idle_open_unheld, idle_facts_open, held_facts_open, more_open, as_many_idle_open, idle_facts_lease, held_facts_lease, fewer_idle_lease, idle_facts_return, held_facts_return, more_idle, fewer_open, as_many_idle, fewer_idle, idle_facts_gone, held_facts_gone, others_kept}
-use Rattle.conn_log.proofs.Soundness.{next_is_new, and_left, sound_open, sound_lease, sound_return, sound_end, sound_drop, sound_room, sound_empty}
+use Rattle.conn_log.proofs.Steps.{IsGone, gone_closed, gone_ended, is_idle_is, idle_open_unheld, gone_open, taken_same, idle_facts_open, held_facts_open, more_open, as_many_idle_open, idle_facts_lease, held_facts_lease, fewer_idle_lease, idle_facts_return, held_facts_return, more_idle, fewer_open, as_many_idle, fewer_idle, idle_facts_gone, held_facts_gone, others_kept}
+use Rattle.conn_log.proofs.Soundness.{next_is_new, and_left, and_right, sound_open, sound_lease, sound_return, sound_end, sound_drop, sound_close, sound_empty}
 use Rattle.bundle.specs.declared.idle.Idle.{Idle}
 use Rattle.bundle.specs.declared.held.Held.{Held}
 use Rattle.bundle.specs.Calls.{add, with_owed_close, is_full}
-use Rattle.bundle.specs.Idle.{find_number, numbers, facts_of, item_suits, LastSuits, IsPlaceFor}
-use Rattle.bundle.specs.State.{Replays, held_facts_of}
-use Rattle.bundle.proofs.Kept.{is_some-find_number, find_number-insert, find_number-remove, distinct-insert, distinct-remove, order-insert, order-remove}
-use Rattle.bundle.proofs.Replaying.{found_idle, at_place, suits_is, table_some, table_number, table_held}
+use Rattle.bundle.specs.Idle.{find_number, numbers, facts_of, streams_of, item_suits, LastSuits, FirstTooOld, IsPlaceFor}
+use Rattle.bundle.specs.State.{Replays, ClosesIdle, ClosesOldest, held_facts_of}
+use Rattle.bundle.proofs.Kept.{is_some-find_number, find_number-insert, find_number-remove, distinct-insert, distinct-remove, order-insert, order-remove, stream_of-remove}
+use Rattle.bundle.proofs.Replaying.{found_idle, at_place, idle_nobodys, suits_is, oldest_too_old_read, table_some, table_number, table_held}
 
 -- a fact that holds whatever the option
 pub if_none_always : {A : Type 0} {P : Type 0} (x : Option A) → P → IfNone x P
@@ -228,26 +228,30 @@ module _ {S : Type 0} (terms : Terms) (log : List Entry) (greatest_used : ℕ) (
         let on : ends_use facts w.0 ≡ false = rw w.2 (ap not stays) in
         rw (w.1, on) refl
 
-  -- where it made room, the host is no longer full
-  pub room_made : (moment : ℕ) (place : ℕ) (x : Idle S) → place < length idle → x ≡ get_or idle place x → is_full terms (record { moment = moment; event = Closed x.number HostRoom } ∷ log) ≡ false
-  room_made moment place x within is =
+  -- where an idle one was closed, the host is no longer full
+  pub room_made : (moment : ℕ) (cause : Cause) (place : ℕ) (x : Idle S) → place < length idle → x ≡ get_or idle place x → is_full terms (record { moment = moment; event = Closed x.number cause } ∷ log) ≡ false
+  room_made moment cause place x within is =
       let told = found_idle r x.number x (at_place r place x within is) in
       let open_unheld = idle_open_unheld log x.number told.0 in
-      let fewer = fewer_open terms log r.sound.orderly x.number (record { moment = moment; event = Closed x.number HostRoom } ∷ log) (gone_closed moment x.number HostRoom log) open_unheld.0 in
+      let fewer = fewer_open terms log r.sound.orderly x.number (record { moment = moment; event = Closed x.number cause } ∷ log) (gone_closed moment x.number cause log) open_unheld.0 in
       differs _ _ (omega (arith, fewer, r.sound.orderly.within))
     where
       differs : (a b : ℕ) → a < b → (a == b) ≡ false
       differs a b lt = grind (arith, nat_tests, lt)
 
-  -- the one at a place makes room
-  pub replays_room : (moment : ℕ) → last_moment log ≤ moment → (place : ℕ) (x : Idle S) → place < length idle → x ≡ get_or idle place x → Replays terms (record { moment = moment; event = Closed x.number HostRoom } ∷ log) greatest_used (remove idle place) held held_len
-  replays_room moment later place x within is =
-      let after = record { moment = moment; event = Closed x.number HostRoom } ∷ log in
-      let gone = gone_closed moment x.number HostRoom log in
+  -- one idle fewer
+  pub fewer_idle_at : (moment : ℕ) (cause : Cause) (place : ℕ) (x : Idle S) → place < length idle → x ≡ get_or idle place x → length (idle_connections log) ≡ length (idle_connections (record { moment = moment; event = Closed x.number cause } ∷ log)) + 1
+  fewer_idle_at moment cause place x within is = fewer_idle terms log r.sound.orderly x.number _ (gone_closed moment x.number cause log) (found_idle r x.number x (at_place r place x within is)).0
+
+  -- the idle one at a place is closed
+  pub replays_close : (moment : ℕ) → last_moment log ≤ moment → (cause : Cause) (place : ℕ) (x : Idle S) → place < length idle → x ≡ get_or idle place x → (is_idle log x.number ≡ true → MayClose log x.number cause) → Replays terms (record { moment = moment; event = Closed x.number cause } ∷ log) greatest_used (remove idle place) held held_len
+  replays_close moment later cause place x within is allowed =
+      let after = record { moment = moment; event = Closed x.number cause } ∷ log in
+      let gone = gone_closed moment x.number cause log in
       let told = found_idle r x.number x (at_place r place x within is) in
       let open_unheld = idle_open_unheld log x.number told.0 in
       record {
-        sound = sound_room terms log r.sound moment later x.number told.0;
+        sound = sound_close terms log r.sound moment later x.number cause (allowed told.0) told.0;
         greatest_is = r.greatest_is;
         idle_at = idle_without place x within is after (idle_facts_gone terms log r.sound.orderly x.number after gone);
         idle_distinct = distinct-remove idle place r.idle_distinct;
@@ -260,6 +264,35 @@ module _ {S : Type 0} (terms : Terms) (log : List Entry) (greatest_used : ℕ) (
       nobodys : (w : Option Want) (t : ℕ) → is_none w ≡ true → option_map_or (λ (v : Want). v.transfer == t) w false ≡ false
       nobodys None t e = refl
       nobodys (Some v) t e = absurd (cc)
+
+  -- and nothing else
+  pub closes_one : (moment : ℕ) (cause : Cause) (place : ℕ) (x : Idle S) (host booked : ℕ) → place < length idle → x ≡ get_or idle place x → ClosesIdle moment (record { log = log; terms = terms; host = host; streams = streams_of idle; booked = booked }) (record { log = record { moment = moment; event = Closed x.number cause } ∷ log; terms = terms; host = host; streams = streams_of (remove idle place); booked = booked })
+  closes_one moment cause place x host booked within is = record {
+    opened = refl;
+    still = λ d now. and_right (not (x.number == d)) (is_open log d) (sym (gone d) ∙ now);
+    streams = λ d now. stream_of-remove idle place x d r.idle_distinct within is (other d (and_left (not (x.number == d)) (is_open log d) (sym (gone d) ∙ now)));
+    holders = taken_same terms log r.sound.orderly x.number (idle_nobodys r x (at_place r place x within is));
+    room = λ off. ap (λ full. full && (length (idle_connections (record { moment = moment; event = Closed x.number cause } ∷ log)) == 0)) (room_made moment cause place x within is);
+    later = omega arith;
+    booked = refl;
+    same = record { terms = refl; host = refl; };
+  }
+    where
+      gone : (d : ℕ) → is_open (record { moment = moment; event = Closed x.number cause } ∷ log) d ≡ (not (x.number == d) && is_open log d)
+      gone = gone_open terms log r.sound.orderly x.number _ (gone_closed moment x.number cause log)
+
+      other : (d : ℕ) → not (x.number == d) ≡ true → (x.number == d) ≡ false
+      other d apart = grind (arith, apart)
+
+  -- the oldest too old was closed
+  pub closes_oldest : (want : Want) (moment place : ℕ) (x : Idle S) (host booked : ℕ) → FirstTooOld want moment idle place → x ≡ get_or idle place x → ClosesOldest want moment (record { log = log; terms = terms; host = host; streams = streams_of idle; booked = booked }) (record { log = record { moment = moment; event = Closed x.number TooOld } ∷ log; terms = terms; host = host; streams = streams_of (remove idle place); booked = booked })
+  closes_oldest want moment place x host booked first is = record {
+    number = x.number;
+    oldest = oldest_too_old_read r want moment place x first is;
+    log = refl;
+    fewer = fewer_idle_at moment TooOld place x first.in_range is;
+    closes = closes_one moment TooOld place x host booked first.in_range is;
+  }
 
 -- no connection yet
 pub replays_new : {S : Type 0} (terms : Terms) (greatest_used : ℕ) (held : ℕ → Option Held) → greatest_used ≡ terms.first - 1 → ((t : ℕ) → held t ≡ None) → Replays {S = S} terms [] greatest_used [] held 0

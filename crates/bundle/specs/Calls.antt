@@ -1,17 +1,16 @@
 -- What a call of a bundle answers: the log after it, from the log before it, the call and its moment;
 -- and the reply, which is read off the newest entry where the call is not refused. Steps take the log
--- last, so that they read in their order. No transfer waits yet, and no want finds a connection too
--- old yet: once one does, closing those comes first.
-use Rattle.std.specs.Prelude.{◌≡◌, ℕ, ◌+◌, max, Bool, true, false, not, ◌==◌, ◌&&◌, if◌then◌else◌, nat_le, List, [], ◌∷◌, ◌++◌, length, Option, Some, None}
+-- last, so that they read in their order. No transfer waits yet.
+use Rattle.std.specs.Prelude.{◌≡◌, ℕ, zero, suc, ◌+◌, max, Bool, true, false, not, ◌==◌, ◌&&◌, if◌then◌else◌, nat_le, List, [], ◌∷◌, ◌++◌, length, Option, Some, None}
 use Rattle.persistence.specs.declared.facts.Facts.{Facts}
 use Rattle.conn_log.specs.declared.entry.Want.{Want}
 use Rattle.conn_log.specs.declared.entry.Cause.{Cause}
-use Rattle.conn_log.specs.declared.entry.Cause.TheVariants.{HostRoom, Dropped}
+use Rattle.conn_log.specs.declared.entry.Cause.TheVariants.{TooOld, HostRoom, Dropped}
 use Rattle.conn_log.specs.declared.entry.Event.{Event}
 use Rattle.conn_log.specs.declared.entry.Event.TheVariants.{Opened, Leased, Returned, Closed}
 use Rattle.conn_log.specs.declared.entry.Entry.{Entry}
 use Rattle.conn_log.specs.Connections.{last_moment, opened, greatest, open_connections, idle_connections, holds, is_held_by}
-use Rattle.conn_log.specs.Fit.{newest_fit, oldest}
+use Rattle.conn_log.specs.Fit.{newest_fit, oldest_too_old, oldest}
 use Rattle.conn_log.specs.Legal.{Terms, owed}
 use Rattle.bundle.specs.declared.refusal.Refusal.{Refusal}
 use Rattle.bundle.specs.declared.refusal.Refusal.TheVariants.{TransferBusy, Exhausted, AtLimit}
@@ -31,6 +30,20 @@ next_number terms log = greatest terms.first (opened log) + 1
 -- the host has as many open connections as it may
 abbrev pub is_full : Terms → List Entry → Bool
 is_full terms log = length (open_connections log) == terms.limit
+
+-- that connection is closed as too old, if there is one, before others are
+abbrev pub close_before : ℕ → List Entry → Option ℕ → (List Entry → List Entry) → List Entry
+close_before moment log None others = log
+close_before moment log (Some c) others = others (add moment (Closed c TooOld) log)
+
+-- those too old in their lane are closed, the one idle for the longest first, and no more than so many
+abbrev pub close_too_old : ℕ → Want → ℕ → List Entry → List Entry
+close_too_old zero want moment log = log
+close_too_old (suc n) want moment log = close_before moment log (oldest_too_old log want moment) (close_too_old n want moment)
+
+-- an acquire first closes each of them
+abbrev pub without_too_old : Want → ℕ → List Entry → List Entry
+without_too_old want moment log = close_too_old (length (idle_connections log)) want moment log
 
 -- that connection makes room, if there is one
 abbrev pub close_for_room : ℕ → List Entry → Option ℕ → List Entry
@@ -56,7 +69,7 @@ with_start terms want moment log = start_on terms want moment log (newest_fit lo
 
 -- the log after an acquire that is not refused
 abbrev pub after_acquire : Terms → List Entry → Want → ℕ → List Entry
-after_acquire terms log want now = with_start terms want (moment_at log now) log
+after_acquire terms log want now = let moment = moment_at log now in with_start terms want moment (without_too_old want moment log)
 
 -- that close, if one is owed
 abbrev pub close_if_owed : ℕ → List Entry → Option (ℕ × Cause) → List Entry

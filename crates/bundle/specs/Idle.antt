@@ -10,6 +10,14 @@ use Rattle.bundle.specs.declared.idle.Idle.{Idle}
 abbrev pub item_suits : {S : Type 0} → Want → ℕ → Idle S → Bool
 item_suits want moment kept = (kept.lane == want.lane) && not want.fresh && not (is_older kept.since kept.born want.max_age want.max_life moment)
 
+-- it is too old for a want of its lane, which is not for a new one
+abbrev pub item_too_old : {S : Type 0} → Want → ℕ → Idle S → Bool
+item_too_old want moment kept = (kept.lane == want.lane) && not want.fresh && is_older kept.since kept.born want.max_age want.max_life moment
+
+-- none that is idle for a shorter time is too old: no lifetime is asked, and it is not too old itself
+abbrev pub ends_search : {S : Type 0} → Want → ℕ → Idle S → Bool
+ends_search want moment kept = (want.max_life == 0) && not (is_older kept.since kept.born want.max_age want.max_life moment)
+
 -- idle for longer: by the moment since which they are idle, then by number
 abbrev pub is_before : ℕ → ℕ → ℕ → ℕ → Bool
 is_before since number other_since other_number = nat_lt since other_since || ((since == other_since) && nat_lt number other_number)
@@ -29,6 +37,15 @@ pub record LastSuits {S : Type 0} (want : Want) (moment : ℕ) (idle : List (Idl
 
 abbrev pub NoneSuits : {S : Type 0} → Want → ℕ → List (Idle S) → Type 0
 NoneSuits {S} want moment idle = (k : ℕ) (d : Idle S) → k < length idle → item_suits want moment (slice_index_or idle k d) ≡ false
+
+-- the one at that place is too old, and none before it is
+pub record FirstTooOld {S : Type 0} (want : Want) (moment : ℕ) (idle : List (Idle S)) (place : ℕ) : Type 0 where
+  pub in_range : place < length idle
+  pub here : (d : Idle S) → item_too_old want moment (slice_index_or idle place d) ≡ true
+  pub none_before : (k : ℕ) (d : Idle S) → k < place → item_too_old want moment (slice_index_or idle k d) ≡ false
+
+abbrev pub NoneTooOld : {S : Type 0} → Want → ℕ → List (Idle S) → Type 0
+NoneTooOld {S} want moment idle = (k : ℕ) (d : Idle S) → k < length idle → item_too_old want moment (slice_index_or idle k d) ≡ false
 
 -- all before the place go before such a one, and none from the place on does
 pub record IsPlaceFor {S : Type 0} (since number : ℕ) (idle : List (Idle S)) (place : ℕ) : Type 0 where

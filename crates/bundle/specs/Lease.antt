@@ -33,8 +33,3 @@ pub record StaysThere {S : Type 0} (old new : OneHost S) : Type 0 where
 -- what a look tells: the counts of the log, and the mark
 abbrev pub snapshot_of : List Entry → Bool → Snapshot
 snapshot_of log queued = record { alive = length (open_connections log); idle = length (idle_connections log); leased = length (open_connections log) - length (idle_connections log); waiting = length (waiting log); queued = queued }
-
--- a want that finds no connection too old: any idle time will do, and any lifetime
-pub record FindsNoneTooOld (want : Want) : Type 0 where
-  pub max_age : want.max_age ≡ 18446744073709551615
-  pub max_life : want.max_life ≡ 0

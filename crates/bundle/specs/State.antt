@@ -1,18 +1,19 @@
 -- What a bundle's state has to do with its log.
-use Rattle.std.specs.Prelude.{◌≡◌, ℕ, ◌+◌, ◌*◌, ◌≤◌, Bool, false, not, ◌&&◌, ◌==◌, List, length, Option, Some}
+use Rattle.std.specs.Prelude.{◌≡◌, ℕ, ◌+◌, ◌*◌, ◌≤◌, Bool, true, false, not, ◌&&◌, ◌==◌, List, length, Option, Some}
 use Rattle.std.specs.Option.{option_map}
 use Rattle.persistence.specs.declared.facts.Facts.{Facts}
 use Rattle.persistence.specs.Persistent.{is_persistent}
 use Rattle.conn_log.specs.declared.entry.Want.{Want}
-use Rattle.conn_log.specs.declared.entry.Event.TheVariants.{Leased}
+use Rattle.conn_log.specs.declared.entry.Cause.TheVariants.{TooOld}
+use Rattle.conn_log.specs.declared.entry.Event.TheVariants.{Leased, Closed}
 use Rattle.conn_log.specs.declared.entry.Entry.{Entry}
-use Rattle.conn_log.specs.Connections.{opened, greatest, open_connections, idle_connections}
-use Rattle.conn_log.specs.Fit.{newest_fit}
+use Rattle.conn_log.specs.Connections.{last_moment, opened, greatest, is_open, held_number, open_connections, idle_connections}
+use Rattle.conn_log.specs.Fit.{newest_fit, oldest_too_old}
 use Rattle.conn_log.specs.Legal.{Terms}
 use Rattle.conn_log.specs.Sound.{IsSound, AreDistinct, HeldFacts, idle_facts, held_facts}
 use Rattle.bundle.specs.declared.idle.Idle.{Idle}
 use Rattle.bundle.specs.declared.held.Held.{Held}
-use Rattle.bundle.specs.Calls.{add}
+use Rattle.bundle.specs.Calls.{add, is_at_limit}
 use Rattle.bundle.specs.Idle.{find_number, numbers, facts_of, stream_of, AreInOrder}
 
 -- a host as a step sees it: its log, its limit and first number, its index, the streams of its idle
@@ -53,9 +54,30 @@ pub record IsSameHost {S : Type 0} (old new : HostState S) : Type 0 where
   pub terms : new.terms ≡ old.terms
   pub host : new.host ≡ old.host
 
+-- idle connections were closed, and nothing else: the same were opened, none is open that was not, those that
+-- are open have their streams, who holds what stays, and one that made room leaves room
+pub record ClosesIdle {S : Type 0} (moment : ℕ) (old new : HostState S) : Type 0 where
+  pub opened : opened new.log ≡ opened old.log
+  pub still : (d : ℕ) → is_open new.log d ≡ true → is_open old.log d ≡ true
+  pub streams : (d : ℕ) → is_open new.log d ≡ true → stream_of new.streams d ≡ stream_of old.streams d
+  pub holders : (t : ℕ) → held_number new.log t ≡ held_number old.log t
+  pub room : is_at_limit old.terms old.log ≡ false → is_at_limit new.terms new.log ≡ false
+  pub later : last_moment new.log ≤ moment
+  pub booked : new.booked ≡ old.booked
+  pub same : IsSameHost old new
+
+-- the oldest that is too old in its lane was closed
+pub record ClosesOldest {S : Type 0} (want : Want) (moment : ℕ) (old new : HostState S) : Type 0 where
+  pub number : ℕ
+  pub oldest : oldest_too_old old.log want moment ≡ Some number
+  pub log : new.log ≡ add moment (Closed number TooOld) old.log
+  pub fewer : length (idle_connections old.log) ≡ length (idle_connections new.log) + 1
+  pub closes : ClosesIdle moment old new
+
 -- a lease on the newest fit connection, with the stream kept under its number
 pub record LeasesNewest {S : Type 0} (old new : HostState S) (want : Want) (moment c : ℕ) (stream : S) : Type 0 where
   pub newest : newest_fit old.log want moment ≡ Some c
+  pub was_open : is_open old.log c ≡ true
   pub log : new.log ≡ add moment (Leased c want) old.log
   pub kept : stream_of old.streams c ≡ Some stream
   pub others : (d : ℕ) → (c == d) ≡ false → stream_of new.streams d ≡ stream_of old.streams d

@@ -4,7 +4,7 @@ use Rattle.std.specs.Prelude.{◌≡◌, true, false, List, [], ◌∷◌, Some,
 use Rattle.conn_log.specs.declared.entry.Cause.TheVariants.{Dropped}
 use Rattle.conn_log.specs.declared.entry.Entry.{Entry}
 use Rattle.conn_log.specs.Legal.{Terms}
-use Rattle.conn_log.specs.Worked.{opened◌for◌at◌, closed◌for◌at◌, log_after, get, get_of_age_0, get_of_life_60, get_of_lane_1, keep, close, cut, limits, busy_and_no_such_site, reuse_then_drop, newest_is_reused, not_persistent_at_the_limit, idle_as_long_as_the_age, as_old_as_the_lifetime, another_lane_at_the_host_limit, forbidden_and_cut, moment_goes_back, moments_clamped_per_host}
+use Rattle.conn_log.specs.Worked.{opened◌for◌at◌, closed◌for◌at◌, log_after, get, get_of_age_0, get_of_life_60, get_of_lane_1, keep, close, cut, limits, busy_and_no_such_site, reuse_then_drop, newest_is_reused, not_persistent_at_the_limit, idle_as_long_as_the_age, idle_longer_than_the_age, as_old_as_the_lifetime, older_than_the_lifetime, another_lane_at_the_host_limit, forbidden_and_cut, moment_goes_back, moments_clamped_per_host}
 use Rattle.bundle.specs.declared.refusal.Refusal.TheVariants.{TransferBusy, Exhausted, AtLimit}
 use Rattle.bundle.specs.Calls.{after_acquire, after_give_back, after_abandon, refusal, is_stranger, newest_start}
 
@@ -46,10 +46,20 @@ pub record IdleAsLongAsTheAge : Type 0 where
   pub back : after_give_back (log_after 1 idle_as_long_as_the_age) 1 keep 10 ≡ log_after 2 idle_as_long_as_the_age
   pub second_get : after_acquire (limits 4) (log_after 2 idle_as_long_as_the_age) (get 2) 128 ≡ log_after 3 idle_as_long_as_the_age
 
+-- back 1 keep at 10, get 2 at 129 closes the idle connection as too old
+pub record IdleLongerThanTheAge : Type 0 where
+  pub back : after_give_back (log_after 1 idle_longer_than_the_age) 1 keep 10 ≡ log_after 2 idle_longer_than_the_age
+  pub second_get : after_acquire (limits 4) (log_after 2 idle_longer_than_the_age) (get 2) 129 ≡ log_after 4 idle_longer_than_the_age
+
 -- back 1 keep at 60, get 2 at 60 life 60
 pub record AsOldAsTheLifetime : Type 0 where
   pub back : after_give_back (log_after 1 as_old_as_the_lifetime) 1 keep 60 ≡ log_after 2 as_old_as_the_lifetime
   pub second_get : after_acquire (limits 4) (log_after 2 as_old_as_the_lifetime) get_of_life_60 60 ≡ log_after 3 as_old_as_the_lifetime
+
+-- back 1 keep at 60, get 2 at 61 life 60 closes the idle connection as too old
+pub record OlderThanTheLifetime : Type 0 where
+  pub back : after_give_back (log_after 1 older_than_the_lifetime) 1 keep 60 ≡ log_after 2 older_than_the_lifetime
+  pub second_get : after_acquire (limits 4) (log_after 2 older_than_the_lifetime) get_of_life_60 61 ≡ log_after 4 older_than_the_lifetime
 
 -- back 1 keep at 2; get 2 of lane 1 at 3 closes the idle connection for room at the host
 pub record AnotherLaneAtTheHostLimit : Type 0 where

@@ -6,7 +6,7 @@ ghost use Rattle.conn_log.specs.Legal.{IsLegal, IsQuiet};
 ghost use Rattle.conn_log.specs.Sound.{IsSound};
 ghost use Rattle.bundle.specs.Calls.{after_acquire, after_give_back, after_abandon, newest_start, refusal, is_at_limit, GrowsBy};
 ghost use Rattle.bundle.specs.Idle.{stream_of};
-ghost use Rattle.bundle.specs.Lease.{OneHost, Leasing, KeepsOthers, StaysThere, snapshot_of, FindsNoneTooOld};
+ghost use Rattle.bundle.specs.Lease.{OneHost, Leasing, KeepsOthers, StaysThere, snapshot_of};
 
 use crate::lease::{Lease, Stray};
 use crate::refusal::Refusal;
@@ -83,7 +83,8 @@ impl<S: Drop> Bundle<S> {
     }
 
     /// Leases a connection to the transfer: the newest idle one that fits its want, else a new one,
-    /// for which the oldest idle one is closed where the host is at its limit. `now` is in seconds.
+    /// for which the oldest idle one is closed where the host is at its limit. Before that, idle ones
+    /// of its lane that are too old for it are closed, unless it wants a new one. `now` is in seconds.
     ///
     /// All memory that the lease and its end will need is taken first. Refused, in this order, with
     /// [`Refusal::TransferBusy`] where the transfer holds a connection here, with
@@ -91,7 +92,6 @@ impl<S: Drop> Bundle<S> {
     /// where the host is at its limit and nothing is idle, and with [`Refusal::Memory`] where memory
     /// runs out.
     pub fn acquire(&mut self, want: Want, now: u64) -> Result<Lease<S>, Refusal>
-        requires { FindsNoneTooOld want }
         ensures log { OnOk result (self.new.log ≡ after_acquire self.old.terms self.old.log want now) }
         ensures start { IfOk result (λ lease. newest_start self.new.log ≡ Some lease.start) }
         ensures stream { IfOk result (λ lease. lease.stream ≡ (if lease.start.reused then stream_of self.old.streams lease.start.number else None)) }
@@ -112,6 +112,7 @@ impl<S: Drop> Bundle<S> {
         }
         self.state.book()?;
         let moment = self.state.moment(now);
+        self.state.close_too_old(&want, moment);
         if let Some((number, stream)) = self.state.lease_newest_fit(&want, moment) {
             return Ok(Lease::reusing(number, want, moment, stream));
         }

@@ -1,5 +1,6 @@
 ghost use Rattle.std.specs.Prelude.{◌≡◌, ℕ, ◌<◌, ◌≤◌, length, Bool, true, false, IfSome, IfNone, IfSome};
-ghost use Rattle.bundle.specs.Idle.{item_suits, LastSuits, NoneSuits, AreInOrder, IsPlaceFor, is_before};
+ghost use Rattle.conn_log.specs.Fit.{is_older};
+ghost use Rattle.bundle.specs.Idle.{item_suits, item_too_old, ends_search, LastSuits, NoneSuits, FirstTooOld, NoneTooOld, AreInOrder, IsPlaceFor, is_before};
 
 use conn_log::Want;
 
@@ -15,14 +16,34 @@ pub(crate) struct Idle<S> {
     pub stream: S,
 }
 
+// Whether it is idle, or open, for longer than the want allows at that moment.
+fn is_older<S>(idle: &Idle<S>, want: &Want, moment: u64) -> bool
+    ensures { result ≡ is_older idle.now.since idle.now.born want.now.max_age want.now.max_life moment }
+{
+    let idle_for = moment.saturating_sub(idle.since);
+    let open_for = moment.saturating_sub(idle.born);
+    idle_for > want.max_age || (want.max_life != 0 && open_for > want.max_life)
+}
+
 // Whether a connection that came back persistent suits the want at that moment.
 fn suits<S>(idle: &Idle<S>, want: &Want, moment: u64) -> bool
     ensures { result ≡ item_suits want.now moment idle.now }
 {
-    let idle_for = moment.saturating_sub(idle.since);
-    let open_for = moment.saturating_sub(idle.born);
-    let too_old = idle_for > want.max_age || (want.max_life != 0 && open_for > want.max_life);
-    idle.lane == want.lane && !want.fresh && !too_old
+    idle.lane == want.lane && !want.fresh && !is_older(idle, want, moment)
+}
+
+// Whether the want finds it too old in its lane at that moment.
+fn is_too_old<S>(idle: &Idle<S>, want: &Want, moment: u64) -> bool
+    ensures { result ≡ item_too_old want.now moment idle.now }
+{
+    idle.lane == want.lane && !want.fresh && is_older(idle, want, moment)
+}
+
+// Whether no connection that is idle for a shorter time can be too old for the want.
+fn ends_search<S>(idle: &Idle<S>, want: &Want, moment: u64) -> bool
+    ensures { result ≡ ends_search want.now moment idle.now }
+{
+    want.max_life == 0 && !is_older(idle, want, moment)
 }
 
 // Whether it goes before one that is idle since that moment and has that number.
@@ -43,6 +64,24 @@ pub(crate) fn newest_suiting<S>(idle: &[Idle<S>], want: &Want, moment: u64) -> O
         if suits(&idle[place], want, moment) {
             return Some(place);
         }
+    }
+    None
+}
+
+/// The place of the first that is too old for the want in its lane. Where the want sets no limit on
+/// the time since a connection was opened, the search ends at the first that is idle for a short
+/// enough time, since none after it is idle for longer.
+pub(crate) fn first_too_old<S>(idle: &[Idle<S>], want: &Want, moment: u64) -> Option<usize>
+    requires { AreInOrder idle.now }
+    ensures found { IfSome result (FirstTooOld want.now moment idle.now) }
+    ensures none { IfNone result (NoneTooOld want.now moment idle.now) }
+{
+    let mut place = 0;
+    while place < idle.len() && !ends_search(&idle[place], want, moment) {
+        if is_too_old(&idle[place], want, moment) {
+            return Some(place);
+        }
+        place += 1;
     }
     None
 }

@@ -4,17 +4,17 @@ ghost use Rattle.conn_log.specs.declared.entry.Event.TheVariants.{Opened, Leased
 ghost use Rattle.conn_log.specs.declared.entry.Cause.TheVariants.{Dropped};
 ghost use Rattle.persistence.specs.Persistent.{is_persistent};
 ghost use Rattle.conn_log.specs.Connections.{last_moment, held_number, is_open, open_connections, idle_connections, holds, is_held_by};
-ghost use Rattle.conn_log.specs.Fit.{newest_fit, oldest_stamp};
+ghost use Rattle.conn_log.specs.Fit.{newest_fit, oldest_too_old, oldest_stamp};
 ghost use Rattle.conn_log.specs.Sound.{held_facts, IsSound};
-ghost use Rattle.bundle.specs.Calls.{add, next_number, with_host_room, with_owed_close, is_full, is_at_limit, is_exhausted, moment_at};
+ghost use Rattle.bundle.specs.Calls.{add, next_number, without_too_old, with_host_room, with_owed_close, is_full, is_at_limit, is_exhausted, moment_at};
 ghost use Rattle.bundle.specs.Idle.{stream_of};
 ghost use Rattle.bundle.specs.Lease.{snapshot_of};
-ghost use Rattle.bundle.specs.State.{HostState, held_facts_of, IsSameHost, LeasesNewest, IsHeldAs, stays_open};
+ghost use Rattle.bundle.specs.State.{HostState, held_facts_of, IsSameHost, ClosesIdle, ClosesOldest, LeasesNewest, IsHeldAs, stays_open};
 ghost use Rattle.conn_log.specs.Legal.{ending_cause};
 ghost use Rattle.conn_log.specs.declared.entry.Want.{Want};
 
 use crate::held::{Held, enter, take_out};
-use crate::idle::{Idle, newest_suiting, place_for};
+use crate::idle::{Idle, first_too_old, newest_suiting, place_for};
 use crate::snapshot::Snapshot;
 use conn_log::{Cause, Entry, Event, Log, LogFault, Stamp, Want};
 use persistence::Facts;
@@ -229,15 +229,42 @@ impl<S: Drop> State<S> {
         Some((number, stream))
     }
 
+    /// Closes the idle connections of the want's lane that are too old for it, the one idle for the
+    /// longest first.
+    pub(crate) fn close_too_old(&mut self, want: &Want, moment: u64)
+        requires { last_moment self.old.log ≤ moment }
+        ensures log { self.new.log ≡ without_too_old want.now moment self.old.log }
+        ensures closes { ClosesIdle moment self.old self.new }
+    {
+        while self.close_oldest_too_old(want, moment) {}
+    }
+
+    // Closes the one of them that is idle for the longest, if there is one.
+    fn close_oldest_too_old(&mut self, want: &Want, moment: u64) -> bool
+        requires { last_moment self.old.log ≤ moment }
+        ensures none { result ≡ false → (oldest_too_old self.old.log want.now moment ≡ None) × (self.new ≡ self.old) }
+        ensures some { result ≡ true → ClosesOldest want.now moment self.old self.new }
+    {
+        let Some(place) = first_too_old(&self.idle, want, moment) else {
+            return false;
+        };
+        let oldest = self.idle.remove(place);
+        self.log.append(Entry {
+            moment,
+            event: Event::Closed {
+                connection: oldest.number,
+                cause: Cause::TooOld,
+            },
+        });
+        true
+    }
+
     /// At the host's limit, closes the connection that is idle for the longest, if one is idle.
     pub(crate) fn make_room(&mut self, moment: u64)
         requires { last_moment self.old.log ≤ moment }
         ensures log { self.new.log ≡ with_host_room self.old.terms moment self.old.log }
         ensures room { is_at_limit self.old.terms self.old.log ≡ false → is_full self.new.terms self.new.log ≡ false }
-        ensures holders { (t : ℕ) → held_number self.new.log t ≡ held_number self.old.log t }
-        ensures streams { (d : ℕ) → is_open self.new.log d ≡ true → stream_of self.new.streams d ≡ stream_of self.old.streams d }
-        ensures booked { self.new.booked ≡ self.old.booked }
-        ensures same { IsSameHost self.old self.new }
+        ensures closes { ClosesIdle moment self.old self.new }
     {
         if self.is_full() && !self.idle.is_empty() {
             let oldest = self.idle.remove(0);

@@ -1,8 +1,6 @@
 //! What no clause says: that calls succeed in ample memory, that streams come back with their own
 //! connections, and what want of memory leaves.
 
-ghost use Rattle.bundle.specs.Lease.{FindsNoneTooOld};
-
 use crate::host::Bundle;
 use crate::lease::{Lease, Stray};
 use crate::refusal::Refusal;
@@ -16,9 +14,7 @@ use std::test::Fail;
 #[derive(Clone, Copy, Debug, PartialEq, Eq)]
 struct Stream(u32);
 
-fn want_of(transfer: u64) -> Want
-    ensures { FindsNoneTooOld result }
-{
+fn want_of(transfer: u64) -> Want {
     Want {
         transfer,
         lane: 0,

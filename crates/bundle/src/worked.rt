@@ -1,6 +1,6 @@
 //! Small logs whose answers are known, against which the definitions of the calls were tried.
 
-ghost use Rattle.bundle.specs.Worked.{BusyAndNoSuchSite, ReuseThenDrop, NewestIsReused, NotPersistentAtTheLimit, IdleAsLongAsTheAge, AsOldAsTheLifetime, AnotherLaneAtTheHostLimit, ForbiddenAndCut, MomentGoesBack, MomentsClampedPerHost, NumbersRunOut};
+ghost use Rattle.bundle.specs.Worked.{BusyAndNoSuchSite, ReuseThenDrop, NewestIsReused, NotPersistentAtTheLimit, IdleAsLongAsTheAge, IdleLongerThanTheAge, AsOldAsTheLifetime, OlderThanTheLifetime, AnotherLaneAtTheHostLimit, ForbiddenAndCut, MomentGoesBack, MomentsClampedPerHost, NumbersRunOut};
 
 /// What calls answer on small logs, by computation: each clause is named for the script of its log.
 pub fn worked_calls()
@@ -9,7 +9,9 @@ pub fn worked_calls()
     ensures newest_is_reused { NewestIsReused }
     ensures not_persistent_at_the_limit { NotPersistentAtTheLimit }
     ensures idle_as_long_as_the_age { IdleAsLongAsTheAge }
+    ensures idle_longer_than_the_age { IdleLongerThanTheAge }
     ensures as_old_as_the_lifetime { AsOldAsTheLifetime }
+    ensures older_than_the_lifetime { OlderThanTheLifetime }
     ensures another_lane_at_the_host_limit { AnotherLaneAtTheHostLimit }
     ensures forbidden_and_cut { ForbiddenAndCut }
     ensures moment_goes_back { MomentGoesBack }

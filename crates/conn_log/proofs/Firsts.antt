@@ -7,7 +7,7 @@ use Rattle.std.proofs.lemmas.Bool.Decides.{nat_tests, eqb_tells}
 use Rattle.conn_log.specs.declared.entry.Want.{Want}
 use Rattle.conn_log.specs.declared.entry.Entry.{Entry}
 use Rattle.conn_log.specs.Connections.{is_among, idle_connections, is_idle}
-use Rattle.conn_log.specs.Fit.{first_by, is_earlier, suits, newest_fit, oldest}
+use Rattle.conn_log.specs.Fit.{first_by, is_earlier, suits, newest_fit, is_too_old_in_lane, oldest_too_old, oldest}
 use Rattle.conn_log.proofs.Numbers.{is_among-filter}
 
 module _ (goes_before : ℕ → ℕ → Bool) where
@@ -53,21 +53,31 @@ module _ (log : List Entry) where
   one_way : (d e : ℕ) → is_earlier log d e ≡ true → is_earlier log e d ≡ false
   one_way d e earlier = grind (arith, nat_tests, earlier)
 
-  pub newest_is : (want : Want) (moment c : ℕ) → is_idle log c ≡ true → suits log want moment c ≡ true → ((d : ℕ) → is_idle log d ≡ true → suits log want moment d ≡ true → (c == d) ≡ false → is_earlier log d c ≡ true) → newest_fit log want moment ≡ Some c
-  newest_is want moment c idle suited before =
-      let among = is_among-filter (suits log want moment) in
-      first_by_is (λ d e. is_earlier log e d) (λ d e. one_way e d) c (filter (suits log want moment) (idle_connections log))
-      (among c (idle_connections log) ∙ both idle suited)
-      (λ d there other. let parts = split (is_idle log d) (suits log want moment d) (sym (among d (idle_connections log)) ∙ there) in before d parts.0 parts.1 other)
-    where
-      both : {a b : Bool} → a ≡ true → b ≡ true → (a && b) ≡ true
-      both e f = rw (e, f) refl
+  both : {a b : Bool} → a ≡ true → b ≡ true → (a && b) ≡ true
+  both e f = rw (e, f) refl
 
-      split : (a b : Bool) → (a && b) ≡ true → (a ≡ true) × (b ≡ true)
-      split a b e = grind (arith, e)
+  split : (a b : Bool) → (a && b) ≡ true → (a ≡ true) × (b ≡ true)
+  split a b e = grind (arith, e)
+
+  -- the first of the idle ones that pass a test
+  first_that : (goes_before : ℕ → ℕ → Bool) → ((d e : ℕ) → goes_before d e ≡ true → goes_before e d ≡ false) → (test : ℕ → Bool) (c : ℕ) → is_idle log c ≡ true → test c ≡ true → ((d : ℕ) → is_idle log d ≡ true → test d ≡ true → (c == d) ≡ false → goes_before c d ≡ true) → first_by goes_before (filter test (idle_connections log)) ≡ Some c
+  first_that goes_before turned test c idle passes before =
+      let among = is_among-filter test in
+      first_by_is goes_before turned c (filter test (idle_connections log))
+      (among c (idle_connections log) ∙ both idle passes)
+      (λ d there other. let parts = split (is_idle log d) (test d) (sym (among d (idle_connections log)) ∙ there) in before d parts.0 parts.1 other)
+
+  pub newest_is : (want : Want) (moment c : ℕ) → is_idle log c ≡ true → suits log want moment c ≡ true → ((d : ℕ) → is_idle log d ≡ true → suits log want moment d ≡ true → (c == d) ≡ false → is_earlier log d c ≡ true) → newest_fit log want moment ≡ Some c
+  newest_is want moment c idle suited before = first_that (λ d e. is_earlier log e d) (λ d e. one_way e d) (suits log want moment) c idle suited before
 
   pub newest_none : (want : Want) (moment : ℕ) → ((d : ℕ) → is_idle log d ≡ true → suits log want moment d ≡ false) → newest_fit log want moment ≡ None
   newest_none want moment none = rw (none_left (suits log want moment) (idle_connections log) none) refl
+
+  pub oldest_too_old_is : (want : Want) (moment c : ℕ) → is_idle log c ≡ true → is_too_old_in_lane log want moment c ≡ true → ((d : ℕ) → is_idle log d ≡ true → is_too_old_in_lane log want moment d ≡ true → (c == d) ≡ false → is_earlier log c d ≡ true) → oldest_too_old log want moment ≡ Some c
+  oldest_too_old_is want moment c idle old before = first_that (is_earlier log) one_way (is_too_old_in_lane log want moment) c idle old before
+
+  pub none_too_old : (want : Want) (moment : ℕ) → ((d : ℕ) → is_idle log d ≡ true → is_too_old_in_lane log want moment d ≡ false) → oldest_too_old log want moment ≡ None
+  none_too_old want moment none = rw (none_left (is_too_old_in_lane log want moment) (idle_connections log) none) refl
 
   pub oldest_is : (c : ℕ) → is_idle log c ≡ true → ((d : ℕ) → is_idle log d ≡ true → (c == d) ≡ false → is_earlier log c d ≡ true) → oldest log ≡ Some c
   oldest_is c idle before = first_by_is (is_earlier log) one_way c (idle_connections log) idle before

@@ -7,7 +7,8 @@ use mathlib.Core.Bool.{false≢true}
 use Rattle.std.proofs.lemmas.Bool.Decides.{nat_tests}
 use Rattle.persistence.specs.declared.facts.Facts.{Facts}
 use Rattle.conn_log.specs.declared.entry.Want.{Want}
-use Rattle.conn_log.specs.declared.entry.Cause.TheVariants.{NotPersistent, Cut, Forbidden, HostRoom, Dropped}
+use Rattle.conn_log.specs.declared.entry.Cause.{Cause}
+use Rattle.conn_log.specs.declared.entry.Cause.TheVariants.{NotPersistent, Cut, Forbidden, Dropped}
 use Rattle.conn_log.specs.declared.entry.Event.TheVariants.{Opened, Leased, Returned, Closed}
 use Rattle.conn_log.specs.declared.entry.Entry.{Entry}
 use Rattle.conn_log.specs.Connections.{held_number, is_among, last_moment, opened, greatest, open_connections, is_open, holder_want, is_held_by, holds, is_idle}
@@ -112,11 +113,12 @@ module _ (terms : Terms) (log : List Entry) (sound : IsSound terms log) (moment 
     orderly = orderly_gone terms log sound.orderly c _ (gone_closed moment c Dropped log) (sound.orderly.held_open c held);
   }
 
-  pub sound_room : (c : ℕ) → is_idle log c ≡ true → IsSound terms (record { moment = moment; event = Closed c HostRoom } ∷ log)
-  sound_room c idle = record {
-    legal = (later, (sound.settled, idle), sound.legal);
+  -- an idle one is closed, for a cause that is for idle ones
+  pub sound_close : (c : ℕ) (cause : Cause) → MayClose log c cause → is_idle log c ≡ true → IsSound terms (record { moment = moment; event = Closed c cause } ∷ log)
+  sound_close c cause allowed idle = record {
+    legal = (later, allowed, sound.legal);
     settled = refl;
-    orderly = let open_unheld = idle_open_unheld log c idle in orderly_gone terms log sound.orderly c _ (gone_closed moment c HostRoom log) open_unheld.0;
+    orderly = let open_unheld = idle_open_unheld log c idle in orderly_gone terms log sound.orderly c _ (gone_closed moment c cause log) open_unheld.0;
   }
 
 -- the empty log

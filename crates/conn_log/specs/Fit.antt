@@ -40,6 +40,14 @@ newest_fit log want moment = first_by (λ c d. is_earlier log d c) (filter (suit
 abbrev pub oldest : List Entry → Option ℕ
 oldest log = first_by (is_earlier log) (idle_connections log)
 
+-- too old in its lane: of the want's lane, where the want is not for a new one, and too old for it
+abbrev pub is_too_old_in_lane : List Entry → Want → ℕ → ℕ → Bool
+is_too_old_in_lane log want moment c = (lane log c == want.lane) && not want.fresh && is_too_old log want moment c
+
+-- oldest too old: of those that are too old in their lane the one idle for the longest
+abbrev pub oldest_too_old : List Entry → Want → ℕ → Option ℕ
+oldest_too_old log want moment = first_by (is_earlier log) (filter (is_too_old_in_lane log want moment) (idle_connections log))
+
 -- the same as a stamp, by which the hosts' oldest are compared
 abbrev pub stamp_of : List Entry → ℕ → ℕ → Stamp
 stamp_of log host c = record { since = since log c; host = host; number = c }

@@ -6,7 +6,7 @@ use Rattle.conn_log.specs.Legal.{Terms}
 use Rattle.bundle.specs.declared.refusal.Refusal.{Refusal}
 use Rattle.conn_log.specs.declared.entry.Want.{Want}
 use Rattle.conn_log.specs.Fit.{newest_fit}
-use Rattle.bundle.specs.Calls.{after_acquire, after_give_back, after_abandon, refusal, start_on, moment_at, Start, newest_start}
+use Rattle.bundle.specs.Calls.{after_acquire, after_give_back, after_abandon, refusal, without_too_old, start_on, moment_at, Start, newest_start}
 use Rattle.bundle.specs.declared.snapshot.Snapshot.{Snapshot}
 use Rattle.bundle.specs.Lease.{Leasing, snapshot_of}
 use Rattle.conn_log.specs.Connections.{held_number}
@@ -90,4 +90,7 @@ start-want terms want moment log None s e = let same = some-same e in ap (λ (s 
 start-want terms want moment log (Some c) s e = let same = some-same e in ap (λ (s : Start). s.want) (sym same)
 
 pub acquired-want : (terms : Terms) (log : List Entry) (want : Want) (now : ℕ) (s : Start) → newest_start (after_acquire terms log want now) ≡ Some s → s.want ≡ want
-acquired-want terms log want now s e = start-want terms want (moment_at log now) log (newest_fit log want (moment_at log now)) s e
+acquired-want terms log want now s e =
+    let moment = moment_at log now in
+    let closed = without_too_old want moment log in
+    start-want terms want moment closed (newest_fit closed want moment) s e

@@ -1,5 +1,5 @@
 -- The lines of the entries that a call appends.
-use Rattle.std.proofs.Common.{◌≡◌, ℕ, ◌-◌, Bool, true, false, cond, List, [], ◌∷◌, ◌++◌, length, drop, reverse, flat_map, refl, ap, sym, ◌∙◌, arith, Option, Some, None, append-nil}
+use Rattle.std.proofs.Common.{◌≡◌, ℕ, zero, suc, ◌-◌, Bool, true, false, cond, List, [], ◌∷◌, ◌++◌, length, drop, reverse, flat_map, refl, ap, sym, ◌∙◌, arith, Option, Some, None, append-nil}
 use Rattle.std.proofs.lemmas.Grind.{flat_map-append}
 use Rattle.std.proofs.lemmas.List.{reverse-append, length-reverse, length-append, drop_at}
 use Rattle.std.specs.Option.{option_map, option_map_or}
@@ -12,10 +12,10 @@ use Rattle.conn_log.specs.declared.entry.Cause.TheVariants as cause
 use Rattle.conn_log.specs.declared.entry.Event.{Event}
 use Rattle.conn_log.specs.declared.entry.Event.TheVariants.{Opened, Leased, Returned, Closed, Waited, Left}
 use Rattle.conn_log.specs.declared.entry.Entry.{Entry}
-use Rattle.conn_log.specs.Connections.{holder, is_held_by, holder_want}
+use Rattle.conn_log.specs.Connections.{idle_connections, holder, is_held_by, holder_want}
 use Rattle.conn_log.specs.Legal.{Terms, owed}
-use Rattle.conn_log.specs.Fit.{newest_fit, oldest}
-use Rattle.bundle.specs.Calls.{after_acquire, after_give_back, after_abandon, add, moment_at, start_on, with_host_room, is_full, close_for_room, close_if_owed}
+use Rattle.conn_log.specs.Fit.{newest_fit, oldest_too_old, oldest}
+use Rattle.bundle.specs.Calls.{after_acquire, after_give_back, after_abandon, add, moment_at, close_before, close_too_old, without_too_old, start_on, with_host_room, is_full, close_for_room, close_if_owed}
 use Rattle.pool_cli.specs.Printing.{entry_line, event_text, returned_by, newest_lines, lines_since}
 
 -- a Returned among the new entries is of a connection that the transfer held
@@ -77,22 +77,37 @@ unfolding lines_since
 lines-grown by old new grows = rw grows.whole (grown-lines by grows.added old grows.says)
 
 -- what the calls append
-room-grows : (by : ℕ) (terms : Terms) (moment : ℕ) (log : List Entry) (full : Bool) (idle : Option ℕ) → Grows by log (cond full (close_for_room moment log idle) log)
-room-grows by terms moment log true None = record { added = []; whole = refl; says = tt }
-room-grows by terms moment log true (Some c) = record { added = record { moment = moment; event = Closed c cause.HostRoom } ∷ []; whole = refl; says = (tt, tt) }
-room-grows by terms moment log false idle = record { added = []; whole = refl; says = tt }
+shuts : (by moment c : ℕ) (cause : Cause) (old new : List Entry) → Grows by old new → Grows by old (add moment (Closed c cause) new)
+shuts by moment c cause old new grows =
+    record { added = record { moment = moment; event = Closed c cause } ∷ grows.added; whole = ap (add moment (Closed c cause)) grows.whole; says = (tt, grows.says) }
+
+closing-grows : (by n : ℕ) (want : Want) (moment : ℕ) (old log : List Entry) → Grows by old log → Grows by old (close_too_old n want moment log)
+closing-grows by zero want moment old log grows = grows
+closing-grows by (suc n) want moment old log grows = by_first (oldest_too_old log want moment) (λ c. closing-grows by n want moment old (add moment (Closed c cause.TooOld) log) (shuts by moment c cause.TooOld old log grows))
+  where
+    by_first : (first : Option ℕ) → ((c : ℕ) → Grows by old (close_too_old n want moment (add moment (Closed c cause.TooOld) log))) → Grows by old (close_before moment log first (close_too_old n want moment))
+    by_first None rest = grows
+    by_first (Some c) rest = rest c
+
+room-grows : (by : ℕ) (terms : Terms) (moment : ℕ) (old log : List Entry) (full : Bool) (idle : Option ℕ) → Grows by old log → Grows by old (cond full (close_for_room moment log idle) log)
+room-grows by terms moment old log true None grows = grows
+room-grows by terms moment old log true (Some c) grows = shuts by moment c cause.HostRoom old log grows
+room-grows by terms moment old log false idle grows = grows
 
 opens : (by moment c : ℕ) (want : Want) (old new : List Entry) → Grows by old new → Grows by old (add moment (Opened c want) new)
 opens by moment c want old new grows =
     record { added = record { moment = moment; event = Opened c want } ∷ grows.added; whole = ap (add moment (Opened c want)) grows.whole; says = (tt, grows.says) }
 
-start-grows : (by : ℕ) (terms : Terms) (want : Want) (moment : ℕ) (log : List Entry) (fit : Option ℕ) → Grows by log (start_on terms want moment log fit)
-start-grows by terms want moment log (Some c) = record { added = record { moment = moment; event = Leased c want } ∷ []; whole = refl; says = (tt, tt) }
-start-grows by terms want moment log None =
-    opens by moment _ want log (with_host_room terms moment log) (room-grows by terms moment log (is_full terms log) (oldest log))
+start-grows : (by : ℕ) (terms : Terms) (want : Want) (moment : ℕ) (old log : List Entry) (fit : Option ℕ) → Grows by old log → Grows by old (start_on terms want moment log fit)
+start-grows by terms want moment old log (Some c) grows = record { added = record { moment = moment; event = Leased c want } ∷ grows.added; whole = ap (add moment (Leased c want)) grows.whole; says = (tt, grows.says) }
+start-grows by terms want moment old log None grows =
+    opens by moment _ want old (with_host_room terms moment log) (room-grows by terms moment old log (is_full terms log) (oldest log) grows)
 
 pub acquired-grows : (by : ℕ) (terms : Terms) (log : List Entry) (want : Want) (now : ℕ) → Grows by log (after_acquire terms log want now)
-acquired-grows by terms log want now = start-grows by terms want (moment_at log now) log (newest_fit log want (moment_at log now))
+acquired-grows by terms log want now =
+    let moment = moment_at log now in
+    let closed = without_too_old want moment log in
+    start-grows by terms want moment log closed (newest_fit closed want moment) (closing-grows by (length (idle_connections log)) want moment log log (record { added = []; whole = refl; says = tt }))
 
 settles : (by : ℕ) (moment : ℕ) (old new : List Entry) (close : Option (ℕ × Cause)) → Grows by old new → Grows by old (close_if_owed moment new close)
 settles by moment old new None grows = grows

@@ -2,7 +2,8 @@ use Rattle.std.proofs.Common.{◌≡◌, ◌≤◌, None, refl, sym, ap, subst, 
 use Rattle.std.specs.Prelude.{nat_eq}
 use Rattle.std.specs.Option.{option_map}
 use Rattle.std.specs.HashMap.{get}
-use Rattle.conn_log.specs.Connections.{last_moment, held_number}
+use Rattle.conn_log.specs.Connections.{last_moment, held_number, is_open}
+use Rattle.conn_log.proofs.Steps.{idle_open_unheld}
 use Rattle.conn_log.specs.declared.entry.Event.TheVariants.{Leased}
 use Rattle.conn_log.specs.Fit.{newest_fit}
 use Rattle.bundle.specs.declared.idle.Idle.{Idle}
@@ -10,7 +11,7 @@ use Rattle.bundle.specs.Calls.{add}
 use Rattle.bundle.specs.Idle.{stream_of, LastSuits, NoneSuits}
 use Rattle.bundle.specs.State.{HostState}
 use Rattle.bundle.proofs.Kept.{stream_of-streams_of, stream_of-remove}
-use Rattle.bundle.proofs.Replaying.{at_place, newest_read, newest_read_none}
+use Rattle.bundle.proofs.Replaying.{found_idle, at_place, newest_read, newest_read_none}
 use Rattle.bundle.proofs.Transitions.{if_none_always, table_absent, read_fit, replays_lease}
 use Rattle.bundle.proofs.state.State.lease_newest_fit.Goals as goal
 
@@ -60,6 +61,7 @@ returns-clause-some g c =
     let streams_is = ap (λ (v : HostState g.row.S.Denot). v.streams) c.self.view_is in
     record {
       newest = ap (λ log. newest_fit log c.args.want.now c.args.moment) (sym log_is) ∙ newest_read kept c.args.want.now c.args.moment c.in_ok-place.place x last c.remove-number.ensures.value;
+      was_open = ap (λ log. is_open log x.number) (sym log_is) ∙ (let told = found_idle kept x.number x there in let open_unheld = idle_open_unheld c.self.inside.log.entries x.number told.0 in open_unheld.0);
       log = c.append.ensures.entries ∙ ap (λ log. add c.args.moment (Leased x.number c.args.want.now) log) log_is;
       kept = ap (λ streams. stream_of streams x.number) (sym streams_is) ∙ stream_of-streams_of c.self.inside.idle.items x.number ∙ ap (option_map (λ (y : Idle g.row.S.Denot). y.stream)) there;
       others = λ d other. rw c.remove-number.ensures.items (stream_of-remove c.self.inside.idle.items c.in_ok-place.place x d kept.idle_distinct last.in_range c.remove-number.ensures.value other ∙ ap (λ streams. stream_of streams d) streams_is);

@@ -6,11 +6,12 @@ use Rattle.conn_log.specs.declared.entry.Event.TheVariants.{Closed}
 use Rattle.conn_log.specs.declared.entry.Cause.TheVariants.{HostRoom}
 use Rattle.conn_log.specs.Fit.{oldest}
 use Rattle.bundle.specs.Calls.{close_for_room, add, is_full}
-use Rattle.bundle.specs.Idle.{stream_of}
-use Rattle.bundle.specs.State.{HostState}
+use Rattle.std.specs.List.{remove}
+use Rattle.bundle.specs.Idle.{streams_of}
+use Rattle.bundle.specs.State.{HostState, ClosesIdle}
 use Rattle.bundle.proofs.Kept.{stream_of-remove}
 use Rattle.bundle.proofs.Replaying.{idle_nobodys, at_place, oldest_first}
-use Rattle.bundle.proofs.Transitions.{room_made, replays_room}
+use Rattle.bundle.proofs.Transitions.{room_made, replays_close, closes_one}
 use Rattle.conn_log.proofs.Steps.{taken_same, gone_closed, gone_open}
 use Rattle.bundle.proofs.state.State.make_room.Goals as goal
 
@@ -23,7 +24,7 @@ invariant_of-self g c =
     let room = c.self.invariant.room in
     let later = subst (λ log. last_moment log ≤ c.args.moment) (sym log_is) c.requires in
     record {
-      replays = rw (c.append.ensures.entries, c.remove-oldest.ensures.items) (replays_room _ _ _ _ _ _ kept c.args.moment later 0 x some c.remove-oldest.ensures.value);
+      replays = rw (c.append.ensures.entries, c.remove-oldest.ensures.items) (replays_close _ _ _ _ _ _ kept c.args.moment later HostRoom 0 x some c.remove-oldest.ensures.value (λ idle. (kept.sound.settled, idle)));
       room = record {
         log_room = omega (arith, room.log_room, c.append.ensures.room, c.remove-oldest.ensures.len);
         idle_room = omega (arith, room.idle_room, c.remove-oldest.ensures.len, c.remove-oldest.ensures.capacity);
@@ -44,17 +45,14 @@ returns-then-not-is_empty-clause-log g c =
     ∙ ap (λ log. add c.args.moment (Closed x.number HostRoom) log) log_is
     ∙ sym (ap (λ b. if b then close_for_room c.args.moment log (oldest log) else log) full ∙ ap (close_for_room c.args.moment log) first)
 
-pub returns-then-not-is_empty-clause-streams : goal.returns-then-not-is_empty-clause-streams
-returns-then-not-is_empty-clause-streams g c d still =
+pub returns-then-not-is_empty-clause-closes : goal.returns-then-not-is_empty-clause-closes
+returns-then-not-is_empty-clause-closes g c =
     let kept = c.self.invariant.replays in
-    let log_is = ap (λ (v : HostState g.row.S.Denot). v.log) c.self.view_is in
     let some : 0 < length c.self.inside.idle.items = grind (arith, nat_tests, c.if-not-is_empty.ensures) in
     let x = c.remove-oldest.result in
-    let after = add c.args.moment (Closed x.number HostRoom) c.self.inside.log.entries in
-    let open_after : is_open after d ≡ true = ap (λ log. is_open log d) (sym c.append.ensures.entries) ∙ still in
-    let parts = gone_open _ _ kept.sound.orderly x.number after (gone_closed c.args.moment x.number HostRoom c.self.inside.log.entries) d in
-    let other : (x.number == d) ≡ false = grind (arith, parts, open_after) in
-    rw c.remove-oldest.ensures.items (stream_of-remove c.self.inside.idle.items 0 x d kept.idle_distinct some c.remove-oldest.ensures.value other ∙ ap (λ (v : HostState g.row.S.Denot). stream_of v.streams d) c.self.view_is)
+    let state = c.self.inside in
+    let new : HostState g.row.S.Denot = record { log = add c.args.moment (Closed x.number HostRoom) state.log.entries; terms = record { limit = state.host_limit; first = state.first }; host = state.host; streams = streams_of (remove state.idle.items 0); booked = state.booked } in
+    rw (c.append.ensures.entries, c.remove-oldest.ensures.items) (subst (λ (v : HostState g.row.S.Denot). ClosesIdle c.args.moment v new) c.self.view_is (closes_one _ _ _ _ _ _ kept c.args.moment HostRoom 0 x state.host state.booked some c.remove-oldest.ensures.value))
 
 pub returns-then-not-is_empty-clause-room : goal.returns-then-not-is_empty-clause-room
 returns-then-not-is_empty-clause-room g c not_at_limit =
@@ -62,14 +60,4 @@ returns-then-not-is_empty-clause-room g c not_at_limit =
     let log_is = ap (λ (v : HostState g.row.S.Denot). v.log) c.self.view_is in
     let some : 0 < length c.self.inside.idle.items = grind (arith, nat_tests, c.if-not-is_empty.ensures) in
     let x = c.remove-oldest.result in
-    rw c.append.ensures.entries (room_made _ _ _ _ _ _ kept c.args.moment 0 x some c.remove-oldest.ensures.value)
-
-pub returns-then-not-is_empty-clause-holders : goal.returns-then-not-is_empty-clause-holders
-returns-then-not-is_empty-clause-holders g c t =
-    let kept = c.self.invariant.replays in
-    let log_is = ap (λ (v : HostState g.row.S.Denot). v.log) c.self.view_is in
-    let some : 0 < length c.self.inside.idle.items = grind (arith, nat_tests, c.if-not-is_empty.ensures) in
-    let x = c.remove-oldest.result in
-    ap (λ log. held_number log t) c.append.ensures.entries
-    ∙ taken_same _ _ kept.sound.orderly x.number (idle_nobodys kept x (at_place kept 0 x some c.remove-oldest.ensures.value)) t
-    ∙ ap (λ log. held_number log t) log_is
+    rw c.append.ensures.entries (room_made _ _ _ _ _ _ kept c.args.moment HostRoom 0 x some c.remove-oldest.ensures.value)
