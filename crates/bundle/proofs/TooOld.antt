@@ -1,5 +1,5 @@
 -- Closing what is too old, one after the other.
-use Rattle.std.proofs.Common.{◌≡◌, ℕ, zero, suc, ◌+◌, ◌<◌, ◌≤◌, Bool, true, false, not, ◌&&◌, List, ◌∷◌, length, get_or, Option, Some, None, refl, sym, ap, subst, inl, inr, ◌∙◌, arith}
+use Rattle.std.proofs.Common.{◌≡◌, ℕ, zero, suc, ◌+◌, ◌<◌, Bool, true, false, not, ◌&&◌, List, length, get_or, Some, None, refl, sym, ap, subst, inl, inr, ◌∙◌, arith}
 use Rattle.std.specs.Prelude.{◌==◌}
 use Rattle.std.proofs.lemmas.Bool.{cases_eq, cases_lt}
 use Rattle.std.proofs.lemmas.Bool.Decides.{nat_tests}
@@ -12,7 +12,7 @@ use Rattle.conn_log.specs.Connections.{idle_connections}
 use Rattle.conn_log.specs.Fit.{is_older, oldest_too_old}
 use Rattle.bundle.specs.declared.idle.Idle.{Idle}
 use Rattle.bundle.specs.Calls.{add, close_before, close_too_old, without_too_old}
-use Rattle.bundle.specs.Idle.{is_before, item_before, item_too_old, ends_search, AreInOrder, NoneTooOld}
+use Rattle.bundle.specs.Idle.{is_before, item_too_old, ends_search, AreInOrder, NoneTooOld}
 
 -- where none is too old, none is closed
 pub none_closed : (want : Want) (moment : ℕ) (log : List Entry) → oldest_too_old log want moment ≡ None → without_too_old want moment log ≡ log

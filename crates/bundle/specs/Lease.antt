@@ -1,6 +1,5 @@
 -- A lease, and what a host shows to those who use its bundle.
 use Rattle.std.specs.Prelude.{◌≡◌, ℕ, ◌-◌, Bool, true, false, ◌==◌, List, length, Option}
-use Rattle.conn_log.specs.declared.entry.Want.{Want}
 use Rattle.conn_log.specs.declared.entry.Entry.{Entry}
 use Rattle.conn_log.specs.Connections.{is_open, open_connections, idle_connections}
 use Rattle.conn_log.specs.Waiting.{waiting}

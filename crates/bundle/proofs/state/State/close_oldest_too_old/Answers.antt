@@ -1,4 +1,4 @@
-use Rattle.std.proofs.Common.{◌≡◌, ◌≤◌, true, None, refl, sym, ap, subst, ◌∙◌, arith}
+use Rattle.std.proofs.Common.{◌≤◌, refl, sym, ap, subst, ◌∙◌, arith}
 use Rattle.conn_log.specs.Connections.{last_moment}
 use Rattle.conn_log.specs.declared.entry.Cause.TheVariants.{TooOld}
 use Rattle.conn_log.specs.declared.entry.Event.TheVariants.{Closed}

@@ -1,5 +1,5 @@
-use Rattle.std.proofs.Common.{◌≡◌, ◌≤◌, length}
-use Rattle.conn_log.specs.Connections.{last_moment, idle_connections}
+use Rattle.std.proofs.Common.{◌≡◌, length}
+use Rattle.conn_log.specs.Connections.{idle_connections}
 use Rattle.bundle.specs.Calls.{without_too_old}
 use Rattle.bundle.specs.State.{ClosesIdle}
 use Rattle.bundle.proofs.state.State.close_too_old.Given as goal

@@ -1,7 +1,7 @@
-use Rattle.std.proofs.Common.{◌≡◌, ◌≤◌, ◌<◌, true, false, length, Some, sym, ap, subst, ◌∙◌, arith}
-use Rattle.std.specs.Prelude.{◌==◌, if◌then◌else◌}
+use Rattle.std.proofs.Common.{◌≡◌, ◌≤◌, ◌<◌, true, length, Some, sym, ap, subst, ◌∙◌, arith}
+use Rattle.std.specs.Prelude.{if◌then◌else◌}
 use Rattle.std.proofs.lemmas.Bool.Decides.{nat_tests}
-use Rattle.conn_log.specs.Connections.{last_moment, held_number, is_open}
+use Rattle.conn_log.specs.Connections.{last_moment}
 use Rattle.conn_log.specs.declared.entry.Event.TheVariants.{Closed}
 use Rattle.conn_log.specs.declared.entry.Cause.TheVariants.{HostRoom}
 use Rattle.conn_log.specs.Fit.{oldest}
@@ -9,10 +9,8 @@ use Rattle.bundle.specs.Calls.{close_for_room, add, is_full}
 use Rattle.std.specs.List.{remove}
 use Rattle.bundle.specs.Idle.{streams_of}
 use Rattle.bundle.specs.State.{HostState, ClosesIdle}
-use Rattle.bundle.proofs.Kept.{stream_of-remove}
-use Rattle.bundle.proofs.Replaying.{idle_nobodys, at_place, oldest_first}
+use Rattle.bundle.proofs.Replaying.{oldest_first}
 use Rattle.bundle.proofs.Transitions.{room_made, replays_close, closes_one}
-use Rattle.conn_log.proofs.Steps.{taken_same, gone_closed, gone_open}
 use Rattle.bundle.proofs.state.State.make_room.Goals as goal
 
 pub invariant_of-self : goal.invariant_of-self
