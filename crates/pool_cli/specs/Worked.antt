@@ -1,8 +1,10 @@
 -- Transcripts of small scripts: the worked ones, and one of each fault.
-use Rattle.std.specs.Prelude.{◌≡◌, ℕ, codes, List, [], replicate, Some, None}
+use Rattle.std.specs.Prelude.{◌≡◌, ℕ, codes, List, [], ◌∷◌, replicate, Some, None}
 use Rattle.pool_cli.specs.declared.fault.FaultKind.TheVariants.{LineTooLong, Unknown, Form, Place, BadLimits, BadSite, TooManySites}
 use Rattle.pool_cli.specs.declared.fault.ScriptFault.{ScriptFault}
 use Rattle.pool_cli.specs.Transcript.{Transcript, transcript}
+use Rattle.pool_cli.specs.Law.{log_behind}
+use Rattle.pool_cli.specs.TranscriptLines.{event_lines, leased_lines}
 
 abbrev pub whole : List ℕ → Transcript
 whole written = record { written = written; fault = None }
@@ -10,8 +12,11 @@ whole written = record { written = written; fault = None }
 abbrev pub up_to : ScriptFault → List ℕ → Transcript
 up_to fault written = record { written = written; fault = Some fault }
 
+abbrev pub reuse_then_drop : List ℕ
+reuse_then_drop = codes "limits 1 0 4\nsite http://a.test/\nget 1 0 0 at 0\nback 1 0 keep at 2\nget 2 0 0 at 3\ndrop 2 0 at 4\nlook 0\n"
+
 abbrev pub TellsReuseThenDrop : Type 0
-TellsReuseThenDrop = transcript (codes "limits 1 0 4\nsite http://a.test/\nget 1 0 0 at 0\nback 1 0 keep at 2\nget 2 0 0 at 3\ndrop 2 0 at 4\nlook 0\n") ≡ whole (codes "opened 0.1 for 1 at 0\nreturned 0.1 by 1 at 2\nleased 0.1 to 2 at 3\nclosed 0.1 dropped at 4\nhost 0 open 0 idle 0 leased 0 waiting 0 queued no\n")
+TellsReuseThenDrop = transcript reuse_then_drop ≡ whole (codes "opened 0.1 for 1 at 0\nreturned 0.1 by 1 at 2\nleased 0.1 to 2 at 3\nclosed 0.1 dropped at 4\nhost 0 open 0 idle 0 leased 0 waiting 0 queued no\n")
 
 abbrev pub TellsBusyAndNoSuchSite : Type 0
 TellsBusyAndNoSuchSite = transcript (codes "limits 4 0 4\nsite http://a.test/\nget 1 0 0 at 0\nget 1 0 0 at 1\nget 1 7 0 at 1\nlook 7\n") ≡ whole (codes "opened 0.1 for 1 at 0\nrefused busy\nrefused bad-site\nrefused bad-site\n")
@@ -43,3 +48,10 @@ TellsLongestLine = transcript (replicate 2304 35) ≡ whole []
 
 abbrev pub TellsLineTooLongByOne : Type 0
 TellsLineTooLongByOne = transcript (replicate 2305 35) ≡ up_to (record { line = 1; kind = LineTooLong }) []
+
+-- the lines of the log behind a script
+abbrev pub TellsEvents : Type 0
+TellsEvents = event_lines (log_behind reuse_then_drop) ≡ codes "opened 0.1 for 1 at 0" ∷ codes "returned 0.1 by 1 at 2" ∷ codes "leased 0.1 to 2 at 3" ∷ codes "closed 0.1 dropped at 4" ∷ []
+
+abbrev pub TellsLeases : Type 0
+TellsLeases = leased_lines (log_behind reuse_then_drop) ≡ codes "leased 0.1 to 2 at 3" ∷ []

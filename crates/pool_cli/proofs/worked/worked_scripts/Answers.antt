@@ -53,3 +53,11 @@ returns-clause-longest_line c = refl
 pub returns-clause-line_too_long_by_one : goal.returns-clause-line_too_long_by_one
 unfolding digits is_utf8 chars encode lines words number reading command_of ending_of limits_form is_url site_form get_form back_form drop_form look_form lines_since step get_at back_at drop_at look_at transcript line_step
 returns-clause-line_too_long_by_one c = refl
+
+pub returns-clause-events : goal.returns-clause-events
+unfolding digits is_utf8 chars encode lines words number reading command_of ending_of limits_form is_url site_form get_form back_form drop_form look_form lines_since step get_at back_at drop_at look_at line_step
+returns-clause-events c = refl
+
+pub returns-clause-leases : goal.returns-clause-leases
+unfolding digits is_utf8 chars encode lines words number reading command_of ending_of limits_form is_url site_form get_form back_form drop_form look_form lines_since step get_at back_at drop_at look_at line_step
+returns-clause-leases c = refl
