@@ -15,7 +15,7 @@ use Rattle.pool_cli.specs.Lines.{lines}
 use Rattle.pool_cli.specs.Printing.{refused}
 use Rattle.pool_cli.specs.Grammar.{reading}
 use Rattle.pool_cli.specs.Meaning.{Run, Answer, start, step, terms_of, want_of, facts_of, refusal_word, replied, get_at, get_unless, back_at, back_of, drop_at, drop_of, look_at, stranger, at_host, at_no_host, answer_of, with_limits, with_site, with_command, are_good, site_of}
-use Rattle.pool_cli.specs.Transcript.{Transcript, transcript, told, before_others, line_step, line_step_of, LONGEST_SCRIPT}
+use Rattle.pool_cli.specs.Transcript.{Transcript, transcript, whole_text, told, before_others, line_step, line_step_of, LONGEST_SCRIPT}
 use Rattle.pool_cli.specs.Law.{run_after, after_line, log_behind}
 use Rattle.pool_cli.specs.TranscriptLines.{is_event_line, EveryEventIsTold}
 use Rattle.pool_cli.specs.declared.command.Limits.{Limits}
@@ -149,23 +149,23 @@ tells-line_step run line = by_reading (reading line)
     by_reading (Ok (Some command)) = tells-step run command
 
 -- the lines of a script, one after another
-tells-told : (run : Run) (number : ℕ) (lines : List (List ℕ)) → Tells run.log (run_after run lines).log (told run number lines).written
+tells-told : (run : Run) (number : ℕ) (lines : List (List ℕ)) → Tells run.log (run_after run lines).log (whole_text (told run number lines))
 tells-told run number [] = tells-nothing run.log
 tells-told run number (line ∷ others) = by_step (line_step run line) (tells-line_step run line) (λ next. tells-told next (number + 1) others)
   where
-    by_step : (made : Result (Run × List ℕ) FaultKind) → TellsStep run.log made → ((next : Run) → Tells next.log (run_after next others).log (told next (number + 1) others).written)
-        → Tells run.log (after_line run made (λ next. run_after next others)).log (before_others number made (λ next. told next (number + 1) others)).written
+    by_step : (made : Result (Run × List ℕ) FaultKind) → TellsStep run.log made → ((next : Run) → Tells next.log (run_after next others).log (whole_text (told next (number + 1) others)))
+        → Tells run.log (after_line run made (λ next. run_after next others)).log (whole_text (before_others number made (λ next. told next (number + 1) others)))
     by_step (Err kind) first rest = tells-nothing run.log
     by_step (Ok next) first rest = tells-both run.log next.0.log _ next.1 _ first (rest next.0)
 
-pub tells-transcript : (script : List ℕ) → Tells [] (log_behind script) (transcript script).written
+pub tells-transcript : (script : List ℕ) → Tells [] (log_behind script) (whole_text (transcript script))
 unfolding transcript
 tells-transcript script = by_length (nat_lt LONGEST_SCRIPT (length script))
   where
     too_long : Transcript
-    too_long = record { written = []; fault = Some (record { line = 0; kind = ScriptTooLong }) }
+    too_long = record { texts = []; fault = Some (record { line = 0; kind = ScriptTooLong }) }
 
-    by_length : (long : Bool) → Tells [] (if long then start else run_after start (lines script)).log (if long then too_long else told start 1 (lines script)).written
+    by_length : (long : Bool) → Tells [] (if long then start else run_after start (lines script)).log (whole_text (if long then too_long else told start 1 (lines script)))
     by_length true = tells-nothing []
     by_length false = tells-told start 1 (lines script)
 

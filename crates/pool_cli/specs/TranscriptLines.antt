@@ -8,12 +8,12 @@ use Rattle.conn_log.specs.declared.entry.Event.TheVariants.{Leased}
 use Rattle.conn_log.specs.declared.entry.Entry.{Entry}
 use Rattle.pool_cli.specs.Lines.{lines}
 use Rattle.pool_cli.specs.Printing.{event_text, returned_by}
-use Rattle.pool_cli.specs.Transcript.{transcript}
+use Rattle.pool_cli.specs.Transcript.{transcript, whole_text}
 use Rattle.pool_cli.specs.Law.{log_behind, WasFree}
 
 -- the lines that a script makes the program write
 abbrev pub transcript_lines : List ℕ → List (List ℕ)
-transcript_lines script = lines (transcript script).written
+transcript_lines script = lines (whole_text (transcript script))
 
 abbrev pub begins : List ℕ → List ℕ → Bool
 begins text line = starts_with (λ a b. a == b) line text
