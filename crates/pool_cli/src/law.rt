@@ -1,4 +1,4 @@
-//! A law of every script, whatever its bytes.
+//! Laws of every script, whatever its bytes.
 
 ghost use Rattle.pool_cli.specs.Law.{EveryLogIsLegal, EveryLeaseWasFree};
 ghost use Rattle.pool_cli.specs.TranscriptLines.{EveryEventIsTold, EveryLeaseIsTold, EveryLeasedLineWasFree};
