@@ -57,7 +57,7 @@ newest by (e ∷ added) old says =
     ∙ ap (λ l. l ++ entry_line 0 by e) (newest by added old says.1)
     ∙ sym (turned by e added)
 
-count-added : (added old : List Entry) → length (added ++ old) - length old ≡ length added
+pub count-added : (added old : List Entry) → length (added ++ old) - length old ≡ length added
 count-added added old = simp length-append (omega arith)
 
 oldest-first : (added old : List Entry) → drop (length old) (reverse (added ++ old)) ≡ reverse added

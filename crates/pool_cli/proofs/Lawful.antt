@@ -1,6 +1,6 @@
 -- Each command keeps the log sound, so the log behind a script is legal.
 use Rattle.std.proofs.Common.{◌≡◌, ℕ, Bool, true, false, not, ◌&&◌, List, [], ◌∷◌, Option, Some, None, Result, Ok, Err, is_none, refl, sym, subst}
-use Rattle.std.specs.Prelude.{◌==◌, if◌then◌else◌}
+use Rattle.std.specs.Prelude.{◌==◌, nat_lt, if◌then◌else◌, length}
 use Rattle.std.specs.Option.{option_map}
 use Rattle.conn_log.specs.declared.entry.Event.{Event}
 use Rattle.conn_log.specs.declared.entry.Event.TheVariants.{Opened, Leased, Returned, Closed, Waited, Left}
@@ -18,8 +18,8 @@ use Rattle.bundle.proofs.KeptSound.{sound_acquire, sound_give_back, sound_abando
 use Rattle.pool_cli.specs.Lines.{lines}
 use Rattle.pool_cli.specs.Grammar.{reading}
 use Rattle.pool_cli.specs.Meaning.{Run, start, step, terms_of, want_of, facts_of, get_at, get_unless, back_at, back_of, drop_at, drop_of, look_at, at_host, at_no_host, answer_of, with_limits, with_site, with_command, are_good, site_of}
-use Rattle.pool_cli.specs.Transcript.{line_step, line_step_of}
-use Rattle.pool_cli.specs.Law.{run_after, after_line, IsLegalUnder, WasFree, LeasesFree, EachLeaseWasFree, EveryLogIsLegal, EveryLeaseWasFree}
+use Rattle.pool_cli.specs.Transcript.{line_step, line_step_of, LONGEST_SCRIPT}
+use Rattle.pool_cli.specs.Law.{run_after, after_line, run_behind, log_behind, limits_of, IsLegalUnder, WasFree, LeasesFree, EachLeaseWasFree, EveryLogIsLegal, EveryLeaseWasFree}
 use Rattle.pool_cli.specs.declared.command.Limits.{Limits}
 use Rattle.pool_cli.specs.declared.command.Command.{Command}
 use Rattle.pool_cli.specs.declared.command.Command.TheVariants as commands
@@ -142,8 +142,15 @@ sound_after run (line ∷ others) sound = by_step (line_step run line) (sound_li
     by_step (Err kind) made_sound rest = sound
     by_step (Ok next) made_sound rest = rest next.0 made_sound
 
+sound_behind : (script : List ℕ) → SoundRun (run_behind script)
+sound_behind script = by_length (nat_lt LONGEST_SCRIPT (length script))
+  where
+    by_length : (too_long : Bool) → SoundRun (if too_long then start else run_after start (lines script))
+    by_length true = refl
+    by_length false = sound_after start (lines script) refl
+
 pub every_log_is_legal : EveryLogIsLegal
-every_log_is_legal script = legal_under (run_after start (lines script)).limits (run_after start (lines script)).log (sound_after start (lines script) refl)
+every_log_is_legal script = legal_under (limits_of script) (log_behind script) (sound_behind script)
   where
     legal_under : (limits : Option Limits) (log : List Entry) → SoundUnder limits log → IsLegalUnder limits log
     legal_under None log nothing = nothing
@@ -178,7 +185,7 @@ each_lease terms [] legal = tt
 each_lease terms (e ∷ before) legal = (leases_free terms before e.moment e.event legal.1, each_lease terms before legal.2)
 
 pub every_lease_was_free : EveryLeaseWasFree
-every_lease_was_free script = under (run_after start (lines script)).limits (run_after start (lines script)).log (every_log_is_legal script)
+every_lease_was_free script = under (limits_of script) (log_behind script) (every_log_is_legal script)
   where
     under : (limits : Option Limits) (log : List Entry) → IsLegalUnder limits log → EachLeaseWasFree log
     under None log nothing = subst EachLeaseWasFree (sym nothing) tt

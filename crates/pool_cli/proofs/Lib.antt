@@ -1,5 +1,7 @@
 pub mod Splits
 pub mod LineSplits
+pub mod WholeLines
+pub mod EventLines
 pub mod Numbers
 pub mod Streaming
 pub mod Growth
@@ -8,3 +10,5 @@ pub mod Answering
 pub mod Running
 pub mod Asking
 pub mod Lawful
+pub mod Telling
+pub mod LeasedLines

@@ -17,7 +17,7 @@ unfolding lines
 lines-last script front [] e some none = ap lines_of_parts e ∙ no-line front some
 lines-last script front (y ∷ ys) e some none = absurd (omega arith)
 
-first-stripped : (front bytes : List ℕ) → lines_of_parts (front ∷ slice_split ends_line bytes) ≡ strip_carriage_return front ∷ lines_of_parts (slice_split ends_line bytes)
+pub first-stripped : (front bytes : List ℕ) → lines_of_parts (front ∷ slice_split ends_line bytes) ≡ strip_carriage_return front ∷ lines_of_parts (slice_split ends_line bytes)
 first-stripped front bytes = rw (slice_split-parts ends_line bytes) refl
 
 others-are : (y : ℕ) (ys : List ℕ) → take (length (y ∷ ys) - 1) (drop 1 (y ∷ ys)) ≡ ys

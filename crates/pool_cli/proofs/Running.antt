@@ -1,5 +1,5 @@
 -- The lines of a script that were run, and those that are left.
-use Rattle.std.proofs.Common.{◌≡◌, ℕ, ◌+◌, ◌<◌, ◌≤◌, Bool, true, false, cond, List, [], ◌∷◌, ◌++◌, length, refl, ap, sym, ◌∙◌, arith, Option, Some, None, Result, Ok, Err, append_assoc, append-nil, subst, inl, inr}
+use Rattle.std.proofs.Common.{◌≡◌, ℕ, ◌+◌, ◌-◌, ◌<◌, ◌≤◌, Bool, true, false, cond, List, [], ◌∷◌, ◌++◌, length, take, refl, ap, sym, ◌∙◌, arith, Option, Some, None, Result, Ok, Err, append_assoc, append-nil, subst, inl, inr}
 use Rattle.std.specs.Io.KnownBytes.{Appends, Consumes, IsAtEnd}
 use Rattle.std.proofs.KnownBytes.{Appends-nil, Appends-trans}
 use Rattle.pool_cli.specs.declared.fault.FaultKind.{FaultKind}
@@ -14,12 +14,15 @@ use Rattle.std.specs.Str.{bytes_eq}
 use Rattle.std.specs.Prelude.{codes}
 use Rattle.pool_cli.specs.Lines.{lines}
 use Rattle.pool_cli.specs.Meaning.{Run, start, step, with_limits, with_site, with_command}
-use Rattle.pool_cli.specs.Transcript.{Transcript, told, before_others, line_step, line_step_of, Ends, EndsBy, FailsBy, transcript}
+use Rattle.pool_cli.specs.Transcript.{Transcript, whole_text, text_up_to, text_before, IsRun, told, before_others, line_step, line_step_of, Ends, EndsBy, FailsBy, transcript}
 use Rattle.pool_cli.specs.Running.{RunsLines, LineFails, RunsScript, ReadsAll, ReadsOn}
 use Rattle.pool_cli.specs.Streams.{ReadFails}
 use Rattle.pool_cli.proofs.Streaming.{proper-front}
 use Rattle.std.proofs.lemmas.Bool.{le-ltb, lt-ltb}
 use Rattle.std.proofs.lemmas.List.{length-append}
+use Rattle.std.proofs.lemmas.List.Folds.{concat-append}
+use Rattle.std.proofs.Math.Seq.{take-append_seam, take-append-add}
+use Rattle.std.specs.List.{concat}
 
 -- the faults that a line can have
 is_of_line : FaultKind → Bool
@@ -122,85 +125,125 @@ line-fails contents run line BadLimits fails = (fails, Appends-nil contents)
 line-fails contents run line BadSite fails = (fails, Appends-nil contents)
 line-fails contents run line TooManySites fails = (fails, Appends-nil contents)
 
--- what is written so far, and the transcript of what is left, is all
-abbrev pub after_written : List ℕ → Transcript → Transcript
-after_written written t = record { written = written ++ t.written; fault = t.fault }
+-- what the lines so far wrote, and the transcript of those that are left, is all
+abbrev pub after_texts : List (List ℕ) → Transcript → Transcript
+after_texts texts t = record { texts = texts ++ t.texts; fault = t.fault }
 
-pub record RunSoFar (old mid : Option (List ℕ)) (all left : Transcript) : Type 0 where
-  pub written : List ℕ
-  pub appended : Appends old mid written
-  pub whole : all ≡ after_written written left
+pub record RunSoFar (old mid : Option (List ℕ)) (all left : Transcript) (count : ℕ) : Type 0 where
+  pub texts : List (List ℕ)
+  pub counted : length texts ≡ count
+  pub appended : Appends old mid (concat texts)
+  pub whole : all ≡ after_texts texts left
 
-pub run-none : (old : Option (List ℕ)) (all : Transcript) → RunSoFar old old all all
-run-none old all = record { written = []; appended = Appends-nil old; whole = refl }
+pub run-none : (old : Option (List ℕ)) (all : Transcript) → RunSoFar old old all all 0
+run-none old all = record { texts = []; counted = refl; appended = Appends-nil old; whole = refl }
 
-pub run-more : (old mid new : Option (List ℕ)) (all : Transcript) (run next : Run) (n : ℕ) (line text : List ℕ) (others : List (List ℕ))
-    → RunSoFar old mid all (told run n (line ∷ others)) → line_step run line ≡ Ok (next, text) → Appends mid new text → RunSoFar old new all (told next (n + 1) others)
-run-more old mid new all run next n line text others so_far e more =
+one-more : (texts : List (List ℕ)) (text : List ℕ) → concat (texts ++ text ∷ []) ≡ concat texts ++ text
+one-more texts text = concat-append texts (text ∷ []) ∙ ap (λ last. concat texts ++ last) (append-nil text)
+
+pub run-more : (old mid new : Option (List ℕ)) (all : Transcript) (run next : Run) (count n : ℕ) (line text : List ℕ) (others : List (List ℕ))
+    → RunSoFar old mid all (told run n (line ∷ others)) count → line_step run line ≡ Ok (next, text) → Appends mid new text → RunSoFar old new all (told next (n + 1) others) (count + 1)
+run-more old mid new all run next count n line text others so_far e more =
+    let rest = told next (n + 1) others in
     record {
-      written = so_far.written ++ text;
-      appended = Appends-trans old mid new so_far.written text so_far.appended more;
+      texts = so_far.texts ++ text ∷ [];
+      counted = omega (arith, length-append so_far.texts (text ∷ []), so_far.counted);
+      appended = rw (one-more so_far.texts text) (Appends-trans old mid new (concat so_far.texts) text so_far.appended more);
       whole = so_far.whole
-          ∙ ap (λ r. after_written so_far.written (before_others n r (λ next. told next (n + 1) others))) e
-          ∙ ap (λ w. record { written = w; fault = (told next (n + 1) others).fault }) (sym (append_assoc so_far.written text (told next (n + 1) others).written));
+          ∙ ap (λ r. after_texts so_far.texts (before_others n r (λ next. told next (n + 1) others))) e
+          ∙ ap (λ texts. record { texts = texts; fault = rest.fault }) (sym (append_assoc so_far.texts (text ∷ []) rest.texts));
     }
 
-pub run-end : {A : Type 0} (old mid : Option (List ℕ)) (all : Transcript) (run : Run) (n : ℕ) (left : List (List ℕ)) (done : A) → left ≡ []
-    → RunSoFar old mid all (told run n left) → RunsLines old mid all (Ok done)
-run-end old mid all run n left done none so_far =
-    record {
-      written = so_far.written;
-      appended = so_far.appended;
-      ends = so_far.whole ∙ ap (λ l. after_written so_far.written (told run n l)) none ∙ ap (λ w. record { written = w; fault = None }) (append-nil so_far.written);
-    }
+-- no line is left
+all-run : (old mid : Option (List ℕ)) (all : Transcript) (run : Run) (count n : ℕ) (left : List (List ℕ)) → left ≡ []
+    → (so_far : RunSoFar old mid all (told run n left) count) → (concat so_far.texts ≡ whole_text all) × (all.fault ≡ None)
+all-run old mid all run count n left none so_far =
+    let is = so_far.whole ∙ ap (λ l. after_texts so_far.texts (told run n l)) none in
+    (sym (ap whole_text is ∙ ap concat (append-nil so_far.texts)), ap (λ t. t.fault) is)
 
--- want of memory leaves a front
-pub run-short : {A : Type 0} (old mid : Option (List ℕ)) (all left : Transcript) (fault : ScriptFault) → fault.kind ≡ Memory → RunSoFar old mid all left → RunsLines {A = A} old mid all (Err fault)
-run-short old mid all left fault is so_far =
+pub run-end : {A : Type 0} (old mid : Option (List ℕ)) (all : Transcript) (run : Run) (count n : ℕ) (left : List (List ℕ)) (done : A) → left ≡ []
+    → RunSoFar old mid all (told run n left) count → RunsLines old mid all (Ok done)
+run-end old mid all run count n left done none so_far =
+    record { written = concat so_far.texts; appended = so_far.appended; ends = all-run old mid all run count n left none so_far }
+
+-- memory ran out at the script's end
+pub run-short : {A : Type 0} (old mid : Option (List ℕ)) (all : Transcript) (run : Run) (count n : ℕ) (left : List (List ℕ)) (kind : FaultKind) → left ≡ [] → kind ≡ Memory
+    → RunSoFar old mid all (told run n left) count → RunsLines {A = A} old mid all (Err (record { line = 0; kind = kind }))
+run-short old mid all run count n left kind none is so_far =
     record {
-      written = so_far.written;
+      written = concat so_far.texts;
       appended = so_far.appended;
-      ends = subst (EndsBy all fault so_far.written) (sym is) (left.written, ap (λ t. t.written) so_far.whole);
+      ends = subst (EndsBy all (record { line = 0; kind = kind }) (concat so_far.texts)) (sym is) (inr (refl, inr (all-run old mid all run count n left none so_far)));
     }
 
 kept : (old mid new : Option (List ℕ)) (written : List ℕ) → Appends old mid written → Appends mid new [] → Appends old new written
 kept old mid new written p q = rw (sym (append-nil written)) (Appends-trans old mid new written [] p q)
 
--- a line that fails ends the run
-stopped : (old mid new : Option (List ℕ)) (all : Transcript) (run : Run) (n : ℕ) (line : List ℕ) (others : List (List ℕ)) (kind : FaultKind)
-    → RunSoFar old mid all (told run n (line ∷ others)) → line_step run line ≡ Err kind → Appends mid new []
-    → (written : List ℕ) × Appends old new written × (all ≡ record { written = written; fault = Some (record { line = n; kind = kind }) })
-stopped old mid new all run n line others kind so_far e same = (
-  so_far.written,
-  kept old mid new so_far.written so_far.appended same,
-  so_far.whole ∙ ap (λ r. after_written so_far.written (before_others n r (λ next. told next (n + 1) others))) e
-      ∙ ap (λ w. record { written = w; fault = Some (record { line = n; kind = kind }) }) (append-nil so_far.written),
-)
+-- what the lines so far wrote is what those before the next one write
+so-far-before : (all left : Transcript) (texts : List (List ℕ)) (n : ℕ) → all ≡ after_texts texts left → length texts + 1 ≡ n → text_before n all ≡ concat texts
+so-far-before all left texts n whole counted =
+    let count : n - 1 ≡ length texts = omega (arith, counted) in
+    ap (text_before n) whole ∙ ap (λ k. concat (take k (texts ++ left.texts))) count ∙ ap concat (take-append_seam texts left.texts)
 
-pub run-fails : {A : Type 0} (old mid new : Option (List ℕ)) (all : Transcript) (run : Run) (n : ℕ) (line : List ℕ) (others : List (List ℕ)) (kind : FaultKind)
-    → RunSoFar old mid all (told run n (line ∷ others)) → LineFails mid new (line_step run line) kind → RunsLines {A = A} old new all (Err (record { line = n; kind = kind }))
-run-fails old mid new all run n line others Memory so_far fails =
-    record { written = so_far.written; appended = kept old mid new so_far.written so_far.appended fails; ends = ((told run n (line ∷ others)).written, ap (λ t. t.written) so_far.whole) }
-run-fails old mid new all run n line others Write so_far (next, front, e, (is_front, shorter), appended) =
-    let rest = told next.0 (n + 1) others in
-    let whole = ap (λ t. t.written) (so_far.whole ∙ ap (λ r. after_written so_far.written (before_others n r (λ next. told next (n + 1) others))) e)
-    ∙ ap (λ text. so_far.written ++ (text ++ rest.written)) is_front.1
-    ∙ ap (λ l. so_far.written ++ l) (append_assoc front is_front.0 rest.written)
-    ∙ sym (append_assoc so_far.written front (is_front.0 ++ rest.written)) in
+-- and the next one's text comes after it
+so-far-next : (all : Transcript) (texts rest : List (List ℕ)) (text : List ℕ) (fault : Option ScriptFault) (n : ℕ) → all ≡ record { texts = texts ++ text ∷ rest; fault = fault } → length texts + 1 ≡ n
+    → text_up_to n all ≡ concat texts ++ text
+so-far-next all texts rest text fault n whole counted =
+    ap (text_up_to n) whole ∙ ap (λ k. concat (take k (texts ++ text ∷ rest))) (sym counted)
+    ∙ ap concat (take-append-add texts (text ∷ rest) 1) ∙ one-more texts text
+
+-- the next line is run
+next-runs : (n : ℕ) (texts : List (List ℕ)) (made : Result (Run × List ℕ) FaultKind) (others : Run → Transcript) → length texts + 1 ≡ n → IsRun (after_texts texts (before_others n made others)) n
+next-runs n texts (Err kind) others counted = inr refl
+next-runs n texts (Ok next) others counted = inl (omega (arith, counted, length-append texts (next.1 ∷ (others next.0).texts)))
+
+-- a line that fails ends the run
+stopped : (old mid new : Option (List ℕ)) (all : Transcript) (run : Run) (count n : ℕ) (line : List ℕ) (others : List (List ℕ)) (kind : FaultKind)
+    → RunSoFar old mid all (told run n (line ∷ others)) count → line_step run line ≡ Err kind → Appends mid new []
+    → (written : List ℕ) × Appends old new written × (written ≡ whole_text all) × (all.fault ≡ Some (record { line = n; kind = kind }))
+stopped old mid new all run count n line others kind so_far e same =
+    let is = so_far.whole ∙ ap (λ r. after_texts so_far.texts (before_others n r (λ next. told next (n + 1) others))) e in
+    (concat so_far.texts, kept old mid new (concat so_far.texts) so_far.appended same, sym (ap whole_text is ∙ ap concat (append-nil so_far.texts)), ap (λ t. t.fault) is)
+
+pub run-fails : {A : Type 0} (old mid new : Option (List ℕ)) (all : Transcript) (run : Run) (count n : ℕ) (line : List ℕ) (others : List (List ℕ)) (kind : FaultKind)
+    → count + 1 ≡ n → RunSoFar old mid all (told run n (line ∷ others)) count → LineFails mid new (line_step run line) kind → RunsLines {A = A} old new all (Err (record { line = n; kind = kind }))
+run-fails old mid new all run count n line others Memory next so_far fails =
+    let counted : length so_far.texts + 1 ≡ n = ap (λ k. k + 1) so_far.counted ∙ next in
+    let runs = next-runs n so_far.texts (line_step run line) (λ next. told next (n + 1) others) counted in
     record {
-      written = so_far.written ++ front;
-      appended = Appends-trans old mid new so_far.written front so_far.appended appended;
-      ends = proper-front (so_far.written ++ front) (is_front.0 ++ rest.written) all.written whole (λ none. omega (arith, none, length-append is_front.0 rest.written, ap length is_front.1, length-append front is_front.0, shorter));
+      written = concat so_far.texts;
+      appended = kept old mid new (concat so_far.texts) so_far.appended fails;
+      ends = inl (record {
+        counted = omega (arith, next);
+        run = subst (λ t. IsRun t n) (sym so_far.whole) runs;
+        same = sym (so-far-before all (told run n (line ∷ others)) so_far.texts n so_far.whole counted);
+      });
     }
-run-fails old mid new all run n line others Read so_far fails = absurd (not-read run line fails.0)
-run-fails old mid new all run n line others ScriptTooLong so_far fails = let s = stopped old mid new all run n line others _ so_far fails.0 fails.1 in record { written = s.0; appended = s.1; ends = s.2 }
-run-fails old mid new all run n line others LineTooLong so_far fails = let s = stopped old mid new all run n line others _ so_far fails.0 fails.1 in record { written = s.0; appended = s.1; ends = s.2 }
-run-fails old mid new all run n line others Unknown so_far fails = let s = stopped old mid new all run n line others _ so_far fails.0 fails.1 in record { written = s.0; appended = s.1; ends = s.2 }
-run-fails old mid new all run n line others Form so_far fails = let s = stopped old mid new all run n line others _ so_far fails.0 fails.1 in record { written = s.0; appended = s.1; ends = s.2 }
-run-fails old mid new all run n line others Place so_far fails = let s = stopped old mid new all run n line others _ so_far fails.0 fails.1 in record { written = s.0; appended = s.1; ends = s.2 }
-run-fails old mid new all run n line others BadLimits so_far fails = let s = stopped old mid new all run n line others _ so_far fails.0 fails.1 in record { written = s.0; appended = s.1; ends = s.2 }
-run-fails old mid new all run n line others BadSite so_far fails = let s = stopped old mid new all run n line others _ so_far fails.0 fails.1 in record { written = s.0; appended = s.1; ends = s.2 }
-run-fails old mid new all run n line others TooManySites so_far fails = let s = stopped old mid new all run n line others _ so_far fails.0 fails.1 in record { written = s.0; appended = s.1; ends = s.2 }
+run-fails old mid new all run count n line others Write next so_far (made, front, e, (is_front, shorter), appended) =
+    let rest = told made.0 (n + 1) others in
+    let counted : length so_far.texts + 1 ≡ n = ap (λ k. k + 1) so_far.counted ∙ next in
+    let is = so_far.whole ∙ ap (λ r. after_texts so_far.texts (before_others n r (λ next. told next (n + 1) others))) e in
+    let up_to = so-far-next all so_far.texts rest.texts made.1 rest.fault n is counted ∙ ap (λ text. concat so_far.texts ++ text) is_front.1
+    ∙ sym (append_assoc (concat so_far.texts) front is_front.0) in
+    record {
+      written = concat so_far.texts ++ front;
+      appended = Appends-trans old mid new (concat so_far.texts) front so_far.appended appended;
+      ends = record {
+        counted = omega (arith, next);
+        run = omega (arith, counted, ap (λ t. length t.texts) is, length-append so_far.texts (made.1 ∷ rest.texts));
+        after_others = (front, ap (λ text. text ++ front) (sym (so-far-before all (told run n (line ∷ others)) so_far.texts n so_far.whole counted)));
+        short = proper-front (concat so_far.texts ++ front) is_front.0 (text_up_to n all) up_to (λ none. omega (arith, none, ap length is_front.1, length-append front is_front.0, shorter));
+      };
+    }
+run-fails old mid new all run count n line others Read next so_far fails = absurd (not-read run line fails.0)
+run-fails old mid new all run count n line others ScriptTooLong next so_far fails = let s = stopped old mid new all run count n line others _ so_far fails.0 fails.1 in record { written = s.0; appended = s.1; ends = (s.2, s.3) }
+run-fails old mid new all run count n line others LineTooLong next so_far fails = let s = stopped old mid new all run count n line others _ so_far fails.0 fails.1 in record { written = s.0; appended = s.1; ends = (s.2, s.3) }
+run-fails old mid new all run count n line others Unknown next so_far fails = let s = stopped old mid new all run count n line others _ so_far fails.0 fails.1 in record { written = s.0; appended = s.1; ends = (s.2, s.3) }
+run-fails old mid new all run count n line others Form next so_far fails = let s = stopped old mid new all run count n line others _ so_far fails.0 fails.1 in record { written = s.0; appended = s.1; ends = (s.2, s.3) }
+run-fails old mid new all run count n line others Place next so_far fails = let s = stopped old mid new all run count n line others _ so_far fails.0 fails.1 in record { written = s.0; appended = s.1; ends = (s.2, s.3) }
+run-fails old mid new all run count n line others BadLimits next so_far fails = let s = stopped old mid new all run count n line others _ so_far fails.0 fails.1 in record { written = s.0; appended = s.1; ends = (s.2, s.3) }
+run-fails old mid new all run count n line others BadSite next so_far fails = let s = stopped old mid new all run count n line others _ so_far fails.0 fails.1 in record { written = s.0; appended = s.1; ends = (s.2, s.3) }
+run-fails old mid new all run count n line others TooManySites next so_far fails = let s = stopped old mid new all run count n line others _ so_far fails.0 fails.1 in record { written = s.0; appended = s.1; ends = (s.2, s.3) }
 
 pub no-lines : (rest : List ℕ) → length rest ≡ 0 → lines rest ≡ []
 unfolding lines
@@ -217,11 +260,11 @@ pub unread-script : {A : Type 0} (unread left contents : Option (List ℕ)) (kin
     → RunsScript {A = A} unread left contents contents (Err (record { line = 0; kind = kind }))
 unfolding transcript
 unread-script unread left contents Memory (script, consumed) =
-    record { script = script; consumed = consumed; lines = record { written = []; appended = Appends-nil contents; ends = ((transcript script).written, refl) }; whole = inr refl }
+    record { script = script; consumed = consumed; lines = record { written = []; appended = Appends-nil contents; ends = inr (refl, inl refl) }; whole = inr (refl, refl) }
 unread-script unread left contents Read (script, consumed, short) =
     record { script = script; consumed = consumed; lines = record { written = []; appended = Appends-nil contents; ends = (refl, refl) }; whole = short }
 unread-script unread left contents ScriptTooLong (script, consumed, long) =
-    record { script = script; consumed = consumed; lines = record { written = []; appended = Appends-nil contents; ends = rw (lt-ltb 1048576 (length script) long) refl }; whole = inr long }
+    record { script = script; consumed = consumed; lines = record { written = []; appended = Appends-nil contents; ends = rw (lt-ltb 1048576 (length script) long) (refl, refl) }; whole = inr long }
 unread-script unread left contents Write fails = absurd fails
 unread-script unread left contents LineTooLong fails = absurd fails
 unread-script unread left contents Unknown fails = absurd fails
@@ -235,7 +278,7 @@ unread-script unread left contents TooManySites fails = absurd fails
 all-read : {A : Type 0} (left : Option (List ℕ)) (script written : List ℕ) (r : Result A ScriptFault) → IsAtEnd left → length script ≤ 1048576 → ReadsAll left script written r
 all-read left script written (Ok done) end short = end
 all-read left script written (Err fault) end short =
-    let at : (kind : FaultKind) → ReadsOn left script written kind = elim [
+    let at : (kind : FaultKind) → ReadsOn left script written fault.line kind = elim [
       | Memory ↦ inl end
       | Read ↦ short
       | Write ↦ end
@@ -255,7 +298,7 @@ pub run-read : {A : Type 0} (unread left old new : Option (List ℕ)) (script : 
 run-read unread left old new script r consumed end short lines = record { script = script; consumed = consumed; lines = lines; whole = all-read left script lines.written r end short }
 
 -- any script that is too long
-too-long : (script : List ℕ) → 1048576 < length script → transcript script ≡ record { written = []; fault = Some (record { line = 0; kind = ScriptTooLong }) }
+too-long : (script : List ℕ) → 1048576 < length script → transcript script ≡ record { texts = []; fault = Some (record { line = 0; kind = ScriptTooLong }) }
 unfolding transcript
 too-long script long = rw (lt-ltb 1048576 (length script) long) refl
 
@@ -267,12 +310,13 @@ longer script front rest split long = omega (arith, simp length-append at (ap le
 
 -- what a run of the bytes that were read tells of all
 ends-all : (script front rest : List ℕ) (fault : ScriptFault) (written : List ℕ) (kind : FaultKind) → script ≡ front ++ rest
-    → EndsBy (transcript front) fault written kind → ReadsOn (Some rest) front written kind → EndsBy (transcript script) fault written kind
+    → EndsBy (transcript front) fault written kind → ReadsOn (Some rest) front written fault.line kind → EndsBy (transcript script) fault written kind
 ends-all script front rest fault written Memory split ends (inl end) = subst (λ s. EndsBy (transcript s) fault written Memory) (read-whole script front rest split end) ends
-ends-all script front rest fault written Memory split ends (inr none) = ((transcript script).written, ap (λ w. w ++ (transcript script).written) (sym none))
+ends-all script front rest fault written Memory split ends (inr nothing) = inr (nothing.0, inl nothing.1)
 ends-all script front rest fault written Read split ends on = ends
 ends-all script front rest fault written ScriptTooLong split ends (inl end) = subst (λ s. EndsBy (transcript s) fault written ScriptTooLong) (read-whole script front rest split end) ends
-ends-all script front rest fault written ScriptTooLong split ends (inr long) = too-long script (longer script front rest split long) ∙ sym (too-long front long) ∙ ends
+ends-all script front rest fault written ScriptTooLong split ends (inr long) =
+    subst (λ t. EndsBy t fault written ScriptTooLong) (too-long front long ∙ sym (too-long script (longer script front rest split long))) ends
 ends-all script front rest fault written Write split ends end = subst (λ s. EndsBy (transcript s) fault written Write) (read-whole script front rest split end) ends
 ends-all script front rest fault written LineTooLong split ends end = subst (λ s. EndsBy (transcript s) fault written LineTooLong) (read-whole script front rest split end) ends
 ends-all script front rest fault written Unknown split ends end = subst (λ s. EndsBy (transcript s) fault written Unknown) (read-whole script front rest split end) ends

@@ -1,5 +1,5 @@
 -- The log behind a script's transcript, and what holds of it.
-use Rattle.std.specs.Prelude.{◌≡◌, ℕ, true, IsTrue, List, [], ◌∷◌, Option, Some, None, Result, Ok, Err}
+use Rattle.std.specs.Prelude.{◌≡◌, ℕ, nat_lt, if◌then◌else◌, true, IsTrue, List, [], ◌∷◌, length, Option, Some, None, Result, Ok, Err}
 use Rattle.conn_log.specs.declared.entry.Event.{Event}
 use Rattle.conn_log.specs.declared.entry.Event.TheVariants.{Leased}
 use Rattle.conn_log.specs.declared.entry.Entry.{Entry}
@@ -7,7 +7,7 @@ use Rattle.conn_log.specs.Connections.{is_open, holder, came_back_persistent}
 use Rattle.conn_log.specs.Legal.{IsLegal}
 use Rattle.pool_cli.specs.Lines.{lines}
 use Rattle.pool_cli.specs.Meaning.{Run, start, terms_of}
-use Rattle.pool_cli.specs.Transcript.{line_step}
+use Rattle.pool_cli.specs.Transcript.{line_step, LONGEST_SCRIPT}
 use Rattle.pool_cli.specs.declared.command.Limits.{Limits}
 use Rattle.pool_cli.specs.declared.fault.FaultKind.{FaultKind}
 
@@ -20,13 +20,17 @@ abbrev pub run_after : Run → List (List ℕ) → Run
 run_after run [] = run
 run_after run (line ∷ others) = after_line run (line_step run line) (λ next. run_after next others)
 
+-- the run behind a transcript; of a script that is too long no line is run
+abbrev pub run_behind : List ℕ → Run
+run_behind script = if nat_lt LONGEST_SCRIPT (length script) then start else run_after start (lines script)
+
 -- the log behind a transcript
 abbrev pub log_behind : List ℕ → List Entry
-log_behind script = (run_after start (lines script)).log
+log_behind script = (run_behind script).log
 
 -- the limits that a script gives
 abbrev pub limits_of : List ℕ → Option Limits
-limits_of script = (run_after start (lines script)).limits
+limits_of script = (run_behind script).limits
 
 -- legal under these limits; without limits nothing happened
 abbrev pub IsLegalUnder : Option Limits → List Entry → Type 0

@@ -7,5 +7,6 @@ pub mod Hosted
 pub mod Transcript
 pub mod Streams
 pub mod Running
-pub mod Worked
 pub mod Law
+pub mod TranscriptLines
+pub mod Worked

@@ -24,15 +24,15 @@ pub record RunsLines {A : Type 0} (old new : Option (List ℕ)) (meant : Transcr
   pub ends : Ends meant result written
 
 -- all was read; or nothing was written, since reading came to an end before
-abbrev pub ReadsOn : Option (List ℕ) → List ℕ → List ℕ → FaultKind → Type 0
-ReadsOn left script written Memory = IsAtEnd left ⊎ (written ≡ [])
-ReadsOn left script written Read = length script ≤ LONGEST_SCRIPT
-ReadsOn left script written ScriptTooLong = IsAtEnd left ⊎ (LONGEST_SCRIPT < length script)
-ReadsOn left script written kind = IsAtEnd left
+abbrev pub ReadsOn : Option (List ℕ) → List ℕ → List ℕ → ℕ → FaultKind → Type 0
+ReadsOn left script written line Memory = IsAtEnd left ⊎ ((line ≡ 0) × (written ≡ []))
+ReadsOn left script written line Read = length script ≤ LONGEST_SCRIPT
+ReadsOn left script written line ScriptTooLong = IsAtEnd left ⊎ (LONGEST_SCRIPT < length script)
+ReadsOn left script written line kind = IsAtEnd left
 
 abbrev pub ReadsAll : {A : Type 0} → Option (List ℕ) → List ℕ → List ℕ → Result A ScriptFault → Type 0
 ReadsAll left script written (Ok done) = IsAtEnd left
-ReadsAll left script written (Err fault) = ReadsOn left script written fault.kind
+ReadsAll left script written (Err fault) = ReadsOn left script written fault.line fault.kind
 
 -- a script was read and something was written: a run of the script's transcript, that ends so
 pub record RunsScript {A : Type 0} (unread left old new : Option (List ℕ)) (result : Result A ScriptFault) : Type 0 where

@@ -1,45 +1,54 @@
 -- Transcripts of small scripts: the worked ones, and one of each fault.
-use Rattle.std.specs.Prelude.{◌≡◌, ℕ, codes, List, [], replicate, Some, None}
+use Rattle.std.specs.Prelude.{◌≡◌, ℕ, codes, List, [], ◌∷◌, replicate, Option, Some, None}
 use Rattle.pool_cli.specs.declared.fault.FaultKind.TheVariants.{LineTooLong, Unknown, Form, Place, BadLimits, BadSite, TooManySites}
 use Rattle.pool_cli.specs.declared.fault.ScriptFault.{ScriptFault}
-use Rattle.pool_cli.specs.Transcript.{Transcript, transcript}
+use Rattle.pool_cli.specs.Transcript.{transcript, whole_text}
+use Rattle.pool_cli.specs.Law.{log_behind}
+use Rattle.pool_cli.specs.TranscriptLines.{event_lines, leased_lines}
 
-abbrev pub whole : List ℕ → Transcript
-whole written = record { written = written; fault = None }
+abbrev pub Tells : List ℕ → List ℕ → Option ScriptFault → Type 0
+Tells script text fault = (whole_text (transcript script) ≡ text) × ((transcript script).fault ≡ fault)
 
-abbrev pub up_to : ScriptFault → List ℕ → Transcript
-up_to fault written = record { written = written; fault = Some fault }
+abbrev pub reuse_then_drop : List ℕ
+reuse_then_drop = codes "limits 1 0 4\nsite http://a.test/\nget 1 0 0 at 0\nback 1 0 keep at 2\nget 2 0 0 at 3\ndrop 2 0 at 4\nlook 0\n"
 
 abbrev pub TellsReuseThenDrop : Type 0
-TellsReuseThenDrop = transcript (codes "limits 1 0 4\nsite http://a.test/\nget 1 0 0 at 0\nback 1 0 keep at 2\nget 2 0 0 at 3\ndrop 2 0 at 4\nlook 0\n") ≡ whole (codes "opened 0.1 for 1 at 0\nreturned 0.1 by 1 at 2\nleased 0.1 to 2 at 3\nclosed 0.1 dropped at 4\nhost 0 open 0 idle 0 leased 0 waiting 0 queued no\n")
+TellsReuseThenDrop = Tells reuse_then_drop (codes "opened 0.1 for 1 at 0\nreturned 0.1 by 1 at 2\nleased 0.1 to 2 at 3\nclosed 0.1 dropped at 4\nhost 0 open 0 idle 0 leased 0 waiting 0 queued no\n") None
 
 abbrev pub TellsBusyAndNoSuchSite : Type 0
-TellsBusyAndNoSuchSite = transcript (codes "limits 4 0 4\nsite http://a.test/\nget 1 0 0 at 0\nget 1 0 0 at 1\nget 1 7 0 at 1\nlook 7\n") ≡ whole (codes "opened 0.1 for 1 at 0\nrefused busy\nrefused bad-site\nrefused bad-site\n")
+TellsBusyAndNoSuchSite = Tells (codes "limits 4 0 4\nsite http://a.test/\nget 1 0 0 at 0\nget 1 0 0 at 1\nget 1 7 0 at 1\nlook 7\n") (codes "opened 0.1 for 1 at 0\nrefused busy\nrefused bad-site\nrefused bad-site\n") None
 
 abbrev pub TellsNotPersistentAtTheLimit : Type 0
-TellsNotPersistentAtTheLimit = transcript (codes "limits 1 0 4\nsite http://a.test/\nget 1 0 0 at 0\nget 2 0 0 at 1\nback 1 0 close at 2\nlook 0\n") ≡ whole (codes "opened 0.1 for 1 at 0\nrefused at-limit\nreturned 0.1 by 1 at 2\nclosed 0.1 not-persistent at 2\nhost 0 open 0 idle 0 leased 0 waiting 0 queued no\n")
+TellsNotPersistentAtTheLimit = Tells (codes "limits 1 0 4\nsite http://a.test/\nget 1 0 0 at 0\nget 2 0 0 at 1\nback 1 0 close at 2\nlook 0\n") (codes "opened 0.1 for 1 at 0\nrefused at-limit\nreturned 0.1 by 1 at 2\nclosed 0.1 not-persistent at 2\nhost 0 open 0 idle 0 leased 0 waiting 0 queued no\n") None
 
 abbrev pub TellsGetWithAMissingWord : Type 0
-TellsGetWithAMissingWord = transcript (codes "limits 4 0 4\nsite http://a.test/\nget 1 0 0 at 0\nget 1 0 0 at 1\nget 1 7 0 at 1\nlook 7\nget x\n") ≡ up_to (record { line = 7; kind = Form }) (codes "opened 0.1 for 1 at 0\nrefused busy\nrefused bad-site\nrefused bad-site\n")
+TellsGetWithAMissingWord = Tells (codes "limits 4 0 4\nsite http://a.test/\nget 1 0 0 at 0\nget 1 0 0 at 1\nget 1 7 0 at 1\nlook 7\nget x\n") (codes "opened 0.1 for 1 at 0\nrefused busy\nrefused bad-site\nrefused bad-site\n") (Some (record { line = 7; kind = Form }))
 
 abbrev pub TellsNoRoomToKeep : Type 0
-TellsNoRoomToKeep = transcript (codes "limits 0 0 0\n") ≡ up_to (record { line = 1; kind = BadLimits }) []
+TellsNoRoomToKeep = Tells (codes "limits 0 0 0\n") [] (Some (record { line = 1; kind = BadLimits }))
 
 abbrev pub TellsUnknownCommand : Type 0
-TellsUnknownCommand = transcript (codes "limits 4 0 4\nsite http://a.test/\nget 1 0 0 at 0\nupkeep\n") ≡ up_to (record { line = 4; kind = Unknown }) (codes "opened 0.1 for 1 at 0\n")
+TellsUnknownCommand = Tells (codes "limits 4 0 4\nsite http://a.test/\nget 1 0 0 at 0\nupkeep\n") (codes "opened 0.1 for 1 at 0\n") (Some (record { line = 4; kind = Unknown }))
 
 abbrev pub TellsSecondLimits : Type 0
-TellsSecondLimits = transcript (codes "limits 4 0 4\nlimits 4 0 4\n") ≡ up_to (record { line = 2; kind = Place }) []
+TellsSecondLimits = Tells (codes "limits 4 0 4\nlimits 4 0 4\n") [] (Some (record { line = 2; kind = Place }))
 
 abbrev pub TellsBadSite : Type 0
-TellsBadSite = transcript (codes "limits 4 0 4\n\n# a site\nsite ftp://a.test/\n") ≡ up_to (record { line = 4; kind = BadSite }) []
+TellsBadSite = Tells (codes "limits 4 0 4\n\n# a site\nsite ftp://a.test/\n") [] (Some (record { line = 4; kind = BadSite }))
 
 abbrev pub TellsTwoSites : Type 0
-TellsTwoSites = transcript (codes "limits 4 0 4\nsite http://a.test/\nsite http://b.test/\n") ≡ up_to (record { line = 3; kind = TooManySites }) []
+TellsTwoSites = Tells (codes "limits 4 0 4\nsite http://a.test/\nsite http://b.test/\n") [] (Some (record { line = 3; kind = TooManySites }))
 
 -- a comment of 2,304 bytes is skipped, one of 2,305 bytes is too long
 abbrev pub TellsLongestLine : Type 0
-TellsLongestLine = transcript (replicate 2304 35) ≡ whole []
+TellsLongestLine = Tells (replicate 2304 35) [] None
 
 abbrev pub TellsLineTooLongByOne : Type 0
-TellsLineTooLongByOne = transcript (replicate 2305 35) ≡ up_to (record { line = 1; kind = LineTooLong }) []
+TellsLineTooLongByOne = Tells (replicate 2305 35) [] (Some (record { line = 1; kind = LineTooLong }))
+
+-- the lines of the log behind a script
+abbrev pub TellsEvents : Type 0
+TellsEvents = event_lines (log_behind reuse_then_drop) ≡ codes "opened 0.1 for 1 at 0" ∷ codes "returned 0.1 by 1 at 2" ∷ codes "leased 0.1 to 2 at 3" ∷ codes "closed 0.1 dropped at 4" ∷ []
+
+abbrev pub TellsLeases : Type 0
+TellsLeases = leased_lines (log_behind reuse_then_drop) ≡ codes "leased 0.1 to 2 at 3" ∷ []

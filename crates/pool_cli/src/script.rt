@@ -15,7 +15,7 @@ use std::io::{Read, Write};
 
 /// Runs the script that the reader gives, and writes its transcript: the lines of each event and
 /// reply, in order. The fault says at which line the script ended, and why. What was written before
-/// a fault stays.
+/// a fault stays: what the lines before that line write, and where writing failed a part of its own.
 pub fn run_script<R: Read, W: Write>(
     alloc: Global,
     reader: &mut R,

@@ -10,7 +10,7 @@ invariant-loop-rest g l =
     let contents = g.W.Write.contents in
     record {
       count : l.line + length l.rest ≤ 1048576;
-      so_far : RunSoFar (contents l.fn.writer) (contents l.writer) (told (run l.fn.machine) 1 (lines l.script)) (told (run l.machine) (l.line + 1) (lines l.rest));
+      so_far : RunSoFar (contents l.fn.writer) (contents l.writer) (told (run l.fn.machine) 1 (lines l.script)) (told (run l.machine) (l.line + 1) (lines l.rest)) l.line;
     }
 
 abbrev pub decreases-loop-rest : goal.decreases-loop-rest

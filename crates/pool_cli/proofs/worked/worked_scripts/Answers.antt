@@ -12,44 +12,52 @@ use Rattle.pool_cli.proofs.worked.worked_scripts.Goals as goal
 
 pub returns-clause-reuse_then_drop : goal.returns-clause-reuse_then_drop
 unfolding digits is_utf8 chars encode lines words number reading command_of ending_of limits_form is_url site_form get_form back_form drop_form look_form lines_since step get_at back_at drop_at look_at transcript line_step
-returns-clause-reuse_then_drop c = refl
+returns-clause-reuse_then_drop c = (refl, refl)
 
 pub returns-clause-busy_and_no_such_site : goal.returns-clause-busy_and_no_such_site
 unfolding digits is_utf8 chars encode lines words number reading command_of ending_of limits_form is_url site_form get_form back_form drop_form look_form lines_since step get_at back_at drop_at look_at transcript line_step
-returns-clause-busy_and_no_such_site c = refl
+returns-clause-busy_and_no_such_site c = (refl, refl)
 
 pub returns-clause-not_persistent_at_the_limit : goal.returns-clause-not_persistent_at_the_limit
 unfolding digits is_utf8 chars encode lines words number reading command_of ending_of limits_form is_url site_form get_form back_form drop_form look_form lines_since step get_at back_at drop_at look_at transcript line_step
-returns-clause-not_persistent_at_the_limit c = refl
+returns-clause-not_persistent_at_the_limit c = (refl, refl)
 
 pub returns-clause-get_with_a_missing_word : goal.returns-clause-get_with_a_missing_word
 unfolding digits is_utf8 chars encode lines words number reading command_of ending_of limits_form is_url site_form get_form back_form drop_form look_form lines_since step get_at back_at drop_at look_at transcript line_step
-returns-clause-get_with_a_missing_word c = refl
+returns-clause-get_with_a_missing_word c = (refl, refl)
 
 pub returns-clause-no_room_to_keep : goal.returns-clause-no_room_to_keep
 unfolding digits is_utf8 chars encode lines words number reading command_of ending_of limits_form is_url site_form get_form back_form drop_form look_form lines_since step get_at back_at drop_at look_at transcript line_step
-returns-clause-no_room_to_keep c = refl
+returns-clause-no_room_to_keep c = (refl, refl)
 
 pub returns-clause-unknown_command : goal.returns-clause-unknown_command
 unfolding digits is_utf8 chars encode lines words number reading command_of ending_of limits_form is_url site_form get_form back_form drop_form look_form lines_since step get_at back_at drop_at look_at transcript line_step
-returns-clause-unknown_command c = refl
+returns-clause-unknown_command c = (refl, refl)
 
 pub returns-clause-second_limits : goal.returns-clause-second_limits
 unfolding digits is_utf8 chars encode lines words number reading command_of ending_of limits_form is_url site_form get_form back_form drop_form look_form lines_since step get_at back_at drop_at look_at transcript line_step
-returns-clause-second_limits c = refl
+returns-clause-second_limits c = (refl, refl)
 
 pub returns-clause-bad_site : goal.returns-clause-bad_site
 unfolding digits is_utf8 chars encode lines words number reading command_of ending_of limits_form is_url site_form get_form back_form drop_form look_form lines_since step get_at back_at drop_at look_at transcript line_step
-returns-clause-bad_site c = refl
+returns-clause-bad_site c = (refl, refl)
 
 pub returns-clause-two_sites : goal.returns-clause-two_sites
 unfolding digits is_utf8 chars encode lines words number reading command_of ending_of limits_form is_url site_form get_form back_form drop_form look_form lines_since step get_at back_at drop_at look_at transcript line_step
-returns-clause-two_sites c = refl
+returns-clause-two_sites c = (refl, refl)
 
 pub returns-clause-longest_line : goal.returns-clause-longest_line
 unfolding digits is_utf8 chars encode lines words number reading command_of ending_of limits_form is_url site_form get_form back_form drop_form look_form lines_since step get_at back_at drop_at look_at transcript line_step
-returns-clause-longest_line c = refl
+returns-clause-longest_line c = (refl, refl)
 
 pub returns-clause-line_too_long_by_one : goal.returns-clause-line_too_long_by_one
 unfolding digits is_utf8 chars encode lines words number reading command_of ending_of limits_form is_url site_form get_form back_form drop_form look_form lines_since step get_at back_at drop_at look_at transcript line_step
-returns-clause-line_too_long_by_one c = refl
+returns-clause-line_too_long_by_one c = (refl, refl)
+
+pub returns-clause-events : goal.returns-clause-events
+unfolding digits is_utf8 chars encode lines words number reading command_of ending_of limits_form is_url site_form get_form back_form drop_form look_form lines_since step get_at back_at drop_at look_at line_step
+returns-clause-events c = refl
+
+pub returns-clause-leases : goal.returns-clause-leases
+unfolding digits is_utf8 chars encode lines words number reading command_of ending_of limits_form is_url site_form get_form back_form drop_form look_form lines_since step get_at back_at drop_at look_at line_step
+returns-clause-leases c = refl
