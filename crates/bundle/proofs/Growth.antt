@@ -2,16 +2,17 @@
 use Rattle.std.proofs.Common.{◌≡◌, ℕ, zero, suc, length, Bool, true, false, List, [], ◌∷◌, ◌++◌, Option, Some, None, refl, sym, ap, ◌∙◌}
 use Rattle.std.proofs.lemmas.List.{append_assoc}
 use Rattle.std.specs.Prelude.{if◌then◌else◌}
+use Rattle.persistence.specs.declared.facts.Facts.{Facts}
 use Rattle.conn_log.specs.declared.entry.Want.{Want}
 use Rattle.conn_log.specs.declared.entry.Cause.{Cause}
-use Rattle.conn_log.specs.declared.entry.Cause.TheVariants.{TooOld}
+use Rattle.conn_log.specs.declared.entry.Cause.TheVariants.{TooOld, Dropped}
 use Rattle.conn_log.specs.declared.entry.Event.{Event}
-use Rattle.conn_log.specs.declared.entry.Event.TheVariants.{Closed}
+use Rattle.conn_log.specs.declared.entry.Event.TheVariants.{Leased, Returned, Closed}
 use Rattle.conn_log.specs.declared.entry.Entry.{Entry}
 use Rattle.conn_log.specs.Connections.{idle_connections}
-use Rattle.conn_log.specs.Fit.{oldest_too_old, oldest}
+use Rattle.conn_log.specs.Fit.{newest_fit, oldest_too_old, oldest}
 use Rattle.conn_log.specs.Legal.{Terms, owed}
-use Rattle.bundle.specs.Calls.{add, close_before, close_too_old, without_too_old, close_if_owed, with_owed_close, close_for_room, with_host_room, is_full, GrowsBy}
+use Rattle.bundle.specs.Calls.{add, moment_at, start_on, with_start, after_acquire, after_give_back, after_abandon, close_before, close_too_old, without_too_old, close_if_owed, with_owed_close, close_for_room, with_host_room, is_full, GrowsBy}
 
 pub grows_same : (log : List Entry) → GrowsBy log log
 grows_same log = ([], refl)
@@ -64,3 +65,20 @@ grows_room_of terms moment old log grew = let more = grows_room terms moment log
   where
     joined : (later sooner : List Entry) → with_host_room terms moment log ≡ later ++ log → log ≡ sooner ++ old → GrowsBy old (with_host_room terms moment log)
     joined later sooner more grew = (later ++ sooner, more ∙ ap (λ before. later ++ before) grew ∙ sym (append_assoc later sooner old))
+
+-- the log after each call grows from the log before it
+grows_start : (terms : Terms) (want : Want) (moment : ℕ) (old log : List Entry) → GrowsBy old log → GrowsBy old (with_start terms want moment log)
+grows_start terms want moment old log grew = by_fit (newest_fit log want moment)
+  where
+    by_fit : (fit : Option ℕ) → GrowsBy old (start_on terms want moment log fit)
+    by_fit None = grows_by_one moment _ old (with_host_room terms moment log) (grows_room_of terms moment old log grew)
+    by_fit (Some c) = grows_by_one moment (Leased c want) old log grew
+
+pub grows_acquire : (terms : Terms) (log : List Entry) (want : Want) (now : ℕ) → GrowsBy log (after_acquire terms log want now)
+grows_acquire terms log want now = let moment = moment_at log now in grows_start terms want moment log (without_too_old want moment log) (grows_too_old want moment log log (grows_same log))
+
+pub grows_give_back : (log : List Entry) (c : ℕ) (facts : Facts) (now : ℕ) → GrowsBy log (after_give_back log c facts now)
+grows_give_back log c facts now = let moment = moment_at log now in grows_owed moment log (add moment (Returned c facts) log) (grows_by_one moment (Returned c facts) log log (grows_same log))
+
+pub grows_abandon : (log : List Entry) (c now : ℕ) → GrowsBy log (after_abandon log c now)
+grows_abandon log c now = grows_by_one (moment_at log now) (Closed c Dropped) log log (grows_same log)

@@ -2,15 +2,12 @@
 use Rattle.std.proofs.Common.{ℕ, ◌+◌, Bool, true, false, not, ◌&&◌, List, [], ◌∷◌, length, filter, refl, ap, sym, ◌∙◌, Option, Some, None, Result, Ok, Err}
 use Rattle.std.specs.Prelude.{◌==◌, nat_lt, if◌then◌else◌, codes}
 use Rattle.conn_log.specs.declared.entry.Entry.{Entry}
-use Rattle.conn_log.specs.declared.entry.Event.TheVariants.{Opened, Leased, Returned, Closed}
-use Rattle.conn_log.specs.declared.entry.Cause.TheVariants.{Dropped}
 use Rattle.conn_log.specs.Connections.{held_number}
-use Rattle.conn_log.specs.Fit.{newest_fit}
 use Rattle.conn_log.specs.Legal.{Terms}
 use Rattle.bundle.specs.declared.refusal.Refusal.{Refusal}
 use Rattle.bundle.specs.declared.refusal.Refusal.TheVariants.{Memory, TransferBusy, Exhausted, AtLimit}
-use Rattle.bundle.specs.Calls.{refusal, after_acquire, after_give_back, after_abandon, start_on, with_host_room, next_number, moment_at, add, GrowsBy}
-use Rattle.bundle.proofs.Growth.{grows_same, grows_by_one, grows_owed, grows_room}
+use Rattle.bundle.specs.Calls.{refusal, after_acquire, after_give_back, after_abandon}
+use Rattle.bundle.proofs.Growth.{grows_acquire, grows_give_back, grows_abandon}
 use Rattle.pool_cli.specs.Lines.{lines}
 use Rattle.pool_cli.specs.Printing.{refused}
 use Rattle.pool_cli.specs.Grammar.{reading}
@@ -44,15 +41,6 @@ tells-refusal log TransferBusy = tells-refused log (codes "busy") refl
 tells-refusal log Exhausted = tells-refused log (codes "exhausted") refl
 tells-refusal log AtLimit = tells-refused log (codes "at-limit") refl
 
-grows-started : (terms : Terms) (log : List Entry) (transfer now : ℕ) → GrowsBy log (after_acquire terms log (want_of transfer) now)
-grows-started terms log transfer now = by_fit (newest_fit log (want_of transfer) (moment_at log now))
-  where
-    by_fit : (fit : Option ℕ) → GrowsBy log (start_on terms (want_of transfer) (moment_at log now) log fit)
-    by_fit None =
-        let room = with_host_room terms (moment_at log now) log in
-        grows_by_one (moment_at log now) (Opened (next_number terms room) (want_of transfer)) log room (grows_room terms (moment_at log now) log)
-    by_fit (Some c) = grows_by_one (moment_at log now) (Leased c (want_of transfer)) log log (grows_same log)
-
 module _ (terms : Terms) (log : List Entry) where
   tells-get : (transfer moment : ℕ) → TellsAnswer log (get_at terms transfer moment log)
   unfolding get_at
@@ -60,7 +48,7 @@ module _ (terms : Terms) (log : List Entry) where
     where
       by_refusal : (reason : Option Refusal) → TellsAnswer log (get_unless terms transfer moment log reason)
       by_refusal (Some r) = tells-refusal log r
-      by_refusal None = tells-grown log (after_acquire terms log (want_of transfer) moment) (grows-started terms log transfer moment)
+      by_refusal None = tells-grown log (after_acquire terms log (want_of transfer) moment) (grows_acquire terms log (want_of transfer) moment)
 
   tells-back : (transfer : ℕ) (ending : Ending) (moment : ℕ) → TellsAnswer log (back_at transfer ending moment log)
   unfolding back_at
@@ -69,9 +57,7 @@ module _ (terms : Terms) (log : List Entry) where
       by_held : (held : Option ℕ) → TellsAnswer log (back_of ending moment log held)
       by_held None = tells-stranger log
       by_held (Some c) =
-          let returned = Returned c (facts_of ending) in
-          tells-grown log (after_give_back log c (facts_of ending) moment)
-          (grows_owed (moment_at log moment) log (add (moment_at log moment) returned log) (grows_by_one (moment_at log moment) returned log log (grows_same log)))
+          tells-grown log (after_give_back log c (facts_of ending) moment) (grows_give_back log c (facts_of ending) moment)
 
   tells-drop : (transfer moment : ℕ) → TellsAnswer log (drop_at transfer moment log)
   unfolding drop_at
@@ -79,7 +65,7 @@ module _ (terms : Terms) (log : List Entry) where
     where
       by_held : (held : Option ℕ) → TellsAnswer log (drop_of moment log held)
       by_held None = tells-stranger log
-      by_held (Some c) = tells-grown log (after_abandon log c moment) (grows_by_one (moment_at log moment) (Closed c Dropped) log log (grows_same log))
+      by_held (Some c) = tells-grown log (after_abandon log c moment) (grows_abandon log c moment)
 
   tells-looked : TellsAnswer log (look_at log)
   unfolding look_at
