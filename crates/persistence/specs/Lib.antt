@@ -1,1 +1,9 @@
 pub mod Persistent
+pub mod Sequence
+pub mod Heads
+pub mod Fields
+pub mod Framing
+pub mod Chunks
+pub mod Split
+pub mod Told
+pub mod Faults
