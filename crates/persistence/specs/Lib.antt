@@ -7,3 +7,4 @@ pub mod Chunks
 pub mod Split
 pub mod Told
 pub mod Faults
+pub mod Reading

@@ -2,12 +2,21 @@
 //! (RFC 9112, sections 9.3 and 9.6).
 #![tactic(auto)]
 
+mod elements;
 mod facts;
 mod fault;
+mod fields;
+mod head;
+mod heads;
+mod laws;
+mod lines;
 mod method;
+mod number;
+mod trailer;
 
 pub use facts::{Facts, Framing, Version, persists};
 pub use fault::ReadFault;
+pub use laws::split_is_unique;
 pub use method::Method;
 
 #[cfg(test)]
