@@ -10,3 +10,5 @@ pub mod SizeLineLemmas
 pub mod TrailerLemmas
 pub mod ChunkLemmas
 pub mod SplitLemmas
+pub mod WrittenSize
+pub mod SizeLine

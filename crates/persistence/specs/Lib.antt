@@ -8,3 +8,4 @@ pub mod Split
 pub mod Told
 pub mod Faults
 pub mod Reading
+pub mod ReadingChunks

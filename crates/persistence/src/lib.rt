@@ -12,6 +12,7 @@ mod laws;
 mod lines;
 mod method;
 mod number;
+mod size_line;
 mod trailer;
 
 pub use facts::{Facts, Framing, Version, persists};
