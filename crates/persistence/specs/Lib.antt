@@ -1,1 +1,11 @@
 pub mod Persistent
+pub mod Sequence
+pub mod Heads
+pub mod Fields
+pub mod Framing
+pub mod Chunks
+pub mod Split
+pub mod Told
+pub mod Faults
+pub mod Reading
+pub mod ReadingChunks

@@ -1,9 +1,24 @@
-//! Whether an HTTP/1.1 connection persists after a response (RFC 9112, sections 9.3 and 9.6).
+//! What the bytes of a response say (RFC 9112), and whether an HTTP/1.1 connection persists after it
+//! (RFC 9112, sections 9.3 and 9.6).
 #![tactic(auto)]
 
+mod elements;
 mod facts;
+mod fault;
+mod fields;
+mod head;
+mod heads;
+mod laws;
+mod lines;
+mod method;
+mod number;
+mod size_line;
+mod trailer;
 
 pub use facts::{Facts, Framing, Version, persists};
+pub use fault::ReadFault;
+pub use laws::split_is_unique;
+pub use method::Method;
 
 #[cfg(test)]
 mod tests;

@@ -1,0 +1,14 @@
+pub mod ElementLemmas
+pub mod NumberLemmas
+pub mod FieldLemmas
+pub mod SequenceLemmas
+pub mod LineLemmas
+pub mod HeadLines
+pub mod HeadLemmas
+pub mod NextHead
+pub mod SizeLineLemmas
+pub mod TrailerLemmas
+pub mod ChunkLemmas
+pub mod SplitLemmas
+pub mod WrittenSize
+pub mod SizeLine

@@ -1,0 +1,121 @@
+-- What the parts of the plain reader answer. No public contract needs these words.
+use Rattle.std.specs.Prelude.{◌≡◌, ℕ, ◌<◌, ◌≤◌, Bool, true, false, ◌==◌, if◌then◌else◌, List, [], ◌∷◌, ◌++◌, length, take, drop, map, codes, All, Option, Some}
+use Rattle.std.specs.List.{count_by}
+use Rattle.httparse.specs.Grammar.{ResponseHead, status_code, print_extension, AllPass, is_ows, IsExtension}
+use Rattle.std.specs.Char.{is_ascii_hexdigit}
+use Rattle.std.specs.Str.Parse.{digits_value}
+use Rattle.httparse.specs.Pieces.{is_newline}
+use Rattle.httparse.specs.Spans.{header_bytes, IsHeaderWithin}
+use Rattle.httparse.specs.declared.Error.{Error}
+use Rattle.httparse.specs.declared.Error.TheVariants.{TooManyHeaders}
+use Rattle.httparse.specs.declared.spans.HeaderSpan.{HeaderSpan}
+use Rattle.httparse.specs.declared.spans.ResponseSpans.{ResponseSpans}
+use Rattle.persistence.specs.declared.method.Method.{Method}
+use Rattle.persistence.specs.declared.fault.ReadFault.{ReadFault}
+use Rattle.persistence.specs.declared.head.Head.{Head}
+use Rattle.persistence.specs.Sequence.{ReadsEach}
+use Rattle.persistence.specs.Heads.{most_head_bytes, ReadsHead, ReadsInterim, ReadsHeads}
+use Rattle.persistence.specs.Fields.{NameAndValue, fields_of, has_option, has_transfer_encoding, is_chunked_last, has_content_length, counted_length, is_word}
+use Rattle.persistence.specs.Told.{version_of, HasNoFinalHead}
+use Rattle.persistence.specs.Chunks.{ReadsTrailer}
+use Rattle.persistence.specs.Faults.{HeadShows, TrailerShows, IsFaultless}
+
+-- the spans lie in the text
+abbrev pub AreWithin : List ℕ → List HeaderSpan → Type 0
+AreWithin text spans = All (IsHeaderWithin (length text)) spans
+
+-- the names and values that the spans cover
+abbrev pub fields_at : List ℕ → List HeaderSpan → List NameAndValue
+fields_at text spans = map (header_bytes text) spans
+
+-- the text from the first byte that is no CR or LF
+abbrev pub skip_newlines : List ℕ → List ℕ
+skip_newlines [] = []
+skip_newlines (b ∷ text) = if is_newline b then skip_newlines text else b ∷ text
+
+-- the lines that end in the text
+abbrev pub line_ends : List ℕ → ℕ
+line_ends text = count_by (λ b. b == 10) text
+
+-- what the head says
+pub record TellsHead (head : ResponseHead) (told : Head) : Type 0 where
+  pub status : told.status ≡ status_code head
+  pub version : told.version ≡ version_of head
+  pub close : told.close ≡ has_option (codes "close") (fields_of head)
+  pub keep_alive : told.keep_alive ≡ has_option (codes "keep-alive") (fields_of head)
+  pub transfer_encoding : told.transfer_encoding ≡ has_transfer_encoding (fields_of head)
+  pub chunked : told.chunked ≡ is_chunked_last (fields_of head)
+  pub content_length : told.content_length ≡ has_content_length (fields_of head)
+  pub counted : told.counted ≡ counted_length (fields_of head)
+
+-- whether the coding is chunked, where it is not empty, and else what was known before
+abbrev pub chunked_after : Option Bool → List ℕ → Option Bool
+chunked_after before [] = before
+chunked_after before (b ∷ coding) = Some (is_word (codes "chunked") (b ∷ coding))
+
+-- the list begins with that element
+abbrev pub FirstIs : List (List ℕ) → List ℕ → Type 0
+FirstIs elements first = (others : List (List ℕ)) × (elements ≡ first ∷ others)
+
+-- a head still comes: there is none yet, and nothing is wrong so far
+pub record IsAwaited (text : List ℕ) : Type 0 where
+  pub none : (head : ResponseHead) (rest : List ℕ) → ¬ (ReadsHead head text rest)
+  pub clean : (fault : ReadFault) → ¬ (HeadShows text fault)
+
+-- so many interim heads stand before that place
+pub record SkipsInterims (bytes : List ℕ) (count at : ℕ) : Type 0 where
+  pub interims : List ResponseHead
+  pub many : length interims ≡ count
+  pub within : at ≤ length bytes
+  pub each : ReadsEach ReadsInterim interims bytes (drop at bytes)
+
+-- a head begins the text, and the spans say where its parts are
+pub record FindsHead (text : List ℕ) (fields : List HeaderSpan) (spans : ResponseSpans) : Type 0 where
+  pub head : ResponseHead
+  pub reads : ReadsHead head text (drop spans.len text)
+  pub within : spans.len ≤ length text
+  pub version : spans.version ≡ head.minor
+  pub code : spans.code ≡ status_code head
+  pub count : spans.headers ≤ length fields
+  pub covered : AreWithin (take most_head_bytes text) (take spans.headers fields)
+  pub told : fields_at (take most_head_bytes text) (take spans.headers fields) ≡ fields_of head
+
+-- the final head still comes, and nothing is wrong so far
+pub record FindsNoFinalHead (bytes : List ℕ) : Type 0 where
+  pub none : HasNoFinalHead bytes
+  pub clean : (method : Method) → IsFaultless method bytes
+
+-- the final head ends at that place, and says this
+pub record EndsHeads (bytes : List ℕ) (told : Head) (at : ℕ) : Type 0 where
+  pub interims : List ResponseHead
+  pub head : ResponseHead
+  pub heads : ReadsHeads interims head bytes (drop at bytes)
+  pub says : TellsHead head told
+  pub within : at ≤ length bytes
+
+-- the words before a line's end write that size: digits, spaces and tabs, and perhaps a semicolon and a text
+pub record IsWrittenSize (words : List ℕ) (size : ℕ) : Type 0 where
+  pub digits : List ℕ
+  pub pad : List ℕ
+  pub extension : Option (List ℕ)
+  pub some : 0 < length digits
+  pub valid : AllPass is_ascii_hexdigit digits
+  pub blank : AllPass is_ows pad
+  pub rest : IsExtension extension
+  pub is : words ≡ digits ++ (pad ++ print_extension extension)
+  pub gives : digits_value 16 digits ≡ size
+
+-- the parser's word for more fields than fit
+abbrev pub is_too_many : Error → Bool
+is_too_many TooManyHeaders = true
+is_too_many _ = false
+
+-- a trailer section still comes: there is none yet, and nothing is wrong so far
+pub record IsTrailerAwaited (text : List ℕ) : Type 0 where
+  pub none : (rest : List ℕ) → ¬ (ReadsTrailer text rest)
+  pub clean : (fault : ReadFault) → ¬ (TrailerShows text fault)
+
+-- a trailer section of that length begins the text
+pub record EndsTrailer (text : List ℕ) (len : ℕ) : Type 0 where
+  pub within : len ≤ length text
+  pub reads : ReadsTrailer text (drop len text)

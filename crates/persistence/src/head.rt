@@ -1,0 +1,97 @@
+//! What a head says of its response.
+ghost use Rattle.std.specs.Prelude.{◌≡◌};
+ghost use Rattle.httparse.specs.Grammar.{ResponseHead, status_code};
+ghost use Rattle.persistence.specs.Fields.{fields_of};
+ghost use Rattle.persistence.specs.Framing.{body_kind as kind_of};
+ghost use Rattle.persistence.specs.Told.{facts_of};
+ghost use Rattle.persistence.specs.Reading.{AreWithin, fields_at, TellsHead};
+
+use crate::fields::{counted_length, has_field, has_option, is_chunked_last};
+use crate::{Facts, Framing, Method, Version};
+use httparse::spans::{HeaderSpan, ResponseSpans};
+
+/// What a head says of its response.
+#[derive(Clone, Copy, Debug)]
+pub(crate) struct Head {
+    pub status: u16,
+    pub version: Version,
+    /// It has the connection option `close`.
+    pub close: bool,
+    /// It has the connection option `keep-alive`.
+    pub keep_alive: bool,
+    /// It has a Transfer-Encoding field.
+    pub transfer_encoding: bool,
+    /// Its final transfer coding is chunked.
+    pub chunked: bool,
+    /// It has a Content-Length field.
+    pub content_length: bool,
+    /// The one number that its Content-Length fields give.
+    pub counted: Option<u64>,
+}
+
+impl Head {
+    /// What the head says that stands at these places of the text.
+    pub fn at(text: &[u8], spans: &ResponseSpans, fields: &[HeaderSpan]) -> Head
+        requires { AreWithin text.now fields.now }
+        ensures { (head : ResponseHead) → spans.now.version ≡ head.minor → spans.now.code ≡ status_code head
+            → fields_at text.now fields.now ≡ fields_of head → TellsHead head result }
+    {
+        let version = if spans.version == 0 {
+            Version::V10
+        } else {
+            Version::V11
+        };
+        Head {
+            status: spans.code,
+            version,
+            close: has_option(text, fields, b"close"),
+            keep_alive: has_option(text, fields, b"keep-alive"),
+            transfer_encoding: has_field(text, fields, b"transfer-encoding"),
+            chunked: is_chunked_last(text, fields),
+            content_length: has_field(text, fields, b"content-length"),
+            counted: counted_length(text, fields),
+        }
+    }
+
+    /// How the response's body is read: never `Faulty`.
+    pub fn body_kind(&self, method: Method) -> Framing
+        ensures { (head : ResponseHead) → TellsHead head self.now → result ≡ kind_of method head }
+    {
+        let is_head = matches!(method, Method::Head);
+        if is_head || self.status == 101 || self.status == 204 || self.status == 304 {
+            Framing::NoBody
+        } else if self.transfer_encoding {
+            if self.chunked {
+                Framing::Chunked
+            } else {
+                Framing::UntilClose
+            }
+        } else if self.content_length {
+            Framing::Counted
+        } else {
+            Framing::UntilClose
+        }
+    }
+
+    /// The facts of the response.
+    pub fn facts(&self, method: Method, request_close: bool, whole: bool, surplus: bool) -> Facts
+        ensures { (head : ResponseHead) → TellsHead head self.now
+            → result ≡ facts_of method request_close head whole surplus }
+    {
+        let framing = match self.version {
+            Version::V10 if self.transfer_encoding => Framing::Faulty,
+            _ => self.body_kind(method),
+        };
+        Facts {
+            version: self.version,
+            close: self.close,
+            keep_alive: self.keep_alive,
+            request_close,
+            framing,
+            both_lengths: self.transfer_encoding && self.content_length,
+            upgraded: self.status == 101,
+            whole,
+            surplus,
+        }
+    }
+}
