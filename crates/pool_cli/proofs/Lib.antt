@@ -1,6 +1,8 @@
 pub mod Splits
 pub mod LineSplits
 pub mod Numbers
+pub mod GetOptions
+pub mod Sites
 pub mod Streaming
 pub mod Growth
 pub mod Leases
