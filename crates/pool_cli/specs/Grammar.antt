@@ -50,11 +50,11 @@ unfoldable pub site_form : List (List ℕ) → Option Command
 site_form [] = None
 site_form (word ∷ rest) = at_end rest (commands.Site word)
 
--- the options of get that were given so far
+-- no option of get is given yet
 abbrev pub no_options : Options
 no_options = record { age = None; life = None; fresh = false; forbid = false }
 
--- age N and life N, each at most once
+-- age N and life N, where they were not given before
 abbrev pub with_age : Options → ℕ → Option Options
 with_age options n = if is_some options.age then None else Some (record options { age = Some n })
 
@@ -69,7 +69,7 @@ with_number name options n =
     if bytes_eq name (codes "age") then with_age options n else (
     if bytes_eq name (codes "life") then with_life options n else None)
 
--- fresh and forbid, each at most once
+-- fresh and forbid, where they were not given before
 abbrev pub with_fresh : Options → Option Options
 with_fresh options = if options.fresh then None else Some (record options { fresh = true })
 
@@ -81,7 +81,7 @@ with_word name options =
     if bytes_eq name (codes "fresh") then with_fresh options else (
     if bytes_eq name (codes "forbid") then with_forbid options else None)
 
--- options in any order, until no word is left
+-- the options of get with those that the words add, in any order, until no word is left
 abbrev pub options_of : Options → List (List ℕ) → Option Options
 options_of options [] = Some options
 options_of options (name ∷ []) = if takes_number name then None else with_word name options
@@ -90,8 +90,8 @@ options_of options (name ∷ word ∷ rest) =
     then (number (2 ^ 64) word >>= with_number name options >>= λ more. options_of more rest)
     else (with_word name options >>= λ more. options_of more (word ∷ rest))
 
--- what get wants: an age of 118 seconds (the default of CURLOPT_MAXAGE_CONN) and a lifetime of 0, which
--- is none (that of CURLOPT_MAXLIFETIME_CONN), where the options say no other
+-- what get wants: where the options say no other, an age of 118 seconds (the default of
+-- CURLOPT_MAXAGE_CONN) and a lifetime of 0, which is no limit
 abbrev pub want_of : ℕ → ℕ → Options → Want
 want_of transfer lane options = record {
   transfer = transfer;

@@ -79,7 +79,7 @@ impl Machine for Engine {
 }
 
 impl Engine {
-    /// A run before its first command.
+    /// A run before its first command. The only error is `Memory`.
     pub fn new(alloc: Global) -> Result<Engine, FaultKind>
         ensures ok { IfOk result (λ engine. engine ≡ start) }
         ensures err { IfErr result (λ kind. kind ≡ FaultKind.Memory) }
@@ -133,6 +133,7 @@ impl Engine {
         if !self.sites.is_empty() && self.sites.find(&target).is_none() {
             return Err(FaultKind::TooManySites);
         }
+        // The site is there, or it is the first: only memory can be short.
         match self.sites.add(&target) {
             Ok(_) => Ok(String::new(self.alloc)),
             Err(_) => Err(FaultKind::Memory),

@@ -12,8 +12,7 @@ use conn_log::Want;
 /// CURLOPT_MAXAGE_CONN.
 const DEFAULT_AGE: u64 = 118;
 
-/// The most seconds since a connection was opened, where `life` isn't given: none, which is the
-/// default of CURLOPT_MAXLIFETIME_CONN.
+/// The most seconds since a connection was opened, where `life` isn't given: no limit.
 const DEFAULT_LIFE: u64 = 0;
 
 /// The options of a `get`.
