@@ -14,7 +14,7 @@ use Rattle.pool_cli.specs.declared.command.Ending.{Ending}
 use Rattle.pool_cli.specs.declared.fault.FaultKind.{FaultKind}
 use Rattle.pool_cli.specs.Printing.{entry_line, lines_since, refused, look_line}
 use Rattle.pool_cli.specs.Hosted.{lease_facts, kept_facts, kept_for, IsKeptFor}
-use Rattle.pool_cli.specs.Meaning.{Answer, replied, grown, stranger, get_at, get_unless, back_at, back_of, drop_at, drop_of, look_at, want_of, refusal_word, facts_of}
+use Rattle.pool_cli.specs.Meaning.{Answer, replied, grown, stranger, get_at, get_unless, back_at, back_of, drop_at, drop_of, look_at, refusal_word, facts_of}
 use Rattle.pool_cli.specs.Transcript.{Gives, GivesText}
 use Rattle.pool_cli.proofs.Growth.{Grows, lines-grown}
 
@@ -28,15 +28,15 @@ pub gives-lines : {T : Type 0} (bytes : T → List ℕ) (by : ℕ) (old new : Li
 gives-lines bytes by old new place (Ok t) here grows gives = gives ∙ ap (λ n. flat_map (entry_line 0 by) (drop n (reverse new))) here ∙ lines-grown by old new grows
 gives-lines bytes by old new place (Err kind) here grows gives = gives
 
-pub get-refused : (terms : Terms) (transfer moment : ℕ) (log : List Entry) (r : Refusal) → refusal terms log (want_of transfer) ≡ Some r
-    → get_at terms transfer moment log ≡ replied log (refused (refusal_word r))
+pub get-refused : (terms : Terms) (want : Want) (moment : ℕ) (log : List Entry) (r : Refusal) → refusal terms log want ≡ Some r
+    → get_at terms want moment log ≡ replied log (refused (refusal_word r))
 unfolding get_at
-get-refused terms transfer moment log r e = ap (get_unless terms transfer moment log) e
+get-refused terms want moment log r e = ap (get_unless terms want moment log) e
 
-pub get-started : (terms : Terms) (transfer moment : ℕ) (log : List Entry) → refusal terms log (want_of transfer) ≡ None
-    → get_at terms transfer moment log ≡ grown log (after_acquire terms log (want_of transfer) moment)
+pub get-started : (terms : Terms) (want : Want) (moment : ℕ) (log : List Entry) → refusal terms log want ≡ None
+    → get_at terms want moment log ≡ grown log (after_acquire terms log want moment)
 unfolding get_at
-get-started terms transfer moment log e = ap (get_unless terms transfer moment log) e
+get-started terms want moment log e = ap (get_unless terms want moment log) e
 
 pub back-stranger : (transfer : ℕ) (ending : Ending) (moment : ℕ) (log : List Entry) → held_number log transfer ≡ None → back_at transfer ending moment log ≡ stranger log
 unfolding back_at

@@ -7,6 +7,7 @@ use Rattle.pool_cli.specs.declared.command.Limits.{Limits}
 use Rattle.pool_cli.specs.declared.fault.FaultKind.{FaultKind}
 use Rattle.pool_cli.specs.Hosted.{Hosted}
 use Rattle.pool_cli.specs.Meaning.{Run, Answer, with_command, after_answer, at_host, at_no_host, site_of, terms_of}
+use Rattle.pool_cli.specs.Site.{has_site}
 use Rattle.pool_cli.specs.Transcript.{Answers, Gives, FailsBy}
 
 -- the answer of the run, where it is that one
@@ -20,14 +21,14 @@ given bytes run next meant answer (Ok text) is same gives =
 given bytes run next meant answer (Err kind) is same gives = subst (FailsBy meant) (sym gives) tt
 
 pub answered-elsewhere : {T : Type 0} (bytes : T → List ℕ) (run : Run) (limits : Limits) (command : Command) (r : Result T FaultKind) → run.has_begun ≡ true
-    → (run.has_site && (site_of command == 0)) ≡ false → Gives bytes (at_no_host run.log command) r run.log → Answers bytes (with_command run command (Some limits)) r run
+    → (has_site run.sites && (site_of command == 0)) ≡ false → Gives bytes (at_no_host run.log command) r run.log → Answers bytes (with_command run command (Some limits)) r run
 answered-elsewhere bytes run limits command r begun elsewhere gives =
     given bytes run run (with_command run command (Some limits)) (at_no_host run.log command) r
     (ap (λ b. answered-by run b (at_host (terms_of limits) run.log command) (at_no_host run.log command)) elsewhere)
     (ap (λ b. record run { has_begun = b }) (sym begun)) gives
 
 pub answered-here : {T : Type 0} (bytes : T → List ℕ) (run next : Run) (limits : Limits) (host after : Hosted) (command : Command) (r : Result T FaultKind)
-    → (run.has_site && (site_of command == 0)) ≡ true → host.terms ≡ terms_of limits → run.log ≡ host.log
+    → (has_site run.sites && (site_of command == 0)) ≡ true → host.terms ≡ terms_of limits → run.log ≡ host.log
     → record run { has_begun = true; log = next.log } ≡ next → next.log ≡ after.log
     → Gives bytes (at_host host.terms host.log command) r after.log → Answers bytes (with_command run command (Some limits)) r next
 answered-here bytes run next limits host after command r here terms log same now gives =

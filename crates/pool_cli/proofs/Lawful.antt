@@ -1,5 +1,5 @@
 -- Each command keeps the log sound, so the log behind a script is legal.
-use Rattle.std.proofs.Common.{◌≡◌, ℕ, Bool, true, false, not, ◌&&◌, List, [], ◌∷◌, Option, Some, None, Result, Ok, Err, is_none, refl, sym, subst}
+use Rattle.std.proofs.Common.{◌≡◌, ℕ, Bool, true, false, ◌&&◌, List, [], ◌∷◌, Option, Some, None, Result, Ok, Err, is_none, refl, sym, subst}
 use Rattle.std.specs.Prelude.{◌==◌, nat_lt, if◌then◌else◌, length}
 use Rattle.std.specs.Option.{option_map}
 use Rattle.conn_log.specs.declared.entry.Event.{Event}
@@ -17,7 +17,10 @@ use Rattle.bundle.specs.Calls.{refusal}
 use Rattle.bundle.proofs.KeptSound.{sound_acquire, sound_give_back, sound_abandon}
 use Rattle.pool_cli.specs.Lines.{lines}
 use Rattle.pool_cli.specs.Grammar.{reading}
-use Rattle.pool_cli.specs.Meaning.{Run, start, step, terms_of, want_of, facts_of, get_at, get_unless, back_at, back_of, drop_at, drop_of, look_at, at_host, at_no_host, answer_of, with_limits, with_site, with_command, are_good, site_of}
+use Rattle.pool_cli.specs.Meaning.{Run, start, step, terms_of, facts_of, get_at, get_unless, back_at, back_of, drop_at, drop_of, look_at, at_host, at_no_host, answer_of, with_limits, add_site, with_url, with_command, are_good, site_of}
+use Rattle.conn_key.specs.declared.site.Site.{Site}
+use Rattle.conn_key.specs.Sites.{with_site}
+use Rattle.pool_cli.specs.Site.{site_named, has_site, is_one_too_many}
 use Rattle.pool_cli.specs.Transcript.{line_step, line_step_of, LONGEST_SCRIPT}
 use Rattle.pool_cli.specs.Law.{run_after, after_line, run_behind, log_behind, limits_of, IsLegalUnder, WasFree, LeasesFree, EachLeaseWasFree, EveryLogIsLegal, EveryLeaseWasFree}
 use Rattle.pool_cli.specs.declared.command.Limits.{Limits}
@@ -25,7 +28,7 @@ use Rattle.pool_cli.specs.declared.command.Command.{Command}
 use Rattle.pool_cli.specs.declared.command.Command.TheVariants as commands
 use Rattle.pool_cli.specs.declared.command.Ending.{Ending}
 use Rattle.pool_cli.specs.declared.fault.FaultKind.{FaultKind}
-use Rattle.pool_cli.specs.declared.fault.FaultKind.TheVariants.{Place, BadLimits, BadSite, TooManySites}
+use Rattle.pool_cli.specs.declared.fault.FaultKind.TheVariants.{Place, BadLimits, TooManySites}
 
 -- sound under these limits; without limits nothing happened
 abbrev SoundUnder : Option Limits → List Entry → Type 0
@@ -41,13 +44,13 @@ SoundStep (Err kind) = Unit {0}
 SoundStep (Ok next) = SoundRun next.0
 
 module _ (terms : Terms) (log : List Entry) (sound : IsSound terms log) where
-  sound_get : (transfer moment : ℕ) → IsSound terms (get_at terms transfer moment log).log
+  sound_get : (want : Want) (moment : ℕ) → IsSound terms (get_at terms want moment log).log
   unfolding get_at
-  sound_get transfer moment = by_refusal (refusal terms log (want_of transfer)) refl
+  sound_get want moment = by_refusal (refusal terms log want) refl
     where
-      by_refusal : (reason : Option Refusal) → refusal terms log (want_of transfer) ≡ reason → IsSound terms (get_unless terms transfer moment log reason).log
+      by_refusal : (reason : Option Refusal) → refusal terms log want ≡ reason → IsSound terms (get_unless terms want moment log reason).log
       by_refusal (Some r) is = sound
-      by_refusal None is = sound_acquire terms log (want_of transfer) moment sound is
+      by_refusal None is = sound_acquire terms log want moment sound is
 
   sound_back : (transfer : ℕ) (ending : Ending) (moment : ℕ) → IsSound terms (back_at transfer ending moment log).log
   unfolding back_at
@@ -71,24 +74,24 @@ module _ (terms : Terms) (log : List Entry) (sound : IsSound terms log) where
 
   sound_at_host : (command : Command) → IsSound terms (at_host terms log command).log
   sound_at_host (commands.Limits limits) = sound
-  sound_at_host (commands.Site is_url) = sound
-  sound_at_host (commands.Get transfer site moment) = sound_get transfer moment
+  sound_at_host (commands.Site word) = sound
+  sound_at_host (commands.Get want site moment) = sound_get want moment
   sound_at_host (commands.Back transfer site ending moment) = sound_back transfer ending moment
   sound_at_host (commands.Drop transfer site moment) = sound_drop transfer moment
   sound_at_host (commands.Look site) = sound_look
 
 same_at_no_host : (log : List Entry) (command : Command) → (at_no_host log command).log ≡ log
 same_at_no_host log (commands.Limits limits) = refl
-same_at_no_host log (commands.Site is_url) = refl
-same_at_no_host log (commands.Get transfer site moment) = refl
+same_at_no_host log (commands.Site word) = refl
+same_at_no_host log (commands.Get want site moment) = refl
 same_at_no_host log (commands.Back transfer site ending moment) = refl
 same_at_no_host log (commands.Drop transfer site moment) = refl
 same_at_no_host log (commands.Look site) = refl
 
-sound_answer : (limits : Limits) (has_site : Bool) (log : List Entry) (command : Command) → IsSound (terms_of limits) log → IsSound (terms_of limits) (answer_of limits has_site log command).log
-sound_answer limits has_site log command sound = by_test (has_site && (site_of command == 0))
+sound_answer : (limits : Limits) (there : Bool) (log : List Entry) (command : Command) → IsSound (terms_of limits) log → IsSound (terms_of limits) (answer_of limits there log command).log
+sound_answer limits there log command sound = by_test (there && (site_of command == 0))
   where
-    by_test : (there : Bool) → IsSound (terms_of limits) (if there then at_host (terms_of limits) log command else at_no_host log command).log
+    by_test : (here : Bool) → IsSound (terms_of limits) (if here then at_host (terms_of limits) log command else at_no_host log command).log
     by_test true = sound_at_host (terms_of limits) log sound command
     by_test false = subst (IsSound (terms_of limits)) (sym (same_at_no_host log command)) sound
 
@@ -101,26 +104,32 @@ sound_limits run limits None nothing = by_good (are_good limits)
     by_good true = subst (IsSound (terms_of limits)) (sym nothing) (sound_empty (terms_of limits))
     by_good false = tt
 
-sound_site : (run : Run) (is_url : Bool) (old : Option Limits) → run.limits ≡ old → SoundUnder old run.log → SoundStep (with_site run is_url old)
-sound_site run is_url None same sound = tt
-sound_site run is_url (Some limits) same sound = by_tests run.has_begun is_url run.has_site
+sound_named : (run : Run) (site : Option Site) → SoundRun run → SoundStep (add_site run site)
+sound_named run None sound = tt
+sound_named run (Some site) sound = by_test (is_one_too_many run.sites site)
   where
-    by_tests : (begun url site : Bool) → SoundStep (if begun then Err Place else (if not url then Err BadSite else (if site then Err TooManySites else Ok (record run { has_site = true }, []))))
-    by_tests true url site = tt
-    by_tests false false site = tt
-    by_tests false true true = tt
-    by_tests false true false = subst (λ l. SoundUnder l run.log) (sym same) sound
+    by_test : (too_many : Bool) → SoundStep (if too_many then Err TooManySites else Ok (record run { sites = with_site run.sites site }, []))
+    by_test true = tt
+    by_test false = sound
+
+sound_site : (run : Run) (word : List ℕ) (old : Option Limits) → SoundRun run → SoundStep (with_url run word old)
+sound_site run word None sound = tt
+sound_site run word (Some limits) sound = by_test run.has_begun
+  where
+    by_test : (begun : Bool) → SoundStep (if begun then Err Place else add_site run (site_named word))
+    by_test true = tt
+    by_test false = sound_named run (site_named word) sound
 
 sound_command : (run : Run) (command : Command) (old : Option Limits) → run.limits ≡ old → SoundUnder old run.log → SoundStep (with_command run command old)
 sound_command run command None same sound = tt
 sound_command run command (Some limits) same sound =
-    subst (λ l. SoundUnder l (answer_of limits run.has_site run.log command).log) (sym same) (sound_answer limits run.has_site run.log command sound)
+    subst (λ l. SoundUnder l (answer_of limits (has_site run.sites) run.log command).log) (sym same) (sound_answer limits (has_site run.sites) run.log command sound)
 
 sound_step : (run : Run) (command : Command) → SoundRun run → SoundStep (step run command)
 unfolding step
 sound_step run (commands.Limits limits) sound = sound_limits run limits run.limits sound
-sound_step run (commands.Site is_url) sound = sound_site run is_url run.limits refl sound
-sound_step run (commands.Get transfer site moment) sound = sound_command run (commands.Get transfer site moment) run.limits refl sound
+sound_step run (commands.Site word) sound = sound_site run word run.limits sound
+sound_step run (commands.Get want site moment) sound = sound_command run (commands.Get want site moment) run.limits refl sound
 sound_step run (commands.Back transfer site ending moment) sound = sound_command run (commands.Back transfer site ending moment) run.limits refl sound
 sound_step run (commands.Drop transfer site moment) sound = sound_command run (commands.Drop transfer site moment) run.limits refl sound
 sound_step run (commands.Look site) sound = sound_command run (commands.Look site) run.limits refl sound

@@ -3,6 +3,8 @@ pub mod LineSplits
 pub mod WholeLines
 pub mod EventLines
 pub mod Numbers
+pub mod GetOptions
+pub mod Sites
 pub mod Streaming
 pub mod Growth
 pub mod Leases

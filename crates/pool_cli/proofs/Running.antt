@@ -13,7 +13,9 @@ use Rattle.pool_cli.specs.Grammar.{reading, reading_of, present, command_of, for
 use Rattle.std.specs.Str.{bytes_eq}
 use Rattle.std.specs.Prelude.{codes}
 use Rattle.pool_cli.specs.Lines.{lines}
-use Rattle.pool_cli.specs.Meaning.{Run, start, step, with_limits, with_site, with_command}
+use Rattle.pool_cli.specs.Meaning.{Run, start, step, with_limits, add_site, with_url, with_command}
+use Rattle.pool_cli.specs.Site.{site_named}
+use Rattle.conn_key.specs.declared.site.Site.{Site}
 use Rattle.pool_cli.specs.Transcript.{Transcript, whole_text, text_up_to, text_before, IsRun, told, before_others, line_step, line_step_of, Ends, EndsBy, FailsBy, transcript}
 use Rattle.pool_cli.specs.Running.{RunsLines, LineFails, RunsScript, ReadsAll, ReadsOn}
 use Rattle.pool_cli.specs.Streams.{ReadFails}
@@ -75,10 +77,15 @@ unfolding is_of_line
 limits-of run limits (Some others) = err-of Place refl
 limits-of run limits None = either-of _ _ _ (ok-of _) (err-of BadLimits refl)
 
-site-of : (run : Run) (is_url : Bool) (before : Option Limits) → OfLine (with_site run is_url before)
+named-of : (run : Run) (site : Option Site) → OfLine (add_site run site)
 unfolding is_of_line
-site-of run is_url None = err-of Place refl
-site-of run is_url (Some limits) = either-of _ _ _ (err-of Place refl) (either-of _ _ _ (err-of BadSite refl) (either-of _ _ _ (err-of TooManySites refl) (ok-of _)))
+named-of run None = err-of BadSite refl
+named-of run (Some site) = either-of _ _ _ (err-of TooManySites refl) (ok-of _)
+
+site-of : (run : Run) (word : List ℕ) (before : Option Limits) → OfLine (with_url run word before)
+unfolding is_of_line
+site-of run word None = err-of Place refl
+site-of run word (Some limits) = either-of _ _ _ (err-of Place refl) (named-of run (site_named word))
 
 asked-of : (run : Run) (command : Command) (before : Option Limits) → OfLine (with_command run command before)
 unfolding is_of_line
@@ -88,8 +95,8 @@ asked-of run command (Some limits) = ok-of _
 step-of : (run : Run) (command : Command) → OfLine (step run command)
 unfolding step
 step-of run (commands.Limits limits) = limits-of run limits run.limits
-step-of run (commands.Site is_url) = site-of run is_url run.limits
-step-of run (commands.Get transfer site moment) = asked-of run (commands.Get transfer site moment) run.limits
+step-of run (commands.Site word) = site-of run word run.limits
+step-of run (commands.Get want site moment) = asked-of run (commands.Get want site moment) run.limits
 step-of run (commands.Back transfer site ending moment) = asked-of run (commands.Back transfer site ending moment) run.limits
 step-of run (commands.Drop transfer site moment) = asked-of run (commands.Drop transfer site moment) run.limits
 step-of run (commands.Look site) = asked-of run (commands.Look site) run.limits

@@ -1,6 +1,7 @@
 -- The transcript of each script tells of the entries of the log behind it, line by line.
-use Rattle.std.proofs.Common.{ℕ, ◌+◌, Bool, true, false, not, ◌&&◌, List, [], ◌∷◌, length, filter, refl, ap, sym, ◌∙◌, Option, Some, None, Result, Ok, Err}
+use Rattle.std.proofs.Common.{ℕ, ◌+◌, Bool, true, false, ◌&&◌, List, [], ◌∷◌, length, filter, refl, ap, sym, ◌∙◌, Option, Some, None, Result, Ok, Err}
 use Rattle.std.specs.Prelude.{◌==◌, nat_lt, if◌then◌else◌, codes}
+use Rattle.conn_log.specs.declared.entry.Want.{Want}
 use Rattle.conn_log.specs.declared.entry.Entry.{Entry}
 use Rattle.conn_log.specs.Connections.{held_number}
 use Rattle.conn_log.specs.Legal.{Terms}
@@ -11,7 +12,10 @@ use Rattle.bundle.proofs.Growth.{grows_acquire, grows_give_back, grows_abandon}
 use Rattle.pool_cli.specs.Lines.{lines}
 use Rattle.pool_cli.specs.Printing.{refused}
 use Rattle.pool_cli.specs.Grammar.{reading}
-use Rattle.pool_cli.specs.Meaning.{Run, Answer, start, step, terms_of, want_of, facts_of, refusal_word, replied, get_at, get_unless, back_at, back_of, drop_at, drop_of, look_at, stranger, at_host, at_no_host, answer_of, with_limits, with_site, with_command, are_good, site_of}
+use Rattle.pool_cli.specs.Meaning.{Run, Answer, start, step, terms_of, facts_of, refusal_word, replied, get_at, get_unless, back_at, back_of, drop_at, drop_of, look_at, stranger, at_host, at_no_host, answer_of, with_limits, add_site, with_url, with_command, are_good, site_of}
+use Rattle.conn_key.specs.declared.site.Site.{Site}
+use Rattle.conn_key.specs.Sites.{with_site}
+use Rattle.pool_cli.specs.Site.{site_named, has_site, is_one_too_many}
 use Rattle.pool_cli.specs.Transcript.{Transcript, transcript, whole_text, told, before_others, line_step, line_step_of, LONGEST_SCRIPT}
 use Rattle.pool_cli.specs.Law.{run_after, after_line, log_behind}
 use Rattle.pool_cli.specs.TranscriptLines.{is_event_line, EveryEventIsTold}
@@ -20,7 +24,7 @@ use Rattle.pool_cli.specs.declared.command.Command.{Command}
 use Rattle.pool_cli.specs.declared.command.Command.TheVariants as commands
 use Rattle.pool_cli.specs.declared.command.Ending.{Ending}
 use Rattle.pool_cli.specs.declared.fault.FaultKind.{FaultKind}
-use Rattle.pool_cli.specs.declared.fault.FaultKind.TheVariants.{Place, BadLimits, BadSite, TooManySites, ScriptTooLong}
+use Rattle.pool_cli.specs.declared.fault.FaultKind.TheVariants.{Place, BadLimits, TooManySites, ScriptTooLong}
 use Rattle.pool_cli.proofs.WholeLines.{lines-text_of}
 use Rattle.pool_cli.proofs.EventLines.{Tells, tells-nothing, tells-both, tells-refused, tells-grown, tells-look}
 
@@ -42,13 +46,13 @@ tells-refusal log Exhausted = tells-refused log (codes "exhausted") refl
 tells-refusal log AtLimit = tells-refused log (codes "at-limit") refl
 
 module _ (terms : Terms) (log : List Entry) where
-  tells-get : (transfer moment : ℕ) → TellsAnswer log (get_at terms transfer moment log)
+  tells-get : (want : Want) (moment : ℕ) → TellsAnswer log (get_at terms want moment log)
   unfolding get_at
-  tells-get transfer moment = by_refusal (refusal terms log (want_of transfer))
+  tells-get want moment = by_refusal (refusal terms log want)
     where
-      by_refusal : (reason : Option Refusal) → TellsAnswer log (get_unless terms transfer moment log reason)
+      by_refusal : (reason : Option Refusal) → TellsAnswer log (get_unless terms want moment log reason)
       by_refusal (Some r) = tells-refusal log r
-      by_refusal None = tells-grown log (after_acquire terms log (want_of transfer) moment) (grows_acquire terms log (want_of transfer) moment)
+      by_refusal None = tells-grown log (after_acquire terms log want moment) (grows_acquire terms log want moment)
 
   tells-back : (transfer : ℕ) (ending : Ending) (moment : ℕ) → TellsAnswer log (back_at transfer ending moment log)
   unfolding back_at
@@ -73,24 +77,24 @@ module _ (terms : Terms) (log : List Entry) where
 
   tells-at_host : (command : Command) → TellsAnswer log (at_host terms log command)
   tells-at_host (commands.Limits limits) = tells-nothing log
-  tells-at_host (commands.Site is_url) = tells-nothing log
-  tells-at_host (commands.Get transfer site moment) = tells-get transfer moment
+  tells-at_host (commands.Site word) = tells-nothing log
+  tells-at_host (commands.Get want site moment) = tells-get want moment
   tells-at_host (commands.Back transfer site ending moment) = tells-back transfer ending moment
   tells-at_host (commands.Drop transfer site moment) = tells-drop transfer moment
   tells-at_host (commands.Look site) = tells-looked
 
 tells-at_no_host : (log : List Entry) (command : Command) → TellsAnswer log (at_no_host log command)
 tells-at_no_host log (commands.Limits limits) = tells-nothing log
-tells-at_no_host log (commands.Site is_url) = tells-nothing log
-tells-at_no_host log (commands.Get transfer site moment) = tells-refused log (codes "bad-site") refl
+tells-at_no_host log (commands.Site word) = tells-nothing log
+tells-at_no_host log (commands.Get want site moment) = tells-refused log (codes "bad-site") refl
 tells-at_no_host log (commands.Back transfer site ending moment) = tells-stranger log
 tells-at_no_host log (commands.Drop transfer site moment) = tells-stranger log
 tells-at_no_host log (commands.Look site) = tells-refused log (codes "bad-site") refl
 
-tells-answer : (limits : Limits) (has_site : Bool) (log : List Entry) (command : Command) → TellsAnswer log (answer_of limits has_site log command)
-tells-answer limits has_site log command = by_test (has_site && (site_of command == 0))
+tells-answer : (limits : Limits) (there : Bool) (log : List Entry) (command : Command) → TellsAnswer log (answer_of limits there log command)
+tells-answer limits there log command = by_test (there && (site_of command == 0))
   where
-    by_test : (there : Bool) → TellsAnswer log (if there then at_host (terms_of limits) log command else at_no_host log command)
+    by_test : (here : Bool) → TellsAnswer log (if here then at_host (terms_of limits) log command else at_no_host log command)
     by_test true = tells-at_host (terms_of limits) log command
     by_test false = tells-at_no_host log command
 
@@ -102,25 +106,31 @@ tells-limits run limits None = by_good (are_good limits)
     by_good true = tells-nothing run.log
     by_good false = tt
 
-tells-site : (run : Run) (is_url : Bool) (old : Option Limits) → TellsStep run.log (with_site run is_url old)
-tells-site run is_url None = tt
-tells-site run is_url (Some limits) = by_tests run.has_begun is_url run.has_site
+tells-named : (run : Run) (site : Option Site) → TellsStep run.log (add_site run site)
+tells-named run None = tt
+tells-named run (Some site) = by_test (is_one_too_many run.sites site)
   where
-    by_tests : (begun url site : Bool) → TellsStep run.log (if begun then Err Place else (if not url then Err BadSite else (if site then Err TooManySites else Ok (record run { has_site = true }, []))))
-    by_tests true url site = tt
-    by_tests false false site = tt
-    by_tests false true true = tt
-    by_tests false true false = tells-nothing run.log
+    by_test : (too_many : Bool) → TellsStep run.log (if too_many then Err TooManySites else Ok (record run { sites = with_site run.sites site }, []))
+    by_test true = tt
+    by_test false = tells-nothing run.log
+
+tells-site : (run : Run) (word : List ℕ) (old : Option Limits) → TellsStep run.log (with_url run word old)
+tells-site run word None = tt
+tells-site run word (Some limits) = by_test run.has_begun
+  where
+    by_test : (begun : Bool) → TellsStep run.log (if begun then Err Place else add_site run (site_named word))
+    by_test true = tt
+    by_test false = tells-named run (site_named word)
 
 tells-command : (run : Run) (command : Command) (old : Option Limits) → TellsStep run.log (with_command run command old)
 tells-command run command None = tt
-tells-command run command (Some limits) = tells-answer limits run.has_site run.log command
+tells-command run command (Some limits) = tells-answer limits (has_site run.sites) run.log command
 
 tells-step : (run : Run) (command : Command) → TellsStep run.log (step run command)
 unfolding step
 tells-step run (commands.Limits limits) = tells-limits run limits run.limits
-tells-step run (commands.Site is_url) = tells-site run is_url run.limits
-tells-step run (commands.Get transfer site moment) = tells-command run (commands.Get transfer site moment) run.limits
+tells-step run (commands.Site word) = tells-site run word run.limits
+tells-step run (commands.Get want site moment) = tells-command run (commands.Get want site moment) run.limits
 tells-step run (commands.Back transfer site ending moment) = tells-command run (commands.Back transfer site ending moment) run.limits
 tells-step run (commands.Drop transfer site moment) = tells-command run (commands.Drop transfer site moment) run.limits
 tells-step run (commands.Look site) = tells-command run (commands.Look site) run.limits

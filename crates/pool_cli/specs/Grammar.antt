@@ -1,9 +1,10 @@
 -- What a line of a script says.
-use Rattle.std.specs.Prelude.{ℕ, ◌^◌, Bool, false, ◌&&◌, ◌==◌, nat_lt, if◌then◌else◌, codes, List, [], ◌∷◌, length, Option, Some, None, Result, Ok, Err}
+use Rattle.std.specs.Prelude.{ℕ, ◌^◌, Bool, true, false, ◌||◌, ◌==◌, nat_lt, if◌then◌else◌, codes, List, [], ◌∷◌, length, Option, Some, None, is_some, unwrap_or, Result, Ok, Err}
 use Rattle.std.specs.Option.{option_map}
-use Rattle.std.specs.List.{starts_with}
-use Rattle.std.specs.Str.{bytes_eq, is_utf8}
-use Rattle.pool_cli.specs.Words.{words, number_first, text_first, is_none_left}
+use Rattle.std.specs.Str.{bytes_eq}
+use Rattle.conn_log.specs.declared.entry.Want.{Want}
+use Rattle.pool_cli.specs.Words.{words, number, number_first, text_first, is_none_left}
+use Rattle.pool_cli.specs.declared.options.Options.{Options}
 use Rattle.pool_cli.specs.declared.command.Ending.{Ending}
 use Rattle.pool_cli.specs.declared.command.Ending.TheVariants.{Keep, Close, Old, OldKeep, Eof, Cut, Surplus}
 use Rattle.pool_cli.specs.declared.command.Command.{Command}
@@ -44,27 +45,73 @@ limits_form rest = do
   kept ← number_first (2 ^ 32) total.1
   at_end kept.1 (commands.Limits (record { host = host.0; total = total.0; kept = kept.0 }))
 
--- what this program takes for a URL: UTF-8 that begins with http://
-unfoldable pub is_url : List ℕ → Bool
-is_url word = is_utf8 word && starts_with (λ a b. a == b) word (codes "http://")
-
 -- site URL
 unfoldable pub site_form : List (List ℕ) → Option Command
 site_form [] = None
-site_form (word ∷ rest) = at_end rest (commands.Site (is_url word))
+site_form (word ∷ rest) = at_end rest (commands.Site word)
 
--- get T S L at M, in lane 0
-abbrev pub lane_zero_first : List (List ℕ) → Option (List (List ℕ))
-lane_zero_first rest = number_first (2 ^ 32) rest >>= λ lane. if lane.0 == 0 then Some lane.1 else None
+-- no option of get is given yet
+abbrev pub no_options : Options
+no_options = record { age = None; life = None; fresh = false; forbid = false }
 
+-- age N and life N, where they were not given before
+abbrev pub with_age : Options → ℕ → Option Options
+with_age options n = if is_some options.age then None else Some (record options { age = Some n })
+
+abbrev pub with_life : Options → ℕ → Option Options
+with_life options n = if is_some options.life then None else Some (record options { life = Some n })
+
+abbrev pub takes_number : List ℕ → Bool
+takes_number name = bytes_eq name (codes "age") || bytes_eq name (codes "life")
+
+unfoldable pub with_number : List ℕ → Options → ℕ → Option Options
+with_number name options n =
+    if bytes_eq name (codes "age") then with_age options n else (
+    if bytes_eq name (codes "life") then with_life options n else None)
+
+-- fresh and forbid, where they were not given before
+abbrev pub with_fresh : Options → Option Options
+with_fresh options = if options.fresh then None else Some (record options { fresh = true })
+
+abbrev pub with_forbid : Options → Option Options
+with_forbid options = if options.forbid then None else Some (record options { forbid = true })
+
+unfoldable pub with_word : List ℕ → Options → Option Options
+with_word name options =
+    if bytes_eq name (codes "fresh") then with_fresh options else (
+    if bytes_eq name (codes "forbid") then with_forbid options else None)
+
+-- the options of get with those that the words add, in any order, until no word is left
+abbrev pub options_of : Options → List (List ℕ) → Option Options
+options_of options [] = Some options
+options_of options (name ∷ []) = if takes_number name then None else with_word name options
+options_of options (name ∷ word ∷ rest) =
+    if takes_number name
+    then (number (2 ^ 64) word >>= with_number name options >>= λ more. options_of more rest)
+    else (with_word name options >>= λ more. options_of more (word ∷ rest))
+
+-- what get wants: where the options say no other, an age of 118 seconds (the default of
+-- CURLOPT_MAXAGE_CONN) and a lifetime of 0, which is no limit
+abbrev pub want_of : ℕ → ℕ → Options → Want
+want_of transfer lane options = record {
+  transfer = transfer;
+  lane = lane;
+  max_age = unwrap_or options.age 118;
+  max_life = unwrap_or options.life 0;
+  fresh = options.fresh;
+  forbid_reuse = options.forbid;
+}
+
+-- get T S L at M, and options
 unfoldable pub get_form : List (List ℕ) → Option Command
 get_form rest = do
   transfer ← number_first (2 ^ 64) rest
   site ← number_first (2 ^ 32) transfer.1
-  lane ← lane_zero_first site.1
-  at ← text_first (codes "at") lane
+  lane ← number_first (2 ^ 32) site.1
+  at ← text_first (codes "at") lane.1
   moment ← number_first (2 ^ 64) at
-  at_end moment.1 (commands.Get transfer.0 site.0 moment.0)
+  options ← options_of no_options moment.1
+  Some (commands.Get (want_of transfer.0 lane.0 options) site.0 moment.0)
 
 -- back T S KIND at M
 unfoldable pub back_form : List (List ℕ) → Option Command

@@ -1,6 +1,7 @@
 pub mod Lines
 pub mod Words
 pub mod Grammar
+pub mod Site
 pub mod Printing
 pub mod Meaning
 pub mod Hosted

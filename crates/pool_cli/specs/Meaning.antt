@@ -1,5 +1,5 @@
 -- What a command means: what it makes of the log, and the lines that tell of it.
-use Rattle.std.specs.Prelude.{ℕ, ◌-◌, Bool, true, false, not, ◌==◌, ◌&&◌, nat_le, if◌then◌else◌, codes, List, [], length, Option, Some, None, Result, Ok, Err}
+use Rattle.std.specs.Prelude.{ℕ, ◌-◌, Bool, true, false, ◌==◌, ◌&&◌, nat_le, if◌then◌else◌, codes, List, [], length, Option, Some, None, Result, Ok, Err}
 use Rattle.persistence.specs.declared.facts.Facts.{Facts}
 use Rattle.persistence.specs.declared.facts.Version.TheVariants.{V10, V11}
 use Rattle.persistence.specs.declared.facts.Framing.TheVariants.{Counted, UntilClose}
@@ -12,7 +12,10 @@ use Rattle.bundle.specs.declared.refusal.Refusal.{Refusal}
 use Rattle.bundle.specs.declared.refusal.Refusal.TheVariants.{Memory, TransferBusy, Exhausted, AtLimit}
 use Rattle.bundle.specs.Calls.{after_acquire, after_give_back, after_abandon, refusal}
 use Rattle.conn_log.specs.Connections.{held_number}
+use Rattle.conn_key.specs.declared.site.Site.{Site}
+use Rattle.conn_key.specs.Sites.{with_site}
 use Rattle.pool_cli.specs.Printing.{lines_since, refused, look_line}
+use Rattle.pool_cli.specs.Site.{site_named, has_site, is_one_too_many}
 use Rattle.pool_cli.specs.declared.command.Limits.{Limits}
 use Rattle.pool_cli.specs.declared.command.Ending.{Ending}
 use Rattle.pool_cli.specs.declared.command.Ending.TheVariants.{Keep, Close, Old, OldKeep, Eof, Cut, Surplus}
@@ -34,10 +37,6 @@ facts_of OldKeep = record plain { version = V10; keep_alive = true }
 facts_of Eof = record plain { framing = UntilClose }
 facts_of Cut = record plain { whole = false }
 facts_of Surplus = record plain { surplus = true }
-
--- what get wants: lane 0, of any age
-abbrev pub want_of : ℕ → Want
-want_of transfer = record { transfer = transfer; lane = 0; max_age = 18446744073709551615; max_life = 0; fresh = false; forbid_reuse = false }
 
 -- the terms of the one host
 abbrev pub terms_of : Limits → Terms
@@ -61,12 +60,12 @@ refusal_word TransferBusy = codes "busy"
 refusal_word Exhausted = codes "exhausted"
 refusal_word AtLimit = codes "at-limit"
 
-abbrev pub get_unless : Terms → ℕ → ℕ → List Entry → Option Refusal → Answer
-get_unless terms transfer moment log None = grown log (after_acquire terms log (want_of transfer) moment)
-get_unless terms transfer moment log (Some r) = replied log (refused (refusal_word r))
+abbrev pub get_unless : Terms → Want → ℕ → List Entry → Option Refusal → Answer
+get_unless terms want moment log None = grown log (after_acquire terms log want moment)
+get_unless terms want moment log (Some r) = replied log (refused (refusal_word r))
 
-unfoldable pub get_at : Terms → ℕ → ℕ → List Entry → Answer
-get_at terms transfer moment log = get_unless terms transfer moment log (refusal terms log (want_of transfer))
+unfoldable pub get_at : Terms → Want → ℕ → List Entry → Answer
+get_at terms want moment log = get_unless terms want moment log (refusal terms log want)
 
 -- back and drop need a lease
 abbrev pub stranger : List Entry → Answer
@@ -93,38 +92,38 @@ look_at log = let alive = length (open_connections log) in let idle = length (id
 
 -- a command at a site that is there, and at one that is not
 abbrev pub at_host : Terms → List Entry → Command → Answer
-at_host terms log (commands.Get transfer site moment) = get_at terms transfer moment log
+at_host terms log (commands.Get want site moment) = get_at terms want moment log
 at_host terms log (commands.Back transfer site ending moment) = back_at transfer ending moment log
 at_host terms log (commands.Drop transfer site moment) = drop_at transfer moment log
 at_host terms log (commands.Look site) = look_at log
 at_host terms log _ = replied log []
 
 abbrev pub at_no_host : List Entry → Command → Answer
-at_no_host log (commands.Get transfer site moment) = replied log (refused (codes "bad-site"))
+at_no_host log (commands.Get want site moment) = replied log (refused (codes "bad-site"))
 at_no_host log (commands.Look site) = replied log (refused (codes "bad-site"))
 at_no_host log (commands.Back transfer site ending moment) = stranger log
 at_no_host log (commands.Drop transfer site moment) = stranger log
 at_no_host log _ = replied log []
 
 abbrev pub site_of : Command → ℕ
-site_of (commands.Get transfer site moment) = site
+site_of (commands.Get want site moment) = site
 site_of (commands.Back transfer site ending moment) = site
 site_of (commands.Drop transfer site moment) = site
 site_of (commands.Look site) = site
 site_of _ = 0
 
 abbrev pub answer_of : Limits → Bool → List Entry → Command → Answer
-answer_of limits has_site log command = if has_site && (site_of command == 0) then at_host (terms_of limits) log command else at_no_host log command
+answer_of limits there log command = if there && (site_of command == 0) then at_host (terms_of limits) log command else at_no_host log command
 
--- a run so far: the limits, whether there is a site, whether a command came after these, and the log
+-- a run so far: the limits, the sites by host and port, whether a command came after these, and the log
 pub record Run : Type 0 where
   pub limits : Option Limits
-  pub has_site : Bool
+  pub sites : List Site
   pub has_begun : Bool
   pub log : List Entry
 
 abbrev pub start : Run
-start = record { limits = None; has_site = false; has_begun = false; log = [] }
+start = record { limits = None; sites = []; has_begun = false; log = [] }
 
 -- limits: no limit on all hosts yet; a host's from 1 to what may be kept, which is at most 65,535
 abbrev pub are_good : Limits → Bool
@@ -135,18 +134,23 @@ abbrev pub with_limits : Run → Limits → Option Limits → Result (Run × Lis
 with_limits run limits (Some others) = Err Place
 with_limits run limits None = if are_good limits then Ok (record run { limits = Some limits }, []) else Err BadLimits
 
-abbrev pub with_site : Run → Bool → Option Limits → Result (Run × List ℕ) FaultKind
-with_site run is_url None = Err Place
-with_site run is_url (Some limits) = if run.has_begun then Err Place else (if not is_url then Err BadSite else (if run.has_site then Err TooManySites else Ok (record run { has_site = true }, [])))
+-- a site that is there already adds none
+abbrev pub add_site : Run → Option Site → Result (Run × List ℕ) FaultKind
+add_site run None = Err BadSite
+add_site run (Some site) = if is_one_too_many run.sites site then Err TooManySites else Ok (record run { sites = with_site run.sites site }, [])
+
+abbrev pub with_url : Run → List ℕ → Option Limits → Result (Run × List ℕ) FaultKind
+with_url run word None = Err Place
+with_url run word (Some limits) = if run.has_begun then Err Place else add_site run (site_named word)
 
 abbrev pub after_answer : Run → Answer → Run × List ℕ
 after_answer run answer = (record run { has_begun = true; log = answer.log }, answer.text)
 
 abbrev pub with_command : Run → Command → Option Limits → Result (Run × List ℕ) FaultKind
 with_command run command None = Err Place
-with_command run command (Some limits) = Ok (after_answer run (answer_of limits run.has_site run.log command))
+with_command run command (Some limits) = Ok (after_answer run (answer_of limits (has_site run.sites) run.log command))
 
 unfoldable pub step : Run → Command → Result (Run × List ℕ) FaultKind
 step run (commands.Limits limits) = with_limits run limits run.limits
-step run (commands.Site is_url) = with_site run is_url run.limits
+step run (commands.Site word) = with_url run word run.limits
 step run command = with_command run command run.limits

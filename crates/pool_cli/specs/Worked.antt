@@ -27,6 +27,36 @@ TellsGetWithAMissingWord = Tells (codes "limits 4 0 4\nsite http://a.test/\nget 
 abbrev pub TellsNoRoomToKeep : Type 0
 TellsNoRoomToKeep = Tells (codes "limits 0 0 0\n") [] (Some (record { line = 1; kind = BadLimits }))
 
+abbrev pub TellsIdleAsLongAsTheAge : Type 0
+TellsIdleAsLongAsTheAge = Tells (codes "limits 4 0 4\nsite http://a.test/\nget 1 0 0 at 0\nback 1 0 keep at 10\nget 2 0 0 at 128\n") (codes "opened 0.1 for 1 at 0\nreturned 0.1 by 1 at 10\nleased 0.1 to 2 at 128\n") None
+
+abbrev pub TellsIdleLongerThanTheAge : Type 0
+TellsIdleLongerThanTheAge = Tells (codes "limits 4 0 4\nsite http://a.test/\nget 1 0 0 at 0\nback 1 0 keep at 10\nget 2 0 0 at 129\n") (codes "opened 0.1 for 1 at 0\nreturned 0.1 by 1 at 10\nclosed 0.1 too-old at 129\nopened 0.2 for 2 at 129\n") None
+
+abbrev pub TellsAsOldAsTheLifetime : Type 0
+TellsAsOldAsTheLifetime = Tells (codes "limits 4 0 4\nsite http://a.test/\nget 1 0 0 at 0\nback 1 0 keep at 60\nget 2 0 0 at 60 life 60\n") (codes "opened 0.1 for 1 at 0\nreturned 0.1 by 1 at 60\nleased 0.1 to 2 at 60\n") None
+
+abbrev pub TellsOlderThanTheLifetime : Type 0
+TellsOlderThanTheLifetime = Tells (codes "limits 4 0 4\nsite http://a.test/\nget 1 0 0 at 0\nback 1 0 keep at 60\nget 2 0 0 at 61 life 60\n") (codes "opened 0.1 for 1 at 0\nreturned 0.1 by 1 at 60\nclosed 0.1 too-old at 61\nopened 0.2 for 2 at 61\n") None
+
+abbrev pub TellsAnotherLaneAtTheHostLimit : Type 0
+TellsAnotherLaneAtTheHostLimit = Tells (codes "limits 1 0 4\nsite http://a.test/\nget 1 0 0 at 0\nback 1 0 keep at 2\nget 2 0 1 at 3\n") (codes "opened 0.1 for 1 at 0\nreturned 0.1 by 1 at 2\nclosed 0.1 host-room at 3\nopened 0.2 for 2 at 3\n") None
+
+abbrev pub TellsForbiddenAndCut : Type 0
+TellsForbiddenAndCut = Tells (codes "limits 4 0 4\nsite http://a.test/\nget 1 0 0 at 0 forbid\nback 1 0 keep at 1\nget 2 0 0 at 2\nback 2 0 cut at 3\n") (codes "opened 0.1 for 1 at 0\nreturned 0.1 by 1 at 1\nclosed 0.1 forbidden at 1\nopened 0.2 for 2 at 2\nreturned 0.2 by 2 at 3\nclosed 0.2 cut at 3\n") None
+
+abbrev pub TellsMomentGoesBack : Type 0
+TellsMomentGoesBack = Tells (codes "limits 4 0 4\nsite http://a.test/\nget 1 0 0 at 0\nback 1 0 keep at 20\nget 2 0 0 at 15 age 0\n") (codes "opened 0.1 for 1 at 0\nreturned 0.1 by 1 at 20\nleased 0.1 to 2 at 20\n") None
+
+abbrev pub TellsOptionsInAnotherOrder : Type 0
+TellsOptionsInAnotherOrder = Tells (codes "limits 4 0 4\nsite http://a.test/\nget 1 0 3 at 0\nback 1 0 keep at 1\nget 2 0 3 at 2 forbid life 60 fresh age 9\nback 2 0 keep at 3\n") (codes "opened 0.1 for 1 at 0\nreturned 0.1 by 1 at 1\nopened 0.2 for 2 at 2\nreturned 0.2 by 2 at 3\nclosed 0.2 forbidden at 3\n") None
+
+abbrev pub TellsOneSiteInTwoSpellings : Type 0
+TellsOneSiteInTwoSpellings = Tells (codes "limits 4 0 4\nsite http://a.test/\nsite HTTP://A.test:80/other\nlook 1\n") (codes "refused bad-site\n") None
+
+abbrev pub TellsAnOptionTwice : Type 0
+TellsAnOptionTwice = Tells (codes "limits 4 0 4\nsite http://a.test/\nget 1 0 0 at 0 age 1 fresh age 1\n") [] (Some (record { line = 3; kind = Form }))
+
 abbrev pub TellsUnknownCommand : Type 0
 TellsUnknownCommand = Tells (codes "limits 4 0 4\nsite http://a.test/\nget 1 0 0 at 0\nupkeep\n") (codes "opened 0.1 for 1 at 0\n") (Some (record { line = 4; kind = Unknown }))
 

@@ -1,6 +1,8 @@
 ghost use Rattle.std.specs.Prelude.{◌≡◌};
 ghost use Rattle.pool_cli.specs.Meaning.{facts_of};
 
+use crate::site::SiteWord;
+use conn_log::Want;
 use persistence::{Facts, Framing, Version};
 
 /// The limits of a run.
@@ -34,18 +36,15 @@ pub enum Ending {
 }
 
 /// One command of a script.
-#[derive(Clone, Copy, Debug, PartialEq, Eq)]
-pub enum Command {
+#[derive(Drop)]
+pub enum Command<'a> {
     /// Sets the limits.
     Limits(Limits),
-    /// Adds a host.
-    Site {
-        /// The word is UTF-8 and begins with `http://`.
-        is_url: bool,
-    },
+    /// Adds a host, which the word names.
+    Site(SiteWord<'a>),
     /// A transfer acquires a connection.
     Get {
-        transfer: u64,
+        want: Want,
         site: u32,
         moment: u64,
     },

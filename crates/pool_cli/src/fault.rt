@@ -30,10 +30,10 @@ pub enum FaultKind {
     /// These limits cannot be kept.
     #[error("bad limits")]
     BadLimits,
-    /// The site is not a URL that is understood.
+    /// The site is not UTF-8, or not an `http` URL of at most 2,048 bytes.
     #[error("bad site")]
     BadSite,
-    /// There is a site already.
+    /// There is another site already.
     #[error("too many sites")]
     TooManySites,
 }

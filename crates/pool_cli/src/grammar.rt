@@ -1,13 +1,13 @@
 ghost use Rattle.std.specs.Prelude.{◌≡◌, ℕ, List, [], ◌∷◌};
 ghost use Rattle.pool_cli.specs.Words.{words};
-ghost use Rattle.pool_cli.specs.Grammar.{ending_of, ending_first, at_end, limits_form, site_form, get_form, back_form, drop_form, look_form, command_of, is_url, reading};
+ghost use Rattle.pool_cli.specs.Grammar.{ending_of, ending_first, at_end, limits_form, site_form, get_form, back_form, drop_form, look_form, command_of, reading};
 ghost use Rattle.std.specs.Option.{option_map};
-ghost use Rattle.std.specs.Str.{is_utf8};
 
 use crate::command::{Command, Ending, Limits};
 use crate::fault::FaultKind;
+use crate::options::{read_options, want_of};
+use crate::site::SiteWord;
 use crate::words::{first_word, is_blank, is_word, text_first, u32_first, u64_first};
-use std::str;
 
 /// How the response ended, and the line after it.
 fn ending_first(line: &[u8]) -> Option<(Ending, &[u8])>
@@ -44,7 +44,7 @@ fn ending_of(word: &[u8]) -> Option<Ending>
 
 /// `limits H T C`.
 #[tactic(auto, unfolding(crate::specs::Grammar::limits_form))]
-fn limits_form(line: &[u8]) -> Option<Command>
+fn limits_form(line: &[u8]) -> Option<Command<'_>>
     ensures { result ≡ limits_form (words line.now) }
 {
     let (host, line) = u32_first(line)?;
@@ -55,44 +55,34 @@ fn limits_form(line: &[u8]) -> Option<Command>
 
 /// `site URL`.
 #[tactic(auto, unfolding(crate::specs::Grammar::site_form))]
-fn site_form(line: &[u8]) -> Option<Command>
+fn site_form(line: &[u8]) -> Option<Command<'_>>
     ensures { result ≡ site_form (words line.now) }
 {
     let (word, line) = first_word(line)?;
-    at_end(
-        line,
-        Command::Site {
-            is_url: is_url(word),
-        },
-    )
+    at_end(line, Command::Site(SiteWord::new(word)))
 }
 
-/// `get T S L at M`, in lane 0.
+/// `get T S L at M`, and options.
 #[tactic(auto, unfolding(crate::specs::Grammar::get_form))]
-fn get_form(line: &[u8]) -> Option<Command>
+fn get_form(line: &[u8]) -> Option<Command<'_>>
     ensures { result ≡ get_form (words line.now) }
 {
     let (transfer, line) = u64_first(line)?;
     let (site, line) = u32_first(line)?;
     let (lane, line) = u32_first(line)?;
-    if lane != 0 {
-        return None;
-    }
     let line = text_first("at", line)?;
     let (moment, line) = u64_first(line)?;
-    at_end(
-        line,
-        Command::Get {
-            transfer,
-            site,
-            moment,
-        },
-    )
+    let options = read_options(line)?;
+    Some(Command::Get {
+        want: want_of(transfer, lane, options),
+        site,
+        moment,
+    })
 }
 
 /// `back T S KIND at M`.
 #[tactic(auto, unfolding(crate::specs::Grammar::back_form))]
-fn back_form(line: &[u8]) -> Option<Command>
+fn back_form(line: &[u8]) -> Option<Command<'_>>
     ensures { result ≡ back_form (words line.now) }
 {
     let (transfer, line) = u64_first(line)?;
@@ -113,7 +103,7 @@ fn back_form(line: &[u8]) -> Option<Command>
 
 /// `drop T S at M`.
 #[tactic(auto, unfolding(crate::specs::Grammar::drop_form))]
-fn drop_form(line: &[u8]) -> Option<Command>
+fn drop_form(line: &[u8]) -> Option<Command<'_>>
     ensures { result ≡ drop_form (words line.now) }
 {
     let (transfer, line) = u64_first(line)?;
@@ -132,7 +122,7 @@ fn drop_form(line: &[u8]) -> Option<Command>
 
 /// `look S`.
 #[tactic(auto, unfolding(crate::specs::Grammar::look_form))]
-fn look_form(line: &[u8]) -> Option<Command>
+fn look_form(line: &[u8]) -> Option<Command<'_>>
     ensures { result ≡ look_form (words line.now) }
 {
     let (site, line) = u32_first(line)?;
@@ -140,33 +130,15 @@ fn look_form(line: &[u8]) -> Option<Command>
 }
 
 /// The command, where no word is left.
-fn at_end(line: &[u8], command: Command) -> Option<Command>
-    ensures { result ≡ at_end (words line.now) command }
+fn at_end<'a>(line: &[u8], command: Command<'a>) -> Option<Command<'a>>
+    ensures { result ≡ at_end (words line.now) command.entry }
 {
     if is_blank(line) { Some(command) } else { None }
 }
 
-/// Whether the word is UTF-8 and begins with `http://`.
-#[tactic(auto, unfolding(crate::specs::Grammar::is_url))]
-fn is_url(word: &[u8]) -> bool
-    ensures { result ≡ is_url word.now }
-{
-    is_utf8(word) && word.starts_with(b"http://".as_slice())
-}
-
-/// Whether the word is UTF-8.
-fn is_utf8(word: &[u8]) -> bool
-    ensures { result ≡ is_utf8 word.now }
-{
-    match str::from_utf8(word) {
-        Ok(_) => true,
-        Err(_) => false,
-    }
-}
-
 /// The command of that name, with the words after it.
 #[tactic(auto, unfolding(crate::specs::Grammar::command_of))]
-fn command_of(name: &[u8], line: &[u8]) -> Result<Command, FaultKind>
+fn command_of<'a>(name: &[u8], line: &'a [u8]) -> Result<Command<'a>, FaultKind>
     ensures { result ≡ command_of name.now (words line.now) }
 {
     if is_word(name, "limits") {
@@ -191,7 +163,7 @@ pub const LINE_LIMIT: usize = 2304;
 
 /// What a line says: a command, nothing where it is skipped, or what is wrong with it.
 #[tactic(auto, unfolding(crate::specs::Grammar::reading))]
-pub fn read_line(line: &[u8]) -> Result<Option<Command>, FaultKind>
+pub fn read_line(line: &[u8]) -> Result<Option<Command<'_>>, FaultKind>
     ensures { result ≡ reading line.now }
 {
     if line.len() > LINE_LIMIT {

@@ -1,7 +1,7 @@
 //! The one host of a script: its bundle, and the leases that its transfers have.
 
 ghost use Rattle.std.specs.Prelude.{◌≡◌, ◌≤◌, ◌==◌, if◌then◌else◌, true, None, OnOk, ℕ, List, [], length, reverse, drop, IfOk, IfErr, OnErr, flat_map, string_bytes, Some};
-ghost use Rattle.pool_cli.specs.Meaning.{terms_of, get_at, back_at, drop_at, look_at, want_of, grown, facts_of};
+ghost use Rattle.pool_cli.specs.Meaning.{terms_of, get_at, back_at, drop_at, look_at, grown, facts_of};
 ghost use Rattle.pool_cli.specs.Printing.{entry_line, refused};
 ghost use Rattle.pool_cli.specs.Transcript.{Gives, GivesText};
 ghost use Rattle.pool_cli.specs.Hosted.{KeepsLeases, AwaitsLease, IsKeptFor, lease_facts};
@@ -61,14 +61,14 @@ impl OneHost {
     }
 
     /// The transfer acquires a connection.
-    pub fn get(&mut self, alloc: Global, transfer: u64, moment: u64) -> Result<String, FaultKind>
-        ensures answer { Gives string_bytes (get_at self.old.terms transfer moment self.old.log) result self.new.log }
+    pub fn get(&mut self, alloc: Global, want: Want, moment: u64) -> Result<String, FaultKind>
+        ensures answer { Gives string_bytes (get_at self.old.terms want moment self.old.log) result self.new.log }
         ensures terms { self.new.terms ≡ self.old.terms }
     {
         let place = self.bundle.log().len();
-        match self.bundle.acquire(want_of(transfer), moment) {
+        match self.bundle.acquire(want, moment) {
             Ok(lease) => {
-                let text = lines_since(alloc, self.bundle.log(), place, transfer);
+                let text = lines_since(alloc, self.bundle.log(), place, want.transfer);
                 store(&mut self.bundle, &mut self.leases, lease)?;
                 text
             }
@@ -136,20 +136,6 @@ impl OneHost {
             give_up(&mut bundle, lease);
         }
         leases.destroy_empty();
-    }
-}
-
-/// What a transfer wants: lane 0, of any age.
-fn want_of(transfer: u64) -> Want
-    ensures { result ≡ want_of transfer }
-{
-    Want {
-        transfer,
-        lane: 0,
-        max_age: u64::MAX,
-        max_life: 0,
-        fresh: false,
-        forbid_reuse: false,
     }
 }
 

@@ -1,13 +1,16 @@
 //! What a script's commands do, one after another.
 
 ghost use Rattle.std.specs.Prelude.{◌≡◌, ℕ, List, [], ◌∷◌, IfErr, IfOk, OnOk, OnErr, Some, None, true, string_bytes};
-ghost use Rattle.pool_cli.specs.Meaning.{Run, start, step, with_limits, with_site, with_command, at_host, at_no_host, site_of, are_good, terms_of};
+ghost use Rattle.pool_cli.specs.Meaning.{Run, start, step, with_limits, with_url, with_command, at_host, at_no_host, site_of, are_good, terms_of};
+ghost use Rattle.pool_cli.specs.Site.{has_site};
 ghost use Rattle.pool_cli.specs.Transcript.{Answers, Gives};
 ghost use Rattle.conn_log.specs.declared.entry.Entry.{Entry};
 
 use crate::command::{Command, Limits};
 use crate::fault::FaultKind;
 use crate::host::{OneHost, reply};
+use crate::site::SiteWord;
+use conn_key::Sites;
 use std::alloc::Global;
 use std::marker::Model;
 use std::mem;
@@ -20,8 +23,8 @@ pub trait Machine {
     ghost run: { Self → Run };
 
     /// Does what a command says, and gives the lines that tell of it.
-    fn answer(&mut self, command: Command) -> Result<String, FaultKind>
-        ensures { Answers string_bytes (step (run self.old) command) result (run self.new) };
+    fn answer(&mut self, command: Command<'_>) -> Result<String, FaultKind>
+        ensures { Answers string_bytes (step (run self.old) command.entry) result (run self.new) };
 
     /// What is due at the script's end.
     fn end_of_script(&mut self) -> Result<(), FaultKind>
@@ -32,7 +35,7 @@ pub trait Machine {
 pub struct Engine {
     alloc: Global,
     limits: Option<Limits>,
-    has_site: bool,
+    sites: Sites,
     has_begun: bool,
     host: Option<OneHost>,
 }
@@ -42,23 +45,24 @@ impl Model for Engine {
     ghost use Rattle.std.specs.Option.{option_map, option_map_or};
     ghost use Rattle.pool_cli.specs.Hosted.{Hosted};
     ghost use Rattle.pool_cli.specs.Meaning.{Run, terms_of};
+    ghost use Rattle.pool_cli.specs.Site.{has_site};
     ghost use Rattle.std.specs.Prelude.{[]};
 
     ghost Value = { Run };
 
-    ghost view = { λ e. record { limits = e.limits; has_site = e.has_site; has_begun = e.has_begun; log = option_map_or (λ (h : Hosted). h.log) e.host [] } };
+    ghost view = { λ e. record { limits = e.limits; sites = e.sites; has_begun = e.has_begun; log = option_map_or (λ (h : Hosted). h.log) e.host [] } };
 
-    ghost invariant = { λ e. (option_map (λ (h : Hosted). h.terms) e.host ≡ (if e.has_begun && e.has_site then option_map terms_of e.limits else None)) × (e.limits ≡ None → e.has_begun ≡ false) };
+    ghost invariant = { λ e. (option_map (λ (h : Hosted). h.terms) e.host ≡ (if e.has_begun && has_site e.sites then option_map terms_of e.limits else None)) × (e.limits ≡ None → e.has_begun ≡ false) };
 }
 
 impl Machine for Engine {
     ghost run = { λ e. e };
 
     #[tactic(auto, unfolding(crate::specs::Meaning::step))]
-    fn answer(&mut self, command: Command) -> Result<String, FaultKind> {
+    fn answer(&mut self, command: Command<'_>) -> Result<String, FaultKind> {
         match command {
             Command::Limits(limits) => self.set_limits(limits),
-            Command::Site { is_url } => self.add_site(is_url),
+            Command::Site(word) => self.add_site(&word),
             Command::Get { .. } => self.ask(command),
             Command::Back { .. } => self.ask(command),
             Command::Drop { .. } => self.ask(command),
@@ -75,16 +79,20 @@ impl Machine for Engine {
 }
 
 impl Engine {
-    /// A run before its first command.
-    pub fn new(alloc: Global) -> Engine
-        ensures { result ≡ start }
+    /// A run before its first command. The only error is `Memory`.
+    pub fn new(alloc: Global) -> Result<Engine, FaultKind>
+        ensures ok { IfOk result (λ engine. engine ≡ start) }
+        ensures err { IfErr result (λ kind. kind ≡ FaultKind.Memory) }
     {
-        Engine {
-            alloc,
-            limits: None,
-            has_site: false,
-            has_begun: false,
-            host: None,
+        match Sites::new(alloc) {
+            Ok(sites) => Ok(Engine {
+                alloc,
+                limits: None,
+                sites,
+                has_begun: false,
+                host: None,
+            }),
+            Err(_) => Err(FaultKind::Memory),
         }
     }
 
@@ -93,7 +101,7 @@ impl Engine {
         let Engine {
             alloc: _,
             limits: _,
-            has_site: _,
+            sites: _,
             has_begun: _,
             host,
         } = self;
@@ -115,25 +123,26 @@ impl Engine {
     }
 
     /// `site`: after the limits, before all others.
-    fn add_site(&mut self, is_url: bool) -> Result<String, FaultKind>
-        ensures { Answers string_bytes (with_site self.old is_url self.old.limits) result self.new }
+    fn add_site(&mut self, word: &SiteWord<'_>) -> Result<String, FaultKind>
+        ensures { Answers string_bytes (with_url self.old word.now self.old.limits) result self.new }
     {
         if self.limits.is_none() || self.has_begun {
             return Err(FaultKind::Place);
         }
-        if !is_url {
-            return Err(FaultKind::BadSite);
-        }
-        if self.has_site {
+        let target = word.target(self.alloc)?;
+        if !self.sites.is_empty() && self.sites.find(&target).is_none() {
             return Err(FaultKind::TooManySites);
         }
-        self.has_site = true;
-        Ok(String::new(self.alloc))
+        // The site is there, or it is the first: only memory can be short.
+        match self.sites.add(&target) {
+            Ok(_) => Ok(String::new(self.alloc)),
+            Err(_) => Err(FaultKind::Memory),
+        }
     }
 
     /// The other commands.
-    fn ask(&mut self, command: Command) -> Result<String, FaultKind>
-        ensures { Answers string_bytes (with_command self.old command self.old.limits) result self.new }
+    fn ask(&mut self, command: Command<'_>) -> Result<String, FaultKind>
+        ensures { Answers string_bytes (with_command self.old command.entry self.old.limits) result self.new }
     {
         let Some(limits) = self.limits else {
             return Err(FaultKind::Place);
@@ -151,7 +160,7 @@ impl Engine {
         if self.has_begun {
             return Ok(());
         }
-        if self.has_site {
+        if !self.sites.is_empty() {
             let host = OneHost::new(self.alloc, limits)?;
             end_host(mem::replace(&mut self.host, Some(host)));
         }
@@ -160,13 +169,13 @@ impl Engine {
     }
 
     /// Hands the command to the host, where it is for the host.
-    fn ask_host(&mut self, limits: Limits, command: Command) -> Result<String, FaultKind>
+    fn ask_host(&mut self, limits: Limits, command: Command<'_>) -> Result<String, FaultKind>
         requires begun { self.old.has_begun ≡ true }
         requires limits { self.old.limits ≡ Some limits }
-        ensures { Answers string_bytes (with_command self.old command (Some limits)) result self.new }
+        ensures { Answers string_bytes (with_command self.old command.entry (Some limits)) result self.new }
     {
         let alloc = self.alloc;
-        if site_of(command) != 0 {
+        if site_of(&command) != 0 {
             return answer_without_host(alloc, command);
         }
         let Some(host) = &mut self.host else {
@@ -185,32 +194,28 @@ fn are_good(limits: Limits) -> bool
 }
 
 /// The site that a command names.
-fn site_of(command: Command) -> u32
-    ensures { result ≡ site_of command }
+fn site_of(command: &Command<'_>) -> u32
+    ensures { result ≡ site_of command.now }
 {
     match command {
         Command::Limits(_) => 0,
-        Command::Site { .. } => 0,
-        Command::Get { site, .. } => site,
-        Command::Back { site, .. } => site,
-        Command::Drop { site, .. } => site,
-        Command::Look { site } => site,
+        Command::Site(_) => 0,
+        Command::Get { site, .. } => *site,
+        Command::Back { site, .. } => *site,
+        Command::Drop { site, .. } => *site,
+        Command::Look { site } => *site,
     }
 }
 
 /// What the host answers.
-fn answer_at(host: &mut OneHost, alloc: Global, command: Command) -> Result<String, FaultKind>
-    ensures answer { Gives string_bytes (at_host host.old.terms host.old.log command) result host.new.log }
+fn answer_at(host: &mut OneHost, alloc: Global, command: Command<'_>) -> Result<String, FaultKind>
+    ensures answer { Gives string_bytes (at_host host.old.terms host.old.log command.entry) result host.new.log }
     ensures terms { host.new.terms ≡ host.old.terms }
 {
     match command {
         Command::Limits(_) => Ok(String::new(alloc)),
-        Command::Site { .. } => Ok(String::new(alloc)),
-        Command::Get {
-            transfer,
-            moment,
-            ..
-        } => host.get(alloc, transfer, moment),
+        Command::Site(_) => Ok(String::new(alloc)),
+        Command::Get { want, moment, .. } => host.get(alloc, want, moment),
         Command::Back {
             transfer,
             ending,
@@ -227,12 +232,12 @@ fn answer_at(host: &mut OneHost, alloc: Global, command: Command) -> Result<Stri
 }
 
 /// The answer at a site that is not there.
-fn answer_without_host(alloc: Global, command: Command) -> Result<String, FaultKind>
-    ensures { (log : List Entry) → Gives string_bytes (at_no_host log command) result log }
+fn answer_without_host(alloc: Global, command: Command<'_>) -> Result<String, FaultKind>
+    ensures { (log : List Entry) → Gives string_bytes (at_no_host log command.entry) result log }
 {
     match command {
         Command::Limits(_) => Ok(String::new(alloc)),
-        Command::Site { .. } => Ok(String::new(alloc)),
+        Command::Site(_) => Ok(String::new(alloc)),
         Command::Get { .. } => reply(alloc, "bad-site"),
         Command::Back { .. } => reply(alloc, "stranger"),
         Command::Drop { .. } => reply(alloc, "stranger"),

@@ -9,9 +9,11 @@ mod host;
 mod law;
 mod lines;
 mod machine;
+mod options;
 mod printing;
 mod program;
 mod script;
+mod site;
 mod streams;
 #[cfg(test)]
 mod tests;

@@ -42,7 +42,10 @@ fn run_engine<W: Write>(alloc: Global, script: &[u8], writer: &mut W) -> Result<
     requires { length script.now ≤ 1048576 }
     ensures { RunsLines (W.contents writer.old) (W.contents writer.new) (transcript script.now) result }
 {
-    let mut engine = Engine::new(alloc);
+    let mut engine = match Engine::new(alloc) {
+        Ok(engine) => engine,
+        Err(kind) => return Err(ScriptFault { line: 0, kind }),
+    };
     let result = run_lines(alloc, &mut engine, script, writer);
     engine.end();
     result

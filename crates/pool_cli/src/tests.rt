@@ -10,7 +10,7 @@ use std::io::{Read, Write};
 use std::test::Fail;
 
 /// Scripts that run to their end, with their transcripts.
-const GOOD: [(&str, &str); 18] = [
+const GOOD: [(&str, &str); 29] = [
     (
         "limits 4 0 4\nsite http://a.test/\nget 1 0 0 at 0\nget 1 0 0 at 1\nget 1 7 0 at 1\nlook 7\n",
         "opened 0.1 for 1 at 0\nrefused busy\nrefused bad-site\nrefused bad-site\n",
@@ -29,8 +29,52 @@ const GOOD: [(&str, &str); 18] = [
         "opened 0.1 for 1 at 0\nreturned 0.1 by 1 at 2\nleased 0.1 to 2 at 3\nclosed 0.1 dropped at 4\nhost 0 open 0 idle 0 leased 0 waiting 0 queued no\n",
     ),
     (
-        "limits 4 0 4\nsite http://a.test/\nget 1 0 0 at 0\nback 1 0 keep at 5\nget 2 0 0 at 1005\n",
+        "limits 4 0 4\nsite http://a.test/\nget 1 0 0 at 0\nback 1 0 keep at 10\nget 2 0 0 at 128\n",
+        "opened 0.1 for 1 at 0\nreturned 0.1 by 1 at 10\nleased 0.1 to 2 at 128\n",
+    ),
+    (
+        "limits 4 0 4\nsite http://a.test/\nget 1 0 0 at 0\nback 1 0 keep at 10\nget 2 0 0 at 129\n",
+        "opened 0.1 for 1 at 0\nreturned 0.1 by 1 at 10\nclosed 0.1 too-old at 129\nopened 0.2 for 2 at 129\n",
+    ),
+    (
+        "limits 4 0 4\nsite http://a.test/\nget 1 0 0 at 0\nback 1 0 keep at 60\nget 2 0 0 at 60 life 60\n",
+        "opened 0.1 for 1 at 0\nreturned 0.1 by 1 at 60\nleased 0.1 to 2 at 60\n",
+    ),
+    (
+        "limits 4 0 4\nsite http://a.test/\nget 1 0 0 at 0\nback 1 0 keep at 60\nget 2 0 0 at 61 life 60\n",
+        "opened 0.1 for 1 at 0\nreturned 0.1 by 1 at 60\nclosed 0.1 too-old at 61\nopened 0.2 for 2 at 61\n",
+    ),
+    (
+        "limits 1 0 4\nsite http://a.test/\nget 1 0 0 at 0\nback 1 0 keep at 2\nget 2 0 1 at 3\n",
+        "opened 0.1 for 1 at 0\nreturned 0.1 by 1 at 2\nclosed 0.1 host-room at 3\nopened 0.2 for 2 at 3\n",
+    ),
+    (
+        "limits 4 0 4\nsite http://a.test/\nget 1 0 0 at 0 forbid\nback 1 0 keep at 1\nget 2 0 0 at 2\nback 2 0 cut at 3\n",
+        "opened 0.1 for 1 at 0\nreturned 0.1 by 1 at 1\nclosed 0.1 forbidden at 1\nopened 0.2 for 2 at 2\nreturned 0.2 by 2 at 3\nclosed 0.2 cut at 3\n",
+    ),
+    (
+        "limits 4 0 4\nsite http://a.test/\nget 1 0 0 at 0\nback 1 0 keep at 20\nget 2 0 0 at 15 age 0\n",
+        "opened 0.1 for 1 at 0\nreturned 0.1 by 1 at 20\nleased 0.1 to 2 at 20\n",
+    ),
+    (
+        "limits 4 0 4\nsite http://a.test/\nget 1 0 3 at 0\nback 1 0 keep at 1\nget 2 0 3 at 2 forbid life 60 fresh age 9\nback 2 0 keep at 3\n",
+        "opened 0.1 for 1 at 0\nreturned 0.1 by 1 at 1\nopened 0.2 for 2 at 2\nreturned 0.2 by 2 at 3\nclosed 0.2 forbidden at 3\n",
+    ),
+    (
+        "limits 4 0 4\nsite http://a.test/\nget 1 0 4294967295 at 0\nback 1 0 keep at 5\nget 2 0 4294967295 at 1005 age 18446744073709551615\n",
         "opened 0.1 for 1 at 0\nreturned 0.1 by 1 at 5\nleased 0.1 to 2 at 1005\n",
+    ),
+    (
+        "limits 4 0 4\nsite http://a.test/\nget 1 0 0 at 0\nback 1 0 keep at 10\nget 2 0 0 at 1000 fresh\nlook 0\n",
+        "opened 0.1 for 1 at 0\nreturned 0.1 by 1 at 10\nopened 0.2 for 2 at 1000\nhost 0 open 2 idle 1 leased 1 waiting 0 queued no\n",
+    ),
+    (
+        "limits 4 0 4\nsite http://a.test/\nget 1 0 1 at 0\nback 1 0 keep at 0\nget 2 0 0 at 500\nget 3 0 1 at 500\n",
+        "opened 0.1 for 1 at 0\nreturned 0.1 by 1 at 0\nopened 0.2 for 2 at 500\nclosed 0.1 too-old at 500\nopened 0.3 for 3 at 500\n",
+    ),
+    (
+        "limits 4 0 4\nsite http://a.test/\nsite HTTP://A.test:080/other?query\nsite http://user@a.test/#part\nget 1 0 0 at 0\nlook 1\n",
+        "opened 0.1 for 1 at 0\nrefused bad-site\n",
     ),
     (
         "limits 4 0 4\r\n\r\n   \r\n# a comment\r\n  site   http://a.test/  \r\nget 1 0 0 at 0",
@@ -74,7 +118,7 @@ const GOOD: [(&str, &str); 18] = [
 ];
 
 /// Scripts with a fault: what they write before it, its line and kind.
-const FAULTY: [(&str, &str, u32, FaultKind); 29] = [
+const FAULTY: [(&str, &str, u32, FaultKind); 48] = [
     (
         "limits 4 0 4\nsite http://a.test/\nget 1 0 0 at 0\nget 1 0 0 at 1\nget 1 7 0 at 1\nlook 7\nget x\n",
         "opened 0.1 for 1 at 0\nrefused busy\nrefused bad-site\nrefused bad-site\n",
@@ -104,13 +148,73 @@ const FAULTY: [(&str, &str, u32, FaultKind); 29] = [
         FaultKind::Form,
     ),
     (
-        "limits 4 0 4\nsite http://a.test/\nget 1 0 1 at 0\n",
+        "limits 4 0 4\nsite http://a.test/\nget 1 0 4294967296 at 0\n",
         "",
         3,
         FaultKind::Form,
     ),
     (
-        "limits 4 0 4\nsite http://a.test/\nget 1 0 0 at 0 fresh\n",
+        "limits 4 0 4\nsite http://a.test/\nget 1 0 0 at\n",
+        "",
+        3,
+        FaultKind::Form,
+    ),
+    (
+        "limits 4 0 4\nsite http://a.test/\nget 1 0 0 at 0 fresher\n",
+        "",
+        3,
+        FaultKind::Form,
+    ),
+    (
+        "limits 4 0 4\nsite http://a.test/\nget 1 0 0 at 0 fresh 1\n",
+        "",
+        3,
+        FaultKind::Form,
+    ),
+    (
+        "limits 4 0 4\nsite http://a.test/\nget 1 0 0 at 0 fresh fresh\n",
+        "",
+        3,
+        FaultKind::Form,
+    ),
+    (
+        "limits 4 0 4\nsite http://a.test/\nget 1 0 0 at 0 forbid age 1 forbid\n",
+        "",
+        3,
+        FaultKind::Form,
+    ),
+    (
+        "limits 4 0 4\nsite http://a.test/\nget 1 0 0 at 0 age\n",
+        "",
+        3,
+        FaultKind::Form,
+    ),
+    (
+        "limits 4 0 4\nsite http://a.test/\nget 1 0 0 at 0 age fresh\n",
+        "",
+        3,
+        FaultKind::Form,
+    ),
+    (
+        "limits 4 0 4\nsite http://a.test/\nget 1 0 0 at 0 age 1 age 1\n",
+        "",
+        3,
+        FaultKind::Form,
+    ),
+    (
+        "limits 4 0 4\nsite http://a.test/\nget 1 0 0 at 0 life 1 fresh life 1\n",
+        "",
+        3,
+        FaultKind::Form,
+    ),
+    (
+        "limits 4 0 4\nsite http://a.test/\nget 1 0 0 at 0 life 18446744073709551616\n",
+        "",
+        3,
+        FaultKind::Form,
+    ),
+    (
+        "limits 4 0 4\nsite http://a.test/\nget 1 0 0 fresh at 0\n",
         "",
         3,
         FaultKind::Form,
@@ -159,11 +263,45 @@ const FAULTY: [(&str, &str, u32, FaultKind); 29] = [
         FaultKind::BadSite,
     ),
     (
-        "limits 4 0 4\nsite http://a.test/\nsite http://a.test/\n",
+        "limits 4 0 4\nsite http://a.test/\nsite http://a.test:81/\n",
         "",
         3,
         FaultKind::TooManySites,
     ),
+    (
+        "limits 4 0 4\nsite http://a.test/\nsite http://b.test/\n",
+        "",
+        3,
+        FaultKind::TooManySites,
+    ),
+    ("limits 4 0 4\nsite http://\n", "", 2, FaultKind::BadSite),
+    ("limits 4 0 4\nsite a.test\n", "", 2, FaultKind::BadSite),
+    (
+        "limits 4 0 4\nsite http://a.test:65536/\n",
+        "",
+        2,
+        FaultKind::BadSite,
+    ),
+    (
+        "limits 4 0 4\nsite http://[::1/\n",
+        "",
+        2,
+        FaultKind::BadSite,
+    ),
+    (
+        "limits 4 0 4\nsite http://a%00.test/\n",
+        "",
+        2,
+        FaultKind::BadSite,
+    ),
+    ("limits 4 0 4\nsite\n", "", 2, FaultKind::Form),
+    (
+        "limits 4 0 4\nsite http://a.test/ x\n",
+        "",
+        2,
+        FaultKind::Form,
+    ),
+    ("limits 4 0 4\nleave 1 0 at 0\n", "", 2, FaultKind::Unknown),
 ];
 
 const REUSE_THEN_DROP: (&str, &str) = (
@@ -232,6 +370,27 @@ fn lines_have_a_limit(rt: HostRuntime) -> Result<(), Fail> {
             run_bytes(rt.alloc(), script.as_slice(), &mut out),
             expected,
             "{len} {end:?}"
+        );
+    }
+    Ok(())
+}
+
+// The URL's 14 bytes before its fragment, and those of the fragment.
+#[test]
+fn urls_have_a_limit(rt: HostRuntime) -> Result<(), Fail> {
+    let bad = ScriptFault {
+        line: 2,
+        kind: FaultKind::BadSite,
+    };
+    for (fragment, expected) in [(2034, Ok(())), (2035, Err(bad))] {
+        let mut script = Vec::new(rt.alloc());
+        script.extend_from_slice(b"limits 4 0 4\nsite http://a.test/")?;
+        script.extend_from_slice(comment(rt.alloc(), fragment)?.as_slice())?;
+        let mut out = Vec::new(rt.alloc());
+        assert_eq!(rt;
+            run_bytes(rt.alloc(), script.as_slice(), &mut out),
+            expected,
+            "{fragment}"
         );
     }
     Ok(())

@@ -1,15 +1,26 @@
 //! Small scripts whose transcripts are known, against which the definition of a transcript was tried.
 
-ghost use Rattle.pool_cli.specs.Worked.{TellsReuseThenDrop, TellsBusyAndNoSuchSite, TellsNotPersistentAtTheLimit, TellsGetWithAMissingWord, TellsNoRoomToKeep, TellsUnknownCommand, TellsSecondLimits, TellsBadSite, TellsTwoSites, TellsLongestLine, TellsLineTooLongByOne, TellsEvents, TellsLeases};
+ghost use Rattle.pool_cli.specs.Worked.{TellsReuseThenDrop, TellsBusyAndNoSuchSite, TellsNotPersistentAtTheLimit, TellsGetWithAMissingWord, TellsNoRoomToKeep, TellsIdleAsLongAsTheAge, TellsIdleLongerThanTheAge, TellsAsOldAsTheLifetime, TellsOlderThanTheLifetime, TellsAnotherLaneAtTheHostLimit, TellsForbiddenAndCut, TellsMomentGoesBack, TellsOptionsInAnotherOrder, TellsOneSiteInTwoSpellings, TellsAnOptionTwice, TellsUnknownCommand, TellsSecondLimits, TellsBadSite, TellsTwoSites, TellsLongestLine, TellsLineTooLongByOne, TellsEvents, TellsLeases};
 
-/// The transcripts of small scripts, by computation: three of the worked ones, and one of each fault
-/// that a line can have; and of one the lines of the log behind it.
+/// The transcripts of small scripts, by computation: ten of the worked ones, the options of `get` in
+/// another order, one site in two spellings, and one script of each fault that a line can have; and of
+/// one the lines of the log behind it.
 pub fn worked_scripts()
     ensures reuse_then_drop { TellsReuseThenDrop }
     ensures busy_and_no_such_site { TellsBusyAndNoSuchSite }
     ensures not_persistent_at_the_limit { TellsNotPersistentAtTheLimit }
     ensures get_with_a_missing_word { TellsGetWithAMissingWord }
     ensures no_room_to_keep { TellsNoRoomToKeep }
+    ensures idle_as_long_as_the_age { TellsIdleAsLongAsTheAge }
+    ensures idle_longer_than_the_age { TellsIdleLongerThanTheAge }
+    ensures as_old_as_the_lifetime { TellsAsOldAsTheLifetime }
+    ensures older_than_the_lifetime { TellsOlderThanTheLifetime }
+    ensures another_lane_at_the_host_limit { TellsAnotherLaneAtTheHostLimit }
+    ensures forbidden_and_cut { TellsForbiddenAndCut }
+    ensures moment_goes_back { TellsMomentGoesBack }
+    ensures options_in_another_order { TellsOptionsInAnotherOrder }
+    ensures one_site_in_two_spellings { TellsOneSiteInTwoSpellings }
+    ensures an_option_twice { TellsAnOptionTwice }
     ensures unknown_command { TellsUnknownCommand }
     ensures second_limits { TellsSecondLimits }
     ensures bad_site { TellsBadSite }

@@ -9,5 +9,5 @@ use Rattle.pool_cli.proofs.script.run_engine.Goals as goal
 pub returns : goal.returns
 returns g c =
     let contents = g.W.Write.contents in
-    let is = ap (λ (run : Run). told run 1 (lines c.args.script.now)) c.new-engine.ensures ∙ sym (short-script c.args.script.now c.requires) in
+    let is = ap (λ (run : Run). told run 1 (lines c.args.script.now)) c.in-Ok.ensures.ok ∙ sym (short-script c.args.script.now c.requires) in
     subst (λ (meant : Transcript). RunsLines (contents c.args.writer.now) (contents c.run_lines-result.new.writer) meant c.run_lines-result.result) is c.run_lines-result.ensures
