@@ -79,14 +79,14 @@ record AfterClosing (terms : Terms) (moment transfer : ℕ) (after : List Entry)
   pub room : is_at_limit terms after ≡ false
 
 closing_keeps : (terms : Terms) (want : Want) (moment transfer : ℕ) (n : ℕ) (log : List Entry) → IsSound terms log → last_moment log ≤ moment → held_number log transfer ≡ None → is_at_limit terms log ≡ false → AfterClosing terms moment transfer (close_too_old n want moment log)
-closing_keeps terms want moment transfer zero log sound le free room = record { sound = sound; later = le; free = free; room = room; }
+closing_keeps terms want moment transfer zero log sound le free room = record { sound = sound; later = le; free = free; room = room }
 closing_keeps terms want moment transfer (suc n) log sound le free room = by_first (oldest_too_old log want moment) refl (λ c idle. closing_keeps terms want moment transfer n (add moment (Closed c TooOld) log) (sound_close terms log sound moment le c TooOld (sound.settled, idle) idle) (omega arith) (still_free terms log sound moment c TooOld transfer idle free) (ap (λ full. full && (length (idle_connections (add moment (Closed c TooOld) log)) == 0)) (not_full_after terms log sound moment c TooOld idle)))
   where
     among_idle : (goes_before : ℕ → ℕ → Bool) (test : ℕ → Bool) (c : ℕ) → first_by goes_before (filter test (idle_connections log)) ≡ Some c → is_idle log c ≡ true
     among_idle goes_before test c is = and_left (is_idle log c) (test c) (sym (is_among-filter test c (idle_connections log)) ∙ first_among goes_before (filter test (idle_connections log)) c is)
 
     by_first : (first : Option ℕ) → oldest_too_old log want moment ≡ first → ((c : ℕ) → is_idle log c ≡ true → AfterClosing terms moment transfer (close_too_old n want moment (add moment (Closed c TooOld) log))) → AfterClosing terms moment transfer (close_before moment log first (close_too_old n want moment))
-    by_first None is rest = record { sound = sound; later = le; free = free; room = room; }
+    by_first None is rest = record { sound = sound; later = le; free = free; room = room }
     by_first (Some c) is rest = rest c (among_idle (is_earlier log) (is_too_old_in_lane log want moment) c is)
 
 -- a start where a transfer that holds nothing is not refused

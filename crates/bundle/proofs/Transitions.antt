@@ -275,7 +275,7 @@ module _ {S : Type 0} (terms : Terms) (log : List Entry) (greatest_used : ℕ) (
     room = λ off. ap (λ full. full && (length (idle_connections (record { moment = moment; event = Closed x.number cause } ∷ log)) == 0)) (room_made moment cause place x within is);
     later = omega arith;
     booked = refl;
-    same = record { terms = refl; host = refl; };
+    same = record { terms = refl; host = refl };
   }
     where
       gone : (d : ℕ) → is_open (record { moment = moment; event = Closed x.number cause } ∷ log) d ≡ (not (x.number == d) && is_open log d)
