@@ -41,6 +41,12 @@ size_line_unique m n text r q x y =
     ∙ y.reads ∙ ap (λ (t : List ℕ). t ++ q) (print_words y.line) ∙ append_assoc (words_of y.line) (13 ∷ 10 ∷ []) q) in
     (sym x.gives ∙ ap (digits_value 16) digits.0 ∙ y.gives, (let e = words.1 in cc))
 
+pub size_line_printed : IsPrinted ReadsSizeLine
+size_line_printed = record {
+  unique = size_line_unique;
+  print = λ size text r x. (print_chunk_line x.line, x.reads, λ more. record { line = x.line; valid = x.valid; gives = x.gives; reads = refl });
+}
+
 -- two texts with fronts of one length that are equal have equal rests
 pub same_fronts : (a b r q : List ℕ) → length a ≡ length b → a ++ r ≡ b ++ q → r ≡ q
 same_fronts [] [] r q e f = f
@@ -70,7 +76,7 @@ chunk_printed = record {
     regroup a b c = simp append_assoc
 
 -- a chunk is no last line
-no_last : (size : ℕ) (text r q : List ℕ) → ReadsChunk size text r → ReadsSizeLine 0 text q → ⊥
+pub no_last : (size : ℕ) (text r q : List ℕ) → ReadsChunk size text r → ReadsSizeLine 0 text q → ⊥
 no_last size text r q chunk last = omega (arith, chunk.positive, (size_line_unique size 0 text _ _ chunk.reads last).0)
 
 pub trailer_unique : (text r q : List ℕ) → ReadsTrailer text r → ReadsTrailer text q → r ≡ q

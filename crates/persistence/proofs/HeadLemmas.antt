@@ -35,7 +35,7 @@ final_printed = record {
 }
 
 -- no text is both
-interim_or_final : (a b : ResponseHead) (text r q : List ℕ) → ReadsInterim a text r → ReadsFinal b text q → ⊥
+pub interim_or_final : (a b : ResponseHead) (text r q : List ℕ) → ReadsInterim a text r → ReadsFinal b text q → ⊥
 interim_or_final a b text r q x y =
     let e = head_printed.unique a b text r q x.reads y.reads in
     let i : is_interim b ≡ true = subst (λ (h : ResponseHead). is_interim h ≡ true) e.0 x.interim in

@@ -12,3 +12,6 @@ pub mod ChunkLemmas
 pub mod SplitLemmas
 pub mod WrittenSize
 pub mod SizeLine
+pub mod NextChunk
+pub mod ChunkedLemmas
+pub mod ResponseLemmas

@@ -1,17 +1,17 @@
 -- What the parser's answer says of the text where a trailer section begins.
 use Rattle.std.proofs.Common.{◌≡◌, ◌≢◌, ℕ, ◌<◌, ◌≤◌, ◌⊎◌, List, [], ◌∷◌, ◌++◌, length, take, drop, min, refl, sym, ap, subst, ◌∙◌, inl, inr, arith, append_assoc, length-append, length-take}
 use Rattle.std.proofs.lemmas.Bool.{cases_lt}
-use Rattle.std.proofs.lemmas.List.{append-nil, take-append-drop, take_all, drop_at, length-map}
+use Rattle.std.proofs.lemmas.List.{append-nil, take-append-drop, take_all, drop_at, length-map, length-take-le}
 use Rattle.httparse.specs.Grammar.{Field, LineEnd, lf, ReadsSection, print_section, HasNoSection, NeverHasSection, MayBecomeSection}
 use Rattle.httparse.specs.Spans.{IsSectionWithin, IsSectionAt, header_bytes, name_and_value, SectionExceeds}
 use Rattle.httparse.specs.declared.spans.HeaderSpan.{HeaderSpan}
 use Rattle.persistence.specs.declared.fault.ReadFault.{ReadFault}
 use Rattle.persistence.specs.declared.fault.ReadFault.TheVariants.{Memory, BadHead, BadLength, BadChunk, HeadTooLong, TooManyInterims, TrailerTooLong}
 use Rattle.persistence.specs.Heads.{most_fields}
-use Rattle.persistence.specs.Chunks.{most_trailer_bytes}
+use Rattle.persistence.specs.Chunks.{most_trailer_bytes, ReadsTrailer}
 use Rattle.persistence.specs.Faults.{TrailerShows, IsFirst}
 use Rattle.persistence.specs.Reading.{IsTrailerAwaited, EndsTrailer, line_ends}
-use Rattle.persistence.proofs.LineLemmas.{section_exceeds_lines, section_exceeds_cut}
+use Rattle.persistence.proofs.LineLemmas.{cut_twice, section_exceeds_lines, section_exceeds_none, section_exceeds_cut}
 
 cut_front : (text : List ℕ) → text ≡ take most_trailer_bytes text ++ drop most_trailer_bytes text
 cut_front text = sym (take-append-drop most_trailer_bytes text)
@@ -123,3 +123,25 @@ bad_trailer text never = record {
     first start next more BadHead e shown = absurd shown
     first start next more TooManyInterims e shown = absurd shown
     first start next more HeadTooLong e shown = absurd shown
+
+-- a text that begins with a trailer section shows nothing there
+pub trailer_shows_nothing : (text rest : List ℕ) (fault : ReadFault) → ReadsTrailer text rest → TrailerShows text fault → ⊥
+trailer_shows_nothing text rest BadChunk reads never = never [] reads.fields reads.last rest (subst (λ (t : List ℕ). ReadsSection t reads.fields reads.last rest) (sym (append-nil text)) reads.reads)
+trailer_shows_nothing text rest TrailerTooLong reads (inl (long, none)) =
+    elim (cut_twice (take most_trailer_bytes text) (drop most_trailer_bytes text) (print_section reads.fields reads.last) rest (sym (cut_front text) ∙ reads.reads.1)) [
+      | inl (z, p, q) ↦ none reads.fields reads.last [] (reads.reads.0, exact z p (length-take-le most_trailer_bytes text long) ∙ sym (append-nil _))
+      | inr (z, w, p, q) ↦ none reads.fields reads.last (z ∷ w) (reads.reads.0, p)
+    ]
+  where
+    exact : (z : List ℕ) → print_section reads.fields reads.last ≡ take most_trailer_bytes text ++ z → length (take most_trailer_bytes text) ≡ most_trailer_bytes
+        → take most_trailer_bytes text ≡ print_section reads.fields reads.last
+    exact [] p full = sym (p ∙ append-nil _)
+    exact (a ∷ z) p full = absurd (omega (arith, full, ap length p, length-append (take most_trailer_bytes text) (a ∷ z), reads.short))
+trailer_shows_nothing text rest TrailerTooLong reads (inr exceeds) =
+    let many = section_exceeds_none most_fields text [] exceeds reads.fields reads.last rest (subst (λ (t : List ℕ). ReadsSection t reads.fields reads.last rest) (sym (append-nil text)) reads.reads) in
+    absurd (omega (arith, many, reads.few))
+trailer_shows_nothing text rest Memory reads shown = shown
+trailer_shows_nothing text rest BadLength reads shown = shown
+trailer_shows_nothing text rest BadHead reads shown = shown
+trailer_shows_nothing text rest TooManyInterims reads shown = shown
+trailer_shows_nothing text rest HeadTooLong reads shown = shown

@@ -9,3 +9,5 @@ pub mod Told
 pub mod Faults
 pub mod Reading
 pub mod ReadingChunks
+pub mod ReadingBody
+pub mod Response

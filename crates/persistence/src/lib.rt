@@ -2,6 +2,8 @@
 //! (RFC 9112, sections 9.3 and 9.6).
 #![tactic(auto)]
 
+mod body;
+mod chunks;
 mod elements;
 mod facts;
 mod fault;
@@ -12,6 +14,7 @@ mod laws;
 mod lines;
 mod method;
 mod number;
+mod response;
 mod size_line;
 mod trailer;
 
@@ -19,6 +22,7 @@ pub use facts::{Facts, Framing, Version, persists};
 pub use fault::ReadFault;
 pub use laws::split_is_unique;
 pub use method::Method;
+pub use response::{Response, read_response};
 
 #[cfg(test)]
 mod tests;

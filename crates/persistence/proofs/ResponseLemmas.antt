@@ -1,0 +1,250 @@
+-- A response: what its bytes show after the final head, and what they tell.
+use Rattle.std.proofs.Common.{◌≡◌, ℕ, ◌≤◌, ◌⊎◌, Bool, true, false, List, ◌∷◌, ◌++◌, length, take, drop, Option, None, Some, is_some, refl, sym, ap, subst, ◌∙◌, inl, inr, arith, append_assoc, length-append, length-drop}
+use Rattle.std.specs.Option.{MatchOption}
+use Rattle.std.proofs.lemmas.Bool.Decides.{nat_tests}
+use Rattle.std.proofs.lemmas.List.{take-append-drop}
+use Rattle.httparse.specs.Grammar.{ResponseHead, status_code}
+use Rattle.persistence.specs.declared.facts.Facts.{Facts}
+use Rattle.persistence.specs.declared.facts.Framing.{Framing}
+use Rattle.persistence.specs.declared.fault.ReadFault.{ReadFault}
+use Rattle.persistence.specs.declared.method.Method.{Method}
+use Rattle.persistence.specs.declared.head.Head.{Head}
+use Rattle.persistence.specs.declared.body.Body.{Body}
+use Rattle.persistence.specs.Sequence.{ReadsEach}
+use Rattle.persistence.specs.Heads.{most_interims, ReadsInterim, ReadsHeads, HasFinalHead}
+use Rattle.persistence.specs.Fields.{fields_of, counted_length}
+use Rattle.persistence.specs.Framing.{body_kind}
+use Rattle.persistence.specs.Split.{EndsBody, Parts, IsSplit}
+use Rattle.persistence.specs.Told.{facts_of, facts_before, IsNotWhole, is_some_text, TellsFacts, TellsStatus, TellsBodyLength, TellsLength}
+use Rattle.persistence.specs.Faults.{HeadShows, BodyShows, Shows, IsFaultless, IsFirst, HasLongTrailerBy, HasLongSection, IsFirstFault}
+use Rattle.persistence.specs.Response.{TellsWhole, TellsResponse}
+use Rattle.persistence.specs.Reading.{FindsNoFinalHead, EndsHeads}
+use Rattle.persistence.specs.ReadingBody.{HasNoEnd, EndsAt, TellsBody, ends_before}
+use Rattle.persistence.proofs.SequenceLemmas.{print_each, each-append, Compared, same, longer, shorter, compared}
+use Rattle.persistence.proofs.HeadLemmas.{interim_printed, final_printed, interim_or_final, head_shows_nothing, HeadShows-append, HasFinalHead-append, heads_unique}
+use Rattle.persistence.proofs.SplitLemmas.{split_unique}
+
+-- ---- where a final head stands
+
+final_unique : (bytes : List ℕ) (a b : ResponseHead) (r q : List ℕ) → HasFinalHead bytes a r → HasFinalHead bytes b q → (a ≡ b) × (r ≡ q)
+final_unique bytes a b r q x y = let u = heads_unique x.0 y.0 a b bytes r q x.1 y.1 in (u.1, u.2)
+
+-- nothing is shown before it
+nothing_in_head : (bytes : List ℕ) (head : ResponseHead) (text : List ℕ) → HasFinalHead bytes head text → (interims : List ResponseHead) (place : List ℕ) (fault : ReadFault)
+    → ReadsEach ReadsInterim interims bytes place → HeadShows place fault → ⊥
+nothing_in_head bytes head text (interims, heads) others place fault each shown = go (compared interim_printed interims others bytes heads.middle place heads.before.each each)
+  where
+    go : Compared interim_printed interims others heads.middle place → ⊥
+    go (same e f) = head_shows_nothing head heads.middle text fault heads.reads.reads (subst (λ (t : List ℕ). HeadShows t fault) (sym f) shown)
+    go (longer c cs m e reads) = head_shows_nothing c place m fault reads.reads shown
+    go (shorter c cs m e reads) = interim_or_final c head heads.middle m text reads heads.reads
+
+-- and so it is printed
+print_final : (bytes : List ℕ) (head : ResponseHead) (text : List ℕ) → HasFinalHead bytes head text
+    → (front : List ℕ) × (bytes ≡ front ++ text) × ((more : List ℕ) → HasFinalHead (front ++ more) head more)
+print_final bytes head text (interims, heads) =
+    let p = print_each interim_printed interims bytes heads.middle heads.before.each in
+    let q = final_printed.print head heads.middle text heads.reads in (
+      p.0 ++ q.0,
+      p.1 ∙ ap (λ (t : List ℕ). p.0 ++ t) q.1 ∙ sym (append_assoc p.0 q.0 text),
+      λ more. (
+        interims,
+        record {
+          middle = q.0 ++ more;
+          before = record { few = heads.before.few; each = subst (λ (t : List ℕ). ReadsEach ReadsInterim interims t (q.0 ++ more)) (sym (append_assoc p.0 q.0 more)) (p.2 (q.0 ++ more)) };
+          reads = q.2 more;
+        },
+      ),
+    )
+
+few_interims : (bytes : List ℕ) (head : ResponseHead) (text : List ℕ) → HasFinalHead bytes head text → (others : List ResponseHead) (place : List ℕ)
+    → ReadsEach ReadsInterim others bytes place → length others ≤ most_interims
+few_interims bytes head text (interims, heads) others place each = go (compared interim_printed interims others bytes heads.middle place heads.before.each each)
+  where
+    go : Compared interim_printed interims others heads.middle place → length others ≤ most_interims
+    go (same e f) = omega (arith, ap length e, heads.before.few)
+    go (longer c cs m e reads) = omega (arith, ap length e, length-append others (c ∷ cs), heads.before.few)
+    go (shorter c cs m e reads) = absurd (interim_or_final c head heads.middle m text reads heads.reads)
+
+module _ (method : Method) (head : ResponseHead) where
+  -- what the body shows
+  abbrev pub ShowsThere : List ℕ → ReadFault → Type 0
+  ShowsThere text fault = BodyShows (body_kind method head) (counted_length (fields_of head)) text fault
+
+  -- what bytes with that final head show is shown in the body
+  shown_there : (bytes text : List ℕ) → HasFinalHead bytes head text → (fault : ReadFault) → Shows method bytes fault → ShowsThere text fault
+  shown_there bytes text has fault (inl shown) = absurd (nothing_in_head bytes head text has shown.interims shown.text fault shown.before.each shown.shows)
+  shown_there bytes text has fault (inr (inl shown)) =
+      absurd (omega (arith, few_interims bytes head text has shown.1.interims shown.1.rest shown.1.each, shown.1.many))
+  shown_there bytes text has fault (inr (inr shown)) = moved (final_unique bytes shown.head head shown.text text shown.heads has)
+    where
+      moved : (shown.head ≡ head) × (shown.text ≡ text) → ShowsThere text fault
+      moved (e, f) =
+          subst (λ (h : ResponseHead). BodyShows (body_kind method h) (counted_length (fields_of h)) text fault) e
+          (subst (λ (t : List ℕ). BodyShows (body_kind method shown.head) (counted_length (fields_of shown.head)) t fault) f shown.shows)
+
+  pub faultless : (bytes text : List ℕ) → HasFinalHead bytes head text → ((fault : ReadFault) → ShowsThere text fault → ⊥) → IsFaultless method bytes
+  faultless bytes text has clean fault shown = clean fault (shown_there bytes text has fault shown)
+
+  -- a fault that the body shows first is the first fault of the bytes
+  pub first_in_body : (bytes text : List ℕ) → HasFinalHead bytes head text → (fault : ReadFault)
+      → IsFirst (BodyShows (body_kind method head) (counted_length (fields_of head))) (HasLongTrailerBy (body_kind method head)) text fault → IsFirstFault method bytes fault
+  first_in_body bytes text has fault found =
+      let p = print_final bytes head text has in
+      record {
+        front = p.0 ++ found.front;
+        later = found.later;
+        is = p.1 ∙ ap (λ (t : List ℕ). p.0 ++ t) found.is ∙ sym (append_assoc p.0 found.front found.later);
+        shown = inr (inr (record { head = head; text = found.front; heads = p.2 found.front; shows = found.shown }));
+        first = λ start next more other e shown. earlier (p.0 ++ found.front) (p.2 found.front) start next more other (sym e) shown;
+      }
+    where
+      earlier : (front : List ℕ) → HasFinalHead front head found.front → (start : List ℕ) (next : ℕ) (more : List ℕ) (other : ReadFault)
+          → start ++ next ∷ more ≡ front → Shows method start other → (other ≡ fault) ⊎ HasLongSection method start
+      earlier front final start next more other e (inl shown) =
+          absurd (nothing_in_head front head found.front final shown.interims (shown.text ++ next ∷ more) other
+          (subst (λ (t : List ℕ). ReadsEach ReadsInterim shown.interims t (shown.text ++ next ∷ more)) e (each-append interim_printed shown.interims start shown.text (next ∷ more) shown.before.each))
+          (HeadShows-append shown.text (next ∷ more) other shown.shows))
+      earlier front final start next more other e (inr (inl shown)) =
+          absurd (omega (
+            arith,
+            few_interims front head found.front final shown.1.interims (shown.1.rest ++ next ∷ more)
+                (subst (λ (t : List ℕ). ReadsEach ReadsInterim shown.1.interims t (shown.1.rest ++ next ∷ more)) e (each-append interim_printed shown.1.interims start shown.1.rest (next ∷ more) shown.1.each)),
+            shown.1.many,
+          ))
+      earlier front final start next more other e (inr (inr shown)) =
+          let further = subst (λ (t : List ℕ). HasFinalHead t shown.head (shown.text ++ next ∷ more)) e (HasFinalHead-append start (next ∷ more) shown.head shown.text shown.heads) in
+          let u = final_unique front head shown.head found.front (shown.text ++ next ∷ more) final further in
+          let there = subst (λ (h : ResponseHead). BodyShows (body_kind method h) (counted_length (fields_of h)) shown.text other) (sym u.0) shown.shows in
+          elim (found.first shown.text next more other u.1 there) [
+            | inl is ↦ inl is
+            | inr long ↦ inr (inr (head, shown.text, subst (λ (h : ResponseHead). HasFinalHead start h shown.text) (sym u.0) shown.heads, long))
+          ]
+
+  -- ---- the body, and the response
+
+  module _ (bytes : List ℕ) (ended : Bool) (interims : List ResponseHead) (text : List ℕ) (heads : ReadsHeads interims head bytes text) where
+    -- a body that ends splits the bytes
+    abbrev parts_at : ℕ → Parts
+    parts_at end = record { interims = interims; head = head; body = take end text; rest = drop end text }
+
+    split_at : (end : ℕ) → EndsAt (body_kind method head) (counted_length (fields_of head)) ended text end → IsSplit method bytes ended (parts_at end)
+    split_at end ends = record {
+      heads = subst (ReadsHeads interims head bytes) (sym (take-append-drop end text)) heads;
+      body = ends.ends;
+    }
+
+    no_split : HasNoEnd (body_kind method head) (counted_length (fields_of head)) ended text → IsNotWhole method bytes ended
+    no_split none parts split =
+        let u = final_unique bytes parts.head head (parts.body ++ parts.rest) text (parts.interims, split.heads) (interims, heads) in
+        none parts.body parts.rest (sym u.1) (subst (λ (h : ResponseHead). EndsBody (body_kind method h) (counted_length (fields_of h)) ended parts.body parts.rest) u.0 split.body)
+
+    surplus_at : (end : ℕ) → ends_before (length text) (Some end) ≡ is_some_text (drop end text)
+    surplus_at end = grind (arith, nat_tests, length-drop end text)
+
+    module _ (request_close : Bool) (body : Body) (tells : TellsBody (body_kind method head) (counted_length (fields_of head)) ended text body) where
+      -- the facts that the code gives
+      abbrev told_facts : Facts
+      told_facts = facts_of method request_close head (is_some body.end) (ends_before (length text) body.end)
+
+      tells_facts : TellsFacts method request_close bytes ended told_facts
+      tells_facts = record {
+        before = λ none. absurd (none head text (interims, heads));
+        after = λ other rest has open_end. after other rest has open_end body.end tells.ends;
+        whole = λ parts split. whole parts split body.end tells.ends;
+      }
+        where
+          after : (other : ResponseHead) (rest : List ℕ) → HasFinalHead bytes other rest → IsNotWhole method bytes ended → (end : Option ℕ)
+              → MatchOption end (HasNoEnd (body_kind method head) (counted_length (fields_of head)) ended text) (EndsAt (body_kind method head) (counted_length (fields_of head)) ended text)
+              → facts_of method request_close head (is_some end) (ends_before (length text) end) ≡ facts_of method request_close other false false
+          after other rest has open_end None none = ap (λ (h : ResponseHead). facts_of method request_close h false false) (final_unique bytes head other text rest (interims, heads) has).0
+          after other rest has open_end (Some end) ends = absurd (open_end (parts_at end) (split_at end ends))
+
+          whole : (parts : Parts) → IsSplit method bytes ended parts → (end : Option ℕ)
+              → MatchOption end (HasNoEnd (body_kind method head) (counted_length (fields_of head)) ended text) (EndsAt (body_kind method head) (counted_length (fields_of head)) ended text)
+              → facts_of method request_close head (is_some end) (ends_before (length text) end) ≡ facts_of method request_close parts.head true (is_some_text parts.rest)
+          whole parts split None none = absurd (no_split none parts split)
+          whole parts split (Some end) ends =
+              ap (λ b. facts_of method request_close head true b) (surplus_at end)
+              ∙ ap (λ (p : Parts). facts_of method request_close p.head true (is_some_text p.rest)) (split_unique method bytes ended (parts_at end) parts (split_at end ends) split)
+
+      tells_whole : TellsWhole method bytes ended (is_some body.end)
+      tells_whole = record { yes = yes body.end tells.ends; no = no body.end tells.ends }
+        where
+          yes : (end : Option ℕ) → MatchOption end (HasNoEnd (body_kind method head) (counted_length (fields_of head)) ended text) (EndsAt (body_kind method head) (counted_length (fields_of head)) ended text)
+              → is_some end ≡ true → (parts : Parts) × IsSplit method bytes ended parts
+          yes None none e = absurd (cc)
+          yes (Some end) ends e = (parts_at end, split_at end ends)
+
+          no : (end : Option ℕ) → MatchOption end (HasNoEnd (body_kind method head) (counted_length (fields_of head)) ended text) (EndsAt (body_kind method head) (counted_length (fields_of head)) ended text)
+              → is_some end ≡ false → IsNotWhole method bytes ended
+          no None none e = no_split none
+          no (Some end) ends e = absurd (cc)
+
+      tells_length : TellsLength method bytes body.len
+      tells_length = record {
+        before = λ none. absurd (none head text (interims, heads));
+        after = λ other rest has. (let u = final_unique bytes head other text rest (interims, heads) has in
+            subst (λ (h : ResponseHead). TellsBodyLength (body_kind method h) (counted_length (fields_of h)) rest body.len) u.0
+            (subst (λ (t : List ℕ). TellsBodyLength (body_kind method head) (counted_length (fields_of head)) t body.len) u.1 tells.came));
+      }
+
+      tells_status : TellsStatus bytes (Some (status_code head))
+      tells_status = record {
+        before = λ none. absurd (none head text (interims, heads));
+        after = λ other rest has. ap (λ (h : ResponseHead). Some (status_code h)) (final_unique bytes head other text rest (interims, heads) has).0;
+      }
+
+      pub tells_after : TellsResponse method request_close bytes ended (record { status = Some (status_code head); facts = told_facts; body_len = body.len })
+      tells_after = record {
+        faultless = faultless bytes text (interims, heads) tells.clean;
+        status = tells_status;
+        facts = tells_facts;
+        length = tells_length;
+        whole = tells_whole;
+      }
+
+-- before a final head
+pub tells_before : (method : Method) (request_close : Bool) (bytes : List ℕ) (ended : Bool) → FindsNoFinalHead bytes
+    → TellsResponse method request_close bytes ended (record { status = None; facts = facts_before request_close; body_len = 0 })
+tells_before method request_close bytes ended found = record {
+  faultless = found.clean method;
+  status = record { before = λ none. refl; after = λ head text has. absurd (found.none head text has) };
+  facts = record {
+    before = λ none. refl;
+    after = λ head text has open_end. absurd (found.none head text has);
+    whole = λ parts split. absurd (no_whole parts split);
+  };
+  length = record { before = λ none. refl; after = λ head text has. absurd (found.none head text has) };
+  whole = record { yes = λ e. absurd (cc); no = λ e parts split. no_whole parts split };
+}
+  where
+    no_whole : (parts : Parts) → IsSplit method bytes ended parts → ⊥
+    no_whole parts split = found.none parts.head (parts.body ++ parts.rest) (parts.interims, split.heads)
+
+-- ---- the same, as the code has it
+
+module _ (method : Method) (bytes : List ℕ) (told : Head) (start : ℕ) (ends : EndsHeads bytes told start) (kind : Framing) (is : kind ≡ body_kind method ends.head)
+    (text : List ℕ) (after : text ≡ drop start bytes) where
+  pub first_here : (fault : ReadFault) → IsFirst (BodyShows kind told.counted) (HasLongTrailerBy kind) text fault → IsFirstFault method bytes fault
+  first_here fault found =
+      first_in_body method ends.head bytes (drop start bytes) (ends.interims, ends.heads) fault
+      (subst (λ (n : Option ℕ). IsFirst (BodyShows (body_kind method ends.head) n) (HasLongTrailerBy (body_kind method ends.head)) (drop start bytes) fault) ends.says.counted
+      (subst (λ (t : List ℕ). IsFirst (BodyShows (body_kind method ends.head) told.counted) (HasLongTrailerBy (body_kind method ends.head)) t fault) after
+      (subst (λ (k : Framing). IsFirst (BodyShows k told.counted) (HasLongTrailerBy k) text fault) is found)))
+
+  pub tells_here : (request_close ended : Bool) (body : Body) → TellsBody kind told.counted ended text body → (whole surplus : Bool) → whole ≡ is_some body.end
+      → surplus ≡ ends_before (length text) body.end → (facts : Facts) → facts ≡ facts_of method request_close ends.head whole surplus
+      → TellsResponse method request_close bytes ended (record { status = Some told.status; facts = facts; body_len = body.len })
+  tells_here request_close ended body tells whole surplus w s facts f =
+      subst (λ (p : Option ℕ × Facts). TellsResponse method request_close bytes ended (record { status = p.0; facts = p.1; body_len = body.len }))
+      (λ i. (Some (sym ends.says.status i), sym all i))
+      (tells_after method ends.head bytes ended ends.interims (drop start bytes) ends.heads request_close body
+      (subst (λ (n : Option ℕ). TellsBody (body_kind method ends.head) n ended (drop start bytes) body) ends.says.counted
+      (subst (λ (t : List ℕ). TellsBody (body_kind method ends.head) told.counted ended t body) after
+      (subst (λ (k : Framing). TellsBody k told.counted ended text body) is tells))))
+    where
+      all : facts ≡ facts_of method request_close ends.head (is_some body.end) (ends_before (length (drop start bytes)) body.end)
+      all =
+          f ∙ ap (λ b. facts_of method request_close ends.head b surplus) w
+          ∙ ap (λ b. facts_of method request_close ends.head (is_some body.end) b) (s ∙ ap (λ (t : List ℕ). ends_before (length t) body.end) after)
