@@ -1,5 +1,5 @@
 //! The body of a response (RFC 9112, section 6.3).
-ghost use Rattle.std.specs.Prelude.{◌≡◌, ◌≢◌, ℕ, Bool, Option, length, is_some, IfOk, IfErr};
+ghost use Rattle.std.specs.Prelude.{◌≡◌, ◌≢◌, ℕ, Bool, Option, is_some, IfOk, IfErr};
 ghost use Rattle.persistence.specs.declared.facts.Framing.TheVariants.{Counted, Chunked, UntilClose, Faulty};
 ghost use Rattle.persistence.specs.Faults.{BodyShows, HasLongTrailerBy, IsFirst};
 ghost use Rattle.persistence.specs.ReadingBody.{TellsBody, ends_before};

@@ -25,4 +25,6 @@ pub use method::Method;
 pub use response::{Response, read_response};
 
 #[cfg(test)]
+mod response_tests;
+#[cfg(test)]
 mod tests;

@@ -1,7 +1,7 @@
 use crate::{Facts, Framing, Version, persists};
 
 /// The facts of a counted HTTP/1.1 response that was read whole, where nothing else is said.
-const KEEP: Facts = Facts {
+pub(crate) const KEEP: Facts = Facts {
     version: Version::V11,
     close: false,
     keep_alive: false,
