@@ -39,7 +39,7 @@ nothing_in_head bytes head text (interims, heads) others place fault each shown 
     go (longer c cs m e reads) = head_shows_nothing c place m fault reads.reads shown
     go (shorter c cs m e reads) = interim_or_final c head heads.middle m text reads heads.reads
 
--- and so it is printed
+-- it is read the same whatever follows it
 print_final : (bytes : List ℕ) (head : ResponseHead) (text : List ℕ) → HasFinalHead bytes head text
     → (front : List ℕ) × (bytes ≡ front ++ text) × ((more : List ℕ) → HasFinalHead (front ++ more) head more)
 print_final bytes head text (interims, heads) =
@@ -57,6 +57,7 @@ print_final bytes head text (interims, heads) =
       ),
     )
 
+-- and no more interim heads stand before it than may
 few_interims : (bytes : List ℕ) (head : ResponseHead) (text : List ℕ) → HasFinalHead bytes head text → (others : List ResponseHead) (place : List ℕ)
     → ReadsEach ReadsInterim others bytes place → length others ≤ most_interims
 few_interims bytes head text (interims, heads) others place each = go (compared interim_printed interims others bytes heads.middle place heads.before.each each)
@@ -124,6 +125,10 @@ module _ (method : Method) (head : ResponseHead) where
   -- ---- the body, and the response
 
   module _ (bytes : List ℕ) (ended : Bool) (interims : List ResponseHead) (text : List ℕ) (heads : ReadsHeads interims head bytes text) where
+    -- where the body ends, if it does
+    abbrev EndsHere : Option ℕ → Type 0
+    EndsHere end = MatchOption end (HasNoEnd (body_kind method head) (counted_length (fields_of head)) ended text) (EndsAt (body_kind method head) (counted_length (fields_of head)) ended text)
+
     -- a body that ends splits the bytes
     abbrev parts_at : ℕ → Parts
     parts_at end = record { interims = interims; head = head; body = take end text; rest = drop end text }
@@ -134,11 +139,13 @@ module _ (method : Method) (head : ResponseHead) where
       body = ends.ends;
     }
 
+    -- and a body that does not end leaves no split
     no_split : HasNoEnd (body_kind method head) (counted_length (fields_of head)) ended text → IsNotWhole method bytes ended
     no_split none parts split =
         let u = final_unique bytes parts.head head (parts.body ++ parts.rest) text (parts.interims, split.heads) (interims, heads) in
         none parts.body parts.rest (sym u.1) (subst (λ (h : ResponseHead). EndsBody (body_kind method h) (counted_length (fields_of h)) ended parts.body parts.rest) u.0 split.body)
 
+    -- bytes follow the body where it ends before all that came
     surplus_at : (end : ℕ) → ends_before (length text) (Some end) ≡ is_some_text (drop end text)
     surplus_at end = grind (arith, nat_tests, length-drop end text)
 
@@ -155,13 +162,13 @@ module _ (method : Method) (head : ResponseHead) where
       }
         where
           after : (other : ResponseHead) (rest : List ℕ) → HasFinalHead bytes other rest → IsNotWhole method bytes ended → (end : Option ℕ)
-              → MatchOption end (HasNoEnd (body_kind method head) (counted_length (fields_of head)) ended text) (EndsAt (body_kind method head) (counted_length (fields_of head)) ended text)
+              → EndsHere end
               → facts_of method request_close head (is_some end) (ends_before (length text) end) ≡ facts_of method request_close other false false
           after other rest has open_end None none = ap (λ (h : ResponseHead). facts_of method request_close h false false) (final_unique bytes head other text rest (interims, heads) has).0
           after other rest has open_end (Some end) ends = absurd (open_end (parts_at end) (split_at end ends))
 
           whole : (parts : Parts) → IsSplit method bytes ended parts → (end : Option ℕ)
-              → MatchOption end (HasNoEnd (body_kind method head) (counted_length (fields_of head)) ended text) (EndsAt (body_kind method head) (counted_length (fields_of head)) ended text)
+              → EndsHere end
               → facts_of method request_close head (is_some end) (ends_before (length text) end) ≡ facts_of method request_close parts.head true (is_some_text parts.rest)
           whole parts split None none = absurd (no_split none parts split)
           whole parts split (Some end) ends =
@@ -171,12 +178,12 @@ module _ (method : Method) (head : ResponseHead) where
       tells_whole : TellsWhole method bytes ended (is_some body.end)
       tells_whole = record { yes = yes body.end tells.ends; no = no body.end tells.ends }
         where
-          yes : (end : Option ℕ) → MatchOption end (HasNoEnd (body_kind method head) (counted_length (fields_of head)) ended text) (EndsAt (body_kind method head) (counted_length (fields_of head)) ended text)
+          yes : (end : Option ℕ) → EndsHere end
               → is_some end ≡ true → (parts : Parts) × IsSplit method bytes ended parts
           yes None none e = absurd (cc)
           yes (Some end) ends e = (parts_at end, split_at end ends)
 
-          no : (end : Option ℕ) → MatchOption end (HasNoEnd (body_kind method head) (counted_length (fields_of head)) ended text) (EndsAt (body_kind method head) (counted_length (fields_of head)) ended text)
+          no : (end : Option ℕ) → EndsHere end
               → is_some end ≡ false → IsNotWhole method bytes ended
           no None none e = no_split none
           no (Some end) ends e = absurd (cc)
