@@ -15,3 +15,7 @@ pub mod SizeLine
 pub mod NextChunk
 pub mod ChunkedLemmas
 pub mod ResponseLemmas
+pub mod StepLemmas
+pub mod PieceLemmas
+pub mod DataLemmas
+pub mod InterimLemmas

@@ -27,7 +27,7 @@ line_end_after (b ∷ c ∷ tail) e =
     let second : c ≡ 10 = grind (arith, nat_tests, e) in
     (tail, ap (λ x. x ∷ c ∷ tail) first ∙ ap (λ y. 13 ∷ y ∷ tail) second)
 
-no_line_end : (tail more rest : List ℕ) → begins_crlf tail ≡ Some false → tail ++ more ≡ 13 ∷ 10 ∷ rest → ⊥
+pub no_line_end : (tail more rest : List ℕ) → begins_crlf tail ≡ Some false → tail ++ more ≡ 13 ∷ 10 ∷ rest → ⊥
 no_line_end [] more rest w e = cc
 no_line_end (b ∷ []) more rest w e = let first : b ≡ 13 = cc in let h : begins_crlf (b ∷ []) ≡ None = ap (λ x. begins_crlf (x ∷ [])) first in cc
 no_line_end (b ∷ c ∷ tail) more rest w e =

@@ -10,4 +10,5 @@ pub mod Faults
 pub mod Reading
 pub mod ReadingChunks
 pub mod ReadingBody
+pub mod ReadingPieces
 pub mod Response

@@ -43,8 +43,8 @@ pub(crate) fn final_head(bytes: &[u8]) -> Result<Option<(Head, usize)>, ReadFaul
     Err(ReadFault::TooManyInterims)
 }
 
-// Whether a head of that status is an interim one.
-fn is_interim(status: u16) -> bool
+/// Whether a head of that status is an interim one.
+pub(crate) fn is_interim(status: u16) -> bool
     ensures { result ≡ is_interim_status status }
 {
     100 <= status && status <= 199 && status != 101

@@ -3,20 +3,28 @@
 #![tactic(auto)]
 
 mod body;
+mod buffer;
+mod chunk_data;
 mod chunks;
+mod count;
 mod elements;
 mod facts;
 mod fault;
+mod fed;
 mod fields;
 mod head;
+mod head_step;
 mod heads;
+mod heads_step;
 mod laws;
+mod line_step;
 mod lines;
 mod method;
 mod number;
 mod response;
 mod size_line;
 mod trailer;
+mod trailer_step;
 
 pub use facts::{Facts, Framing, Version, persists};
 pub use fault::ReadFault;

@@ -1,0 +1,31 @@
+//! A chunk's data, which is counted and not looked at, and the CR LF after it.
+ghost use Rattle.std.specs.Prelude.{◌≡◌, ℕ, ◌+◌, ◌-◌, ◌<◌, true, false, List, [], ◌∷◌, ◌++◌, take, None, Some};
+ghost use Rattle.persistence.specs.Faults.{ShowsBadChunk};
+ghost use Rattle.persistence.specs.ReadingPieces.{IsTaken, PassesTo, IsInData, IsAfterData};
+
+use crate::count::{line_end_after, part_of};
+
+/// How many bytes of the piece are data of a chunk of which so much is left, which is not nothing.
+pub(crate) fn data_step(left: u64, piece: &[u8]) -> usize
+    requires { 0 < left }
+    ensures taken { IsTaken piece.now result }
+    ensures open { (text : List ℕ) (len : ℕ) → IsInData text len left → result < left
+        → IsInData (text ++ take result piece.now) (len + result) (left - result) }
+    ensures full { (text : List ℕ) (len : ℕ) → IsInData text len left → result ≡ left
+        → IsAfterData (text ++ take result piece.now) (len + result) false }
+{
+    part_of(left, piece)
+}
+
+/// Whether the byte after the data ends the chunk, where the CR came before it or not; nothing where that
+/// is not told yet.
+pub(crate) fn chunk_end_step(has_cr: bool, byte: u8) -> Option<bool>
+    ensures open { result ≡ None → (text : List ℕ) (len : ℕ) → IsAfterData text len has_cr
+        → IsAfterData (text ++ byte ∷ []) len true }
+    ensures whole { result ≡ Some true → (text : List ℕ) (len : ℕ) → IsAfterData text len has_cr
+        → PassesTo (text ++ byte ∷ []) len [] }
+    ensures fault { result ≡ Some false → (text : List ℕ) (len : ℕ) → IsAfterData text len has_cr
+        → ShowsBadChunk (text ++ byte ∷ []) }
+{
+    line_end_after(has_cr, byte)
+}
