@@ -8,15 +8,17 @@ use Rattle.std.proofs.lemmas.Bool.Decides.{nat_tests}
 use Rattle.persistence.specs.declared.facts.Facts.{Facts}
 use Rattle.conn_log.specs.declared.entry.Want.{Want}
 use Rattle.conn_log.specs.declared.entry.Cause.{Cause}
-use Rattle.conn_log.specs.declared.entry.Cause.TheVariants.{NotPersistent, Cut, Forbidden, Dropped}
-use Rattle.conn_log.specs.declared.entry.Event.TheVariants.{Opened, Leased, Returned, Closed}
+use Rattle.conn_log.specs.declared.entry.Cause.TheVariants.{NotPersistent, Cut, Forbidden, TooOld, HostRoom, TotalRoom, CacheFull, Dropped, Withdrawn, Pruned}
+use Rattle.conn_log.specs.declared.entry.Event.TheVariants.{Opened, Leased, Returned, Closed, Waited, Left}
 use Rattle.conn_log.specs.declared.entry.Entry.{Entry}
-use Rattle.conn_log.specs.Connections.{held_number, is_among, last_moment, opened, greatest, open_connections, is_open, holder_want, is_held_by, holds, is_idle}
+use Rattle.conn_log.specs.Connections.{held_number, is_among, last_moment, opened, greatest, open_connections, is_open, holder_want, is_held_by, holds, idle_connections, is_idle}
+use Rattle.conn_log.specs.Waiting.{waiting, waits}
 use Rattle.conn_log.specs.Fit.{is_fit, suits}
 use Rattle.conn_log.specs.Legal.{Terms, ends_use, ending_cause, owed, MayStartAmong, MayStart, IsQuiet, IsAnyone, MayClose}
-use Rattle.conn_log.specs.Sound.{IsOrderly, IsSound, has_number}
+use Rattle.conn_log.specs.Sound.{IsOrderly, IsSound, IsNextAmong, IsNext, is_of_holder, is_of_idle, has_number}
 use Rattle.conn_log.proofs.Numbers.{le-greatest}
-use Rattle.conn_log.proofs.Steps.{idle_open_unheld, gone_closed, gone_ended, orderly_open, orderly_lease, orderly_return, orderly_gone}
+use Rattle.conn_log.proofs.Steps.{idle_open_unheld, gone_closed, gone_ended, orderly_open, orderly_lease, orderly_return, orderly_gone, orderly_wait, orderly_leave}
+use Rattle.conn_log.proofs.Queues.{is_waiting, first_waits}
 
 pub and_left : (a b : Bool) → (a && b) ≡ true → a ≡ true
 and_left true b both = refl
@@ -31,6 +33,31 @@ ended_close : (whole forbids : Bool) (before : List Entry) (c : ℕ) → owed be
 ended_close true true before c owes = owes
 ended_close true false before c owes = owes
 ended_close false forbids before c owes = owes
+
+-- what the causes ask of a connection
+holder_may_close : (log : List Entry) (c : ℕ) (cause : Cause) → is_of_holder cause ≡ true → owed log ≡ None → is_some (holder_want log c) ≡ true → MayClose log c cause
+holder_may_close log c Dropped fits settled held = (settled, held)
+holder_may_close log c Withdrawn fits settled held = (settled, held)
+holder_may_close log c NotPersistent fits settled held = absurd (false≢true fits)
+holder_may_close log c Cut fits settled held = absurd (false≢true fits)
+holder_may_close log c Forbidden fits settled held = absurd (false≢true fits)
+holder_may_close log c TooOld fits settled held = absurd (false≢true fits)
+holder_may_close log c HostRoom fits settled held = absurd (false≢true fits)
+holder_may_close log c TotalRoom fits settled held = absurd (false≢true fits)
+holder_may_close log c CacheFull fits settled held = absurd (false≢true fits)
+holder_may_close log c Pruned fits settled held = absurd (false≢true fits)
+
+pub idle_may_close : (log : List Entry) (c : ℕ) (cause : Cause) → is_of_idle cause ≡ true → owed log ≡ None → is_idle log c ≡ true → MayClose log c cause
+idle_may_close log c Dropped fits settled idle = absurd (false≢true fits)
+idle_may_close log c Withdrawn fits settled idle = absurd (false≢true fits)
+idle_may_close log c NotPersistent fits settled idle = absurd (false≢true fits)
+idle_may_close log c Cut fits settled idle = absurd (false≢true fits)
+idle_may_close log c Forbidden fits settled idle = absurd (false≢true fits)
+idle_may_close log c TooOld fits settled idle = (settled, idle)
+idle_may_close log c HostRoom fits settled idle = (settled, idle)
+idle_may_close log c TotalRoom fits settled idle = (settled, idle)
+idle_may_close log c CacheFull fits settled idle = (settled, idle)
+idle_may_close log c Pruned fits settled idle = (settled, idle)
 
 any_passes : (p : ℕ → Bool) (c : ℕ) (xs : List ℕ) → is_among c xs ≡ true → p c ≡ true → list_any p xs ≡ true
 any_passes p c [] among passes = grind arith
@@ -58,15 +85,27 @@ module _ (terms : Terms) (log : List Entry) (orderly : IsOrderly terms log) wher
           let held : is_held_by log transfer c ≡ true = orderly.held_once c transfer ∙ ap (λ h. has_number h c) is ∙ grind (arith, nat_tests) in
           any_passes (is_held_by log transfer) c (open_connections log) (held_is_open c transfer held) held
 
-  -- nobody waits, so who holds nothing may start
-  pub may_start : (want : Want) → held_number log want.transfer ≡ None → MayStart log want
-  may_start want free = subst (λ ws. MayStartAmong ws (holds log want.transfer) want) (sym orderly.nobody_waits) (holds_is want.transfer ∙ ap is_some free)
+  -- the next to start holds nothing, and may start
+  pub next_free : (want : Want) → IsNext log want → held_number log want.transfer ≡ None
+  next_free want next = among (waiting log) refl next
+    where
+      among : (wants : List Want) → waiting log ≡ wants → IsNextAmong wants (held_number log want.transfer) want → held_number log want.transfer ≡ None
+      among [] is free = free
+      among (head ∷ wants) is first =
+          orderly.waiting_free want.transfer (ap (λ ws. is_waiting ws want.transfer) is ∙ subst (λ (w : Want). is_waiting (head ∷ wants) w.transfer ≡ true) (sym first) (first_waits head wants))
 
-  -- nobody waits, so it is quiet where no close is owed
-  pub quiet : owed log ≡ None → IsQuiet terms false log
-  quiet settled = record {
-    none_idle = λ anyone. absurd (subst IsAnyone orderly.nobody_waits anyone);
-    no_room = λ anyone. absurd (subst IsAnyone orderly.nobody_waits anyone);
+  pub may_start : (want : Want) → IsNext log want → MayStart log want
+  may_start want next = among (waiting log) next
+    where
+      among : (wants : List Want) → IsNextAmong wants (held_number log want.transfer) want → MayStartAmong wants (holds log want.transfer) want
+      among [] free = holds_is want.transfer ∙ ap is_some free
+      among (head ∷ wants) first = first
+
+  -- where nobody waits it is quiet if no close is owed
+  pub quiet : waiting log ≡ [] → owed log ≡ None → IsQuiet terms false log
+  quiet nobody settled = record {
+    none_idle = λ anyone. absurd (subst IsAnyone nobody anyone);
+    no_room = λ anyone. absurd (subst IsAnyone nobody anyone);
     queued_for = λ never. absurd (false≢true never);
     settled = settled;
   }
@@ -78,18 +117,18 @@ module _ (terms : Terms) (log : List Entry) (orderly : IsOrderly terms log) wher
   ] refl
 
 module _ (terms : Terms) (log : List Entry) (sound : IsSound terms log) (moment : ℕ) (later : last_moment log ≤ moment) where
-  pub sound_open : (c : ℕ) (want : Want) → c ≡ greatest terms.first (opened log) + 1 → length (open_connections log) < terms.limit → held_number log want.transfer ≡ None → IsSound terms (record { moment = moment; event = Opened c want } ∷ log)
-  sound_open c want next room free = record {
-    legal = (later, (sound.settled, record { next = next; room = room; start = may_start terms log sound.orderly want free }), sound.legal);
+  pub sound_open : (c : ℕ) (want : Want) → c ≡ greatest terms.first (opened log) + 1 → length (open_connections log) < terms.limit → IsNext log want → IsSound terms (record { moment = moment; event = Opened c want } ∷ log)
+  sound_open c want next room first = record {
+    legal = (later, (sound.settled, record { next = next; room = room; start = may_start terms log sound.orderly want first }), sound.legal);
     settled = refl;
-    orderly = orderly_open terms log sound.orderly moment c want (next_is_new terms log sound.orderly c next) free room;
+    orderly = orderly_open terms log sound.orderly moment c want (next_is_new terms log sound.orderly c next) (next_free terms log sound.orderly want first) room;
   }
 
-  pub sound_lease : (c : ℕ) (want : Want) → is_fit log want moment c ≡ true → held_number log want.transfer ≡ None → IsSound terms (record { moment = moment; event = Leased c want } ∷ log)
-  sound_lease c want fit free = record {
-    legal = (later, (sound.settled, record { fit = fit; start = may_start terms log sound.orderly want free }), sound.legal);
+  pub sound_lease : (c : ℕ) (want : Want) → is_fit log want moment c ≡ true → IsNext log want → IsSound terms (record { moment = moment; event = Leased c want } ∷ log)
+  sound_lease c want fit first = record {
+    legal = (later, (sound.settled, record { fit = fit; start = may_start terms log sound.orderly want first }), sound.legal);
     settled = refl;
-    orderly = orderly_lease terms log sound.orderly moment c want (and_left (is_idle log c) (suits log want moment c) fit) free;
+    orderly = orderly_lease terms log sound.orderly moment c want (and_left (is_idle log c) (suits log want moment c) fit) (next_free terms log sound.orderly want first);
   }
 
   pub sound_return : (c : ℕ) (facts : Facts) (want : Want) → holder_want log c ≡ Some want → ends_use facts want ≡ false → IsSound terms (record { moment = moment; event = Returned c facts } ∷ log)
@@ -106,11 +145,28 @@ module _ (terms : Terms) (log : List Entry) (sound : IsSound terms log) (moment 
     orderly = orderly_gone terms log sound.orderly c _ (gone_ended moment c facts (ending_cause facts want) log) (sound.orderly.held_open c (rw held refl));
   }
 
-  pub sound_drop : (c : ℕ) → is_some (holder_want log c) ≡ true → IsSound terms (record { moment = moment; event = Closed c Dropped } ∷ log)
-  sound_drop c held = record {
-    legal = (later, (sound.settled, held), sound.legal);
+  -- what a transfer holds is closed, for a cause that is for holders
+  pub sound_drop : (c : ℕ) (cause : Cause) → is_of_holder cause ≡ true → is_some (holder_want log c) ≡ true → IsSound terms (record { moment = moment; event = Closed c cause } ∷ log)
+  sound_drop c cause fits held = record {
+    legal = (later, holder_may_close log c cause fits sound.settled held, sound.legal);
     settled = refl;
-    orderly = orderly_gone terms log sound.orderly c _ (gone_closed moment c Dropped log) (sound.orderly.held_open c held);
+    orderly = orderly_gone terms log sound.orderly c _ (gone_closed moment c cause log) (sound.orderly.held_open c held);
+  }
+
+  -- a transfer that neither holds nor waits begins to wait, where nothing is idle
+  pub sound_wait : (want : Want) → held_number log want.transfer ≡ None → waits log want.transfer ≡ false → idle_connections log ≡ [] → IsSound terms (record { moment = moment; event = Waited want } ∷ log)
+  sound_wait want free new none_idle = record {
+    legal = (later, (sound.settled, record { holds_nothing = holds_is terms log sound.orderly want.transfer ∙ ap is_some free; waits_not = new; none_idle = none_idle }), sound.legal);
+    settled = refl;
+    orderly = orderly_wait terms log sound.orderly moment want free new;
+  }
+
+  -- a transfer that waits leaves
+  pub sound_leave : (transfer : ℕ) → waits log transfer ≡ true → IsSound terms (record { moment = moment; event = Left transfer } ∷ log)
+  sound_leave transfer there = record {
+    legal = (later, (sound.settled, there), sound.legal);
+    settled = refl;
+    orderly = orderly_leave terms log sound.orderly moment transfer;
   }
 
   -- an idle one is closed, for a cause that is for idle ones
@@ -133,6 +189,7 @@ sound_empty terms = record {
     held_once = λ c transfer. refl;
     idle_persists = λ c idle. absurd (false≢true idle);
     within = omega arith;
-    nobody_waits = refl;
+    wait_once = tt;
+    waiting_free = λ transfer waits. absurd (false≢true waits);
   };
 }

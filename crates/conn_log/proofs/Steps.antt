@@ -7,13 +7,14 @@ use Rattle.persistence.specs.declared.facts.Facts.{Facts}
 use Rattle.persistence.specs.Persistent.{is_persistent}
 use Rattle.conn_log.specs.declared.entry.Want.{Want}
 use Rattle.conn_log.specs.declared.entry.Cause.{Cause}
-use Rattle.conn_log.specs.declared.entry.Event.TheVariants.{Opened, Leased, Returned, Closed}
+use Rattle.conn_log.specs.declared.entry.Event.TheVariants.{Opened, Leased, Returned, Closed, Waited, Left}
 use Rattle.conn_log.specs.declared.entry.Entry.{Entry}
 use Rattle.conn_log.specs.Connections.{held_number, unless_it_is, is_among, opened, is_closed, open_connections, is_open, holder_want, is_held_by, idle_connections, is_idle, born, since, lane, came_back_persistent}
-use Rattle.conn_log.specs.Waiting.{waiting, without}
+use Rattle.conn_log.specs.Waiting.{waiting, without, waits}
 use Rattle.conn_log.specs.Legal.{Terms}
 use Rattle.conn_log.specs.Sound.{IsOrderly, has_number, IdleFacts, idle_facts, held_facts, facts_if_held}
 use Rattle.conn_log.proofs.Waits.{filter-filter}
+use Rattle.conn_log.proofs.Queues.{is_waiting, once_without, once_last, waits_without, waits_last}
 use Rattle.conn_log.proofs.Numbers.{is_among-filter, filter_agree, parted, length-filter_flip}
 
 -- open and idle, as tests of one number
@@ -115,6 +116,9 @@ same_facts log after d idle l b s =
 not_idle_none : (log : List Entry) (d : ℕ) → is_idle log d ≡ false → idle_facts log d ≡ None
 not_idle_none log d out = ap (λ i. made i (lane log d) (born log d) (since log d)) out
 
+and_parts : (a b : Bool) → (a && b) ≡ true → (a ≡ true) × (b ≡ true)
+and_parts a b both = grind (arith, both)
+
 module _ (terms : Terms) (log : List Entry) (orderly : IsOrderly terms log) where
   -- a number that was never opened is neither closed nor held
   pub new_not_closed : (c : ℕ) → is_among c (opened log) ≡ false → is_closed log c ≡ false
@@ -144,6 +148,45 @@ module _ (terms : Terms) (log : List Entry) (orderly : IsOrderly terms log) wher
       | inr other ↦ rw (elsewhere.0, other.0) (orderly.held_once d transfer)
     ]
   ]
+
+  -- who still waits holds nothing, once a transfer starts
+  free_start : (c : ℕ) (want : Want) (transfer : ℕ) → is_waiting (without want.transfer (waiting log)) transfer ≡ true → (if want.transfer == transfer then Some c else held_number log transfer) ≡ None
+  free_start c want transfer left =
+      let parts = and_parts (not (want.transfer == transfer)) (is_waiting (waiting log) transfer) (sym (waits_without want.transfer transfer (waiting log)) ∙ left) in
+      let other : (want.transfer == transfer) ≡ false = grind (arith, parts.0) in
+      rw other (orderly.waiting_free transfer parts.1)
+
+  -- a transfer that holds nothing waits
+  pub orderly_wait : (moment : ℕ) (want : Want) → held_number log want.transfer ≡ None → waits log want.transfer ≡ false → IsOrderly terms (record { moment = moment; event = Waited want } ∷ log)
+  orderly_wait moment want free new = record {
+    distinct = orderly.distinct;
+    closed_opened = orderly.closed_opened;
+    held_open = orderly.held_open;
+    held_once = orderly.held_once;
+    idle_persists = orderly.idle_persists;
+    within = orderly.within;
+    wait_once = once_last want (waiting log) orderly.wait_once new;
+    waiting_free = λ transfer left. elim (eqb_tells want.transfer transfer) [
+      | inl same ↦ subst (λ (t : ℕ). held_number log t ≡ None) same.1 free
+      | inr other ↦ orderly.waiting_free transfer (still other.0 (sym (waits_last want transfer (waiting log)) ∙ left))
+    ];
+  }
+    where
+      still : {a b : Bool} → a ≡ false → (b || a) ≡ true → b ≡ true
+      still out either = grind (arith, out, either)
+
+  -- a transfer leaves
+  pub orderly_leave : (moment transfer : ℕ) → IsOrderly terms (record { moment = moment; event = Left transfer } ∷ log)
+  orderly_leave moment transfer = record {
+    distinct = orderly.distinct;
+    closed_opened = orderly.closed_opened;
+    held_open = orderly.held_open;
+    held_once = orderly.held_once;
+    idle_persists = orderly.idle_persists;
+    within = orderly.within;
+    wait_once = once_without transfer (waiting log) orderly.wait_once;
+    waiting_free = λ t left. orderly.waiting_free t (and_parts (not (transfer == t)) (is_waiting (waiting log) t) (sym (waits_without transfer t (waiting log)) ∙ left)).1;
+  }
 
   -- a new connection for a transfer that holds none
   module _ (moment c : ℕ) (want : Want) (new : is_among c (opened log) ≡ false) (free : held_number log want.transfer ≡ None) (room : length (open_connections log) < terms.limit) where
@@ -193,7 +236,8 @@ module _ (terms : Terms) (log : List Entry) (orderly : IsOrderly terms log) wher
       held_once = λ d transfer. held_once_start c d transfer want (unheld c (new_not_held c new)) free;
       idle_persists = λ d idle. let was = is_idle_is (record { moment = moment; event = Opened c want } ∷ log) d in let open_was = is_open_is (record { moment = moment; event = Opened c want } ∷ log) d in grind (arith, nat_tests, was, open_was, is_idle_is log d, is_open_is log d, orderly.idle_persists d);
       within = rw (new_not_closed c new) (omega (arith, room));
-      nobody_waits = ap (without want.transfer) orderly.nobody_waits;
+      wait_once = once_without want.transfer (waiting log) orderly.wait_once;
+      waiting_free = λ transfer left. free_start c want transfer left;
     }
 
   -- who holds what, once a connection is nobody's
@@ -284,7 +328,8 @@ module _ (terms : Terms) (log : List Entry) (orderly : IsOrderly terms log) wher
       held_once = λ d transfer. held_once_start c d transfer want (unheld c idle_unheld) free;
       idle_persists = λ d still. grind (arith, nat_tests, is_idle_is (record { moment = moment; event = Leased c want } ∷ log) d, is_idle_is log d, orderly.idle_persists d);
       within = orderly.within;
-      nobody_waits = ap (without want.transfer) orderly.nobody_waits;
+      wait_once = once_without want.transfer (waiting log) orderly.wait_once;
+      waiting_free = λ transfer left. free_start c want transfer left;
     }
 
   -- a connection comes back and stays
@@ -322,7 +367,8 @@ module _ (terms : Terms) (log : List Entry) (orderly : IsOrderly terms log) wher
       held_once = λ d transfer. held_once_end c d transfer;
       idle_persists = λ d still. grind (arith, nat_tests, persists, is_idle_is (record { moment = moment; event = Returned c facts } ∷ log) d, is_idle_is log d, orderly.idle_persists d);
       within = orderly.within;
-      nobody_waits = orderly.nobody_waits;
+      wait_once = orderly.wait_once;
+      waiting_free = λ transfer left. ap (unless_it_is c) (orderly.waiting_free transfer left);
     }
 
   -- a connection is gone
@@ -371,5 +417,6 @@ module _ (terms : Terms) (log : List Entry) (orderly : IsOrderly terms log) wher
       held_once = λ d transfer. rw (gone.held d, gone.taken transfer) (held_once_end c d transfer);
       idle_persists = λ d still. grind (arith, nat_tests, is_idle_is after d, is_idle_is log d, gone_open d, gone.held d, gone.persists d, orderly.idle_persists d);
       within = omega (arith, orderly.within, fewer_open was_open);
-      nobody_waits = gone.waiting ∙ orderly.nobody_waits;
+      wait_once = rw gone.waiting orderly.wait_once;
+      waiting_free = λ transfer left. gone.taken transfer ∙ ap (unless_it_is c) (orderly.waiting_free transfer (ap (λ wants. is_waiting wants transfer) (sym gone.waiting) ∙ left));
     }

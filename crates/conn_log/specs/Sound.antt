@@ -2,9 +2,11 @@
 use Rattle.std.specs.Prelude.{◌≡◌, ℕ, ◌≤◌, Bool, true, false, ◌==◌, if◌then◌else◌, List, [], ◌∷◌, length, Option, Some, None, is_some}
 use Rattle.std.specs.Option.{option_map, option_map_or}
 use Rattle.conn_log.specs.declared.entry.Want.{Want}
+use Rattle.conn_log.specs.declared.entry.Cause.{Cause}
+use Rattle.conn_log.specs.declared.entry.Cause.TheVariants.{NotPersistent, Cut, Forbidden, Dropped, Withdrawn}
 use Rattle.conn_log.specs.declared.entry.Entry.{Entry}
 use Rattle.conn_log.specs.Connections.{is_among, opened, is_closed, open_connections, is_open, holder_want, is_held_by, is_idle, born, since, lane, came_back_persistent, held_number}
-use Rattle.conn_log.specs.Waiting.{waiting}
+use Rattle.conn_log.specs.Waiting.{without, waiting, waits}
 use Rattle.conn_log.specs.Legal.{Terms, owed, IsLegal}
 
 -- each number stands once
@@ -16,8 +18,14 @@ AreDistinct (c ∷ numbers) = (is_among c numbers ≡ false) × AreDistinct numb
 abbrev pub has_number : Option ℕ → ℕ → Bool
 has_number held c = option_map_or (λ d. d == c) held false
 
+-- each transfer waits once
+abbrev pub WaitOnce : List Want → Type 0
+WaitOnce [] = Unit {0}
+WaitOnce (want ∷ others) = (without want.transfer others ≡ others) × WaitOnce others
+
 -- numbers stand once; a closed or held connection was opened, and a held one is open; each transfer
--- holds one connection at most; each idle connection came back persistent; and nobody waits
+-- holds one connection at most; each idle connection came back persistent; each transfer waits once,
+-- and one that waits holds nothing
 pub record IsOrderly (terms : Terms) (log : List Entry) : Type 0 where
   pub distinct : AreDistinct (opened log)
   pub closed_opened : (c : ℕ) → is_closed log c ≡ true → is_among c (opened log) ≡ true
@@ -25,7 +33,31 @@ pub record IsOrderly (terms : Terms) (log : List Entry) : Type 0 where
   pub held_once : (c transfer : ℕ) → is_held_by log transfer c ≡ has_number (held_number log transfer) c
   pub idle_persists : (c : ℕ) → is_idle log c ≡ true → came_back_persistent log c ≡ true
   pub within : length (open_connections log) ≤ terms.limit
-  pub nobody_waits : waiting log ≡ []
+  pub wait_once : WaitOnce (waiting log)
+  pub waiting_free : (transfer : ℕ) → waits log transfer ≡ true → held_number log transfer ≡ None
+
+-- next to start: the first one that waits, and where nobody waits whoever holds nothing
+abbrev pub IsNextAmong : List Want → Option ℕ → Want → Type 0
+IsNextAmong [] held want = held ≡ None
+IsNextAmong (head ∷ others) held want = want ≡ head
+
+abbrev pub IsNext : List Entry → Want → Type 0
+IsNext log want = IsNextAmong (waiting log) (held_number log want.transfer) want
+
+-- why a transfer may close what it holds, without a response
+abbrev pub is_of_holder : Cause → Bool
+is_of_holder Dropped = true
+is_of_holder Withdrawn = true
+is_of_holder _ = false
+
+-- why an idle connection may be closed
+abbrev pub is_of_idle : Cause → Bool
+is_of_idle NotPersistent = false
+is_of_idle Cut = false
+is_of_idle Forbidden = false
+is_of_idle Dropped = false
+is_of_idle Withdrawn = false
+is_of_idle _ = true
 
 -- sound: legal, with no close owed, and orderly
 pub record IsSound (terms : Terms) (log : List Entry) : Type 0 where
