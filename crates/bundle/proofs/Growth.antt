@@ -1,18 +1,18 @@
 -- Each call's log grows from the log before it.
-use Rattle.std.proofs.Common.{◌≡◌, ℕ, zero, suc, length, Bool, true, false, List, [], ◌∷◌, ◌++◌, Option, Some, None, refl, sym, ap, ◌∙◌}
-use Rattle.std.proofs.lemmas.List.{append_assoc}
+use Rattle.std.proofs.Common.{ℕ, zero, suc, length, Bool, true, false, List, [], ◌∷◌, Option, Some, None, refl, ap}
 use Rattle.std.specs.Prelude.{if◌then◌else◌}
 use Rattle.persistence.specs.declared.facts.Facts.{Facts}
 use Rattle.conn_log.specs.declared.entry.Want.{Want}
 use Rattle.conn_log.specs.declared.entry.Cause.{Cause}
-use Rattle.conn_log.specs.declared.entry.Cause.TheVariants.{TooOld, Dropped}
+use Rattle.conn_log.specs.declared.entry.Cause.TheVariants.{TooOld, HostRoom, Dropped, Withdrawn}
 use Rattle.conn_log.specs.declared.entry.Event.{Event}
-use Rattle.conn_log.specs.declared.entry.Event.TheVariants.{Leased, Returned, Closed}
+use Rattle.conn_log.specs.declared.entry.Event.TheVariants.{Leased, Returned, Closed, Waited, Left}
 use Rattle.conn_log.specs.declared.entry.Entry.{Entry}
-use Rattle.conn_log.specs.Connections.{idle_connections}
-use Rattle.conn_log.specs.Fit.{newest_fit, oldest_too_old, oldest}
+use Rattle.conn_log.specs.Connections.{idle_connections, held_number}
+use Rattle.conn_log.specs.Waiting.{waiting, waits}
+use Rattle.conn_log.specs.Fit.{is_fit, newest_fit, oldest_too_old, oldest}
 use Rattle.conn_log.specs.Legal.{Terms, owed}
-use Rattle.bundle.specs.Calls.{add, moment_at, start_on, with_start, after_acquire, after_give_back, after_abandon, close_before, close_too_old, without_too_old, close_if_owed, with_owed_close, close_for_room, with_host_room, is_full, GrowsBy}
+use Rattle.bundle.specs.Calls.{add, moment_at, start_new, start_on, start_unless, after_acquire, close_before, close_too_old, close_for_room, with_host_room, is_full, open_for, unfit_cause, pass_to, settle, after_give_back, after_close, after_abandon, close_granted, after_withdraw, GrowsBy}
 
 pub grows_same : (log : List Entry) → GrowsBy log log
 grows_same log = ([], refl)
@@ -20,65 +20,74 @@ grows_same log = ([], refl)
 pub grows_by_one : (moment : ℕ) (event : Event) (old log : List Entry) → GrowsBy old log → GrowsBy old (add moment event log)
 grows_by_one moment event old log grew = (record { moment = moment; event = event } ∷ grew.0, ap (add moment event) grew.1)
 
-pub grows_owed : (moment : ℕ) (old log : List Entry) → GrowsBy old log → GrowsBy old (with_owed_close moment log)
-grows_owed moment old log grew = by_case (owed log)
-  where
-    by_case : (owes : Option (ℕ × Cause)) → GrowsBy old (close_if_owed moment log owes)
-    by_case None = grew
-    by_case (Some close) = grows_by_one moment _ old log grew
+-- a choice of two logs
+grows_either : (old log other : List Entry) (first : Bool) → GrowsBy old log → GrowsBy old other → GrowsBy old (if first then log else other)
+grows_either old log other true grew also = grew
+grows_either old log other false grew also = also
 
-pub grows_room : (terms : Terms) (moment : ℕ) (log : List Entry) → GrowsBy log (with_host_room terms moment log)
-grows_room terms moment log = by_case (is_full terms log) (oldest log)
-  where
-    by_oldest : (first : Option ℕ) → GrowsBy log (close_for_room moment log first)
-    by_oldest None = grows_same log
-    by_oldest (Some c) = grows_by_one moment _ log log (grows_same log)
-
-    by_case : (full : Bool) (first : Option ℕ) → GrowsBy log (if full then close_for_room moment log first else log)
-    by_case true first = by_oldest first
-    by_case false first = grows_same log
-
-grows_so_many : (n : ℕ) (want : Want) (moment : ℕ) (old log : List Entry) → GrowsBy old log → GrowsBy old (close_too_old n want moment log)
-grows_so_many zero want moment old log grew = grew
-grows_so_many (suc n) want moment old log grew = by_first (oldest_too_old log want moment) (λ c. grows_so_many n want moment old (add moment (Closed c TooOld) log) (grows_by_one moment (Closed c TooOld) old log grew))
+grows_too_old : (n : ℕ) (want : Want) (moment : ℕ) (old log : List Entry) → GrowsBy old log → GrowsBy old (close_too_old n want moment log)
+grows_too_old zero want moment old log grew = grew
+grows_too_old (suc n) want moment old log grew = by_first (oldest_too_old log want moment) (λ c. grows_too_old n want moment old (add moment (Closed c TooOld) log) (grows_by_one moment (Closed c TooOld) old log grew))
   where
     by_first : (first : Option ℕ) → ((c : ℕ) → GrowsBy old (close_too_old n want moment (add moment (Closed c TooOld) log))) → GrowsBy old (close_before moment log first (close_too_old n want moment))
     by_first None rest = grew
     by_first (Some c) rest = rest c
 
-pub grows_too_old : (want : Want) (moment : ℕ) (old log : List Entry) → GrowsBy old log → GrowsBy old (without_too_old want moment log)
-grows_too_old want moment old log grew = grows_so_many (length (idle_connections log)) want moment old log grew
+module _ (terms : Terms) (moment : ℕ) (old : List Entry) where
+  grows_for_room : (log : List Entry) (first : Option ℕ) → GrowsBy old log → GrowsBy old (close_for_room moment log first)
+  grows_for_room log None grew = grew
+  grows_for_room log (Some c) grew = grows_by_one moment (Closed c HostRoom) old log grew
 
--- a log that is another grows as that one does
-pub grows_as : (old log other : List Entry) → other ≡ log → GrowsBy old log → GrowsBy old other
-grows_as old log other same grew = (grew.0, same ∙ grew.1)
+  grows_start : (want : Want) (log : List Entry) → GrowsBy old log → (fit : Option ℕ) → GrowsBy old (start_on terms want moment log fit)
+  grows_start want log grew (Some c) = grows_by_one moment (Leased c want) old log grew
+  grows_start want log grew None =
+      let room = with_host_room terms moment log in
+      let closed : GrowsBy old room = grows_either old (close_for_room moment log (oldest log)) log (is_full terms log) (grows_for_room log (oldest log) grew) grew in
+      grows_either old (add moment (Waited want) room) (start_new terms want moment room) (is_full terms room) (grows_by_one moment _ old room closed) (grows_by_one moment _ old room closed)
 
--- a log grows from one that is the old one
-pub grows_from : (old base : List Entry) → base ≡ old → GrowsBy old base
-grows_from old base same = ([], same)
+  grows_for : (log : List Entry) → GrowsBy old log → (wants : List Want) → GrowsBy old (open_for terms moment log wants)
+  grows_for log grew [] = grew
+  grows_for log grew (head ∷ others) = grows_by_one moment _ old log grew
 
-pub grows_too_old_from : (want : Want) (moment : ℕ) (old log : List Entry) → log ≡ old → GrowsBy old (without_too_old want moment log)
-grows_too_old_from want moment old log same = grows_too_old want moment old log (grows_from old log same)
+  grows_passed : (c : ℕ) (log : List Entry) → GrowsBy old log → (wants : List Want) → GrowsBy old (pass_to terms c moment log wants)
+  grows_passed c log grew [] = grew
+  grows_passed c log grew (head ∷ others) =
+      let closed = add moment (Closed c (unfit_cause terms log head moment c)) log in
+      grows_either old (add moment (Leased c head) log) (start_new terms head moment closed) (is_fit log head moment c) (grows_by_one moment _ old log grew) (grows_by_one moment _ old closed (grows_by_one moment _ old log grew))
 
-pub grows_room_of : (terms : Terms) (moment : ℕ) (old log : List Entry) → GrowsBy old log → GrowsBy old (with_host_room terms moment log)
-grows_room_of terms moment old log grew = let more = grows_room terms moment log in joined more.0 grew.0 more.1 grew.1
-  where
-    joined : (later sooner : List Entry) → with_host_room terms moment log ≡ later ++ log → log ≡ sooner ++ old → GrowsBy old (with_host_room terms moment log)
-    joined later sooner more grew = (later ++ sooner, more ∙ ap (λ before. later ++ before) grew ∙ sym (append_assoc later sooner old))
+  grows_settled : (c : ℕ) (log : List Entry) → GrowsBy old log → (owes : Option (ℕ × Cause)) → GrowsBy old (settle terms c moment log owes)
+  grows_settled c log grew None = grows_passed c log grew (waiting log)
+  grows_settled c log grew (Some close) = let closed = add moment (Closed close.0 close.1) log in grows_for closed (grows_by_one moment _ old log grew) (waiting closed)
 
 -- the log after each call grows from the log before it
-grows_start : (terms : Terms) (want : Want) (moment : ℕ) (old log : List Entry) → GrowsBy old log → GrowsBy old (with_start terms want moment log)
-grows_start terms want moment old log grew = by_fit (newest_fit log want moment)
-  where
-    by_fit : (fit : Option ℕ) → GrowsBy old (start_on terms want moment log fit)
-    by_fit None = grows_by_one moment _ old (with_host_room terms moment log) (grows_room_of terms moment old log grew)
-    by_fit (Some c) = grows_by_one moment (Leased c want) old log grew
-
 pub grows_acquire : (terms : Terms) (log : List Entry) (want : Want) (now : ℕ) → GrowsBy log (after_acquire terms log want now)
-grows_acquire terms log want now = let moment = moment_at log now in grows_start terms want moment log (without_too_old want moment log) (grows_too_old want moment log log (grows_same log))
+grows_acquire terms log want now = by_queue (waiting log)
+  where
+    by_queue : (wants : List Want) → GrowsBy log (start_unless wants terms want (moment_at log now) log)
+    by_queue [] =
+        let moment = moment_at log now in
+        let young = close_too_old (length (idle_connections log)) want moment log in
+        grows_start terms moment log want young (grows_too_old (length (idle_connections log)) want moment log log (grows_same log)) (newest_fit young want moment)
+    by_queue (head ∷ others) = grows_by_one (moment_at log now) (Waited want) log log (grows_same log)
 
-pub grows_give_back : (log : List Entry) (c : ℕ) (facts : Facts) (now : ℕ) → GrowsBy log (after_give_back log c facts now)
-grows_give_back log c facts now = let moment = moment_at log now in grows_owed moment log (add moment (Returned c facts) log) (grows_by_one moment (Returned c facts) log log (grows_same log))
+pub grows_give_back : (terms : Terms) (log : List Entry) (c : ℕ) (facts : Facts) (now : ℕ) → GrowsBy log (after_give_back terms log c facts now)
+grows_give_back terms log c facts now =
+    let moment = moment_at log now in
+    let returned = add moment (Returned c facts) log in
+    grows_settled terms moment log c returned (grows_by_one moment (Returned c facts) log log (grows_same log)) (owed returned)
 
-pub grows_abandon : (log : List Entry) (c now : ℕ) → GrowsBy log (after_abandon log c now)
-grows_abandon log c now = grows_by_one (moment_at log now) (Closed c Dropped) log log (grows_same log)
+pub grows_close : (terms : Terms) (log : List Entry) (c : ℕ) (cause : Cause) (now : ℕ) → GrowsBy log (after_close terms log c cause now)
+grows_close terms log c cause now =
+    let moment = moment_at log now in
+    let closed = add moment (Closed c cause) log in
+    grows_for terms moment log closed (grows_by_one moment (Closed c cause) log log (grows_same log)) (waiting closed)
+
+pub grows_abandon : (terms : Terms) (log : List Entry) (c now : ℕ) → GrowsBy log (after_abandon terms log c now)
+grows_abandon terms log c now = grows_close terms log c Dropped now
+
+pub grows_withdraw : (terms : Terms) (log : List Entry) (transfer now : ℕ) → GrowsBy log (after_withdraw terms log transfer now)
+grows_withdraw terms log transfer now = grows_either log (add (moment_at log now) (Left transfer) log) (close_granted terms log (held_number log transfer) now) (waits log transfer) (grows_by_one (moment_at log now) (Left transfer) log log (grows_same log)) (by_number (held_number log transfer))
+  where
+    by_number : (held : Option ℕ) → GrowsBy log (close_granted terms log held now)
+    by_number None = grows_same log
+    by_number (Some c) = grows_close terms log c Withdrawn now

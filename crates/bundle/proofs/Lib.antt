@@ -1,7 +1,16 @@
 pub mod Order
+pub mod Waits
 pub mod Kept
 pub mod Replaying
 pub mod Transitions
 pub mod TooOld
 pub mod Growth
 pub mod KeptSound
+pub mod Told
+pub mod Granting
+pub mod Granted
+pub mod Served
+pub mod Acquired
+pub mod Answering
+pub mod Settling
+pub mod Acquiring

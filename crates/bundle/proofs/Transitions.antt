@@ -10,22 +10,23 @@ use Rattle.persistence.specs.declared.facts.Facts.{Facts}
 use Rattle.persistence.specs.Persistent.{is_persistent}
 use Rattle.conn_log.specs.declared.entry.Want.{Want}
 use Rattle.conn_log.specs.declared.entry.Cause.{Cause}
-use Rattle.conn_log.specs.declared.entry.Cause.TheVariants.{TooOld, Dropped}
-use Rattle.conn_log.specs.declared.entry.Event.TheVariants.{Opened, Leased, Returned, Closed}
+use Rattle.conn_log.specs.declared.entry.Cause.TheVariants.{TooOld}
+use Rattle.conn_log.specs.declared.entry.Event.TheVariants.{Opened, Leased, Returned, Closed, Waited, Left}
 use Rattle.conn_log.specs.declared.entry.Entry.{Entry}
 use Rattle.conn_log.specs.Connections.{last_moment, is_among, opened, greatest, open_connections, is_open, idle_connections, is_idle, holder_want, held_number, born, lane}
 use Rattle.conn_log.specs.Fit.{is_fit}
-use Rattle.conn_log.specs.Legal.{Terms, ends_use, ending_cause, MayClose}
-use Rattle.conn_log.specs.Sound.{IsSound, IdleFacts, HeldFacts, facts_if_idle, facts_if_held, idle_facts, held_facts}
+use Rattle.conn_log.specs.Waiting.{waits}
+use Rattle.conn_log.specs.Legal.{Terms, ends_use, ending_cause, owed}
+use Rattle.conn_log.specs.Sound.{IsSound, IsNext, is_of_holder, is_of_idle, IdleFacts, HeldFacts, facts_if_idle, facts_if_held, idle_facts, held_facts}
 use Rattle.conn_log.proofs.Steps.{IsGone, gone_closed, gone_ended, is_idle_is, idle_open_unheld, gone_open, taken_same, idle_facts_open, held_facts_open, more_open, as_many_idle_open, idle_facts_lease, held_facts_lease, fewer_idle_lease, idle_facts_return, held_facts_return, more_idle, fewer_open, as_many_idle, fewer_idle, idle_facts_gone, held_facts_gone, others_kept}
-use Rattle.conn_log.proofs.Soundness.{next_is_new, and_left, and_right, sound_open, sound_lease, sound_return, sound_end, sound_drop, sound_close, sound_empty}
+use Rattle.conn_log.proofs.Soundness.{next_is_new, and_left, and_right, sound_open, sound_lease, sound_return, sound_end, sound_drop, sound_wait, sound_leave, sound_close, sound_empty, next_free, idle_may_close}
 use Rattle.bundle.specs.declared.idle.Idle.{Idle}
 use Rattle.bundle.specs.declared.held.Held.{Held}
-use Rattle.bundle.specs.Calls.{add, with_owed_close, is_full}
-use Rattle.bundle.specs.Idle.{find_number, numbers, facts_of, streams_of, item_suits, LastSuits, FirstTooOld, IsPlaceFor}
-use Rattle.bundle.specs.State.{Replays, ClosesIdle, ClosesOldest, held_facts_of}
-use Rattle.bundle.proofs.Kept.{is_some-find_number, find_number-insert, find_number-remove, distinct-insert, distinct-remove, order-insert, order-remove, stream_of-remove}
-use Rattle.bundle.proofs.Replaying.{found_idle, at_place, idle_nobodys, suits_is, oldest_too_old_read, table_some, table_number, table_held}
+use Rattle.bundle.specs.Calls.{add, is_full}
+use Rattle.bundle.specs.Idle.{find_number, numbers, facts_of, streams_of, stream_of, item_suits, LastSuits, FirstTooOld, IsPlaceFor}
+use Rattle.bundle.specs.State.{Replays, ClosesIdle, ClosesOldest, ClosesFirst, EndsUse, held_facts_of}
+use Rattle.bundle.proofs.Kept.{is_some-find_number, find_number-insert, find_number-remove, distinct-insert, distinct-remove, order-insert, order-remove, stream_of-streams_of, stream_of-remove}
+use Rattle.bundle.proofs.Replaying.{found_idle, at_place, idle_nobodys, suits_is, oldest_first, oldest_too_old_read, table_some, table_number, table_held}
 
 -- a fact that holds whatever the option
 pub if_none_always : {A : Type 0} {P : Type 0} (x : Option A) → P → IfNone x P
@@ -78,16 +79,16 @@ module _ {S : Type 0} (terms : Terms) (log : List Entry) (greatest_used : ℕ) (
 
   module _ (moment : ℕ) (later : last_moment log ≤ moment) where
     -- a lease on an idle connection
-    pub replays_lease : (want : Want) (place : ℕ) (x : Idle S) → place < length idle → x ≡ get_or idle place x → is_fit log want moment x.number ≡ true → held_number log want.transfer ≡ None → (held' : ℕ → Option Held) (more : ℕ) → more ≡ held_len + 1 → ((t : ℕ) → held' t ≡ (if want.transfer == t then Some (record { number = x.number; lane = x.lane; born = x.born; forbids_reuse = want.forbid_reuse }) else held t)) → Replays terms (record { moment = moment; event = Leased x.number want } ∷ log) greatest_used (remove idle place) held' more
-    replays_lease want place x within is fit free held' more counted put =
+    pub replays_lease : (want : Want) (place : ℕ) (x : Idle S) → place < length idle → x ≡ get_or idle place x → is_fit log want moment x.number ≡ true → IsNext log want → (held' : ℕ → Option Held) (more : ℕ) → more ≡ held_len + 1 → ((t : ℕ) → held' t ≡ (if want.transfer == t then Some (record { number = x.number; lane = x.lane; born = x.born; forbids_reuse = want.forbid_reuse }) else held t)) → Replays terms (record { moment = moment; event = Leased x.number want } ∷ log) greatest_used (remove idle place) held' more
+    replays_lease want place x within is fit first held' more counted put =
         let after = record { moment = moment; event = Leased x.number want } ∷ log in
         let h : Held = record { number = x.number; lane = x.lane; born = x.born; forbids_reuse = want.forbid_reuse } in
-        let nothing = free in
+        let nothing = next_free terms log r.sound.orderly want first in
         let told = found_idle r x.number x (at_place r place x within is) in
         let l : lane log x.number ≡ x.lane = sym (ap (λ (f : IdleFacts). f.lane) told.1) in
         let b : born log x.number ≡ x.born = sym (ap (λ (f : IdleFacts). f.born) told.1) in
         record {
-          sound = sound_lease terms log r.sound moment later x.number want fit nothing;
+          sound = sound_lease terms log r.sound moment later x.number want fit first;
           greatest_is = r.greatest_is;
           idle_at = idle_without place x within is after (idle_facts_lease terms log r.sound.orderly moment x.number want told.0 nothing);
           idle_distinct = distinct-remove idle place r.idle_distinct;
@@ -101,15 +102,15 @@ module _ {S : Type 0} (terms : Terms) (log : List Entry) (greatest_used : ℕ) (
         same_parts n l b k a f e g = cc
 
     -- a new connection
-    pub replays_open : (want : Want) (c : ℕ) → c ≡ greatest_used + 1 → length (open_connections log) < terms.limit → held_number log want.transfer ≡ None → (held' : ℕ → Option Held) (more : ℕ) → more ≡ held_len + 1 → ((t : ℕ) → held' t ≡ (if want.transfer == t then Some (record { number = c; lane = want.lane; born = moment; forbids_reuse = want.forbid_reuse }) else held t)) → Replays terms (record { moment = moment; event = Opened c want } ∷ log) c idle held' more
-    replays_open want c next room free held' more counted put =
+    pub replays_open : (want : Want) (c : ℕ) → c ≡ greatest_used + 1 → length (open_connections log) < terms.limit → IsNext log want → (held' : ℕ → Option Held) (more : ℕ) → more ≡ held_len + 1 → ((t : ℕ) → held' t ≡ (if want.transfer == t then Some (record { number = c; lane = want.lane; born = moment; forbids_reuse = want.forbid_reuse }) else held t)) → Replays terms (record { moment = moment; event = Opened c want } ∷ log) c idle held' more
+    replays_open want c next room first held' more counted put =
         let after = record { moment = moment; event = Opened c want } ∷ log in
         let h : Held = record { number = c; lane = want.lane; born = moment; forbids_reuse = want.forbid_reuse } in
-        let nothing = free in
+        let nothing = next_free terms log r.sound.orderly want first in
         let next_of_log : c ≡ greatest terms.first (opened log) + 1 = omega (arith, next, r.greatest_is) in
         let new = next_is_new terms log r.sound.orderly c next_of_log in
         record {
-          sound = sound_open terms log r.sound moment later c want next_of_log room nothing;
+          sound = sound_open terms log r.sound moment later c want next_of_log room first;
           greatest_is = omega (arith, next_of_log);
           idle_at = λ d. r.idle_at d ∙ sym (idle_facts_open terms log r.sound.orderly moment c want new nothing room d);
           idle_distinct = r.idle_distinct;
@@ -135,6 +136,12 @@ module _ {S : Type 0} (terms : Terms) (log : List Entry) (greatest_used : ℕ) (
       seen : (w : Option Want) → holder_want log h.number ≡ w → option_map_or (λ (v : Want). v.transfer == transfer) w false ≡ true → (want : Want) × (holder_want log h.number ≡ Some want) × (want.forbid_reuse ≡ h.forbids_reuse)
       seen None e told = absurd (false≢true told)
       seen (Some w) e told = (w, e, ap (λ (v : Option Want). option_map_or (λ (u : Want). u.forbid_reuse) v false) (sym e) ∙ forbids)
+
+  -- one that is not idle has no stream here
+  pub no_stream : (c : ℕ) → is_idle log c ≡ false → stream_of (streams_of idle) c ≡ None
+  no_stream c out =
+      let none : find_number idle c ≡ None = none_of facts_of (find_number idle c) (r.idle_at c ∙ ap (λ (b : Bool). if b then Some (facts_if_idle log c) else None) out) in
+      stream_of-streams_of idle c ∙ ap (option_map (λ (x : Idle S). x.stream)) none
 
   module _ (transfer : ℕ) (h : Held) (is : held transfer ≡ Some h) where
     is_held : is_some (holder_want log h.number) ≡ true
@@ -205,8 +212,8 @@ module _ {S : Type 0} (terms : Terms) (log : List Entry) (greatest_used : ℕ) (
 
   -- who held it
   module _ (transfer : ℕ) (h : Held) (is : held transfer ≡ Some h) (moment : ℕ) (later : last_moment log ≤ moment) where
-    pub replays_drop : (held' : ℕ → Option Held) (less : ℕ) → ((t : ℕ) → held' t ≡ (if transfer == t then None else held t)) → less + 1 ≡ held_len → Replays terms (record { moment = moment; event = Closed h.number Dropped } ∷ log) greatest_used idle held' less
-    replays_drop held' less cut counted = replays_gone transfer h is (record { moment = moment; event = Closed h.number Dropped } ∷ log) (gone_closed moment h.number Dropped log) (sound_drop terms log r.sound moment later h.number (is_held transfer h is)) held' less cut counted
+    pub replays_drop : (cause : Cause) → is_of_holder cause ≡ true → (held' : ℕ → Option Held) (less : ℕ) → ((t : ℕ) → held' t ≡ (if transfer == t then None else held t)) → less + 1 ≡ held_len → Replays terms (record { moment = moment; event = Closed h.number cause } ∷ log) greatest_used idle held' less
+    replays_drop cause fits held' less cut counted = replays_gone transfer h is (record { moment = moment; event = Closed h.number cause } ∷ log) (gone_closed moment h.number cause log) (sound_drop terms log r.sound moment later h.number cause fits (is_held transfer h is)) held' less cut counted
 
     pub replays_end : (facts : Facts) (cause : Cause) → (is_persistent facts && not h.forbids_reuse) ≡ false → ((want : Want) → want.forbid_reuse ≡ h.forbids_reuse → cause ≡ ending_cause facts want) → (held' : ℕ → Option Held) (less : ℕ) → ((t : ℕ) → held' t ≡ (if transfer == t then None else held t)) → less + 1 ≡ held_len → Replays terms (record { moment = moment; event = Closed h.number cause } ∷ record { moment = moment; event = Returned h.number facts } ∷ log) greatest_used idle held' less
     replays_end facts cause ends why held' less cut counted =
@@ -216,14 +223,18 @@ module _ {S : Type 0} (terms : Terms) (log : List Entry) (greatest_used : ℕ) (
         rw because (replays_gone transfer h is (record { moment = moment; event = Closed h.number (ending_cause facts w.0) } ∷ record { moment = moment; event = Returned h.number facts } ∷ log) (gone_ended moment h.number facts (ending_cause facts w.0) log) (sound_end terms log r.sound moment later h.number facts w.0 w.1 over) held' less cut counted)
 
     -- the close that is owed after a return
-    pub owed_close : (facts : Facts) (cause : Cause) → (is_persistent facts && not h.forbids_reuse) ≡ false → ((want : Want) → want.forbid_reuse ≡ h.forbids_reuse → cause ≡ ending_cause facts want) → add moment (Closed h.number cause) (add moment (Returned h.number facts) log) ≡ with_owed_close moment (add moment (Returned h.number facts) log)
-    owed_close facts cause ends why =
+    pub ends_use_at_once : (facts : Facts) (cause : Cause) → (is_persistent facts && not h.forbids_reuse) ≡ false → ((want : Want) → want.forbid_reuse ≡ h.forbids_reuse → cause ≡ ending_cause facts want) → EndsUse log (add moment (Closed h.number cause) (add moment (Returned h.number facts) log)) h.number facts moment
+    ends_use_at_once facts cause ends why =
         let w = want_of_held transfer h is in
         let over : ends_use facts w.0 ≡ true = rw w.2 (ap not ends) in
-        rw (w.1, over, why w.0 w.2) refl
+        record {
+          cause = cause;
+          owes = rw (w.1, over, why w.0 w.2) refl;
+          log = refl;
+        }
 
-    pub no_owed_close : (facts : Facts) → (is_persistent facts && not h.forbids_reuse) ≡ true → add moment (Returned h.number facts) log ≡ with_owed_close moment (add moment (Returned h.number facts) log)
-    no_owed_close facts stays =
+    pub none_owed : (facts : Facts) → (is_persistent facts && not h.forbids_reuse) ≡ true → owed (add moment (Returned h.number facts) log) ≡ None
+    none_owed facts stays =
         let w = want_of_held transfer h is in
         let on : ends_use facts w.0 ≡ false = rw w.2 (ap not stays) in
         rw (w.1, on) refl
@@ -244,14 +255,14 @@ module _ {S : Type 0} (terms : Terms) (log : List Entry) (greatest_used : ℕ) (
   fewer_idle_at moment cause place x within is = fewer_idle terms log r.sound.orderly x.number _ (gone_closed moment x.number cause log) (found_idle r x.number x (at_place r place x within is)).0
 
   -- the idle one at a place is closed
-  pub replays_close : (moment : ℕ) → last_moment log ≤ moment → (cause : Cause) (place : ℕ) (x : Idle S) → place < length idle → x ≡ get_or idle place x → (is_idle log x.number ≡ true → MayClose log x.number cause) → Replays terms (record { moment = moment; event = Closed x.number cause } ∷ log) greatest_used (remove idle place) held held_len
-  replays_close moment later cause place x within is allowed =
+  pub replays_close : (moment : ℕ) → last_moment log ≤ moment → (cause : Cause) (place : ℕ) (x : Idle S) → place < length idle → x ≡ get_or idle place x → is_of_idle cause ≡ true → Replays terms (record { moment = moment; event = Closed x.number cause } ∷ log) greatest_used (remove idle place) held held_len
+  replays_close moment later cause place x within is fits =
       let after = record { moment = moment; event = Closed x.number cause } ∷ log in
       let gone = gone_closed moment x.number cause log in
       let told = found_idle r x.number x (at_place r place x within is) in
       let open_unheld = idle_open_unheld log x.number told.0 in
       record {
-        sound = sound_close terms log r.sound moment later x.number cause (allowed told.0) told.0;
+        sound = sound_close terms log r.sound moment later x.number cause (idle_may_close log x.number cause fits r.sound.settled told.0) told.0;
         greatest_is = r.greatest_is;
         idle_at = idle_without place x within is after (idle_facts_gone terms log r.sound.orderly x.number after gone);
         idle_distinct = distinct-remove idle place r.idle_distinct;
@@ -272,7 +283,7 @@ module _ {S : Type 0} (terms : Terms) (log : List Entry) (greatest_used : ℕ) (
     still = λ d now. and_right (not (x.number == d)) (is_open log d) (sym (gone d) ∙ now);
     streams = λ d now. stream_of-remove idle place x d r.idle_distinct within is (other d (and_left (not (x.number == d)) (is_open log d) (sym (gone d) ∙ now)));
     holders = taken_same terms log r.sound.orderly x.number (idle_nobodys r x (at_place r place x within is));
-    room = λ off. ap (λ full. full && (length (idle_connections (record { moment = moment; event = Closed x.number cause } ∷ log)) == 0)) (room_made moment cause place x within is);
+    waiting = refl;
     later = omega arith;
     booked = refl;
     same = record { terms = refl; host = refl };
@@ -292,6 +303,42 @@ module _ {S : Type 0} (terms : Terms) (log : List Entry) (greatest_used : ℕ) (
     log = refl;
     fewer = fewer_idle_at moment TooOld place x first.in_range is;
     closes = closes_one moment TooOld place x host booked first.in_range is;
+  }
+
+  -- the first one was closed
+  pub closes_first : (cause : Cause) (moment : ℕ) (x : Idle S) (host booked : ℕ) → 0 < length idle → x ≡ get_or idle 0 x → ClosesFirst cause moment (record { log = log; terms = terms; host = host; streams = streams_of idle; booked = booked }) (record { log = record { moment = moment; event = Closed x.number cause } ∷ log; terms = terms; host = host; streams = streams_of (remove idle 0); booked = booked })
+  closes_first cause moment x host booked some is = record {
+    number = x.number;
+    oldest = oldest_first r x some is;
+    log = refl;
+    room = room_made moment cause 0 x some is;
+    others = λ d apart. stream_of-remove idle 0 x d r.idle_distinct some is apart;
+    closes = closes_one moment cause 0 x host booked some is;
+  }
+
+  -- one more waits, or one that waited leaves
+  pub replays_wait : (moment : ℕ) → last_moment log ≤ moment → (want : Want) → held_number log want.transfer ≡ None → waits log want.transfer ≡ false → idle_connections log ≡ [] → Replays terms (record { moment = moment; event = Waited want } ∷ log) greatest_used idle held held_len
+  replays_wait moment later want free new none_idle = record {
+    sound = sound_wait terms log r.sound moment later want free new none_idle;
+    greatest_is = r.greatest_is;
+    idle_at = r.idle_at;
+    idle_distinct = r.idle_distinct;
+    idle_in_order = r.idle_in_order;
+    idle_len = r.idle_len;
+    held_at = r.held_at;
+    open_len = r.open_len;
+  }
+
+  pub replays_leave : (moment : ℕ) → last_moment log ≤ moment → (transfer : ℕ) → waits log transfer ≡ true → Replays terms (record { moment = moment; event = Left transfer } ∷ log) greatest_used idle held held_len
+  replays_leave moment later transfer there = record {
+    sound = sound_leave terms log r.sound moment later transfer there;
+    greatest_is = r.greatest_is;
+    idle_at = r.idle_at;
+    idle_distinct = r.idle_distinct;
+    idle_in_order = r.idle_in_order;
+    idle_len = r.idle_len;
+    held_at = r.held_at;
+    open_len = r.open_len;
   }
 
 -- no connection yet

@@ -1,6 +1,9 @@
 pub mod Calls
 pub mod Idle
+pub mod Queue
 pub mod State
 pub mod Lease
+pub mod Grants
+pub mod Replies
 pub mod Worked
 pub mod Laws

@@ -15,6 +15,7 @@ pub(crate) struct Held {
 }
 
 /// Enters what a transfer holds, in room made before.
+#[inline(always)]
 pub(crate) fn enter(table: &mut HashMap<u64, Held>, transfer: u64, held: Held)
     requires room { 0 < spare table.old }
     requires absent { get nat_eq table.old transfer ≡ None }
@@ -28,6 +29,7 @@ pub(crate) fn enter(table: &mut HashMap<u64, Held>, transfer: u64, held: Held)
 }
 
 /// Takes out what a transfer holds.
+#[inline(always)]
 pub(crate) fn take_out(table: &mut HashMap<u64, Held>, transfer: u64)
     requires { IsSome (get nat_eq table.old transfer) }
     ensures taken { (t : ℕ) → get nat_eq table.new t ≡ (if transfer == t then None else get nat_eq table.old t) }

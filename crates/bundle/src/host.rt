@@ -1,37 +1,52 @@
 ghost use Rattle.std.specs.Prelude.{◌≡◌, ℕ, ◌+◌, ◌-◌, ◌*◌, ◌<◌, ◌≤◌, List, [], Bool, true, false, ◌==◌, length, ◌⊎◌, Some, None, IsSome, IfOk, IfErr, OnOk, OnErr, IfSome, IfNone, if◌then◌else◌};
 ghost use Rattle.conn_log.specs.declared.entry.Entry.{Entry};
 ghost use Rattle.conn_log.specs.Connections.{is_open, is_held_by, held_number, open_connections, idle_connections};
+ghost use Rattle.conn_log.specs.Waiting.{waiting, waits};
 ghost use Rattle.conn_log.specs.Fit.{oldest_stamp};
 ghost use Rattle.conn_log.specs.Legal.{IsLegal, IsQuiet};
 ghost use Rattle.conn_log.specs.Sound.{IsSound};
-ghost use Rattle.bundle.specs.Calls.{after_acquire, after_give_back, after_abandon, newest_start, refusal, is_at_limit, GrowsBy};
+ghost use Rattle.bundle.specs.Calls.{after_acquire, after_give_back, after_abandon, after_withdraw, newest_start, newest_wait, last_start, refusal, is_exhausted, GrowsBy};
 ghost use Rattle.bundle.specs.Idle.{stream_of};
-ghost use Rattle.bundle.specs.Lease.{OneHost, Leasing, KeepsOthers, StaysThere, snapshot_of};
+ghost use Rattle.bundle.specs.Lease.{OneHost, is_unclaimed, stands, is_same_want, KeepsOthers, GetsLease, GetsTicket, Spends, StaysThere, snapshot_of};
+ghost use Rattle.bundle.specs.Replies.{IfLeased, IfWaits, IfClaimed, IfStill};
 
+use crate::answers::{Claimed, Got};
+use crate::grant::{Grant, granted_want, take_grant};
 use crate::lease::{Lease, Stray};
 use crate::refusal::Refusal;
+use crate::serving::{open_for_head, pass_to_head, start_or_wait};
 use crate::snapshot::Snapshot;
 use crate::state::State;
-use conn_log::{Log, Stamp, Want};
+use crate::ticket::Ticket;
+use conn_log::{Cause, Log, Stamp, Want};
 use persistence::{Facts, persists};
 use std::alloc::Global;
 use std::marker::Model;
 
-/// The connections of one host, with the streams of type `S` of those that are idle.
+/// The connections of one host, with the streams of type `S` of those that no lease has.
 #[derive(Drop)]
 pub struct Bundle<S: Drop> {
     state: State<S>,
+    grants: Vec<Grant<S>>,
 }
 
 impl<S: Drop> Model for Bundle<S> {
-    ghost use Rattle.std.specs.Prelude.{◌≡◌};
+    ghost use Rattle.std.specs.Prelude.{◌≡◌, ◌++◌, ◌+◌, ◌≤◌, length, vec_len, vec_capacity};
+    ghost use Rattle.conn_log.specs.Waiting.{waiting};
+    ghost use Rattle.bundle.specs.Laws.{IsSoundAndQuiet};
     ghost use Rattle.bundle.specs.Lease.{OneHost};
+    ghost use Rattle.bundle.specs.Grants.{grant_streams, grant_transfers, GrantsKept};
 
     ghost Value = { OneHost S };
 
-    ghost view = { λ bundle. record { log = bundle.state.log; terms = bundle.state.terms; host = bundle.state.host; streams = bundle.state.streams } };
+    ghost view = { λ bundle. record { log = bundle.state.log; terms = bundle.state.terms; host = bundle.state.host; streams = grant_streams bundle.grants.items ++ bundle.state.streams; unclaimed = grant_transfers bundle.grants.items } };
 
-    ghost invariant = { λ bundle. bundle.state.booked ≡ 0 };
+    ghost invariant = { λ bundle. record {
+      booked : bundle.state.booked ≡ 0;
+      settled : IsSoundAndQuiet bundle.state.terms bundle.state.log;
+      grants : GrantsKept bundle.state.log bundle.grants.items;
+      room : length (waiting bundle.state.log) + vec_len bundle.grants ≤ vec_capacity bundle.grants;
+    } };
 }
 
 impl<S: Drop> Bundle<S> {
@@ -41,11 +56,12 @@ impl<S: Drop> Bundle<S> {
     /// The only refusal is [`Refusal::Memory`].
     pub fn new(alloc: Global, host_limit: u32, host: u32, first: u32) -> Result<Self, Refusal>
         requires { 0 < first }
-        ensures ok { IfOk result (λ bundle. bundle ≡ record { log = []; terms = record { limit = host_limit; first = first }; host = host; streams = [] }) }
+        ensures ok { IfOk result (λ bundle. bundle ≡ record { log = []; terms = record { limit = host_limit; first = first }; host = host; streams = []; unclaimed = [] }) }
         ensures err { IfErr result (λ refusal. refusal ≡ Refusal.Memory) }
     {
         Ok(Bundle {
             state: State::new(alloc, host_limit, host, first)?,
+            grants: Vec::new(alloc),
         })
     }
 
@@ -56,14 +72,15 @@ impl<S: Drop> Bundle<S> {
         self.state.host()
     }
 
-    /// The host's log. It is legal and quiet, and has room for two entries for each leased
-    /// connection and one for each idle one, so that spending a lease takes no memory.
+    /// The host's log. It is legal and quiet, and has room for three entries for each waiting
+    /// transfer, two for each leased connection and one for each idle one, so that spending a lease
+    /// or a ticket takes no memory.
     pub fn log(&self) -> &Log
         ensures entries { result.now.entries ≡ self.now.log }
         ensures sound { IsSound self.now.terms self.now.log }
         ensures legal { IsLegal self.now.terms self.now.log }
         ensures quiet { IsQuiet self.now.terms false self.now.log }
-        ensures room { let leased = length (open_connections self.now.log) - length (idle_connections self.now.log) in 2 * leased + length (idle_connections self.now.log) ≤ result.now.room }
+        ensures room { let leased = length (open_connections self.now.log) - length (idle_connections self.now.log) in 3 * length (waiting self.now.log) + 2 * leased + length (idle_connections self.now.log) ≤ result.now.room }
     {
         self.state.log()
     }
@@ -84,66 +101,114 @@ impl<S: Drop> Bundle<S> {
 
     /// Leases a connection to the transfer: the newest idle one that fits its want, else a new one,
     /// for which the oldest idle one is closed where the host is at its limit. Before that, idle ones
-    /// of its lane that are too old for it are closed, unless it wants a new one. `now` is in seconds.
+    /// of its lane that are too old for it are closed, unless it wants a new one. Where others wait
+    /// here, or the host is at its limit with nothing idle, the transfer waits. `now` is in seconds.
     ///
-    /// All memory that the lease and its end will need is taken first. Refused, in this order, with
-    /// [`Refusal::TransferBusy`] where the transfer holds a connection here, with
-    /// [`Refusal::Exhausted`] where the last connection number is used, with [`Refusal::AtLimit`]
-    /// where the host is at its limit and nothing is idle, and with [`Refusal::Memory`] where memory
-    /// runs out.
-    pub fn acquire(&mut self, want: Want, now: u64) -> Result<Lease<S>, Refusal>
+    /// All memory that the lease or ticket and its end will need is taken first. Refused, in this
+    /// order, with [`Refusal::TransferBusy`] where the transfer holds a connection or waits here,
+    /// with [`Refusal::Exhausted`] where the connection numbers that are left are those that the
+    /// waiting transfers may need, and with [`Refusal::Memory`] where memory runs out.
+    #[inline(always)]
+    pub fn acquire(&mut self, want: Want, now: u64) -> Result<Got<S>, Refusal>
         ensures log { OnOk result (self.new.log ≡ after_acquire self.old.terms self.old.log want now) }
-        ensures start { IfOk result (λ lease. newest_start self.new.log ≡ Some lease.start) }
-        ensures stream { IfOk result (λ lease. lease.stream ≡ (if lease.start.reused then stream_of self.old.streams lease.start.number else None)) }
-        ensures streams { IfOk result (λ lease. KeepsOthers lease.start.number self.old self.new) }
+        ensures lease { IfLeased result (λ lease. (newest_start self.new.log ≡ Some lease.start) × (lease.site ≡ self.old.host)) }
+        ensures ticket { IfWaits result (λ ticket. (newest_wait self.new.log ≡ Some ticket.wait) × (ticket.site ≡ self.old.host)) }
+        ensures stream { IfLeased result (λ lease. lease.stream ≡ (if lease.start.reused then stream_of self.old.streams lease.start.number else None)) }
+        ensures streams { IfLeased result (λ lease. KeepsOthers lease.start.number self.old self.new) }
+        ensures kept { IfWaits result (λ ticket. (d : ℕ) → is_open self.new.log d ≡ true → stream_of self.new.streams d ≡ stream_of self.old.streams d) }
 
         // Each refusal comes exactly where the log gives it; else only memory can be short.
         ensures refused { IfSome (refusal self.old.terms self.old.log want) (λ reason. result ≡ Err reason) }
         ensures else_memory { IfErr result (λ reason. (refusal self.old.terms self.old.log want ≡ Some reason) ⊎ (reason ≡ Refusal.Memory)) }
         ensures err { OnErr result (self.new ≡ self.old) }
 
-        // For those above: who holds after the call, that the log only grew, and that the host stays.
-        ensures holders { IfOk result (λ lease. (t : ℕ) → held_number self.new.log t ≡ (if want.transfer == t then Some lease.start.number else held_number self.old.log t)) }
+        // For those above: who has a lease or a ticket after the call, that the log only grew, and
+        // that the host stays.
+        ensures gets_lease { IfLeased result (λ lease. GetsLease self.old self.new want.transfer lease.start.number) }
+        ensures gets_ticket { IfWaits result (λ ticket. GetsTicket self.old self.new want) }
         ensures grew { OnOk result (GrowsBy self.old.log self.new.log) }
         ensures same { StaysThere self.old self.new }
     {
         if let Some(reason) = self.reason_against(&want) {
             return Err(reason);
         }
-        self.state.book()?;
+        let Ok(()) = self.grants.reserve(self.state.waiting_len() + 1) else {
+            return Err(Refusal::Memory);
+        };
+        let Ok(()) = self.state.book() else {
+            return Err(Refusal::Memory);
+        };
         let moment = self.state.moment(now);
-        self.state.close_too_old(&want, moment);
-        if let Some((number, stream)) = self.state.lease_newest_fit(&want, moment) {
-            return Ok(Lease::reusing(number, want, moment, stream));
-        }
-        self.state.make_room(moment);
-        let number = self.state.open(&want, moment);
-        Ok(Lease::opened(number, want, moment))
+        Ok(start_or_wait(&mut self.state, want, moment))
     }
 
     // Why the log is against an acquire, if it is.
+    #[inline(always)]
     fn reason_against(&self, want: &Want) -> Option<Refusal>
         ensures reason { result ≡ refusal self.now.terms self.now.log want.now }
         ensures free { IfNone result (held_number self.now.log want.now.transfer ≡ None) }
-        ensures room { IfNone result (is_at_limit self.now.terms self.now.log ≡ false) }
+        ensures once { IfNone result (waits self.now.log want.now.transfer ≡ false) }
+        ensures number { IfNone result (is_exhausted self.now.terms self.now.log ≡ false) }
     {
-        if self.state.holds(want.transfer) {
+        if self.state.holds(want.transfer) || self.state.waits(want.transfer) {
             return Some(Refusal::TransferBusy);
         }
         if self.state.is_exhausted() {
             return Some(Refusal::Exhausted);
         }
-        if self.state.is_full() && self.state.idle_len() == 0 {
-            return Some(Refusal::AtLimit);
-        }
         None
     }
 
-    /// Takes a connection back with the facts of its response. It is idle from then on, with its
-    /// stream, where it persists and its want allows reuse; else it is closed. `now` is in seconds.
+    // Whether that is the want of the transfer's ticket.
+    fn stands(&self, want: &Want) -> bool
+        ensures { result ≡ stands self.now want.now }
+    {
+        if let Some(granted) = granted_want(&self.grants, want.transfer) {
+            return is_same(want, &granted);
+        }
+        match self.state.waiting_want(want.transfer) {
+            Some(awaited) => is_same(want, &awaited),
+            None => false,
+        }
+    }
+
+    /// Gives the transfer the connection that it was granted, with the stream that came back under
+    /// its number where it was not opened for it; where it still waits, its ticket. No event is
+    /// logged, and no memory is taken.
+    ///
+    /// A ticket comes back in a [`Stray`] where its transfer neither waits with its want nor has
+    /// yet to claim what it was granted for that want.
+    pub fn claim(&mut self, ticket: Ticket) -> Result<Claimed<S>, Stray<Ticket>>
+        ensures ok { OnOk result (stands self.old ticket.wait.want ≡ true) }
+        ensures strange { IfErr result (λ stray. (stands self.old ticket.wait.want ≡ false) × (stray ≡ ticket)) }
+        ensures log { self.new.log ≡ self.old.log }
+        ensures lease { IfClaimed result (λ lease. (is_unclaimed self.old ticket.wait.want.transfer ≡ true) × (last_start self.old.log ticket.wait.want.transfer ≡ Some lease.start) × (lease.site ≡ self.old.host)) }
+        ensures stream { IfClaimed result (λ lease. lease.stream ≡ (if lease.start.reused then stream_of self.old.streams lease.start.number else None)) }
+        ensures streams { IfClaimed result (λ lease. KeepsOthers lease.start.number self.old self.new) }
+        ensures still { IfStill result (λ same. (is_unclaimed self.old ticket.wait.want.transfer ≡ false) × (same ≡ ticket) × (self.new ≡ self.old)) }
+        ensures err { OnErr result (self.new ≡ self.old) }
+        ensures gets_lease { IfClaimed result (λ lease. GetsLease self.old self.new ticket.wait.want.transfer lease.start.number) }
+        ensures same { StaysThere self.old self.new }
+    {
+        let want = ticket.want();
+        if !self.stands(&want) {
+            return Err(Stray::new(ticket));
+        }
+        let Some(grant) = take_grant(&mut self.grants, want.transfer) else {
+            return Ok(Claimed::Still(ticket));
+        };
+        ticket.spend();
+        Ok(Claimed::Lease(Lease::granted(self.state.host(), grant)))
+    }
+
+    /// Takes a connection back with the facts of its response. Where it persists and its want allows
+    /// reuse, it goes to the first transfer that waits, or is idle from then on, with its stream;
+    /// where that transfer's want does not fit it, it is closed, and one is opened for that transfer.
+    /// Else it is closed, and one is opened for the first transfer that waits. `now` is in seconds.
     /// It takes no memory.
     ///
     /// A lease that this host's log does not show comes back in a [`Stray`].
+    #[inline(always)]
     pub fn give_back(
         &mut self,
         lease: Lease<S>,
@@ -153,11 +218,11 @@ impl<S: Drop> Bundle<S> {
         requires { IsSome lease.stream }
         ensures ok { OnOk result (is_held_by self.old.log lease.start.want.transfer lease.start.number ≡ true) }
         ensures strange { IfErr result (λ stray. (is_held_by self.old.log lease.start.want.transfer lease.start.number ≡ false) × (stray ≡ lease)) }
-        ensures log { OnOk result (self.new.log ≡ after_give_back self.old.log lease.start.number facts now) }
+        ensures log { OnOk result (self.new.log ≡ after_give_back self.old.terms self.old.log lease.start.number facts now) }
         ensures stream { OnOk result (is_open self.new.log lease.start.number ≡ true → stream_of self.new.streams lease.start.number ≡ lease.stream) }
         ensures streams { OnOk result (KeepsOthers lease.start.number self.old self.new) }
         ensures err { OnErr result (self.new ≡ self.old) }
-        ensures holders { OnOk result ((t : ℕ) → held_number self.new.log t ≡ (if lease.start.want.transfer == t then None else held_number self.old.log t)) }
+        ensures spends { OnOk result (Spends self.old self.new lease.start.want.transfer) }
         ensures grew { OnOk result (GrowsBy self.old.log self.new.log) }
         ensures same { StaysThere self.old self.new }
     {
@@ -167,24 +232,28 @@ impl<S: Drop> Bundle<S> {
         };
         let moment = self.state.moment(now);
         let stream = lease.into_stream().unwrap();
+        let _ = take_grant(&mut self.grants, transfer);
         if persists(&facts) && !held.forbids_reuse {
             self.state.come_back(transfer, held, facts, stream, moment);
-        } else {
-            self.state.end_use(transfer, held, facts, moment);
+            pass_to_head(&mut self.state, &mut self.grants, &held, moment);
+            return Ok(());
         }
+        self.state.end_use(transfer, held, facts, moment);
+        open_for_head(&mut self.state, &mut self.grants, moment);
         Ok(())
     }
 
-    /// Closes a leased connection without a response. `now` is in seconds. It takes no memory.
+    /// Closes a leased connection without a response, and opens one for the first transfer that
+    /// waits. `now` is in seconds. It takes no memory.
     ///
     /// A lease that this host's log does not show comes back in a [`Stray`].
     pub fn abandon(&mut self, lease: Lease<S>, now: u64) -> Result<(), Stray<Lease<S>>>
         ensures ok { OnOk result (is_held_by self.old.log lease.start.want.transfer lease.start.number ≡ true) }
         ensures strange { IfErr result (λ stray. (is_held_by self.old.log lease.start.want.transfer lease.start.number ≡ false) × (stray ≡ lease)) }
-        ensures log { OnOk result (self.new.log ≡ after_abandon self.old.log lease.start.number now) }
+        ensures log { OnOk result (self.new.log ≡ after_abandon self.old.terms self.old.log lease.start.number now) }
         ensures streams { OnOk result (KeepsOthers lease.start.number self.old self.new) }
         ensures err { OnErr result (self.new ≡ self.old) }
-        ensures holders { OnOk result ((t : ℕ) → held_number self.new.log t ≡ (if lease.start.want.transfer == t then None else held_number self.old.log t)) }
+        ensures spends { OnOk result (Spends self.old self.new lease.start.want.transfer) }
         ensures grew { OnOk result (GrowsBy self.old.log self.new.log) }
         ensures same { StaysThere self.old self.new }
     {
@@ -194,7 +263,53 @@ impl<S: Drop> Bundle<S> {
         };
         let moment = self.state.moment(now);
         let _ = lease.into_stream();
-        self.state.drop_held(transfer, held, moment);
+        let _ = take_grant(&mut self.grants, transfer);
+        self.state
+            .close_held(transfer, held, Cause::Dropped, moment);
+        open_for_head(&mut self.state, &mut self.grants, moment);
         Ok(())
     }
+
+    /// Takes a ticket back: its transfer waits no more, or the connection that it was granted is
+    /// closed, and one is opened for the first transfer that waits. `now` is in seconds. It takes no
+    /// memory.
+    ///
+    /// A ticket comes back in a [`Stray`] where its transfer neither waits with its want nor has
+    /// yet to claim what it was granted for that want.
+    pub fn withdraw(&mut self, ticket: Ticket, now: u64) -> Result<(), Stray<Ticket>>
+        ensures ok { OnOk result (stands self.old ticket.wait.want ≡ true) }
+        ensures strange { IfErr result (λ stray. (stands self.old ticket.wait.want ≡ false) × (stray ≡ ticket)) }
+        ensures log { OnOk result (self.new.log ≡ after_withdraw self.old.terms self.old.log ticket.wait.want.transfer now) }
+        ensures streams { OnOk result ((d : ℕ) → is_open self.new.log d ≡ true → stream_of self.new.streams d ≡ stream_of self.old.streams d) }
+        ensures err { OnErr result (self.new ≡ self.old) }
+        ensures spends { OnOk result (Spends self.old self.new ticket.wait.want.transfer) }
+        ensures grew { OnOk result (GrowsBy self.old.log self.new.log) }
+        ensures same { StaysThere self.old self.new }
+    {
+        let want = ticket.want();
+        if !self.stands(&want) {
+            return Err(Stray::new(ticket));
+        }
+        ticket.spend();
+        let transfer = want.transfer;
+        let moment = self.state.moment(now);
+        let Some(grant) = take_grant(&mut self.grants, transfer) else {
+            self.state.leave(transfer, moment);
+            return Ok(());
+        };
+        let Some(held) = self.state.held(transfer, grant.number) else {
+            unreachable!();
+        };
+        self.state
+            .close_held(transfer, held, Cause::Withdrawn, moment);
+        open_for_head(&mut self.state, &mut self.grants, moment);
+        Ok(())
+    }
+}
+
+// Whether two wants agree in all.
+fn is_same(want: &Want, other: &Want) -> bool
+    ensures { result ≡ is_same_want want.now other.now }
+{
+    want == other
 }

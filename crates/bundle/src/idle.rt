@@ -1,4 +1,5 @@
-ghost use Rattle.std.specs.Prelude.{◌≡◌, ℕ, ◌<◌, ◌≤◌, length, Bool, true, false, IfSome, IfNone, IfSome};
+ghost use Rattle.std.specs.Prelude.{◌≡◌, ◌+◌, ◌<◌, ◌≤◌, IfSome, IfNone, slice_index_or, vec_len, vec_capacity};
+ghost use Rattle.std.specs.List.{insert, remove};
 ghost use Rattle.conn_log.specs.Fit.{is_older};
 ghost use Rattle.bundle.specs.Idle.{item_suits, item_too_old, ends_search, LastSuits, NoneSuits, FirstTooOld, NoneTooOld, AreInOrder, IsPlaceFor, is_before};
 
@@ -53,11 +54,14 @@ fn goes_before<S>(idle: &Idle<S>, since: u64, number: u32) -> bool
     idle.since < since || (idle.since == since && idle.number < number)
 }
 
-/// The place of the newest that suits the want.
+/// The place of the newest that suits the want; none does where it is for a new one.
 pub(crate) fn newest_suiting<S>(idle: &[Idle<S>], want: &Want, moment: u64) -> Option<usize>
     ensures found { IfSome result (LastSuits want.now moment idle.now) }
     ensures none { IfNone result (NoneSuits want.now moment idle.now) }
 {
+    if want.fresh {
+        return None;
+    }
     let mut place = idle.len();
     while place > 0 {
         place -= 1;
@@ -68,7 +72,8 @@ pub(crate) fn newest_suiting<S>(idle: &[Idle<S>], want: &Want, moment: u64) -> O
     None
 }
 
-/// The place of the first that is too old for the want in its lane. Where the want sets no limit on
+/// The place of the first that is too old for the want in its lane; none is where it is for a new
+/// one. Where the want sets no limit on
 /// the time since a connection was opened, the search ends at the first that is idle for a short
 /// enough time, since none after it is idle for longer.
 pub(crate) fn first_too_old<S>(idle: &[Idle<S>], want: &Want, moment: u64) -> Option<usize>
@@ -76,6 +81,9 @@ pub(crate) fn first_too_old<S>(idle: &[Idle<S>], want: &Want, moment: u64) -> Op
     ensures found { IfSome result (FirstTooOld want.now moment idle.now) }
     ensures none { IfNone result (NoneTooOld want.now moment idle.now) }
 {
+    if want.fresh {
+        return None;
+    }
     let mut place = 0;
     while place < idle.len() && !ends_search(&idle[place], want, moment) {
         if is_too_old(&idle[place], want, moment) {
@@ -97,4 +105,38 @@ pub(crate) fn place_for<S>(idle: &[Idle<S>], since: u64, number: u32) -> usize
         place -= 1;
     }
     place
+}
+
+/// Takes out the one at that place. None is moved where it is the last.
+pub(crate) fn take_from<S: Drop>(idle: &mut Vec<Idle<S>>, place: usize) -> Idle<S>
+    requires { place < vec_len idle.old }
+    ensures value { result ≡ slice_index_or idle.old.items place result }
+    ensures items { idle.new.items ≡ remove idle.old.items place }
+    ensures len { vec_len idle.new + 1 ≡ vec_len idle.old }
+    ensures capacity { vec_capacity idle.new ≡ vec_capacity idle.old }
+{
+    if place + 1 < idle.len() {
+        return idle.remove(place);
+    }
+    let Some(last) = idle.pop() else {
+        unreachable!();
+    };
+    last
+}
+
+/// Puts one in at that place, in room made before. None is moved where it is the last.
+pub(crate) fn put_in<S: Drop>(idle: &mut Vec<Idle<S>>, place: usize, new: Idle<S>)
+    requires range { place ≤ vec_len idle.old }
+    requires room { vec_len idle.old < vec_capacity idle.old }
+    ensures items { idle.new.items ≡ insert idle.old.items place new }
+    ensures len { vec_len idle.new ≡ vec_len idle.old + 1 }
+    ensures capacity { vec_capacity idle.new ≡ vec_capacity idle.old }
+{
+    if place == idle.len() {
+        idle.push_reserved(new);
+        return;
+    }
+    let Ok(()) = idle.insert(place, new) else {
+        unreachable!();
+    };
 }

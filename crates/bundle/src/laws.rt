@@ -1,10 +1,11 @@
 //! Laws of what calls answer, for every log.
 
-ghost use Rattle.bundle.specs.Laws.{AcquireKeepsSound, GiveBackKeepsSound, AbandonKeepsSound};
+ghost use Rattle.bundle.specs.Laws.{AcquireKeepsSoundAndQuiet, GiveBackKeepsSoundAndQuiet, AbandonKeepsSoundAndQuiet, WithdrawKeepsSoundAndQuiet};
 
-/// A sound log stays sound, and so legal, by each call that is not refused, whatever the log.
-pub fn calls_keep_logs_sound()
-    ensures acquire { AcquireKeepsSound }
-    ensures give_back { GiveBackKeepsSound }
-    ensures abandon { AbandonKeepsSound }
+/// A sound and quiet log stays so, and so legal, by each call that is not refused, whatever the log.
+pub fn calls_keep_logs_sound_and_quiet()
+    ensures acquire { AcquireKeepsSoundAndQuiet }
+    ensures give_back { GiveBackKeepsSoundAndQuiet }
+    ensures abandon { AbandonKeepsSoundAndQuiet }
+    ensures withdraw { WithdrawKeepsSoundAndQuiet }
 {}

@@ -1,11 +1,15 @@
 ghost use Rattle.std.specs.Prelude.{◌≡◌, is_some, None, Some, true, false};
 ghost use Rattle.bundle.specs.Lease.{Leasing};
 
+use crate::grant::Grant;
+use crate::ticket::Ticket;
+use conn_key::Key;
 use conn_log::Want;
 use std::marker::Model;
 
 /// One transfer's use of one connection. It has to be spent: given back, or abandoned.
 pub struct Lease<S> {
+    host: u32,
     number: u32,
     wanted: Want,
     moment: u64,
@@ -18,15 +22,17 @@ impl<S> Model for Lease<S> {
 
     ghost Value = { Leasing S };
 
-    ghost view = { λ lease. record { start = record { number = lease.number; want = lease.wanted; moment = lease.moment; reused = lease.reused }; stream = lease.stream } };
+    ghost view = { λ lease. record { site = lease.host; start = record { number = lease.number; want = lease.wanted; moment = lease.moment; reused = lease.reused }; stream = lease.stream } };
 }
 
 impl<S> Lease<S> {
     // A lease on a new connection, which has no stream yet.
-    pub(crate) fn opened(number: u32, want: Want, moment: u64) -> Self
-        ensures { result ≡ record { start = record { number = number; want = want; moment = moment; reused = false }; stream = None } }
+    #[inline(always)]
+    pub(crate) fn opened(host: u32, number: u32, want: Want, moment: u64) -> Self
+        ensures { result ≡ record { site = host; start = record { number = number; want = want; moment = moment; reused = false }; stream = None } }
     {
         Lease {
+            host,
             number,
             wanted: want,
             moment,
@@ -36,10 +42,12 @@ impl<S> Lease<S> {
     }
 
     // A lease on a connection that was idle, with its stream.
-    pub(crate) fn reusing(number: u32, want: Want, moment: u64, stream: S) -> Self
-        ensures { result ≡ record { start = record { number = number; want = want; moment = moment; reused = true }; stream = Some stream } }
+    #[inline(always)]
+    pub(crate) fn reusing(host: u32, number: u32, want: Want, moment: u64, stream: S) -> Self
+        ensures { result ≡ record { site = host; start = record { number = number; want = want; moment = moment; reused = true }; stream = Some stream } }
     {
         Lease {
+            host,
             number,
             wanted: want,
             moment,
@@ -48,11 +56,27 @@ impl<S> Lease<S> {
         }
     }
 
+    // A lease on what a transfer was granted.
+    pub(crate) fn granted(host: u32, grant: Grant<S>) -> Self
+        ensures { result ≡ record { site = host; start = record { number = grant.number; want = grant.want; moment = grant.moment; reused = is_some grant.stream }; stream = grant.stream } }
+    {
+        Lease {
+            host,
+            number: grant.number,
+            wanted: grant.want,
+            moment: grant.moment,
+            reused: grant.stream.is_some(),
+            stream: grant.stream,
+        }
+    }
+
     // The stream, once the lease is spent.
+    #[inline(always)]
     pub(crate) fn into_stream(self) -> Option<S>
         ensures { result ≡ self.stream }
     {
         let Lease {
+            host: _,
             number: _,
             wanted: _,
             moment: _,
@@ -60,6 +84,16 @@ impl<S> Lease<S> {
             stream,
         } = self;
         stream
+    }
+
+    /// The key of its connection: its host's index, and its lane.
+    pub fn key(&self) -> Key
+        ensures { result ≡ record { site = self.now.site; lane = self.now.start.want.lane } }
+    {
+        Key {
+            site: self.host,
+            lane: self.wanted.lane,
+        }
     }
 
     /// The number of its connection.
@@ -146,5 +180,12 @@ impl<S: Drop> Stray<Lease<S>> {
     /// Gives the lease up, and drops the stream that it may have.
     pub fn scrap(self) {
         let _ = self.keep().into_stream();
+    }
+}
+
+impl Stray<Ticket> {
+    /// Gives the ticket up.
+    pub fn scrap(self) {
+        self.keep().spend();
     }
 }

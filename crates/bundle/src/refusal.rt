@@ -7,15 +7,13 @@ pub enum Refusal {
     /// Memory ran out.
     #[error("out of memory")]
     Memory,
-    /// The transfer holds a connection of this host already.
+    /// The transfer holds a connection of this host already, or waits for one.
     #[error("busy")]
     TransferBusy,
-    /// The last connection number, 4,294,967,295, is used.
+    /// The connection numbers that are left, up to 4,294,967,295, are those that the waiting transfers
+    /// may need.
     #[error("exhausted")]
     Exhausted,
-    /// The host has as many open connections as it may, and none of them is idle.
-    #[error("at limit")]
-    AtLimit,
 }
 
 impl From<LogFault> for Refusal {

@@ -1,20 +1,20 @@
-ghost use Rattle.std.specs.Prelude.{◌≡◌, ℕ, ◌+◌, ◌-◌, ◌*◌, ◌<◌, ◌≤◌, List, [], ◌∷◌, Bool, true, false, not, ◌&&◌, ◌==◌, length, Some, None, IfOk, OnOk, OnErr, IfSome, IfNone, OnSome, is_some, if◌then◌else◌};
+ghost use Rattle.std.specs.Prelude.{◌≡◌, ℕ, ◌+◌, ◌-◌, ◌*◌, ◌<◌, ◌≤◌, [], true, false, ◌&&◌, ◌==◌, length, Some, None, IfOk, OnOk, OnErr, IfSome, IfNone, OnSome, is_some, if◌then◌else◌};
 ghost use Rattle.conn_log.specs.declared.entry.Entry.{Entry};
-ghost use Rattle.conn_log.specs.declared.entry.Event.TheVariants.{Opened, Leased, Returned, Closed};
-ghost use Rattle.conn_log.specs.declared.entry.Cause.TheVariants.{Dropped};
-ghost use Rattle.persistence.specs.Persistent.{is_persistent};
-ghost use Rattle.conn_log.specs.Connections.{last_moment, held_number, is_open, open_connections, idle_connections, holds, is_held_by};
+ghost use Rattle.conn_log.specs.declared.entry.Event.TheVariants.{Opened, Leased, Returned, Closed, Waited, Left};
+ghost use Rattle.conn_log.specs.Connections.{last_moment, held_number, is_open, is_idle, open_connections, idle_connections, holds, is_held_by};
+ghost use Rattle.conn_log.specs.Waiting.{waiting, waits};
 ghost use Rattle.conn_log.specs.Fit.{newest_fit, oldest_too_old, oldest_stamp};
-ghost use Rattle.conn_log.specs.Sound.{held_facts, IsSound};
-ghost use Rattle.bundle.specs.Calls.{add, next_number, without_too_old, with_host_room, with_owed_close, is_full, is_at_limit, is_exhausted, moment_at};
+ghost use Rattle.conn_log.specs.Sound.{IsSound, IsNext, is_of_holder, is_of_idle};
+ghost use Rattle.bundle.specs.Calls.{add, next_number, without_too_old, with_host_room, is_full, is_exhausted, moment_at};
 ghost use Rattle.bundle.specs.Idle.{stream_of};
-ghost use Rattle.bundle.specs.Lease.{snapshot_of};
-ghost use Rattle.bundle.specs.State.{HostState, held_facts_of, IsSameHost, ClosesIdle, ClosesOldest, LeasesNewest, IsHeldAs, stays_open};
-ghost use Rattle.conn_log.specs.Legal.{ending_cause};
+ghost use Rattle.bundle.specs.Lease.{snapshot_of, waiting_want};
+ghost use Rattle.bundle.specs.State.{HostState, IsSameHost, ClosesIdle, ClosesOldest, ClosesFirst, LeasesNewest, EndsUse, WaitsFirst, IsHeldAs, stays_open, booked_after_start};
+ghost use Rattle.conn_log.specs.Legal.{IsAnyone, owed, ending_cause};
 ghost use Rattle.conn_log.specs.declared.entry.Want.{Want};
 
 use crate::held::{Held, enter, take_out};
-use crate::idle::{Idle, first_too_old, newest_suiting, place_for};
+use crate::idle::{Idle, first_too_old, newest_suiting, place_for, put_in, take_from};
+use crate::queue::{Queue, spend_place};
 use crate::snapshot::Snapshot;
 use conn_log::{Cause, Entry, Event, Log, LogFault, Stamp, Want};
 use persistence::Facts;
@@ -22,8 +22,11 @@ use std::alloc::Global;
 use std::collections::HashMap;
 use std::marker::Model;
 
-/// How many entries an acquire may add, with those of the lease's end.
-const ENTRIES_OF_A_LEASE: usize = 3;
+/// How many entries an acquire may add, with those of the end of its wait and of its lease.
+const ENTRIES_OF_AN_ACQUIRE: usize = 4;
+
+/// How many entries the end of a wait may add, with those of the end of its lease.
+const ENTRIES_OF_A_WAIT: usize = 3;
 
 /// The state of one host, which replays its log. Each step adds the entries that it is named for.
 #[derive(Drop)]
@@ -36,12 +39,14 @@ pub(crate) struct State<S: Drop> {
     log: Log,
     idle: Vec<Idle<S>>,
     held: HashMap<u64, Held>,
+    queue: Queue,
 }
 
 impl<S: Drop> Model for State<S> {
-    ghost use Rattle.std.specs.Prelude.{ℕ, nat_eq, vec_len, vec_capacity};
+    ghost use Rattle.std.specs.Prelude.{◌≡◌, ℕ, ◌+◌, ◌≤◌, nat_eq, length, vec_len, vec_capacity};
     ghost use Rattle.std.specs.HashMap.{get, hash_map_len, spare};
-    ghost use Rattle.bundle.specs.Lease.{snapshot_of};
+    ghost use Rattle.conn_log.specs.Waiting.{waiting};
+    ghost use Rattle.bundle.specs.Calls.{last_number};
     ghost use Rattle.bundle.specs.State.{HostState, Replays, HasRoom};
     ghost use Rattle.bundle.specs.Idle.{streams_of};
 
@@ -51,7 +56,9 @@ impl<S: Drop> Model for State<S> {
 
     ghost invariant = { λ state. record {
       replays : Replays (record { limit = state.host_limit; first = state.first }) state.log.entries state.greatest state.idle.items (get nat_eq state.held) (hash_map_len state.held);
-      room : HasRoom state.booked (vec_len state.idle) (hash_map_len state.held) state.log.room (vec_capacity state.idle) (spare state.held);
+      queue : state.queue.wants ≡ waiting state.log.entries;
+      numbers : state.greatest + (length state.queue.wants + state.booked) ≤ last_number;
+      room : HasRoom state.booked (vec_len state.idle) (hash_map_len state.held) (length state.queue.wants) state.log.room (vec_capacity state.idle) (spare state.held) state.queue.room;
     } };
 }
 
@@ -74,6 +81,7 @@ impl<S: Drop> State<S> {
             log: Log::new(alloc)?,
             idle: Vec::new(alloc),
             held: HashMap::new(alloc),
+            queue: Queue::new(alloc),
         })
     }
 
@@ -88,7 +96,8 @@ impl<S: Drop> State<S> {
     pub(crate) fn log(&self) -> &Log
         ensures entries { result.now.entries ≡ self.now.log }
         ensures sound { IsSound self.now.terms self.now.log }
-        ensures room { let leased = length (open_connections self.now.log) - length (idle_connections self.now.log) in 2 * leased + length (idle_connections self.now.log) ≤ result.now.room }
+        ensures room { let leased = length (open_connections self.now.log) - length (idle_connections self.now.log) in 3 * length (waiting self.now.log) + 2 * leased + length (idle_connections self.now.log) ≤ result.now.room }
+        ensures streams { (c : ℕ) → is_idle self.now.log c ≡ false → stream_of self.now.streams c ≡ None }
     {
         &self.log
     }
@@ -120,7 +129,7 @@ impl<S: Drop> State<S> {
             alive: idle + leased,
             idle,
             leased,
-            waiting: 0,
+            waiting: self.queue.len() as u32,
             queued: false,
         }
     }
@@ -132,11 +141,48 @@ impl<S: Drop> State<S> {
         self.open_len() == self.host_limit
     }
 
-    /// Whether the last connection number is used.
+    /// Whether the connection numbers that are left are those that the waiting transfers may need.
     pub(crate) fn is_exhausted(&self) -> bool
         ensures { result ≡ is_exhausted self.now.terms self.now.log }
     {
-        self.greatest == u32::MAX
+        u32::MAX - self.greatest <= self.queue.len() as u32
+    }
+
+    /// How many transfers wait.
+    pub(crate) fn waiting_len(&self) -> usize
+        ensures { result ≡ length (waiting self.now.log) }
+    {
+        self.queue.len()
+    }
+
+    /// Whether a transfer waits.
+    pub(crate) fn anyone_waits(&self) -> bool
+        ensures yes { result ≡ true → IsAnyone (waiting self.now.log) }
+        ensures no { result ≡ false → waiting self.now.log ≡ [] }
+    {
+        !self.queue.is_empty()
+    }
+
+    /// What the first transfer that waits wants.
+    pub(crate) fn first_waiting(&self) -> Option<Want>
+        ensures none { IfNone result (waiting self.now.log ≡ []) }
+        ensures some { IfSome result (λ want. WaitsFirst self.now.log want) }
+    {
+        self.queue.first()
+    }
+
+    /// What that transfer wants, if it waits.
+    pub(crate) fn waiting_want(&self, transfer: u64) -> Option<Want>
+        ensures { result ≡ waiting_want (waiting self.now.log) transfer }
+    {
+        self.queue.want_of(transfer)
+    }
+
+    /// Whether that transfer waits.
+    pub(crate) fn waits(&self, transfer: u64) -> bool
+        ensures { result ≡ waits self.now.log transfer }
+    {
+        self.queue.want_of(transfer).is_some()
     }
 
     /// Whether the transfer holds a connection.
@@ -179,27 +225,31 @@ impl<S: Drop> State<S> {
         })
     }
 
-    /// Makes room for all that an acquire and the end of its lease will add. No other step takes
-    /// memory.
+    /// Makes room for all that an acquire, the end of its wait and the end of its lease will add. No
+    /// other step takes memory.
     pub(crate) fn book(&mut self) -> Result<(), LogFault>
-        requires { self.old.booked ≡ 0 }
+        requires none { self.old.booked ≡ 0 }
+        requires number { is_exhausted self.old.terms self.old.log ≡ false }
         ensures ok { OnOk result (self.new ≡ record self.old { booked = 1 }) }
         ensures err { OnErr result (self.new ≡ self.old) }
     {
         let held = self.held.len();
+        let waiting = self.queue.len();
         let open = self.idle.len() + held;
-        self.log.reserve(ENTRIES_OF_A_LEASE + open + held)?;
-        self.idle.reserve(held + 1)?;
-        self.held.reserve(1)?;
+        self.log.reserve(ENTRIES_OF_AN_ACQUIRE + ENTRIES_OF_A_WAIT * waiting + open + held)?;
+        self.idle.reserve(held + waiting + 1)?;
+        self.queue.reserve(1)?;
+        self.held.reserve(waiting + 1)?;
         self.booked = 1;
         Ok(())
     }
 
-    /// Leases the newest fit connection to the transfer, if there is one.
+    /// Leases the newest fit connection to the transfer, if there is one. The transfer is the first
+    /// that waits; where nobody waits, any that holds nothing, for which room was made.
     pub(crate) fn lease_newest_fit(&mut self, want: &Want, moment: u64) -> Option<(u32, S)>
-        requires booked { self.old.booked ≡ 1 }
+        requires next { IsNext self.old.log want.now }
+        requires booked { waiting self.old.log ≡ [] → self.old.booked ≡ 1 }
         requires later { last_moment self.old.log ≤ moment }
-        requires free { held_number self.old.log want.now.transfer ≡ None }
         ensures none { IfNone result ((newest_fit self.old.log want.now moment ≡ None) × (self.new ≡ self.old)) }
         ensures some { IfSome result (λ leased. LeasesNewest self.old self.new want.now moment leased.0 leased.1) }
     {
@@ -210,8 +260,8 @@ impl<S: Drop> State<S> {
             born,
             since: _,
             stream,
-        } = self.idle.remove(place);
-        self.booked = 0;
+        } = take_from(&mut self.idle, place);
+        spend_place(&mut self.queue, &mut self.booked);
         self.log.append(Entry {
             moment,
             event: Event::Leased {
@@ -263,36 +313,46 @@ impl<S: Drop> State<S> {
     pub(crate) fn make_room(&mut self, moment: u64)
         requires { last_moment self.old.log ≤ moment }
         ensures log { self.new.log ≡ with_host_room self.old.terms moment self.old.log }
-        ensures room { is_at_limit self.old.terms self.old.log ≡ false → is_full self.new.terms self.new.log ≡ false }
+        ensures room { is_full self.new.terms self.new.log ≡ true → idle_connections self.new.log ≡ [] }
         ensures closes { ClosesIdle moment self.old self.new }
     {
-        if self.is_full() && !self.idle.is_empty() {
-            let oldest = self.idle.remove(0);
-            self.log.append(Entry {
-                moment,
-                event: Event::Closed {
-                    connection: oldest.number,
-                    cause: Cause::HostRoom,
-                },
-            });
+        if self.is_full() && self.idle_len() > 0 {
+            self.close_oldest(Cause::HostRoom, moment);
         }
     }
 
-    /// Opens a connection for the transfer, and answers its number.
-    pub(crate) fn open(&mut self, want: &Want, moment: u64) -> u32
-        requires booked { self.old.booked ≡ 1 }
+    /// Closes the connection that is idle for the longest.
+    pub(crate) fn close_oldest(&mut self, cause: Cause, moment: u64)
+        requires some { 0 < length (idle_connections self.old.log) }
+        requires cause { is_of_idle cause ≡ true }
         requires later { last_moment self.old.log ≤ moment }
-        requires free { held_number self.old.log want.now.transfer ≡ None }
+        ensures { ClosesFirst cause moment self.old self.new }
+    {
+        let oldest = self.idle.remove(0);
+        self.log.append(Entry {
+            moment,
+            event: Event::Closed {
+                connection: oldest.number,
+                cause,
+            },
+        });
+    }
+
+    /// Opens a connection for the transfer, and answers its number. The transfer is the first that
+    /// waits; where nobody waits, any that holds nothing, for which room was made.
+    pub(crate) fn open(&mut self, want: &Want, moment: u64) -> u32
+        requires next { IsNext self.old.log want.now }
+        requires booked { waiting self.old.log ≡ [] → self.old.booked ≡ 1 }
+        requires later { last_moment self.old.log ≤ moment }
         requires room { is_full self.old.terms self.old.log ≡ false }
-        requires number { is_exhausted self.old.terms self.old.log ≡ false }
         ensures number { result ≡ next_number self.old.terms self.old.log }
         ensures log { self.new.log ≡ add moment (Opened result want.now) self.old.log }
         ensures opened { (d : ℕ) → (result == d) ≡ false → is_open self.new.log d ≡ true → is_open self.old.log d ≡ true }
         ensures streams { self.new.streams ≡ self.old.streams }
-        ensures booked { self.new.booked ≡ 0 }
+        ensures booked { self.new.booked ≡ booked_after_start (waiting self.old.log) self.old.booked }
         ensures same { IsSameHost self.old self.new }
     {
-        self.booked = 0;
+        spend_place(&mut self.queue, &mut self.booked);
         self.greatest += 1;
         let number = self.greatest;
         self.log.append(Entry {
@@ -312,6 +372,42 @@ impl<S: Drop> State<S> {
         number
     }
 
+    /// The transfer waits after all others, for which room was made.
+    pub(crate) fn wait(&mut self, want: Want, moment: u64)
+        requires booked { self.old.booked ≡ 1 }
+        requires later { last_moment self.old.log ≤ moment }
+        requires free { held_number self.old.log want.transfer ≡ None }
+        requires once { waits self.old.log want.transfer ≡ false }
+        requires none_idle { idle_connections self.old.log ≡ [] }
+        ensures log { self.new.log ≡ add moment (Waited want) self.old.log }
+        ensures streams { self.new.streams ≡ self.old.streams }
+        ensures booked { self.new.booked ≡ 0 }
+        ensures same { IsSameHost self.old self.new }
+    {
+        self.booked = 0;
+        self.queue.push(want);
+        self.log.append(Entry {
+            moment,
+            event: Event::Waited { want },
+        });
+    }
+
+    /// A transfer that waits is withdrawn.
+    pub(crate) fn leave(&mut self, transfer: u64, moment: u64)
+        requires waits { waits self.old.log transfer ≡ true }
+        requires later { last_moment self.old.log ≤ moment }
+        ensures log { self.new.log ≡ add moment (Left transfer) self.old.log }
+        ensures streams { self.new.streams ≡ self.old.streams }
+        ensures booked { self.new.booked ≡ self.old.booked }
+        ensures same { IsSameHost self.old self.new }
+    {
+        self.queue.take_out(transfer);
+        self.log.append(Entry {
+            moment,
+            event: Event::Left { transfer },
+        });
+    }
+
     /// The connection comes back and is idle from then on, with its stream.
     pub(crate) fn come_back(
         &mut self,
@@ -324,7 +420,8 @@ impl<S: Drop> State<S> {
         requires held { IsHeldAs self.old transfer held }
         requires stays { stays_open facts held ≡ true }
         requires later { last_moment self.old.log ≤ moment }
-        ensures log { self.new.log ≡ with_owed_close moment (add moment (Returned held.number facts) self.old.log) }
+        ensures log { self.new.log ≡ add moment (Returned held.number facts) self.old.log }
+        ensures settled { owed self.new.log ≡ None }
         ensures holders { (t : ℕ) → held_number self.new.log t ≡ (if transfer == t then None else held_number self.old.log t) }
         ensures stream { stream_of self.new.streams held.number ≡ Some stream }
         ensures others { (d : ℕ) → (held.number == d) ≡ false → stream_of self.new.streams d ≡ stream_of self.old.streams d }
@@ -347,9 +444,7 @@ impl<S: Drop> State<S> {
             since: moment,
             stream,
         };
-        let Ok(()) = self.idle.insert(place, idle) else {
-            unreachable!();
-        };
+        put_in(&mut self.idle, place, idle);
     }
 
     /// The connection comes back after a response that ends its use, and is closed.
@@ -357,7 +452,7 @@ impl<S: Drop> State<S> {
         requires held { IsHeldAs self.old transfer held }
         requires ends { stays_open facts held ≡ false }
         requires later { last_moment self.old.log ≤ moment }
-        ensures log { self.new.log ≡ with_owed_close moment (add moment (Returned held.number facts) self.old.log) }
+        ensures log { EndsUse self.old.log self.new.log held.number facts moment }
         ensures closed { is_open self.new.log held.number ≡ false }
         ensures holders { (t : ℕ) → held_number self.new.log t ≡ (if transfer == t then None else held_number self.old.log t) }
         ensures streams { self.new.streams ≡ self.old.streams }
@@ -383,10 +478,11 @@ impl<S: Drop> State<S> {
     }
 
     /// The connection is closed without a response.
-    pub(crate) fn drop_held(&mut self, transfer: u64, held: Held, moment: u64)
+    pub(crate) fn close_held(&mut self, transfer: u64, held: Held, cause: Cause, moment: u64)
         requires held { IsHeldAs self.old transfer held }
+        requires cause { is_of_holder cause ≡ true }
         requires later { last_moment self.old.log ≤ moment }
-        ensures log { self.new.log ≡ add moment (Closed held.number Dropped) self.old.log }
+        ensures log { self.new.log ≡ add moment (Closed held.number cause) self.old.log }
         ensures holders { (t : ℕ) → held_number self.new.log t ≡ (if transfer == t then None else held_number self.old.log t) }
         ensures streams { self.new.streams ≡ self.old.streams }
         ensures booked { self.new.booked ≡ self.old.booked }
@@ -397,7 +493,7 @@ impl<S: Drop> State<S> {
             moment,
             event: Event::Closed {
                 connection: held.number,
-                cause: Cause::Dropped,
+                cause,
             },
         });
     }

@@ -1,10 +1,13 @@
 //! What no clause says: that calls succeed in ample memory, that streams come back with their own
 //! connections, and what want of memory leaves.
 
+use crate::answers::{Claimed, Got};
 use crate::host::Bundle;
 use crate::lease::{Lease, Stray};
 use crate::refusal::Refusal;
 use crate::snapshot::Snapshot;
+use crate::ticket::Ticket;
+use conn_key::Key;
 use conn_log::{Cause, Entry, Event, Stamp, Want};
 use persistence::{Facts, Framing, Version};
 use std::process::Abort;
@@ -39,10 +42,19 @@ const KEEP: Facts = Facts {
 
 // A lease that has to be given, with a stream of its number where it has none.
 fn leased(rt: &impl Abort, bundle: &mut Bundle<Stream>, transfer: u64, now: u64) -> Lease<Stream> {
-    let mut lease = bundle.acquire(want_of(transfer), now).expect(rt, "a lease");
-    if !lease.reused() {
-        attach_new(&mut lease);
-    }
+    leased_for(rt, bundle, want_of(transfer), now)
+}
+
+fn leased_for(rt: &impl Abort, bundle: &mut Bundle<Stream>, want: Want, now: u64) -> Lease<Stream> {
+    let mut lease = match bundle.acquire(want, now).expect(rt, "an answer") {
+        Got::Lease(lease) => lease,
+        Got::Wait(ticket) => {
+            let transfer = ticket.transfer();
+            leave(rt, bundle, ticket, now);
+            panic!(rt; "{transfer} waits");
+        }
+    };
+    attach_new(&mut lease);
     lease
 }
 
@@ -53,12 +65,37 @@ fn attach_new(lease: &mut Lease<Stream>) {
     }
 }
 
-fn refused(rt: &impl Abort, bundle: &mut Bundle<Stream>, transfer: u64, now: u64) -> Refusal {
-    match bundle.acquire(want_of(transfer), now) {
-        Err(refusal) => refusal,
-        Ok(lease) => {
+// A ticket that has to be given.
+fn waits(rt: &impl Abort, bundle: &mut Bundle<Stream>, transfer: u64, now: u64) -> Ticket {
+    waits_for(rt, bundle, want_of(transfer), now)
+}
+
+fn waits_for(rt: &impl Abort, bundle: &mut Bundle<Stream>, want: Want, now: u64) -> Ticket {
+    match bundle.acquire(want, now).expect(rt, "an answer") {
+        Got::Wait(ticket) => ticket,
+        Got::Lease(lease) => {
+            let transfer = lease.transfer();
             accept(rt, bundle.abandon(lease, now));
-            Refusal::Memory
+            panic!(rt; "{transfer} does not wait");
+        }
+    }
+}
+
+fn refused(
+    rt: &impl Abort,
+    bundle: &mut Bundle<Stream>,
+    transfer: u64,
+    now: u64,
+) -> Option<Refusal> {
+    match bundle.acquire(want_of(transfer), now) {
+        Err(refusal) => Some(refusal),
+        Ok(Got::Lease(lease)) => {
+            accept(rt, bundle.abandon(lease, now));
+            None
+        }
+        Ok(Got::Wait(ticket)) => {
+            leave(rt, bundle, ticket, now);
+            None
         }
     }
 }
@@ -70,12 +107,29 @@ fn accept(rt: &impl Abort, answer: Result<(), Stray<Lease<Stream>>>) {
     }
 }
 
-fn give_back(rt: &impl Abort, bundle: &mut Bundle<Stream>, lease: Lease<Stream>, now: u64) {
+fn leave(rt: &impl Abort, bundle: &mut Bundle<Stream>, ticket: Ticket, now: u64) {
+    if let Err(stray) = bundle.withdraw(ticket, now) {
+        stray.scrap();
+        panic!(rt; "the ticket is a stranger");
+    }
+}
+
+fn give_back_with(
+    rt: &impl Abort,
+    bundle: &mut Bundle<Stream>,
+    lease: Lease<Stream>,
+    facts: Facts,
+    now: u64,
+) {
     if lease.has_stream() {
-        accept(rt, bundle.give_back(lease, KEEP, now));
+        accept(rt, bundle.give_back(lease, facts, now));
     } else {
         accept(rt, bundle.abandon(lease, now));
     }
+}
+
+fn give_back(rt: &impl Abort, bundle: &mut Bundle<Stream>, lease: Lease<Stream>, now: u64) {
+    give_back_with(rt, bundle, lease, KEEP, now);
 }
 
 // The number and the stream of a lease that is then abandoned.
@@ -86,10 +140,55 @@ fn stream_under(
     now: u64,
 ) -> (u32, Option<Stream>) {
     let number = lease.number();
-    let again = Lease::opened(number, lease.want(), lease.moment());
+    let again = Lease::opened(bundle.host(), number, lease.want(), lease.moment());
     let stream = lease.into_stream();
     accept(rt, bundle.abandon(again, now));
     (number, stream)
+}
+
+// The lease that a ticket has to give.
+fn claimed(rt: &impl Abort, bundle: &mut Bundle<Stream>, ticket: Ticket) -> Lease<Stream> {
+    match bundle.claim(ticket) {
+        Ok(Claimed::Lease(lease)) => lease,
+        Ok(Claimed::Still(ticket)) => {
+            leave(rt, bundle, ticket, 0);
+            panic!(rt; "the transfer still waits");
+        }
+        Err(stray) => {
+            stray.scrap();
+            panic!(rt; "the ticket is a stranger");
+        }
+    }
+}
+
+// What a ticket comes back in that has to be a stranger.
+fn stray(rt: &impl Abort, bundle: &mut Bundle<Stream>, ticket: Ticket) -> Stray<Ticket> {
+    match bundle.claim(ticket) {
+        Err(stray) => stray,
+        Ok(Claimed::Still(ticket)) => {
+            leave(rt, bundle, ticket, 0);
+            panic!(rt; "the ticket is no stranger");
+        }
+        Ok(Claimed::Lease(lease)) => {
+            accept(rt, bundle.abandon(lease, 0));
+            panic!(rt; "the ticket was taken");
+        }
+    }
+}
+
+// The ticket of a transfer that has to wait on.
+fn still(rt: &impl Abort, bundle: &mut Bundle<Stream>, ticket: Ticket) -> Ticket {
+    match bundle.claim(ticket) {
+        Ok(Claimed::Still(ticket)) => ticket,
+        Ok(Claimed::Lease(lease)) => {
+            accept(rt, bundle.abandon(lease, 0));
+            panic!(rt; "the transfer was granted a connection");
+        }
+        Err(stray) => {
+            stray.scrap();
+            panic!(rt; "the ticket is a stranger");
+        }
+    }
 }
 
 #[test]
@@ -171,41 +270,195 @@ fn the_last_number_is_used_once(rt: HostRuntime) -> Result<(), Fail> {
     let mut bundle = Bundle::new(rt.alloc(), 1, 0, u32::MAX)?;
     let last = leased(&rt, &mut bundle, 1, 0);
     assert_eq!(rt; last.number(), 4_294_967_295);
-    assert_eq!(rt; refused(&rt, &mut bundle, 1, 0), Refusal::TransferBusy);
-    assert_eq!(rt; refused(&rt, &mut bundle, 2, 0), Refusal::Exhausted);
+    assert_eq!(rt;
+        refused(&rt, &mut bundle, 1, 0),
+        Some(Refusal::TransferBusy)
+    );
+    assert_eq!(rt; refused(&rt, &mut bundle, 2, 0), Some(Refusal::Exhausted));
     give_back(&rt, &mut bundle, last, 1);
-    assert_eq!(rt; refused(&rt, &mut bundle, 2, 2), Refusal::Exhausted);
+    assert_eq!(rt; refused(&rt, &mut bundle, 2, 2), Some(Refusal::Exhausted));
     Ok(())
 }
 
 #[test]
-fn a_full_host_refuses(rt: HostRuntime) -> Result<(), Fail> {
-    let mut bundle = Bundle::new(rt.alloc(), 1, 0, 1)?;
+fn a_number_is_kept_for_each_that_waits(rt: HostRuntime) -> Result<(), Fail> {
+    let mut bundle = Bundle::new(rt.alloc(), 1, 0, u32::MAX - 1)?;
     let only = leased(&rt, &mut bundle, 1, 0);
-    assert_eq!(rt; refused(&rt, &mut bundle, 1, 1), Refusal::TransferBusy);
-    assert_eq!(rt; refused(&rt, &mut bundle, 2, 1), Refusal::AtLimit);
-    let facts = Facts {
-        close: true,
-        ..KEEP
-    };
-    if only.has_stream() {
-        accept(&rt, bundle.give_back(only, facts, 2));
-    } else {
-        accept(&rt, bundle.abandon(only, 2));
-    }
+    let second = waits(&rt, &mut bundle, 2, 1);
     assert_eq!(rt;
-        bundle.look(),
-        Snapshot {
-            alive: 0,
-            idle: 0,
-            leased: 0,
-            waiting: 0,
-            queued: false
-        }
+        refused(&rt, &mut bundle, 2, 1),
+        Some(Refusal::TransferBusy)
     );
-    let next = leased(&rt, &mut bundle, 2, 3);
-    assert_eq!(rt; (next.number(), next.reused()), (2, false));
-    give_back(&rt, &mut bundle, next, 4);
+    assert_eq!(rt; refused(&rt, &mut bundle, 3, 1), Some(Refusal::Exhausted));
+    accept(&rt, bundle.abandon(only, 2));
+    let last = claimed(&rt, &mut bundle, second);
+    assert_eq!(rt; last.number(), 4_294_967_295);
+    accept(&rt, bundle.abandon(last, 3));
+    Ok(())
+}
+
+#[test]
+fn who_came_first_is_served_first(rt: HostRuntime) -> Result<(), Fail> {
+    for comes_back in [true, false] {
+        let mut bundle = Bundle::new(rt.alloc(), 1, 7, 1)?;
+        let first = leased(&rt, &mut bundle, 1, 0);
+        let second = waits(&rt, &mut bundle, 2, 1);
+        let third = waits(&rt, &mut bundle, 3, 2);
+        assert_eq!(rt;
+            (second.site(), second.transfer(), second.moment()),
+            (7, 2, 1)
+        );
+        assert_eq!(rt; second.want(), want_of(2));
+        assert_eq!(rt; bundle.look().waiting, 2);
+        if comes_back {
+            give_back(&rt, &mut bundle, first, 3);
+        } else {
+            accept(&rt, bundle.abandon(first, 3));
+        }
+        let third = still(&rt, &mut bundle, third);
+        let lease = claimed(&rt, &mut bundle, second);
+        assert_eq!(rt; (lease.transfer(), lease.moment()), (2, 3));
+        assert_eq!(rt; lease.key(), Key { site: 7, lane: 0 });
+        // what came back has its own stream, and what was opened has none
+        let answer = stream_under(&rt, &mut bundle, lease, 4);
+        if comes_back {
+            assert_eq!(rt; answer, (1, Some(Stream(1))));
+        } else {
+            assert_eq!(rt; answer, (2, None));
+        }
+        let last = claimed(&rt, &mut bundle, third);
+        assert_eq!(rt; (last.transfer(), last.reused()), (3, false));
+        accept(&rt, bundle.abandon(last, 5));
+        assert_eq!(rt; bundle.look().alive, 0);
+    }
+    Ok(())
+}
+
+#[test]
+fn granted_connections_keep_their_own_streams(rt: HostRuntime) -> Result<(), Fail> {
+    let mut bundle = Bundle::new(rt.alloc(), 2, 0, 1)?;
+    let one = leased(&rt, &mut bundle, 1, 0);
+    let two = leased(&rt, &mut bundle, 2, 0);
+    let third = waits(&rt, &mut bundle, 3, 1);
+    let fourth = waits(&rt, &mut bundle, 4, 1);
+    give_back(&rt, &mut bundle, two, 2);
+    give_back(&rt, &mut bundle, one, 3);
+    let later = claimed(&rt, &mut bundle, fourth);
+    assert_eq!(rt;
+        stream_under(&rt, &mut bundle, later, 4),
+        (1, Some(Stream(1)))
+    );
+    let sooner = claimed(&rt, &mut bundle, third);
+    assert_eq!(rt;
+        stream_under(&rt, &mut bundle, sooner, 4),
+        (2, Some(Stream(2)))
+    );
+    Ok(())
+}
+
+#[test]
+fn tickets_are_withdrawn(rt: HostRuntime) -> Result<(), Fail> {
+    let mut bundle = Bundle::new(rt.alloc(), 1, 0, 1)?;
+    let first = leased(&rt, &mut bundle, 1, 0);
+    let second = waits(&rt, &mut bundle, 2, 1);
+    let third = waits(&rt, &mut bundle, 3, 2);
+    let fourth = waits(&rt, &mut bundle, 4, 2);
+    leave(&rt, &mut bundle, third, 3);
+    give_back(&rt, &mut bundle, first, 4);
+    // what the second was granted is closed, and one is opened for the fourth
+    leave(&rt, &mut bundle, second, 5);
+    let last = claimed(&rt, &mut bundle, fourth);
+    assert_eq!(rt; (last.number(), last.transfer(), last.moment()), (2, 4, 5));
+    assert_eq!(rt; last.has_stream(), false);
+    accept(&rt, bundle.abandon(last, 6));
+    assert_eq!(rt; bundle.look().alive, 0);
+    Ok(())
+}
+
+#[test]
+fn what_does_not_fit_the_first_that_waits_is_closed(rt: HostRuntime) -> Result<(), Fail> {
+    let wants = [
+        (
+            Want {
+                lane: 1,
+                ..want_of(2)
+            },
+            Cause::HostRoom,
+        ),
+        (
+            Want {
+                fresh: true,
+                ..want_of(2)
+            },
+            Cause::HostRoom,
+        ),
+        (
+            Want {
+                max_life: 8,
+                ..want_of(2)
+            },
+            Cause::TooOld,
+        ),
+        (
+            Want {
+                lane: 1,
+                max_life: 8,
+                ..want_of(2)
+            },
+            Cause::HostRoom,
+        ),
+    ];
+    for (want, cause) in wants {
+        let mut bundle = Bundle::new(rt.alloc(), 1, 0, 1)?;
+        let first = leased(&rt, &mut bundle, 1, 0);
+        let ticket = waits_for(&rt, &mut bundle, want, 1);
+        give_back(&rt, &mut bundle, first, 9);
+        let closed = Entry {
+            moment: 9,
+            event: Event::Closed {
+                connection: 1,
+                cause,
+            },
+        };
+        assert_eq!(rt; bundle.log().get(3), Some(closed));
+        let second = claimed(&rt, &mut bundle, ticket);
+        assert_eq!(rt;
+            (second.number(), second.want(), second.has_stream()),
+            (2, want, false)
+        );
+        accept(&rt, bundle.abandon(second, 10));
+    }
+    Ok(())
+}
+
+#[test]
+fn a_ticket_may_be_a_stranger(rt: HostRuntime) -> Result<(), Fail> {
+    let mut here = Bundle::new(rt.alloc(), 1, 0, 1)?;
+    let mut there = Bundle::new(rt.alloc(), 1, 0, 1)?;
+    let holder_here = leased(&rt, &mut here, 1, 0);
+    let holder_there = leased(&rt, &mut there, 1, 0);
+    let ticket = waits(&rt, &mut here, 2, 1);
+    // the other host knows nothing of the transfer
+    let Err(refused) = there.withdraw(ticket, 1) else {
+        panic!(rt; "the ticket was taken");
+    };
+    let ticket = refused.keep();
+    // it waits there too, for something else
+    let want = Want {
+        lane: 1,
+        ..want_of(2)
+    };
+    let other = waits_for(&rt, &mut there, want, 1);
+    let ticket = stray(&rt, &mut there, ticket).keep();
+    // a lease made elsewhere takes what was granted with it, and the ticket is a stranger
+    let mut taker = Lease::opened(0, 1, want_of(2), 5);
+    give_back(&rt, &mut here, holder_here, 5);
+    attach_new(&mut taker);
+    give_back(&rt, &mut here, taker, 6);
+    stray(&rt, &mut here, ticket).scrap();
+    assert_eq!(rt; here.look().idle, 1);
+    leave(&rt, &mut there, other, 2);
+    give_back(&rt, &mut there, holder_there, 2);
     Ok(())
 }
 
@@ -218,11 +471,9 @@ fn a_connection_of_another_lane_makes_room(rt: HostRuntime) -> Result<(), Fail> 
         lane: 1,
         ..want_of(2)
     };
-    let second: Lease<Stream> = bundle.acquire(want, 3).expect(&rt, "a lease");
-    assert_eq!(rt;
-        (second.number(), second.reused(), second.has_stream()),
-        (2, false, false)
-    );
+    let second = leased_for(&rt, &mut bundle, want, 3);
+    assert_eq!(rt; (second.number(), second.reused()), (2, false));
+    assert_eq!(rt; second.key(), Key { site: 0, lane: 1 });
     let closed = Entry {
         moment: 3,
         event: Event::Closed {
@@ -256,7 +507,11 @@ fn a_lease_of_another_host_is_a_stranger(rt: HostRuntime) -> Result<(), Fail> {
 fn leased_at_last(rt: &impl Abort, bundle: &mut Bundle<Stream>, transfer: u64) -> Lease<Stream> {
     let entries = bundle.log().len();
     match bundle.acquire(want_of(transfer), 0) {
-        Ok(lease) => lease,
+        Ok(Got::Lease(lease)) => lease,
+        Ok(Got::Wait(ticket)) => {
+            leave(rt, bundle, ticket, 0);
+            panic!(rt; "it waits");
+        }
         Err(refusal) => {
             assert_eq!(rt; refusal, Refusal::Memory);
             assert_eq!(rt; bundle.log().len(), entries);

@@ -1,44 +1,115 @@
-use Rattle.std.proofs.Common.{◌≡◌, ℕ, true, sym, ap, ◌∙◌}
-use Rattle.std.specs.Prelude.{◌==◌}
-use Rattle.conn_log.specs.Connections.{is_open}
+use Rattle.std.proofs.Common.{◌≡◌, ◌⊎◌, ◌++◌, None, is_some, sym, ap, subst, ◌∙◌, arith}
+use Rattle.std.specs.Prelude.{if◌then◌else◌}
+use Rattle.conn_log.specs.Waiting.{waiting}
+use Rattle.bundle.specs.Calls.{moment_at, start_unless, after_acquire, refusal}
+use Rattle.bundle.specs.Grants.{GrantsKept, grant_streams}
 use Rattle.bundle.specs.Idle.{stream_of}
-use Rattle.bundle.specs.Lease.{OneHost, Leasing}
+use Rattle.bundle.specs.Laws.{IsSoundAndQuiet}
+use Rattle.bundle.specs.Lease.{OneHost}
 use Rattle.bundle.specs.State.{HostState}
-use Rattle.bundle.proofs.Growth.{grows_as, grows_by_one, grows_too_old_from, grows_room_of}
+use Rattle.bundle.proofs.Growth.{grows_acquire}
+use Rattle.bundle.proofs.KeptSound.{kept_acquire}
+use Rattle.bundle.proofs.Acquired.{Starts, Waits, allowed_by, begun}
+use Rattle.bundle.proofs.Answering.{gives_lease, gives_ticket, kept_begun, begun_stream, behind_only, behind_same}
+use Rattle.bundle.proofs.Acquiring.{queue_begun, acquired_lease, acquired_ticket}
+use Rattle.bundle.proofs.Settling.{grows_from}
 use Rattle.bundle.proofs.host.Bundle.acquire.Goals as goal
 
-pub returns-in-Some-lease_newest_fit-clause-grew : goal.returns-in-Some-lease_newest_fit-clause-grew
-returns-in-Some-lease_newest_fit-clause-grew g c =
-    let old = c.args.self.now.log in
-    let booked = ap (λ (v : HostState g.row.S.Denot). v.log) c.in_ok-book.ensures.ok ∙ ap (λ (v : OneHost g.row.S.Denot). v.log) c.self.view_is in
-    let closed = grows_as old _ _ c.close_too_old.ensures.log (grows_too_old_from c.args.want c.moment-moment.result old _ booked) in
-    grows_as old _ _ c.in-Some-lease_newest_fit.ensures.some.log (grows_by_one _ _ old _ closed)
+pub invariant_of-self-2 : goal.invariant_of-self-2
+invariant_of-self-2 g c =
+    let state = c.self.inside.state in
+    let grants = c.self.inside.grants.items in
+    let inv = c.self.invariant in
+    let booked = c.in-Ok-book.ensures.ok in
+    let allowed : refusal state.terms state.log c.args.want ≡ None = sym (c.in_default.ensures.reason ∙ ap (λ (v : OneHost g.row.S.Denot). refusal v.terms v.log c.args.want) (sym c.self.view_is)) in
+    let moment_is : c.moment-moment.result ≡ moment_at state.log c.args.now = c.moment-moment.ensures ∙ ap (λ (v : HostState g.row.S.Denot). moment_at v.log c.args.now) booked in
+    let is : c.start_or_wait.new.state.log ≡ after_acquire state.terms state.log c.args.want c.args.now = c.start_or_wait.ensures.log ∙ ap (λ (v : HostState g.row.S.Denot). start_unless (waiting v.log) v.terms c.args.want c.moment-moment.result v.log) booked ∙ ap (λ k. start_unless (waiting state.log) state.terms c.args.want k state.log) moment_is in
+    let may = allowed_by state.terms state.log c.args.want inv.settled.sound allowed in
+    let started = subst (λ log. Starts c.args.want state.log log ⊎ Waits c.args.want state.log log) (sym is) (begun state.terms state.log c.args.want c.args.now inv.settled.sound allowed) in
+    let queue = queue_begun c.args.want state.log c.start_or_wait.new.state.log started in
+    record {
+      booked = c.start_or_wait.ensures.booked;
+      settled = subst (λ terms. IsSoundAndQuiet terms c.start_or_wait.new.state.log) (sym (c.start_or_wait.ensures.same.terms ∙ ap (λ (v : HostState g.row.S.Denot). v.terms) booked)) (subst (λ log. IsSoundAndQuiet state.terms log) (sym is) (kept_acquire state.terms state.log c.args.want c.args.now inv.settled allowed));
+      grants = subst (λ gs. GrantsKept c.start_or_wait.new.state.log gs) (sym c.reserve.ensures.items) (kept_begun state.terms state.log c.start_or_wait.new.state.log grants inv.grants c.args.want may.free started);
+      room = omega (arith, queue, c.in-Ok.ensures.ok, c.waiting_len.ensures, c.reserve.ensures.len);
+    }
 
-pub returns-in-Some-lease_newest_fit-clause-streams : goal.returns-in-Some-lease_newest_fit-clause-streams
-returns-in-Some-lease_newest_fit-clause-streams g c d other still =
-    let leased = c.in-Some-lease_newest_fit.ensures.some in
-    let was_open : is_open c.close_too_old.new.self.log d ≡ true = ap (λ log. is_open log d) (sym leased.log) ∙ still in
-    let booked = ap (λ (v : HostState g.row.S.Denot). v.streams) c.in_ok-book.ensures.ok ∙ ap (λ (v : OneHost g.row.S.Denot). v.streams) c.self.view_is in
-    let number = ap (λ (l : Leasing g.row.S.Denot). l.start.number) c.reusing.ensures in
-    leased.others d (ap (λ (n : ℕ). n == d) (sym number) ∙ other) ∙ c.close_too_old.ensures.closes.streams d was_open ∙ ap (λ streams. stream_of streams d) booked
+pub returns-clause-stream : goal.returns-clause-stream
+returns-clause-stream g c =
+    let state = c.self.inside.state in
+    let grants = c.self.inside.grants.items in
+    let inv = c.self.invariant in
+    let booked = c.in-Ok-book.ensures.ok in
+    let allowed : refusal state.terms state.log c.args.want ≡ None = sym (c.in_default.ensures.reason ∙ ap (λ (v : OneHost g.row.S.Denot). refusal v.terms v.log c.args.want) (sym c.self.view_is)) in
+    let moment_is : c.moment-moment.result ≡ moment_at state.log c.args.now = c.moment-moment.ensures ∙ ap (λ (v : HostState g.row.S.Denot). moment_at v.log c.args.now) booked in
+    let is : c.start_or_wait.new.state.log ≡ after_acquire state.terms state.log c.args.want c.args.now = c.start_or_wait.ensures.log ∙ ap (λ (v : HostState g.row.S.Denot). start_unless (waiting v.log) v.terms c.args.want c.moment-moment.result v.log) booked ∙ ap (λ k. start_unless (waiting state.log) state.terms c.args.want k state.log) moment_is in
+    let may = allowed_by state.terms state.log c.args.want inv.settled.sound allowed in
+    let started = subst (λ log. Starts c.args.want state.log log ⊎ Waits c.args.want state.log log) (sym is) (begun state.terms state.log c.args.want c.args.now inv.settled.sound allowed) in
+    let after = subst (λ log. IsSoundAndQuiet state.terms log) (sym is) (kept_acquire state.terms state.log c.args.want c.args.now inv.settled allowed) in
+    gives_lease c.start_or_wait.result _ _ _ (λ lease first told. told ∙ ap (λ s. if lease.start.reused then s else None) (ap (λ (v : HostState g.row.S.Denot). stream_of v.streams lease.start.number) booked ∙ sym (behind_only (grant_streams grants) state.streams lease.start.number (begun_stream state.terms state.log c.start_or_wait.new.state.log grants inv.grants c.args.want may.free after.sound.orderly lease.start started first.0)) ∙ ap (λ (v : OneHost g.row.S.Denot). stream_of v.streams lease.start.number) c.self.view_is)) c.start_or_wait.ensures.lease c.start_or_wait.ensures.stream
 
 pub returns-clause-streams : goal.returns-clause-streams
-returns-clause-streams g c d other still =
-    let unchanged = c.in_default-lease_newest_fit.ensures.none.1 in
-    let number = ap (λ (l : Leasing g.row.S.Denot). l.start.number) c.opened.ensures in
-    let room_open = c.open-number.ensures.opened d (ap (λ (n : ℕ). n == d) (sym number) ∙ other) still in
-    let was_open : is_open c.close_too_old.new.self.log d ≡ true = ap (λ (v : HostState g.row.S.Denot). is_open v.log d) (sym unchanged) ∙ c.make_room.ensures.closes.still d room_open in
-    let booked = ap (λ (v : HostState g.row.S.Denot). v.streams) c.in_ok-book.ensures.ok ∙ ap (λ (v : OneHost g.row.S.Denot). v.streams) c.self.view_is in
-    ap (λ streams. stream_of streams d) c.open-number.ensures.streams
-    ∙ c.make_room.ensures.closes.streams d room_open
-    ∙ ap (λ (v : HostState g.row.S.Denot). stream_of v.streams d) unchanged
-    ∙ c.close_too_old.ensures.closes.streams d was_open
-    ∙ ap (λ streams. stream_of streams d) booked
+returns-clause-streams g c =
+    let state = c.self.inside.state in
+    let grants = c.self.inside.grants.items in
+    let inv = c.self.invariant in
+    let booked = c.in-Ok-book.ensures.ok in
+    let allowed : refusal state.terms state.log c.args.want ≡ None = sym (c.in_default.ensures.reason ∙ ap (λ (v : OneHost g.row.S.Denot). refusal v.terms v.log c.args.want) (sym c.self.view_is)) in
+    let moment_is : c.moment-moment.result ≡ moment_at state.log c.args.now = c.moment-moment.ensures ∙ ap (λ (v : HostState g.row.S.Denot). moment_at v.log c.args.now) booked in
+    let is : c.start_or_wait.new.state.log ≡ after_acquire state.terms state.log c.args.want c.args.now = c.start_or_wait.ensures.log ∙ ap (λ (v : HostState g.row.S.Denot). start_unless (waiting v.log) v.terms c.args.want c.moment-moment.result v.log) booked ∙ ap (λ k. start_unless (waiting state.log) state.terms c.args.want k state.log) moment_is in
+    let may = allowed_by state.terms state.log c.args.want inv.settled.sound allowed in
+    let started = subst (λ log. Starts c.args.want state.log log ⊎ Waits c.args.want state.log log) (sym is) (begun state.terms state.log c.args.want c.args.now inv.settled.sound allowed) in
+    gives_lease c.start_or_wait.result _ _ _ (λ lease first others d other still. ap (λ gs. stream_of (grant_streams gs ++ c.start_or_wait.new.state.streams) d) c.reserve.ensures.items ∙ behind_same (grant_streams grants) c.start_or_wait.new.state.streams state.streams d (others d other still ∙ ap (λ (v : HostState g.row.S.Denot). stream_of v.streams d) booked) ∙ ap (λ (v : OneHost g.row.S.Denot). stream_of v.streams d) c.self.view_is) c.start_or_wait.ensures.lease c.start_or_wait.ensures.others
+
+pub returns-clause-kept : goal.returns-clause-kept
+returns-clause-kept g c =
+    let state = c.self.inside.state in
+    let grants = c.self.inside.grants.items in
+    let inv = c.self.invariant in
+    let booked = c.in-Ok-book.ensures.ok in
+    let allowed : refusal state.terms state.log c.args.want ≡ None = sym (c.in_default.ensures.reason ∙ ap (λ (v : OneHost g.row.S.Denot). refusal v.terms v.log c.args.want) (sym c.self.view_is)) in
+    let moment_is : c.moment-moment.result ≡ moment_at state.log c.args.now = c.moment-moment.ensures ∙ ap (λ (v : HostState g.row.S.Denot). moment_at v.log c.args.now) booked in
+    let is : c.start_or_wait.new.state.log ≡ after_acquire state.terms state.log c.args.want c.args.now = c.start_or_wait.ensures.log ∙ ap (λ (v : HostState g.row.S.Denot). start_unless (waiting v.log) v.terms c.args.want c.moment-moment.result v.log) booked ∙ ap (λ k. start_unless (waiting state.log) state.terms c.args.want k state.log) moment_is in
+    let may = allowed_by state.terms state.log c.args.want inv.settled.sound allowed in
+    let started = subst (λ log. Starts c.args.want state.log log ⊎ Waits c.args.want state.log log) (sym is) (begun state.terms state.log c.args.want c.args.now inv.settled.sound allowed) in
+    gives_ticket c.start_or_wait.result _ _ _ (λ ticket first all d still. ap (λ gs. stream_of (grant_streams gs ++ c.start_or_wait.new.state.streams) d) c.reserve.ensures.items ∙ behind_same (grant_streams grants) c.start_or_wait.new.state.streams state.streams d (all d still ∙ ap (λ (v : HostState g.row.S.Denot). stream_of v.streams d) booked) ∙ ap (λ (v : OneHost g.row.S.Denot). stream_of v.streams d) c.self.view_is) c.start_or_wait.ensures.ticket c.start_or_wait.ensures.all
+
+pub returns-clause-gets_lease : goal.returns-clause-gets_lease
+returns-clause-gets_lease g c =
+    let state = c.self.inside.state in
+    let grants = c.self.inside.grants.items in
+    let inv = c.self.invariant in
+    let booked = c.in-Ok-book.ensures.ok in
+    let allowed : refusal state.terms state.log c.args.want ≡ None = sym (c.in_default.ensures.reason ∙ ap (λ (v : OneHost g.row.S.Denot). refusal v.terms v.log c.args.want) (sym c.self.view_is)) in
+    let moment_is : c.moment-moment.result ≡ moment_at state.log c.args.now = c.moment-moment.ensures ∙ ap (λ (v : HostState g.row.S.Denot). moment_at v.log c.args.now) booked in
+    let is : c.start_or_wait.new.state.log ≡ after_acquire state.terms state.log c.args.want c.args.now = c.start_or_wait.ensures.log ∙ ap (λ (v : HostState g.row.S.Denot). start_unless (waiting v.log) v.terms c.args.want c.moment-moment.result v.log) booked ∙ ap (λ k. start_unless (waiting state.log) state.terms c.args.want k state.log) moment_is in
+    let may = allowed_by state.terms state.log c.args.want inv.settled.sound allowed in
+    let started = subst (λ log. Starts c.args.want state.log log ⊎ Waits c.args.want state.log log) (sym is) (begun state.terms state.log c.args.want c.args.now inv.settled.sound allowed) in
+    gives_lease c.start_or_wait.result _ _ _ (λ lease first told. acquired_lease state.terms state.log c.start_or_wait.new.state.log grants inv.grants c.args.want may.free started _ _ _ _ _ c.reserve.new.self.items c.reserve.ensures.items c.args.self.now c.self.view_is lease.start first.0) c.start_or_wait.ensures.lease c.start_or_wait.ensures.stream
+
+pub returns-clause-gets_ticket : goal.returns-clause-gets_ticket
+returns-clause-gets_ticket g c =
+    let state = c.self.inside.state in
+    let grants = c.self.inside.grants.items in
+    let inv = c.self.invariant in
+    let booked = c.in-Ok-book.ensures.ok in
+    let allowed : refusal state.terms state.log c.args.want ≡ None = sym (c.in_default.ensures.reason ∙ ap (λ (v : OneHost g.row.S.Denot). refusal v.terms v.log c.args.want) (sym c.self.view_is)) in
+    let moment_is : c.moment-moment.result ≡ moment_at state.log c.args.now = c.moment-moment.ensures ∙ ap (λ (v : HostState g.row.S.Denot). moment_at v.log c.args.now) booked in
+    let is : c.start_or_wait.new.state.log ≡ after_acquire state.terms state.log c.args.want c.args.now = c.start_or_wait.ensures.log ∙ ap (λ (v : HostState g.row.S.Denot). start_unless (waiting v.log) v.terms c.args.want c.moment-moment.result v.log) booked ∙ ap (λ k. start_unless (waiting state.log) state.terms c.args.want k state.log) moment_is in
+    let may = allowed_by state.terms state.log c.args.want inv.settled.sound allowed in
+    let started = subst (λ log. Starts c.args.want state.log log ⊎ Waits c.args.want state.log log) (sym is) (begun state.terms state.log c.args.want c.args.now inv.settled.sound allowed) in
+    gives_ticket c.start_or_wait.result _ _ _ (λ ticket first all. acquired_ticket state.terms state.log c.start_or_wait.new.state.log grants inv.grants c.args.want may.free started _ _ _ _ _ c.reserve.new.self.items c.reserve.ensures.items c.args.self.now c.self.view_is (ap is_some first.0)) c.start_or_wait.ensures.ticket c.start_or_wait.ensures.all
 
 pub returns-clause-grew : goal.returns-clause-grew
 returns-clause-grew g c =
-    let old = c.args.self.now.log in
-    let booked = ap (λ (v : HostState g.row.S.Denot). v.log) c.in_ok-book.ensures.ok ∙ ap (λ (v : OneHost g.row.S.Denot). v.log) c.self.view_is in
-    let closed = grows_as old _ _ c.close_too_old.ensures.log (grows_too_old_from c.args.want c.moment-moment.result old _ booked) in
-    let unchanged = grows_as old _ _ (ap (λ (v : HostState g.row.S.Denot). v.log) c.in_default-lease_newest_fit.ensures.none.1) closed in
-    grows_as old _ _ c.open-number.ensures.log (grows_by_one _ _ old c.make_room.new.self.log (grows_as old _ _ c.make_room.ensures.log (grows_room_of c.lease_newest_fit.new.self.terms _ old c.lease_newest_fit.new.self.log unchanged)))
+    let state = c.self.inside.state in
+    let grants = c.self.inside.grants.items in
+    let inv = c.self.invariant in
+    let booked = c.in-Ok-book.ensures.ok in
+    let allowed : refusal state.terms state.log c.args.want ≡ None = sym (c.in_default.ensures.reason ∙ ap (λ (v : OneHost g.row.S.Denot). refusal v.terms v.log c.args.want) (sym c.self.view_is)) in
+    let moment_is : c.moment-moment.result ≡ moment_at state.log c.args.now = c.moment-moment.ensures ∙ ap (λ (v : HostState g.row.S.Denot). moment_at v.log c.args.now) booked in
+    let is : c.start_or_wait.new.state.log ≡ after_acquire state.terms state.log c.args.want c.args.now = c.start_or_wait.ensures.log ∙ ap (λ (v : HostState g.row.S.Denot). start_unless (waiting v.log) v.terms c.args.want c.moment-moment.result v.log) booked ∙ ap (λ k. start_unless (waiting state.log) state.terms c.args.want k state.log) moment_is in
+    let may = allowed_by state.terms state.log c.args.want inv.settled.sound allowed in
+    let started = subst (λ log. Starts c.args.want state.log log ⊎ Waits c.args.want state.log log) (sym is) (begun state.terms state.log c.args.want c.args.now inv.settled.sound allowed) in
+    let grew = grows_acquire state.terms state.log c.args.want c.args.now in
+    grows_from state.log c.args.self.now.log c.start_or_wait.new.state.log (ap (λ (v : OneHost g.row.S.Denot). v.log) c.self.view_is) (grew.0, is ∙ grew.1)

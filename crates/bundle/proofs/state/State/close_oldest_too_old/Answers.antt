@@ -28,11 +28,14 @@ invariant_of-self g c =
     let room = c.self.invariant.room in
     let later = subst (λ log. last_moment log ≤ c.args.moment) (sym log_is) c.requires in
     record {
-      replays = rw (c.append.ensures.entries, c.remove-oldest.ensures.items) (replays_close _ _ _ _ _ _ kept c.args.moment later TooOld c.in-Some.place c.remove-oldest.result first.in_range c.remove-oldest.ensures.value (λ idle. (kept.sound.settled, idle)));
+      replays = rw (c.append.ensures.entries, c.remove-oldest.ensures.items) (replays_close _ _ _ _ _ _ kept c.args.moment later TooOld c.in-Some.place c.remove-oldest.result first.in_range c.remove-oldest.ensures.value refl);
+      queue = rw c.append.ensures.entries c.self.invariant.queue;
+      numbers = c.self.invariant.numbers;
       room = record {
         log_room = omega (arith, room.log_room, c.append.ensures.room, c.remove-oldest.ensures.len);
         idle_room = omega (arith, room.idle_room, c.remove-oldest.ensures.len, c.remove-oldest.ensures.capacity);
         held_room = room.held_room;
+        queue_room = room.queue_room;
       };
     }
 

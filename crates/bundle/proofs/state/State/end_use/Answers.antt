@@ -2,13 +2,13 @@ use Rattle.std.proofs.Common.{◌≡◌, ◌≤◌, true, not, ◌&&◌, None, S
 use Rattle.std.specs.Prelude.{◌==◌, if◌then◌else◌}
 use Rattle.std.proofs.lemmas.Bool.Decides.{nat_tests}
 use Rattle.conn_log.specs.Connections.{last_moment, held_number, is_open}
-use Rattle.conn_log.specs.declared.entry.Event.TheVariants.{Returned}
+use Rattle.conn_log.specs.declared.entry.Event.TheVariants.{Returned, Closed}
 use Rattle.conn_log.specs.Sound.{held_facts}
-use Rattle.bundle.specs.Calls.{add, with_owed_close}
-use Rattle.bundle.specs.State.{HostState, held_facts_of}
+use Rattle.bundle.specs.Calls.{add}
+use Rattle.bundle.specs.State.{HostState, EndsUse, held_facts_of}
 use Rattle.conn_log.proofs.Steps.{taken_end, gone_ended, gone_open}
 use Rattle.bundle.proofs.Replaying.{table_number, table_from_log}
-use Rattle.bundle.proofs.Transitions.{replays_end, owed_close}
+use Rattle.bundle.proofs.Transitions.{replays_end, ends_use_at_once}
 use Rattle.bundle.proofs.state.State.end_use.Goals as goal
 
 pub invariant_of-self : goal.invariant_of-self
@@ -20,10 +20,13 @@ invariant_of-self g c =
     let later = subst (λ log. last_moment log ≤ c.args.moment) (sym log_is) c.requires.later in
     record {
       replays = rw (c.append-2.ensures.entries, c.append.ensures.entries) (replays_end _ _ _ _ _ _ kept c.args.transfer c.args.held there c.args.moment later c.args.facts _ c.requires.ends c.ending_cause-cause.ensures _ _ c.take_out.ensures.taken c.take_out.ensures.len);
+      queue = rw (c.append-2.ensures.entries, c.append.ensures.entries) c.self.invariant.queue;
+      numbers = c.self.invariant.numbers;
       room = record {
         log_room = omega (arith, room.log_room, c.append.ensures.room, c.append-2.ensures.room, c.take_out.ensures.len);
         idle_room = omega (arith, room.idle_room, c.take_out.ensures.len);
         held_room = omega (arith, room.held_room, c.take_out.ensures.room);
+        queue_room = room.queue_room;
       };
     }
 
@@ -33,7 +36,9 @@ returns-clause-log g c =
     let log_is = ap (λ (v : HostState g.row.S.Denot). v.log) c.self.view_is in
     let there = table_from_log kept c.args.transfer c.args.held (subst (λ log. held_facts log c.args.transfer ≡ Some (held_facts_of c.args.held)) (sym log_is) c.requires.held) in
     let later = subst (λ log. last_moment log ≤ c.args.moment) (sym log_is) c.requires.later in
-    rw (c.append-2.ensures.entries, c.append.ensures.entries) (owed_close _ _ _ _ _ _ kept c.args.transfer c.args.held there c.args.moment later c.args.facts _ c.requires.ends c.ending_cause-cause.ensures ∙ ap (λ log. with_owed_close c.args.moment (add c.args.moment (Returned c.args.held.number c.args.facts) log)) log_is)
+    let cause = c.ending_cause-cause.result in
+    let now = ends_use_at_once _ _ _ _ _ _ kept c.args.transfer c.args.held there c.args.moment later c.args.facts _ c.requires.ends c.ending_cause-cause.ensures in
+    rw (c.append-2.ensures.entries, c.append.ensures.entries) (subst (λ log. EndsUse log (add c.args.moment (Closed c.args.held.number cause) (add c.args.moment (Returned c.args.held.number c.args.facts) c.self.inside.log.entries)) c.args.held.number c.args.facts c.args.moment) log_is now)
 
 pub returns-clause-closed : goal.returns-clause-closed
 returns-clause-closed g c =

@@ -1,0 +1,327 @@
+-- What the calls of a bundle leave: who has a lease or a ticket, and the streams that are kept.
+use Rattle.std.proofs.Common.{◌≡◌, ℕ, ◌⊎◌, Bool, true, false, not, ◌&&◌, List, [], ◌∷◌, ◌++◌, Option, Some, None, is_some, refl, sym, ap, subst, inl, inr, ◌∙◌, arith}
+use Rattle.std.specs.Prelude.{◌==◌, if◌then◌else◌}
+use Rattle.std.specs.Option.{option_map, option_map_or, option_or}
+use mathlib.Core.Bool.{false≢true}
+use Rattle.std.proofs.lemmas.Bool.Decides.{nat_tests, eqb_tells}
+use Rattle.persistence.specs.declared.facts.Facts.{Facts}
+use Rattle.persistence.specs.Persistent.{is_persistent}
+use Rattle.conn_log.specs.declared.entry.Want.{Want}
+use Rattle.conn_log.specs.declared.entry.Cause.{Cause}
+use Rattle.conn_log.specs.declared.entry.Event.TheVariants.{Leased, Returned, Closed, Left}
+use Rattle.conn_log.specs.declared.entry.Entry.{Entry}
+use Rattle.conn_log.specs.Connections.{is_among, is_open, held_number, lane, born}
+use Rattle.conn_log.specs.Waiting.{waiting, waits}
+use Rattle.conn_log.specs.Fit.{is_fit}
+use Rattle.conn_log.specs.Legal.{Terms, IsAnyone}
+use Rattle.conn_log.specs.Sound.{IsOrderly, HeldFacts, facts_if_held, held_facts}
+use Rattle.conn_log.proofs.Steps.{is_open_is}
+use Rattle.bundle.specs.declared.grant.Grant.{Grant}
+use Rattle.bundle.specs.declared.held.Held.{Held}
+use Rattle.bundle.specs.declared.answers.Got.{Got}
+use Rattle.bundle.specs.declared.answers.Got.TheVariants.{Lease, Wait}
+use Rattle.bundle.specs.Calls.{Start, newest_start, newest_wait, add, next_number, start_new, open_for, unfit_cause, pass_to}
+use Rattle.bundle.specs.Idle.{stream_of}
+use Rattle.bundle.specs.Laws.{IsSoundAndQuiet}
+use Rattle.bundle.specs.Lease.{OneHost, Leasing, Ticketed, waiting_want, granted_want, is_same_want, GetsLease, GetsTicket, Spends}
+use Rattle.bundle.specs.Grants.{grant_of, without_grant, grant_transfers, with_stream, grant_streams, GrantsKept, with_new, with_passed, IsAlone}
+use Rattle.bundle.specs.Replies.{GivesLease, GivesTicket}
+use Rattle.bundle.specs.State.{held_facts_of}
+use Rattle.bundle.proofs.KeptSound.{held_want, only_idle}
+use Rattle.bundle.proofs.Told.{Told, apart_held, holder_awaits_nothing, told_left_others, awaited_none, awaited_waits}
+use Rattle.bundle.proofs.Granting.{leased, ticketed, leased_same, ticketed_same, kept_at, granted_none, kept_others, kept_without, among_without, not_without, is_some-grant_of, Freed, no_stream, stream_of-append, stream_of-push, stream_of-pushed, stream_of-without, stream_of-granted}
+use Rattle.bundle.proofs.Acquired.{Starts, Waits}
+
+-- a connection that was closed is not open
+pub closed_not_open : (terms : Terms) (m c : ℕ) (cause : Cause) (log : List Entry) (wants : List Want) → is_open (open_for terms m (add m (Closed c cause) log) wants) c ≡ false
+closed_not_open terms m c cause log [] = is_open_is (add m (Closed c cause) log) c ∙ grind (arith, nat_tests)
+closed_not_open terms m c cause log (head ∷ others) = is_open_is (start_new terms head m (add m (Closed c cause) log)) c ∙ grind (arith, nat_tests)
+
+pub apart_open : (log : List Entry) (c d : ℕ) → is_open log c ≡ false → is_open log d ≡ true → (c == d) ≡ false
+apart_open log c d closed still = elim (eqb_tells c d) [
+  | inl same ↦ absurd (false≢true (sym closed ∙ ap (is_open log) same.1 ∙ still))
+  | inr other ↦ other.0
+]
+
+module _ {S : Type 0} where
+  -- what an acquire gives, from what is known of it
+  pub gives_lease : (got : Got S) (P Q R : Leasing S → Type 0) → ((lease : Leasing S) → P lease → Q lease → R lease) → GivesLease got P → GivesLease got Q → GivesLease got R
+  gives_lease (Lease lease) P Q R step p q = step lease p q
+  gives_lease (Wait ticket) P Q R step p q = tt
+
+  pub gives_ticket : (got : Got S) (P Q R : Ticketed → Type 0) → ((ticket : Ticketed) → P ticket → Q ticket → R ticket) → GivesTicket got P → GivesTicket got Q → GivesTicket got R
+  gives_ticket (Lease lease) P Q R step p q = tt
+  gives_ticket (Wait ticket) P Q R step p q = step ticket p q
+
+  -- who has what after an acquire
+  module _ (terms : Terms) (log after : List Entry) (grants : List (Grant S)) (kept : GrantsKept log grants) (want : Want) (free : held_number log want.transfer ≡ None) where
+    out : is_among want.transfer (grant_transfers grants) ≡ false
+    out = granted_none log grants want.transfer kept free
+
+    pub kept_begun : Starts want log after ⊎ Waits want log after → GrantsKept after grants
+    kept_begun (inl starts) = kept_others log after grants want.transfer starts.others out kept
+    kept_begun (inr waits) = kept_others log after grants want.transfer waits.others out kept
+
+    leases_started : (start : Start) → Starts want log after → newest_start after ≡ Some start → (u : ℕ) → leased after (grant_transfers grants) u ≡ (if want.transfer == u then Some start.number else leased log (grant_transfers grants) u)
+    leases_started start starts answer u = elim (eqb_tells want.transfer u) [
+      | inl same ↦
+          let one : Some starts.start ≡ Some start = sym starts.answer ∙ answer in
+          let it : starts.start ≡ start = cc in
+          let number : held_number after u ≡ Some start.number = subst (λ (n : ℕ). held_number after n ≡ Some start.number) same.1 (ap (λ (t : Told). t.number) starts.mine ∙ ap (λ (s : Start). Some s.number) it) in
+          let out_u : is_among u (grant_transfers grants) ≡ false = subst (λ (n : ℕ). is_among n (grant_transfers grants) ≡ false) same.1 out in
+          ap (λ b. if b then None else held_number after u) out_u ∙ number ∙ sym (ap (λ b. if b then Some start.number else leased log (grant_transfers grants) u) same.0)
+      | inr other ↦ leased_same log after (grant_transfers grants) (grant_transfers grants) u (starts.others u other.0) refl ∙ sym (ap (λ b. if b then Some start.number else leased log (grant_transfers grants) u) other.0)
+    ]
+
+    tickets_started : Starts want log after → (u : ℕ) → ticketed after (grant_transfers grants) u ≡ (if want.transfer == u then None else ticketed log (grant_transfers grants) u)
+    tickets_started starts u = elim (eqb_tells want.transfer u) [
+      | inl same ↦
+          let none : waiting_want (waiting after) u ≡ None = subst (λ (n : ℕ). waiting_want (waiting after) n ≡ None) same.1 (ap (λ (t : Told). t.awaited) starts.mine) in
+          let out_u : is_among u (grant_transfers grants) ≡ false = subst (λ (n : ℕ). is_among n (grant_transfers grants) ≡ false) same.1 out in
+          ap (λ b. if b then granted_want after u else waiting_want (waiting after) u) out_u ∙ none ∙ sym (ap (λ b. if b then None else ticketed log (grant_transfers grants) u) same.0)
+      | inr other ↦ ticketed_same log after (grant_transfers grants) (grant_transfers grants) u (starts.others u other.0) refl ∙ sym (ap (λ b. if b then None else ticketed log (grant_transfers grants) u) other.0)
+    ]
+
+    module _ (terms' : Terms) (host host' : ℕ) (streams streams' : List (ℕ × S)) where
+      abbrev host_before : OneHost S
+      host_before = record { log = log; terms = terms; host = host; streams = streams; unclaimed = grant_transfers grants }
+
+      abbrev host_after : OneHost S
+      host_after = record { log = after; terms = terms'; host = host'; streams = streams'; unclaimed = grant_transfers grants }
+
+      pub begun_lease : (start : Start) → Starts want log after ⊎ Waits want log after → newest_start after ≡ Some start → GetsLease host_before host_after want.transfer start.number
+      begun_lease start (inl starts) answer = record { leases = leases_started start starts answer; tickets = tickets_started starts }
+      begun_lease start (inr waits) answer = let never : None ≡ Some start = sym waits.no_start ∙ answer in absurd (cc)
+
+      pub begun_ticket : Starts want log after ⊎ Waits want log after → is_some (newest_wait after) ≡ true → GetsTicket host_before host_after want
+      begun_ticket (inl starts) answer = absurd (false≢true (sym (ap is_some starts.no_wait) ∙ answer))
+      begun_ticket (inr waits) answer = record {
+        leases = λ u. elim (eqb_tells want.transfer u) [
+          | inl same ↦
+              let none : held_number after u ≡ None = subst (λ (n : ℕ). held_number after n ≡ None) same.1 waits.held in
+              let none_before : held_number log u ≡ None = subst (λ (n : ℕ). held_number log n ≡ None) same.1 free in
+              ap (λ n. if is_among u (grant_transfers grants) then None else n) (none ∙ sym none_before)
+          | inr other ↦ leased_same log after (grant_transfers grants) (grant_transfers grants) u (waits.others u other.0) refl
+        ];
+        tickets = λ u. elim (eqb_tells want.transfer u) [
+          | inl same ↦
+              let wanted : waiting_want (waiting after) u ≡ Some want = subst (λ (n : ℕ). waiting_want (waiting after) n ≡ Some want) same.1 waits.awaited in
+              let out_u : is_among u (grant_transfers grants) ≡ false = subst (λ (n : ℕ). is_among n (grant_transfers grants) ≡ false) same.1 out in
+              ap (λ b. if b then granted_want after u else waiting_want (waiting after) u) out_u ∙ wanted ∙ sym (ap (λ b. if b then Some want else ticketed log (grant_transfers grants) u) same.0)
+          | inr other ↦ ticketed_same log after (grant_transfers grants) (grant_transfers grants) u (waits.others u other.0) refl ∙ sym (ap (λ b. if b then Some want else ticketed log (grant_transfers grants) u) other.0)
+        ];
+      }
+
+    -- no grant has the stream of the connection that it starts on
+    pub begun_stream : IsOrderly terms after → (start : Start) → Starts want log after ⊎ Waits want log after → newest_start after ≡ Some start → stream_of (grant_streams grants) start.number ≡ None
+    begun_stream orderly start (inr waits) answer = let never : None ≡ Some start = sym waits.no_start ∙ answer in absurd (cc)
+    begun_stream orderly start (inl starts) answer =
+        let one : Some starts.start ≡ Some start = sym starts.answer ∙ answer in
+        let it : starts.start ≡ start = cc in
+        let mine : held_number after want.transfer ≡ Some start.number = ap (λ (t : Told). t.number) starts.mine ∙ ap (λ (s : Start). Some s.number) it in
+        no_stream after grants start.number (kept_others log after grants want.transfer starts.others out kept) (λ u c among theirs. apart_held terms after orderly u want.transfer c start.number (parted u among) theirs mine)
+      where
+        parted : (u : ℕ) → is_among u (grant_transfers grants) ≡ true → (u == want.transfer) ≡ false
+        parted u among = elim (eqb_tells u want.transfer) [
+          | inl same ↦ absurd (false≢true (sym out ∙ ap (λ (n : ℕ). is_among n (grant_transfers grants)) (sym same.1) ∙ among))
+          | inr other ↦ other.0
+        ]
+
+  -- streams where only what stands behind differs
+  pub behind_same : (front xs ys : List (ℕ × S)) (d : ℕ) → stream_of xs d ≡ stream_of ys d → stream_of (front ++ xs) d ≡ stream_of (front ++ ys) d
+  behind_same front xs ys d same = stream_of-append front xs d ∙ ap (option_or (stream_of front d)) same ∙ sym (stream_of-append front ys d)
+
+  pub both_same : (front front' xs ys : List (ℕ × S)) (d : ℕ) → stream_of front d ≡ stream_of front' d → stream_of xs d ≡ stream_of ys d → stream_of (front ++ xs) d ≡ stream_of (front' ++ ys) d
+  both_same front front' xs ys d same_front same = stream_of-append front xs d ∙ ap (λ s. option_or s (stream_of xs d)) same_front ∙ ap (option_or (stream_of front' d)) same ∙ sym (stream_of-append front' ys d)
+
+  -- the stream of what stands behind, where the front has none
+  pub behind_only : (front xs : List (ℕ × S)) (d : ℕ) → stream_of front d ≡ None → stream_of (front ++ xs) d ≡ stream_of xs d
+  behind_only front xs d none = stream_of-append front xs d ∙ ap (λ s. option_or s (stream_of xs d)) none
+
+  pub front_first : (front xs : List (ℕ × S)) (d : ℕ) (stream : S) → stream_of front d ≡ Some stream → stream_of (front ++ xs) d ≡ Some stream
+  front_first front xs d stream is = stream_of-append front xs d ∙ ap (λ s. option_or s (stream_of xs d)) is
+
+  -- who has what once a transfer has spent what it had
+  pub freed_spends : (t : ℕ) (log : List Entry) (grants : List (Grant S)) (after : List Entry) (left : List (Grant S)) (terms terms' : Terms) (host host' : ℕ) (streams streams' : List (ℕ × S)) → Freed t log grants after left → Spends (record { log = log; terms = terms; host = host; streams = streams; unclaimed = grant_transfers grants }) (record { log = after; terms = terms'; host = host'; streams = streams'; unclaimed = grant_transfers left }) t
+  freed_spends t log grants after left terms terms' host host' streams streams' freed = record { leases = freed.leases; tickets = freed.tickets }
+
+  pub spends_at : (inner outer after : OneHost S) (t u : ℕ) → inner ≡ outer → t ≡ u → Spends inner after t → Spends outer after u
+  spends_at inner outer after t u same who spent = subst (λ (v : OneHost S). Spends v after u) same (subst (λ (k : ℕ). Spends inner after k) who spent)
+
+  pub gets_at : (inner outer after : OneHost S) (t u c d : ℕ) → inner ≡ outer → t ≡ u → c ≡ d → GetsLease inner after t c → GetsLease outer after u d
+  gets_at inner outer after t u c d same who which gets = subst (λ (v : OneHost S). GetsLease v after u d) same (subst (λ (k : ℕ). GetsLease inner after k d) who (subst (λ (k : ℕ). GetsLease inner after t k) which gets))
+
+  -- the want of a transfer's ticket
+  pub ticket_granted : (log : List Entry) (grants : List (Grant S)) → GrantsKept log grants → (t : ℕ) (want : Want) → option_map (λ (grant : Grant S). grant.want) (grant_of grants t) ≡ Some want → ticketed log (grant_transfers grants) t ≡ Some want
+  ticket_granted log grants kept t want is = by_grant (grant_of grants t) refl is
+    where
+      by_grant : (found : Option (Grant S)) → grant_of grants t ≡ found → option_map (λ (grant : Grant S). grant.want) found ≡ Some want → ticketed log (grant_transfers grants) t ≡ Some want
+      by_grant None none never = absurd (cc)
+      by_grant (Some grant) here some =
+          let there = kept_at log grants t grant kept here in
+          let wanted : grant.want ≡ want = cc in
+          let among : is_among t (grant_transfers grants) ≡ true = sym (is_some-grant_of grants t) ∙ ap is_some here in
+          ap (λ b. if b then granted_want log t else waiting_want (waiting log) t) among ∙ ap (granted_want log) (sym there.1) ∙ there.0.want ∙ ap (λ (w : Want). Some w) wanted
+
+  pub ticket_awaited : (log : List Entry) (grants : List (Grant S)) (t : ℕ) → option_map (λ (grant : Grant S). grant.want) (grant_of grants t) ≡ None → ticketed log (grant_transfers grants) t ≡ waiting_want (waiting log) t
+  ticket_awaited log grants t is = by_grant (grant_of grants t) refl is
+    where
+      by_grant : (found : Option (Grant S)) → grant_of grants t ≡ found → option_map (λ (grant : Grant S). grant.want) found ≡ None → ticketed log (grant_transfers grants) t ≡ waiting_want (waiting log) t
+      by_grant (Some grant) here never = absurd (cc)
+      by_grant None here none =
+          let among : is_among t (grant_transfers grants) ≡ false = sym (is_some-grant_of grants t) ∙ ap is_some here in
+          ap (λ b. if b then granted_want log t else waiting_want (waiting log) t) among
+
+  -- a ticket that stands, of a transfer that was granted nothing, is of one that waits
+  pub stood_waits : (log : List Entry) (grants : List (Grant S)) (want : Want) → grant_of grants want.transfer ≡ None → option_map_or (is_same_want want) (ticketed log (grant_transfers grants) want.transfer) false ≡ true → waits log want.transfer ≡ true
+  stood_waits log grants want none stood =
+      let ticket = ticket_awaited log grants want.transfer (ap (option_map (λ (grant : Grant S). grant.want)) none) in
+      sym (awaited_waits want.transfer (waiting log)) ∙ wanted (waiting_want (waiting log) want.transfer) (sym (ap (λ (o : Option Want). option_map_or (is_same_want want) o false) ticket) ∙ stood)
+    where
+      wanted : (awaited : Option Want) → option_map_or (is_same_want want) awaited false ≡ true → is_some awaited ≡ true
+      wanted None e = absurd (false≢true e)
+      wanted (Some awaited) e = refl
+
+  -- a transfer that waits leaves
+  module _ (terms : Terms) (log : List Entry) (orderly : IsOrderly terms log) (grants : List (Grant S)) (kept : GrantsKept log grants) (m t : ℕ) (waits_here : waits log t ≡ true) where
+    pub left_freed : Freed t log grants (add m (Left t) log) grants
+    left_freed =
+        let free = orderly.waiting_free t waits_here in
+        let out_t = granted_none log grants t kept free in
+        record {
+          kept = kept_others log (add m (Left t) log) grants t (told_left_others m t log) out_t kept;
+          leases = λ u. elim (eqb_tells t u) [
+            | inl same ↦
+                let none : held_number log u ≡ None = subst (λ (n : ℕ). held_number log n ≡ None) same.1 free in
+                either_none (is_among u (grant_transfers grants)) (held_number log u) none ∙ sym (ap (λ b. if b then None else leased log (grant_transfers grants) u) same.0)
+            | inr other ↦ leased_same log (add m (Left t) log) (grant_transfers grants) (grant_transfers grants) u (told_left_others m t log u other.0) refl ∙ sym (ap (λ b. if b then None else leased log (grant_transfers grants) u) other.0)
+          ];
+          tickets = λ u. elim (eqb_tells t u) [
+            | inl same ↦
+                let none : waiting_want (waiting (add m (Left t) log)) u ≡ None = subst (λ (n : ℕ). waiting_want (waiting (add m (Left t) log)) n ≡ None) same.1 (awaited_none t (waiting log)) in
+                let out_u : is_among u (grant_transfers grants) ≡ false = subst (λ (n : ℕ). is_among n (grant_transfers grants) ≡ false) same.1 out_t in
+                ap (λ b. if b then granted_want (add m (Left t) log) u else waiting_want (waiting (add m (Left t) log)) u) out_u ∙ none ∙ sym (ap (λ b. if b then None else ticketed log (grant_transfers grants) u) same.0)
+            | inr other ↦ ticketed_same log (add m (Left t) log) (grant_transfers grants) (grant_transfers grants) u (told_left_others m t log u other.0) refl ∙ sym (ap (λ b. if b then None else ticketed log (grant_transfers grants) u) other.0)
+          ];
+        }
+      where
+        either_none : (b : Bool) (n : Option ℕ) → n ≡ None → (if b then None else n) ≡ None
+        either_none true n is = refl
+        either_none false n is = is
+
+  -- a transfer claims what it was granted
+  module _ (terms : Terms) (log : List Entry) (orderly : IsOrderly terms log) (grants : List (Grant S)) (kept : GrantsKept log grants) (t : ℕ) (grant : Grant S) (is : grant_of grants t ≡ Some grant) where
+    pub claimed_number : held_number log t ≡ Some grant.number
+    claimed_number = let there = kept_at log grants t grant kept is in ap (held_number log) (sym there.1) ∙ there.0.number
+
+    pub claimed_among : is_among t (grant_transfers grants) ≡ true
+    claimed_among = sym (is_some-grant_of grants t) ∙ ap is_some is
+
+    others_stay : (u : ℕ) → (t == u) ≡ false → is_among u (grant_transfers (without_grant t grants)) ≡ is_among u (grant_transfers grants)
+    others_stay u other = among_without log grants t u kept ∙ ap (λ b. not b && is_among u (grant_transfers grants)) other
+
+    pub claimed_lease : (terms' : Terms) (host host' : ℕ) (streams streams' : List (ℕ × S)) → GetsLease (record { log = log; terms = terms; host = host; streams = streams; unclaimed = grant_transfers grants }) (record { log = log; terms = terms'; host = host'; streams = streams'; unclaimed = grant_transfers (without_grant t grants) }) t grant.number
+    claimed_lease terms' host host' streams streams' = record {
+      leases = λ u. elim (eqb_tells t u) [
+        | inl same ↦
+            let out_u : is_among u (grant_transfers (without_grant t grants)) ≡ false = subst (λ (n : ℕ). is_among n (grant_transfers (without_grant t grants)) ≡ false) same.1 (not_without log grants t kept) in
+            let number : held_number log u ≡ Some grant.number = subst (λ (n : ℕ). held_number log n ≡ Some grant.number) same.1 claimed_number in
+            ap (λ b. if b then None else held_number log u) out_u ∙ number ∙ sym (ap (λ b. if b then Some grant.number else leased log (grant_transfers grants) u) same.0)
+        | inr other ↦ leased_same log log (grant_transfers grants) (grant_transfers (without_grant t grants)) u refl (others_stay u other.0) ∙ sym (ap (λ b. if b then Some grant.number else leased log (grant_transfers grants) u) other.0)
+      ];
+      tickets = λ u. elim (eqb_tells t u) [
+        | inl same ↦
+            let out_u : is_among u (grant_transfers (without_grant t grants)) ≡ false = subst (λ (n : ℕ). is_among n (grant_transfers (without_grant t grants)) ≡ false) same.1 (not_without log grants t kept) in
+            let none : waiting_want (waiting log) u ≡ None = subst (λ (n : ℕ). waiting_want (waiting log) n ≡ None) same.1 (holder_awaits_nothing terms log orderly grant.number t claimed_number) in
+            ap (λ b. if b then granted_want log u else waiting_want (waiting log) u) out_u ∙ none ∙ sym (ap (λ b. if b then None else ticketed log (grant_transfers grants) u) same.0)
+        | inr other ↦ ticketed_same log log (grant_transfers grants) (grant_transfers (without_grant t grants)) u refl (others_stay u other.0) ∙ sym (ap (λ b. if b then None else ticketed log (grant_transfers grants) u) other.0)
+      ];
+    }
+
+    pub claimed_left : (left : List (Grant S)) → left ≡ without_grant t grants → (terms' : Terms) (host host' : ℕ) (streams streams' : List (ℕ × S)) → GetsLease (record { log = log; terms = terms; host = host; streams = streams; unclaimed = grant_transfers grants }) (record { log = log; terms = terms'; host = host'; streams = streams'; unclaimed = grant_transfers left }) t grant.number
+    claimed_left left e_left terms' host host' streams streams' =
+        let old : OneHost S = record { log = log; terms = terms; host = host; streams = streams; unclaimed = grant_transfers grants } in
+        let new : List (Grant S) → OneHost S = λ gs. record { log = log; terms = terms'; host = host'; streams = streams'; unclaimed = grant_transfers gs } in
+        subst (λ gs. GetsLease old (new gs) t grant.number) (sym e_left) (claimed_lease terms' host host' streams streams')
+
+    -- with the stream that came back under its number
+    pub claimed_stream : (xs : List (ℕ × S)) → grant.stream ≡ (if is_some grant.stream then stream_of (grant_streams grants ++ xs) grant.number else None)
+    claimed_stream xs = by_stream grant.stream (stream_of-append (grant_streams grants) xs grant.number ∙ ap (λ s. option_or s (stream_of xs grant.number)) (stream_of-granted terms log orderly grants t grant kept is))
+      where
+        by_stream : (stream : Option S) → stream_of (grant_streams grants ++ xs) grant.number ≡ option_or stream (stream_of xs grant.number) → stream ≡ (if is_some stream then stream_of (grant_streams grants ++ xs) grant.number else None)
+        by_stream None kept_is = refl
+        by_stream (Some stream) kept_is = sym kept_is
+
+    pub claimed_streams : (xs : List (ℕ × S)) (d : ℕ) → (grant.number == d) ≡ false → stream_of (grant_streams (without_grant t grants) ++ xs) d ≡ stream_of (grant_streams grants ++ xs) d
+    claimed_streams xs d other = both_same (grant_streams (without_grant t grants)) (grant_streams grants) xs xs d (stream_of-without log grants t grant.number d kept claimed_number other) refl
+
+  -- streams of the others, as a connection is granted
+  pushed_none : (gs : List (Grant S)) (grant : Grant S) (d : ℕ) → grant.stream ≡ None → stream_of (grant_streams (gs ++ grant ∷ [])) d ≡ stream_of (grant_streams gs) d
+  pushed_none [] grant d none = ap (λ s. stream_of (with_stream grant.number s []) d) none
+  pushed_none (x ∷ others) grant d none = by_stream x.stream (pushed_none others grant d none)
+    where
+      by_stream : (stream : Option S) → stream_of (grant_streams (others ++ grant ∷ [])) d ≡ stream_of (grant_streams others) d → stream_of (with_stream x.number stream (grant_streams (others ++ grant ∷ []))) d ≡ stream_of (with_stream x.number stream (grant_streams others)) d
+      by_stream None rest = rest
+      by_stream (Some stream) rest = ap (λ s. if x.number == d then Some stream else s) rest
+
+  pub with_new_streams : (terms : Terms) (m : ℕ) (log : List Entry) (wants : List Want) (grants : List (Grant S)) (d : ℕ) → stream_of (grant_streams (with_new terms m log wants grants)) d ≡ stream_of (grant_streams grants) d
+  with_new_streams terms m log [] grants d = refl
+  with_new_streams terms m log (head ∷ others) grants d = pushed_none grants (record { want = head; number = next_number terms log; moment = m; stream = None }) d refl
+
+  pub with_passed_streams : (terms : Terms) (c m : ℕ) (stream : Option S) (log : List Entry) (wants : List Want) (grants : List (Grant S)) (d : ℕ) → (c == d) ≡ false → stream_of (grant_streams (with_passed terms c m stream log wants grants)) d ≡ stream_of (grant_streams grants) d
+  with_passed_streams terms c m stream log [] grants d other = refl
+  with_passed_streams terms c m stream log (head ∷ others) grants d other = by_fit (is_fit log head m c)
+    where
+      by_fit : (fits : Bool) → stream_of (grant_streams (if fits then grants ++ record { want = head; number = c; moment = m; stream = stream } ∷ [] else with_new terms m log (head ∷ others) grants)) d ≡ stream_of (grant_streams grants) d
+      by_fit true = stream_of-push grants (record { want = head; number = c; moment = m; stream = stream }) d other
+      by_fit false = with_new_streams terms m log (head ∷ others) grants d
+
+  -- the stream of the connection that came back, where it stays open
+  pub passed_stream : (terms : Terms) (c m : ℕ) (log : List Entry) (grants : List (Grant S)) (stream : S) (xs ys : List (ℕ × S)) → stream_of (grant_streams grants) c ≡ None → stream_of xs c ≡ Some stream → (waiting log ≡ [] → ys ≡ xs) → is_open (pass_to terms c m log (waiting log)) c ≡ true → stream_of (grant_streams (with_passed terms c m (stream_of xs c) log (waiting log) grants) ++ ys) c ≡ Some stream
+  passed_stream terms c m log grants stream xs ys none kept_is nobody = by_queue (waiting log) nobody
+    where
+      by_fit : (head : Want) (others : List Want) (fits : Bool) → is_open (if fits then add m (Leased c head) log else start_new terms head m (add m (Closed c (unfit_cause terms log head m c)) log)) c ≡ true → stream_of (grant_streams (if fits then grants ++ record { want = head; number = c; moment = m; stream = stream_of xs c } ∷ [] else with_new terms m log (head ∷ others) grants) ++ ys) c ≡ Some stream
+      by_fit head others true still = front_first (grant_streams (grants ++ record { want = head; number = c; moment = m; stream = stream_of xs c } ∷ [])) ys c stream (stream_of-pushed grants (record { want = head; number = c; moment = m; stream = stream_of xs c }) none ∙ kept_is)
+      by_fit head others false still = absurd (false≢true (sym (closed_not_open terms m c (unfit_cause terms log head m c) log (head ∷ others)) ∙ still))
+
+      by_queue : (wants : List Want) → (wants ≡ [] → ys ≡ xs) → is_open (pass_to terms c m log wants) c ≡ true → stream_of (grant_streams (with_passed terms c m (stream_of xs c) log wants grants) ++ ys) c ≡ Some stream
+      by_queue [] same still = behind_only (grant_streams grants) ys c none ∙ ap (λ zs. stream_of zs c) (same refl) ∙ kept_is
+      by_queue (head ∷ others) same still = by_fit head others (is_fit log head m c) still
+
+  -- no other grant has the stream of what a transfer holds
+  pub freed_stream : (terms : Terms) (log : List Entry) → IsOrderly terms log → (grants : List (Grant S)) → GrantsKept log grants → (c t : ℕ) → held_number log t ≡ Some c → stream_of (grant_streams (without_grant t grants)) c ≡ None
+  freed_stream terms log orderly grants kept c t mine = no_stream log (without_grant t grants) c (kept_without log grants t kept) (λ u d among theirs. apart_held terms log orderly u t d c (parted u among) theirs mine)
+    where
+      parted : (u : ℕ) → is_among u (grant_transfers (without_grant t grants)) ≡ true → (u == t) ≡ false
+      parted u among = elim (eqb_tells u t) [
+        | inl same ↦ absurd (false≢true (sym (not_without log grants t kept) ∙ ap (λ (n : ℕ). is_among n (grant_transfers (without_grant t grants))) (sym same.1) ∙ among))
+        | inr other ↦ other.0
+      ]
+
+-- what is kept of a held connection, from the log
+pub record IsKnown (log : List Entry) (transfer : ℕ) (held : Held) : Type 0 where
+  pub number : held_number log transfer ≡ Some held.number
+  pub lane : lane log held.number ≡ held.lane
+  pub born : born log held.number ≡ held.born
+
+pub known : (log : List Entry) (transfer : ℕ) (held : Held) → held_facts log transfer ≡ Some (held_facts_of held) → IsKnown log transfer held
+known log transfer held is = by_number (held_number log transfer) refl is
+  where
+    by_number : (n : Option ℕ) → held_number log transfer ≡ n → option_map (facts_if_held log) n ≡ Some (held_facts_of held) → IsKnown log transfer held
+    by_number None none never = absurd (cc)
+    by_number (Some c) here some =
+        let same : facts_if_held log c ≡ held_facts_of held = cc in
+        let number : c ≡ held.number = ap (λ (f : HeldFacts). f.number) same in
+        record {
+          number = here ∙ ap (λ (k : ℕ). Some k) number;
+          lane = subst (λ (k : ℕ). lane log k ≡ held.lane) number (ap (λ (f : HeldFacts). f.lane) same);
+          born = subst (λ (k : ℕ). born log k ≡ held.born) number (ap (λ (f : HeldFacts). f.born) same);
+        }
+
+-- it is the only idle one once it has come back, where someone waits
+pub came_back_alone : (terms : Terms) (log : List Entry) → IsSoundAndQuiet terms log → (transfer : ℕ) (held : Held) (m : ℕ) (facts : Facts) → held_facts log transfer ≡ Some (held_facts_of held) → is_persistent facts ≡ true → IsAnyone (waiting log) → IsAlone (add m (Returned held.number facts) log) held m
+came_back_alone terms log kept transfer held m facts is persists anyone =
+    let it = known log transfer held is in
+    let holder = held_want terms log kept.sound transfer held.number it.number in
+    let alone = only_idle terms log kept held.number (ap is_some holder.1) m facts anyone persists in
+    record { only = alone.only; lane = it.lane; born = it.born; since = grind (arith, nat_tests) }

@@ -1,0 +1,71 @@
+-- What transfers were granted and have not claimed.
+use Rattle.std.specs.Prelude.{◌≡◌, ℕ, ◌<◌, true, false, ◌==◌, if◌then◌else◌, List, [], ◌∷◌, ◌++◌, length, slice_index_or, map, Option, Some, None, is_some}
+use Rattle.conn_log.specs.declared.entry.Want.{Want}
+use Rattle.conn_log.specs.declared.entry.Entry.{Entry}
+use Rattle.conn_log.specs.Connections.{is_among, held_number, idle_connections, lane, born, since}
+use Rattle.conn_log.specs.Fit.{is_fit}
+use Rattle.conn_log.specs.Legal.{Terms}
+use Rattle.bundle.specs.declared.grant.Grant.{Grant}
+use Rattle.bundle.specs.declared.held.Held.{Held}
+use Rattle.bundle.specs.Calls.{last_start, next_number}
+use Rattle.bundle.specs.Lease.{granted_want}
+
+-- what a transfer was granted
+abbrev pub grant_of : {S : Type 0} → List (Grant S) → ℕ → Option (Grant S)
+grant_of [] transfer = None
+grant_of (grant ∷ others) transfer = if grant.want.transfer == transfer then Some grant else grant_of others transfer
+
+-- it stands at that place, and at none before it
+pub record IsPlaceOf {S : Type 0} (transfer : ℕ) (grants : List (Grant S)) (place : ℕ) : Type 0 where
+  pub in_range : place < length grants
+  pub here : (d : Grant S) → ((slice_index_or grants place d).want.transfer == transfer) ≡ true
+  pub none_before : (k : ℕ) (d : Grant S) → k < place → ((slice_index_or grants k d).want.transfer == transfer) ≡ false
+
+-- what the others were granted
+abbrev pub without_grant : {S : Type 0} → ℕ → List (Grant S) → List (Grant S)
+without_grant transfer [] = []
+without_grant transfer (grant ∷ others) = if grant.want.transfer == transfer then others else grant ∷ without_grant transfer others
+
+-- the transfers
+abbrev pub grant_transfers : {S : Type 0} → List (Grant S) → List ℕ
+grant_transfers grants = map (λ grant. grant.want.transfer) grants
+
+-- the streams of the connections that came back, by number
+abbrev pub with_stream : {S : Type 0} → ℕ → Option S → List (ℕ × S) → List (ℕ × S)
+with_stream number None streams = streams
+with_stream number (Some stream) streams = (number, stream) ∷ streams
+
+abbrev pub grant_streams : {S : Type 0} → List (Grant S) → List (ℕ × S)
+grant_streams [] = []
+grant_streams (grant ∷ others) = with_stream grant.number grant.stream (grant_streams others)
+
+-- the log shows it: the transfer holds that connection for that want since its last start, which was on a
+-- connection that came back where a stream is kept
+pub record IsGrantKept {S : Type 0} (log : List Entry) (grant : Grant S) : Type 0 where
+  pub number : held_number log grant.want.transfer ≡ Some grant.number
+  pub want : granted_want log grant.want.transfer ≡ Some grant.want
+  pub start : last_start log grant.want.transfer ≡ Some (record { number = grant.number; want = grant.want; moment = grant.moment; reused = is_some grant.stream })
+
+-- the log shows each of them, and each transfer stands once
+abbrev pub GrantsKept : {S : Type 0} → List Entry → List (Grant S) → Type 0
+GrantsKept log [] = Unit {0}
+GrantsKept log (grant ∷ others) = IsGrantKept log grant × (is_among grant.want.transfer (grant_transfers others) ≡ false) × GrantsKept log others
+
+-- once a new connection is opened for the first transfer that waits, if one does
+abbrev pub with_new : {S : Type 0} → Terms → ℕ → List Entry → List Want → List (Grant S) → List (Grant S)
+with_new terms moment log [] grants = grants
+with_new terms moment log (head ∷ others) grants = grants ++ record { want = head; number = next_number terms log; moment = moment; stream = None } ∷ []
+
+-- once a connection that came back went to the first transfer that waits, where it fits, or a new one was
+-- opened for that transfer
+abbrev pub with_passed : {S : Type 0} → Terms → ℕ → ℕ → Option S → List Entry → List Want → List (Grant S) → List (Grant S)
+with_passed terms c moment stream log [] grants = grants
+with_passed terms c moment stream log (head ∷ others) grants =
+    if is_fit log head moment c then grants ++ record { want = head; number = c; moment = moment; stream = stream } ∷ [] else with_new terms moment log (head ∷ others) grants
+
+-- the connection that has just come back is the only idle one
+pub record IsAlone (log : List Entry) (held : Held) (moment : ℕ) : Type 0 where
+  pub only : idle_connections log ≡ held.number ∷ []
+  pub lane : lane log held.number ≡ held.lane
+  pub born : born log held.number ≡ held.born
+  pub since : since log held.number ≡ moment

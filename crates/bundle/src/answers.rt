@@ -1,0 +1,18 @@
+use crate::lease::Lease;
+use crate::ticket::Ticket;
+
+/// What an acquire gives.
+pub enum Got<S> {
+    /// A connection.
+    Lease(Lease<S>),
+    /// A place among those that wait at the host.
+    Wait(Ticket),
+}
+
+/// What a claim gives.
+pub enum Claimed<S> {
+    /// The connection that the transfer was granted.
+    Lease(Lease<S>),
+    /// The ticket: its transfer still waits.
+    Still(Ticket),
+}

@@ -1,0 +1,151 @@
+ghost use Rattle.std.specs.Prelude.{◌≡◌, ℕ, ◌+◌, ◌<◌, ◌≤◌, ◌++◌, ◌==◌, ◌&&◌, not, List, [], ◌∷◌, length, Some, None, IsSome, true, false, if◌then◌else◌, vec_len, vec_capacity};
+ghost use Rattle.conn_log.specs.declared.entry.Cause.TheVariants.{TooOld, HostRoom, TotalRoom};
+ghost use Rattle.conn_log.specs.declared.entry.Event.TheVariants.{Waited};
+ghost use Rattle.conn_log.specs.Connections.{last_moment, held_number, is_open, idle_connections};
+ghost use Rattle.conn_log.specs.Waiting.{waiting, waits};
+ghost use Rattle.conn_log.specs.Fit.{is_older};
+ghost use Rattle.conn_log.specs.Legal.{IsAnyone};
+ghost use Rattle.bundle.specs.Calls.{add, start_unless, pass_to, open_for_head, newest_start, newest_wait, is_full};
+ghost use Rattle.bundle.specs.Grants.{with_new, with_passed, IsAlone};
+ghost use Rattle.bundle.specs.Idle.{stream_of};
+ghost use Rattle.bundle.specs.Replies.{GivesLease, GivesTicket};
+ghost use Rattle.bundle.specs.State.{IsSameHost};
+
+use crate::answers::Got;
+use crate::grant::Grant;
+use crate::held::Held;
+use crate::lease::Lease;
+use crate::state::State;
+use crate::ticket::Ticket;
+use conn_log::{Cause, Want};
+
+/// Starts the transfer on the newest idle connection that fits, or on a new one; where others wait,
+/// or the host has no room, it waits.
+#[inline(always)]
+pub(crate) fn start_or_wait<S: Drop>(state: &mut State<S>, want: Want, moment: u64) -> Got<S>
+    requires booked { state.old.booked ≡ 1 }
+    requires later { last_moment state.old.log ≤ moment }
+    requires free { held_number state.old.log want.transfer ≡ None }
+    requires once { waits state.old.log want.transfer ≡ false }
+    requires quiet { IsAnyone (waiting state.old.log) → idle_connections state.old.log ≡ [] }
+    ensures log { state.new.log ≡ start_unless (waiting state.old.log) state.old.terms want moment state.old.log }
+    ensures lease { GivesLease result (λ lease. (newest_start state.new.log ≡ Some lease.start) × (lease.site ≡ state.old.host)) }
+    ensures ticket { GivesTicket result (λ ticket. (newest_wait state.new.log ≡ Some ticket.wait) × (ticket.site ≡ state.old.host)) }
+    ensures stream { GivesLease result (λ lease. lease.stream ≡ (if lease.start.reused then stream_of state.old.streams lease.start.number else None)) }
+    ensures others { GivesLease result (λ lease. (d : ℕ) → (lease.start.number == d) ≡ false → is_open state.new.log d ≡ true → stream_of state.new.streams d ≡ stream_of state.old.streams d) }
+    ensures all { GivesTicket result (λ ticket. (d : ℕ) → is_open state.new.log d ≡ true → stream_of state.new.streams d ≡ stream_of state.old.streams d) }
+    ensures booked { state.new.booked ≡ 0 }
+    ensures same { IsSameHost state.old state.new }
+{
+    if state.anyone_waits() {
+        return Got::Wait(wait_last(state, want, moment));
+    }
+    state.close_too_old(&want, moment);
+    if let Some((number, stream)) = state.lease_newest_fit(&want, moment) {
+        return Got::Lease(Lease::reusing(state.host(), number, want, moment, stream));
+    }
+    state.make_room(moment);
+    if state.is_full() {
+        return Got::Wait(wait_last(state, want, moment));
+    }
+    let number = state.open(&want, moment);
+    Got::Lease(Lease::opened(state.host(), number, want, moment))
+}
+
+// The transfer waits after all others.
+fn wait_last<S: Drop>(state: &mut State<S>, want: Want, moment: u64) -> Ticket
+    requires booked { state.old.booked ≡ 1 }
+    requires later { last_moment state.old.log ≤ moment }
+    requires free { held_number state.old.log want.transfer ≡ None }
+    requires once { waits state.old.log want.transfer ≡ false }
+    requires none_idle { idle_connections state.old.log ≡ [] }
+    ensures log { state.new.log ≡ add moment (Waited want) state.old.log }
+    ensures ticket { result ≡ record { site = state.old.host; wait = record { want = want; moment = moment } } }
+    ensures streams { state.new.streams ≡ state.old.streams }
+    ensures booked { state.new.booked ≡ 0 }
+    ensures same { IsSameHost state.old state.new }
+{
+    state.wait(want, moment);
+    Ticket::new(state.host(), want, moment)
+}
+
+/// Opens a connection for the first transfer that waits, if one does, and grants it.
+#[inline(always)]
+pub(crate) fn open_for_head<S: Drop>(state: &mut State<S>, grants: &mut Vec<Grant<S>>, moment: u64)
+    requires booked { state.old.booked ≡ 0 }
+    requires later { last_moment state.old.log ≤ moment }
+    requires room { IsAnyone (waiting state.old.log) → is_full state.old.terms state.old.log ≡ false }
+    requires places { length (waiting state.old.log) + vec_len grants.old ≤ vec_capacity grants.old }
+    ensures log { state.new.log ≡ open_for_head state.old.terms moment state.old.log }
+    ensures grants { grants.new.items ≡ with_new state.old.terms moment state.old.log (waiting state.old.log) grants.old.items }
+    ensures places { length (waiting state.new.log) + vec_len grants.new ≤ vec_capacity grants.new }
+    ensures streams { state.new.streams ≡ state.old.streams }
+    ensures booked { state.new.booked ≡ 0 }
+    ensures same { IsSameHost state.old state.new }
+{
+    let Some(head) = state.first_waiting() else {
+        return;
+    };
+    let number = state.open(&head, moment);
+    grants.push_reserved(Grant {
+        want: head,
+        number,
+        moment,
+        stream: None,
+    });
+}
+
+/// Grants a connection that has just come back to the first transfer that waits, if one does. Where
+/// it does not fit that transfer's want it is closed, and one is opened for that transfer.
+#[inline(always)]
+pub(crate) fn pass_to_head<S: Drop>(
+    state: &mut State<S>,
+    grants: &mut Vec<Grant<S>>,
+    held: &Held,
+    moment: u64,
+)
+    requires booked { state.old.booked ≡ 0 }
+    requires later { last_moment state.old.log ≤ moment }
+    requires alone { IsAnyone (waiting state.old.log) → IsAlone state.old.log held.now moment }
+    requires places { length (waiting state.old.log) + vec_len grants.old ≤ vec_capacity grants.old }
+    ensures log { state.new.log ≡ pass_to state.old.terms held.now.number moment state.old.log (waiting state.old.log) }
+    ensures grants { grants.new.items ≡ with_passed state.old.terms held.now.number moment (stream_of state.old.streams held.now.number) state.old.log (waiting state.old.log) grants.old.items }
+    ensures places { length (waiting state.new.log) + vec_len grants.new ≤ vec_capacity grants.new }
+    ensures others { (d : ℕ) → (held.now.number == d) ≡ false → is_open state.new.log d ≡ true → stream_of state.new.streams d ≡ stream_of state.old.streams d }
+    ensures nobody { waiting state.old.log ≡ [] → state.new.streams ≡ state.old.streams }
+    ensures booked { state.new.booked ≡ 0 }
+    ensures same { IsSameHost state.old state.new }
+{
+    let Some(head) = state.first_waiting() else {
+        return;
+    };
+    if let Some((number, stream)) = state.lease_newest_fit(&head, moment) {
+        grants.push_reserved(Grant {
+            want: head,
+            number,
+            moment,
+            stream: Some(stream),
+        });
+        return;
+    }
+    let cause = unfit_cause(held, &head, state.is_full(), moment);
+    state.close_oldest(cause, moment);
+    open_for_head(state, grants, moment);
+}
+
+// Why a connection that has just come back is closed where it does not fit the want: it is open for
+// longer than the want allows, or it makes room.
+fn unfit_cause(held: &Held, want: &Want, is_full: bool, moment: u64) -> Cause
+    ensures { result ≡ (if (held.now.lane == want.now.lane) && not want.now.fresh && is_older moment held.now.born want.now.max_age want.now.max_life moment then TooOld else (if is_full then HostRoom else TotalRoom)) }
+{
+    let open_for = moment.saturating_sub(held.born);
+    let is_too_old = want.max_life != 0 && open_for > want.max_life;
+    if held.lane == want.lane && !want.fresh && is_too_old {
+        return Cause::TooOld;
+    }
+    if is_full {
+        Cause::HostRoom
+    } else {
+        Cause::TotalRoom
+    }
+}
