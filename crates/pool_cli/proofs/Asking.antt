@@ -15,27 +15,17 @@ abbrev answered-by : Run → Bool → Answer → Answer → Result (Run × List 
 answered-by run there here elsewhere = Ok (after_answer run (cond there here elsewhere))
 
 given : {T : Type 0} (bytes : T → List ℕ) (run next : Run) (meant : Result (Run × List ℕ) FaultKind) (answer : Answer) (r : Result T FaultKind)
-    → meant ≡ Ok (after_answer run answer) → record run { has_begun = true; log = next.log } ≡ next → Gives bytes answer r next.log → Answers bytes meant r next
+    → meant ≡ Ok (after_answer run answer) → record run { has_begun = true; log = next.log; tickets = next.tickets } ≡ next → Gives bytes answer r next.log next.tickets → Answers bytes meant r next
 given bytes run next meant answer (Ok text) is same gives =
     is ∙ ap (λ (a : Answer). Ok (after_answer run a)) gives ∙ ap (λ (n : Run). Ok (n, bytes text)) same
 given bytes run next meant answer (Err kind) is same gives = subst (FailsBy meant) (sym gives) tt
 
 pub answered-elsewhere : {T : Type 0} (bytes : T → List ℕ) (run : Run) (limits : Limits) (command : Command) (r : Result T FaultKind) → run.has_begun ≡ true
-    → (has_site run.sites && (site_of command == 0)) ≡ false → Gives bytes (at_no_host run.log command) r run.log → Answers bytes (with_command run command (Some limits)) r run
+    → (has_site run.sites && (site_of command == 0)) ≡ false → Gives bytes (at_no_host run.log run.tickets command) r run.log run.tickets → Answers bytes (with_command run command (Some limits)) r run
 answered-elsewhere bytes run limits command r begun elsewhere gives =
-    given bytes run run (with_command run command (Some limits)) (at_no_host run.log command) r
-    (ap (λ b. answered-by run b (at_host (terms_of limits) run.log command) (at_no_host run.log command)) elsewhere)
+    given bytes run run (with_command run command (Some limits)) (at_no_host run.log run.tickets command) r
+    (ap (λ b. answered-by run b (at_host (terms_of limits) run.log run.tickets command) (at_no_host run.log run.tickets command)) elsewhere)
     (ap (λ b. record run { has_begun = b }) (sym begun)) gives
-
-pub answered-here : {T : Type 0} (bytes : T → List ℕ) (run next : Run) (limits : Limits) (host after : Hosted) (command : Command) (r : Result T FaultKind)
-    → (has_site run.sites && (site_of command == 0)) ≡ true → host.terms ≡ terms_of limits → run.log ≡ host.log
-    → record run { has_begun = true; log = next.log } ≡ next → next.log ≡ after.log
-    → Gives bytes (at_host host.terms host.log command) r after.log → Answers bytes (with_command run command (Some limits)) r next
-answered-here bytes run next limits host after command r here terms log same now gives =
-    given bytes run next (with_command run command (Some limits)) (at_host host.terms host.log command) r
-    (ap (λ b. answered-by run b (at_host (terms_of limits) run.log command) (at_no_host run.log command)) here
-    ∙ ap (λ t. Ok (after_answer run (at_host t run.log command))) (sym terms) ∙ ap (λ l. Ok (after_answer run (at_host host.terms l command))) log)
-    same (subst (Gives bytes (at_host host.terms host.log command) r) (sym now) gives)
 
 pub host-there : (begun site : Bool) (limits : Limits) (host : Hosted) → begun ≡ true → Some host.terms ≡ cond (begun && site) (Some (terms_of limits)) None
     → (site ≡ true) × (host.terms ≡ terms_of limits)

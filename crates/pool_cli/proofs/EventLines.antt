@@ -13,7 +13,7 @@ use Rattle.conn_log.specs.declared.entry.Cause.{Cause}
 use Rattle.conn_log.specs.declared.entry.Cause.TheVariants.{NotPersistent, Cut, Forbidden, TooOld, HostRoom, TotalRoom, CacheFull, Dropped, Withdrawn, Pruned}
 use Rattle.conn_log.specs.declared.entry.Entry.{Entry}
 use Rattle.bundle.specs.Calls.{GrowsBy}
-use Rattle.pool_cli.specs.Printing.{cause_word, event_text, entry_line, returned_by, newest_lines, lines_since, look_line, refused, yes_or_no}
+use Rattle.pool_cli.specs.Printing.{cause_word, event_text, entry_line, returned_by, newest_lines, lines_since, claimed_line, still_line, look_line, refused, yes_or_no}
 use Rattle.pool_cli.specs.TranscriptLines.{is_event_line, entry_text, event_lines}
 use Rattle.pool_cli.proofs.Growth.{count-added}
 use Rattle.pool_cli.proofs.WholeLines.{is_one_line, text_of, text_of-append, one-line-both, decimal-one-line}
@@ -146,13 +146,24 @@ yes-ends : (answer : Bool) → EndsOnce (yes_or_no answer ++ codes "\n")
 yes-ends true = word-ends (codes "yes") refl
 yes-ends false = word-ends (codes "no") refl
 
+tells-ended : (log : List Entry) (front text : List ℕ) → is_one_line front ≡ true → (ends : EndsOnce text) → is_event_line (front ++ ends.line) ≡ false → Tells log log (front ++ text)
+tells-ended log front text one ends reply =
+    subst (Tells log log) (append_assoc front ends.line (codes "\n") ∙ ap (λ rest. front ++ rest) (sym ends.ended))
+    (tells-reply log (front ++ ends.line) (one-line-both front ends.line one ends.one_line) reply)
+
 tells-host : (log : List Entry) (text : List ℕ) → EndsOnce text → Tells log log (codes "host " ++ text)
-tells-host log text ends =
-    subst (Tells log log) (append_assoc (codes "host ") ends.line (codes "\n") ∙ ap (λ rest. codes "host " ++ rest) (sym ends.ended))
-    (tells-reply log (codes "host " ++ ends.line) (one-line-both (codes "host ") ends.line refl ends.one_line) refl)
+tells-host log text ends = tells-ended log (codes "host ") text refl ends refl
 
 pub tells-look : (log : List Entry) (host alive idle leased waiting : ℕ) (queued : Bool) → Tells log log (look_line host alive idle leased waiting queued)
 tells-look log host alive idle leased waiting queued =
     tells-host log _ (number-ends host _ (longer-ends (codes " open ") _ refl (number-ends alive _ (longer-ends (codes " idle ") _ refl (number-ends idle _
     (longer-ends (codes " leased ") _ refl (number-ends leased _ (longer-ends (codes " waiting ") _ refl (number-ends waiting _
     (longer-ends (codes " queued ") _ refl (yes-ends queued)))))))))))
+
+-- a claim
+pub tells-claimed : (log : List Entry) (host c : ℕ) → Tells log log (claimed_line host c)
+tells-claimed log host c =
+    tells-ended log (codes "claimed ") _ refl (number-ends host _ (longer-ends (codes ".") _ refl (number-ends c _ (word-ends [] refl)))) refl
+
+pub tells-still : (log : List Entry) → Tells log log still_line
+tells-still log = tells-reply log (codes "still waiting") refl refl

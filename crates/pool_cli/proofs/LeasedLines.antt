@@ -12,9 +12,8 @@ use Rattle.conn_log.specs.declared.entry.Event.TheVariants.{Opened, Leased, Retu
 use Rattle.conn_log.specs.declared.entry.Entry.{Entry}
 use Rattle.conn_log.proofs.Soundness.{and_left}
 use Rattle.pool_cli.specs.Printing.{event_text, returned_by}
-use Rattle.pool_cli.specs.Law.{log_behind, LeasesFree, EachLeaseWasFree}
+use Rattle.pool_cli.specs.Law.{log_behind, LeasesFree, EachLeaseWasFree, EveryLeaseWasFree}
 use Rattle.pool_cli.specs.TranscriptLines.{is_event_line, begins_leased, entry_text, event_lines, leased_text, leased_by, leased_lines, transcript_lines, TellsOfFreeLease, EveryLeaseIsTold, EveryLeasedLineWasFree}
-use Rattle.pool_cli.proofs.Lawful.{every_lease_was_free}
 use Rattle.pool_cli.proofs.Telling.{every_event_is_told}
 
 -- a line that begins with leased is no reply
@@ -98,9 +97,9 @@ of-passing P p (line ∷ others) holds = by_line (p line) refl holds (λ rest. o
     by_line true is here rest = All-cons (λ l. p l ≡ true → P l) line others (λ passes. All-head P line (filter p others) here) (rest (All-tail P line (filter p others) here))
     by_line false is here rest = All-cons (λ l. p l ≡ true → P l) line others (λ passes. absurd (cc)) (rest here)
 
-pub every_leased_line_was_free : EveryLeasedLineWasFree
-every_leased_line_was_free script line among leased =
-    let free = free-lines [] (log_behind script) (every_lease_was_free script) in
+pub every_leased_line_was_free : EveryLeaseWasFree → EveryLeasedLineWasFree
+every_leased_line_was_free each_free script line among leased =
+    let free = free-lines [] (log_behind script) (each_free script) in
     let each = All-same (TellsOfFreeLease (log_behind script)) (filter begins_leased (transcript_lines script)) (leased_lines (log_behind script)) (every_lease_is_told script) free in
     All-contains (λ l. begins_leased l ≡ true → TellsOfFreeLease (log_behind script) l) (transcript_lines script) line
     (of-passing (TellsOfFreeLease (log_behind script)) begins_leased (transcript_lines script) each) among leased

@@ -7,10 +7,15 @@ pub mod GetOptions
 pub mod Sites
 pub mod Streaming
 pub mod Growth
+pub mod Tickets
 pub mod Leases
 pub mod Answering
 pub mod Running
+pub mod Spending
 pub mod Asking
 pub mod Lawful
+pub mod TicketLists
+pub mod Stakes
+pub mod Ticketed
 pub mod Telling
 pub mod LeasedLines

@@ -9,7 +9,7 @@ use Rattle.pool_cli.specs.declared.command.Command.{Command}
 use Rattle.pool_cli.specs.declared.command.Command.TheVariants as commands
 use Rattle.pool_cli.specs.declared.command.Limits.{Limits}
 use Rattle.pool_cli.specs.Words.{words}
-use Rattle.pool_cli.specs.Grammar.{reading, reading_of, present, command_of, formed, limits_form, site_form, get_form, back_form, drop_form, look_form}
+use Rattle.pool_cli.specs.Grammar.{reading, reading_of, present, command_of, formed, limits_form, site_form, get_form, claim_form, back_form, drop_form, leave_form, look_form}
 use Rattle.std.specs.Str.{bytes_eq}
 use Rattle.std.specs.Prelude.{codes}
 use Rattle.pool_cli.specs.Lines.{lines}
@@ -58,7 +58,7 @@ formed-of (Some c) = ok-of c
 
 command-of : (name : List ℕ) (rest : List (List ℕ)) → OfLine (command_of name rest)
 unfolding command_of is_of_line
-command-of name rest = either-of (bytes_eq name (codes "limits")) (formed (limits_form rest)) _ (formed-of (limits_form rest)) (either-of (bytes_eq name (codes "site")) (formed (site_form rest)) _ (formed-of (site_form rest)) (either-of (bytes_eq name (codes "get")) (formed (get_form rest)) _ (formed-of (get_form rest)) (either-of (bytes_eq name (codes "back")) (formed (back_form rest)) _ (formed-of (back_form rest)) (either-of (bytes_eq name (codes "drop")) (formed (drop_form rest)) _ (formed-of (drop_form rest)) (either-of (bytes_eq name (codes "look")) (formed (look_form rest)) _ (formed-of (look_form rest)) (err-of Unknown refl))))))
+command-of name rest = either-of (bytes_eq name (codes "limits")) (formed (limits_form rest)) _ (formed-of (limits_form rest)) (either-of (bytes_eq name (codes "site")) (formed (site_form rest)) _ (formed-of (site_form rest)) (either-of (bytes_eq name (codes "get")) (formed (get_form rest)) _ (formed-of (get_form rest)) (either-of (bytes_eq name (codes "claim")) (formed (claim_form rest)) _ (formed-of (claim_form rest)) (either-of (bytes_eq name (codes "back")) (formed (back_form rest)) _ (formed-of (back_form rest)) (either-of (bytes_eq name (codes "drop")) (formed (drop_form rest)) _ (formed-of (drop_form rest)) (either-of (bytes_eq name (codes "leave")) (formed (leave_form rest)) _ (formed-of (leave_form rest)) (either-of (bytes_eq name (codes "look")) (formed (look_form rest)) _ (formed-of (look_form rest)) (err-of Unknown refl))))))))
 
 present-of : (r : Result Command FaultKind) → OfLine r → OfLine (present r)
 present-of (Ok c) h = ok-of (Some c)
@@ -97,8 +97,10 @@ unfolding step
 step-of run (commands.Limits limits) = limits-of run limits run.limits
 step-of run (commands.Site word) = site-of run word run.limits
 step-of run (commands.Get want site moment) = asked-of run (commands.Get want site moment) run.limits
+step-of run (commands.Claim transfer site) = asked-of run (commands.Claim transfer site) run.limits
 step-of run (commands.Back transfer site ending moment) = asked-of run (commands.Back transfer site ending moment) run.limits
 step-of run (commands.Drop transfer site moment) = asked-of run (commands.Drop transfer site moment) run.limits
+step-of run (commands.Leave transfer site moment) = asked-of run (commands.Leave transfer site moment) run.limits
 step-of run (commands.Look site) = asked-of run (commands.Look site) run.limits
 
 line-step-of : (run : Run) (r : Result (Option Command) FaultKind) → OfLine r → OfLine (line_step_of run r)

@@ -3,16 +3,15 @@ use Rattle.std.proofs.Common.{ℕ, ◌+◌, Bool, true, false, ◌&&◌, List, [
 use Rattle.std.specs.Prelude.{◌==◌, nat_lt, if◌then◌else◌, codes}
 use Rattle.conn_log.specs.declared.entry.Want.{Want}
 use Rattle.conn_log.specs.declared.entry.Entry.{Entry}
-use Rattle.conn_log.specs.Connections.{held_number}
+use Rattle.conn_log.specs.Connections.{is_among, held_number}
 use Rattle.conn_log.specs.Legal.{Terms}
 use Rattle.bundle.specs.declared.refusal.Refusal.{Refusal}
-use Rattle.bundle.specs.declared.refusal.Refusal.TheVariants.{Memory, TransferBusy, Exhausted, AtLimit}
-use Rattle.bundle.specs.Calls.{refusal, after_acquire, after_give_back, after_abandon}
-use Rattle.bundle.proofs.Growth.{grows_acquire, grows_give_back, grows_abandon}
+use Rattle.bundle.specs.declared.refusal.Refusal.TheVariants.{Memory, TransferBusy, Exhausted}
+use Rattle.bundle.specs.Calls.{refusal, after_acquire, after_give_back, after_abandon, after_withdraw}
 use Rattle.pool_cli.specs.Lines.{lines}
 use Rattle.pool_cli.specs.Printing.{refused}
 use Rattle.pool_cli.specs.Grammar.{reading}
-use Rattle.pool_cli.specs.Meaning.{Run, Answer, start, step, terms_of, facts_of, refusal_word, replied, get_at, get_unless, back_at, back_of, drop_at, drop_of, look_at, stranger, at_host, at_no_host, answer_of, with_limits, add_site, with_url, with_command, are_good, site_of}
+use Rattle.pool_cli.specs.Meaning.{Run, Answer, start, step, terms_of, facts_of, refusal_word, leased_number, without_ticket, replied, grown, get_at, get_unless, claim_at, claim_of, back_at, back_of, drop_at, drop_of, leave_at, look_at, stranger, at_host, at_no_host, answer_of, with_limits, add_site, with_url, with_command, are_good, site_of}
 use Rattle.conn_key.specs.declared.site.Site.{Site}
 use Rattle.conn_key.specs.Sites.{with_site}
 use Rattle.pool_cli.specs.Site.{site_named, has_site, is_one_too_many}
@@ -26,7 +25,8 @@ use Rattle.pool_cli.specs.declared.command.Ending.{Ending}
 use Rattle.pool_cli.specs.declared.fault.FaultKind.{FaultKind}
 use Rattle.pool_cli.specs.declared.fault.FaultKind.TheVariants.{Place, BadLimits, TooManySites, ScriptTooLong}
 use Rattle.pool_cli.proofs.WholeLines.{lines-text_of}
-use Rattle.pool_cli.proofs.EventLines.{Tells, tells-nothing, tells-both, tells-refused, tells-grown, tells-look}
+use Rattle.pool_cli.proofs.Growth.{grows-acquire, grows-give_back, grows-abandon, grows-withdraw}
+use Rattle.pool_cli.proofs.EventLines.{Tells, tells-nothing, tells-both, tells-refused, tells-grown, tells-look, tells-claimed, tells-still}
 
 abbrev TellsAnswer : List Entry → Answer → Type 0
 TellsAnswer log answer = Tells log answer.log answer.text
@@ -36,67 +36,93 @@ abbrev TellsStep : List Entry → Result (Run × List ℕ) FaultKind → Type 0
 TellsStep log (Err kind) = Unit {0}
 TellsStep log (Ok next) = Tells log next.0.log next.1
 
-tells-stranger : (log : List Entry) → TellsAnswer log (stranger log)
-tells-stranger log = tells-refused log (codes "stranger") refl
+tells-stranger : (log : List Entry) (tickets : List ℕ) → TellsAnswer log (stranger log tickets)
+tells-stranger log tickets = tells-refused log (codes "stranger") refl
 
-tells-refusal : (log : List Entry) (reason : Refusal) → TellsAnswer log (replied log (refused (refusal_word reason)))
-tells-refusal log Memory = tells-refused log (codes "memory") refl
-tells-refusal log TransferBusy = tells-refused log (codes "busy") refl
-tells-refusal log Exhausted = tells-refused log (codes "exhausted") refl
-tells-refusal log AtLimit = tells-refused log (codes "at-limit") refl
+tells-refusal : (log : List Entry) (tickets : List ℕ) (reason : Refusal) → TellsAnswer log (replied log tickets (refused (refusal_word reason)))
+tells-refusal log tickets Memory = tells-refused log (codes "memory") refl
+tells-refusal log tickets TransferBusy = tells-refused log (codes "busy") refl
+tells-refusal log tickets Exhausted = tells-refused log (codes "exhausted") refl
 
-module _ (terms : Terms) (log : List Entry) where
-  tells-get : (want : Want) (moment : ℕ) → TellsAnswer log (get_at terms want moment log)
+module _ (terms : Terms) (log : List Entry) (tickets : List ℕ) where
+  tells-get : (want : Want) (moment : ℕ) → TellsAnswer log (get_at terms want moment log tickets)
   unfolding get_at
   tells-get want moment = by_refusal (refusal terms log want)
     where
-      by_refusal : (reason : Option Refusal) → TellsAnswer log (get_unless terms want moment log reason)
-      by_refusal (Some r) = tells-refusal log r
-      by_refusal None = tells-grown log (after_acquire terms log want moment) (grows_acquire terms log want moment)
+      by_refusal : (reason : Option Refusal) → TellsAnswer log (get_unless terms want moment log tickets reason)
+      by_refusal (Some r) = tells-refusal log tickets r
+      by_refusal None = tells-grown log (after_acquire terms log want moment) (grows-acquire terms log want moment)
 
-  tells-back : (transfer : ℕ) (ending : Ending) (moment : ℕ) → TellsAnswer log (back_at transfer ending moment log)
+  tells-claim : (transfer : ℕ) → TellsAnswer log (claim_at transfer log tickets)
+  unfolding claim_at
+  tells-claim transfer = by_ticket (is_among transfer tickets)
+    where
+      by_held : (held : Option ℕ) → TellsAnswer log (claim_of transfer log tickets held)
+      by_held None = tells-still log
+      by_held (Some c) = tells-claimed log 0 c
+
+      by_ticket : (ticketed : Bool) → TellsAnswer log (if ticketed then claim_of transfer log tickets (held_number log transfer) else stranger log tickets)
+      by_ticket true = by_held (held_number log transfer)
+      by_ticket false = tells-stranger log tickets
+
+  tells-back : (transfer : ℕ) (ending : Ending) (moment : ℕ) → TellsAnswer log (back_at terms transfer ending moment log tickets)
   unfolding back_at
-  tells-back transfer ending moment = by_held (held_number log transfer)
+  tells-back transfer ending moment = by_leased (leased_number log tickets transfer)
     where
-      by_held : (held : Option ℕ) → TellsAnswer log (back_of ending moment log held)
-      by_held None = tells-stranger log
-      by_held (Some c) =
-          tells-grown log (after_give_back log c (facts_of ending) moment) (grows_give_back log c (facts_of ending) moment)
+      by_leased : (leased : Option ℕ) → TellsAnswer log (back_of terms ending moment log tickets leased)
+      by_leased None = tells-stranger log tickets
+      by_leased (Some c) =
+          tells-grown log (after_give_back terms log c (facts_of ending) moment) (grows-give_back terms log c (facts_of ending) moment)
 
-  tells-drop : (transfer moment : ℕ) → TellsAnswer log (drop_at transfer moment log)
+  tells-drop : (transfer moment : ℕ) → TellsAnswer log (drop_at terms transfer moment log tickets)
   unfolding drop_at
-  tells-drop transfer moment = by_held (held_number log transfer)
+  tells-drop transfer moment = by_leased (leased_number log tickets transfer)
     where
-      by_held : (held : Option ℕ) → TellsAnswer log (drop_of moment log held)
-      by_held None = tells-stranger log
-      by_held (Some c) = tells-grown log (after_abandon log c moment) (grows_abandon log c moment)
+      by_leased : (leased : Option ℕ) → TellsAnswer log (drop_of terms moment log tickets leased)
+      by_leased None = tells-stranger log tickets
+      by_leased (Some c) = tells-grown log (after_abandon terms log c moment) (grows-abandon terms log c moment)
 
-  tells-looked : TellsAnswer log (look_at log)
+  tells-leave : (transfer moment : ℕ) → TellsAnswer log (leave_at terms transfer moment log tickets)
+  unfolding leave_at
+  tells-leave transfer moment = by_ticket (is_among transfer tickets)
+    where
+      left : List Entry
+      left = after_withdraw terms log transfer moment
+
+      by_ticket : (ticketed : Bool) → TellsAnswer log (if ticketed then grown log left (without_ticket transfer tickets) else stranger log tickets)
+      by_ticket true = tells-grown log left (grows-withdraw terms log transfer moment)
+      by_ticket false = tells-stranger log tickets
+
+  tells-looked : TellsAnswer log (look_at log tickets)
   unfolding look_at
   tells-looked = tells-look log 0 _ _ _ _ false
 
-  tells-at_host : (command : Command) → TellsAnswer log (at_host terms log command)
+  tells-at_host : (command : Command) → TellsAnswer log (at_host terms log tickets command)
   tells-at_host (commands.Limits limits) = tells-nothing log
   tells-at_host (commands.Site word) = tells-nothing log
   tells-at_host (commands.Get want site moment) = tells-get want moment
+  tells-at_host (commands.Claim transfer site) = tells-claim transfer
   tells-at_host (commands.Back transfer site ending moment) = tells-back transfer ending moment
   tells-at_host (commands.Drop transfer site moment) = tells-drop transfer moment
+  tells-at_host (commands.Leave transfer site moment) = tells-leave transfer moment
   tells-at_host (commands.Look site) = tells-looked
 
-tells-at_no_host : (log : List Entry) (command : Command) → TellsAnswer log (at_no_host log command)
-tells-at_no_host log (commands.Limits limits) = tells-nothing log
-tells-at_no_host log (commands.Site word) = tells-nothing log
-tells-at_no_host log (commands.Get want site moment) = tells-refused log (codes "bad-site") refl
-tells-at_no_host log (commands.Back transfer site ending moment) = tells-stranger log
-tells-at_no_host log (commands.Drop transfer site moment) = tells-stranger log
-tells-at_no_host log (commands.Look site) = tells-refused log (codes "bad-site") refl
+tells-at_no_host : (log : List Entry) (tickets : List ℕ) (command : Command) → TellsAnswer log (at_no_host log tickets command)
+tells-at_no_host log tickets (commands.Limits limits) = tells-nothing log
+tells-at_no_host log tickets (commands.Site word) = tells-nothing log
+tells-at_no_host log tickets (commands.Get want site moment) = tells-refused log (codes "bad-site") refl
+tells-at_no_host log tickets (commands.Claim transfer site) = tells-stranger log tickets
+tells-at_no_host log tickets (commands.Back transfer site ending moment) = tells-stranger log tickets
+tells-at_no_host log tickets (commands.Drop transfer site moment) = tells-stranger log tickets
+tells-at_no_host log tickets (commands.Leave transfer site moment) = tells-stranger log tickets
+tells-at_no_host log tickets (commands.Look site) = tells-refused log (codes "bad-site") refl
 
-tells-answer : (limits : Limits) (there : Bool) (log : List Entry) (command : Command) → TellsAnswer log (answer_of limits there log command)
-tells-answer limits there log command = by_test (there && (site_of command == 0))
+tells-answer : (limits : Limits) (there : Bool) (log : List Entry) (tickets : List ℕ) (command : Command) → TellsAnswer log (answer_of limits there log tickets command)
+tells-answer limits there log tickets command = by_test (there && (site_of command == 0))
   where
-    by_test : (here : Bool) → TellsAnswer log (if here then at_host (terms_of limits) log command else at_no_host log command)
-    by_test true = tells-at_host (terms_of limits) log command
-    by_test false = tells-at_no_host log command
+    by_test : (here : Bool) → TellsAnswer log (if here then at_host (terms_of limits) log tickets command else at_no_host log tickets command)
+    by_test true = tells-at_host (terms_of limits) log tickets command
+    by_test false = tells-at_no_host log tickets command
 
 tells-limits : (run : Run) (limits : Limits) (old : Option Limits) → TellsStep run.log (with_limits run limits old)
 tells-limits run limits (Some others) = tt
@@ -124,15 +150,17 @@ tells-site run word (Some limits) = by_test run.has_begun
 
 tells-command : (run : Run) (command : Command) (old : Option Limits) → TellsStep run.log (with_command run command old)
 tells-command run command None = tt
-tells-command run command (Some limits) = tells-answer limits (has_site run.sites) run.log command
+tells-command run command (Some limits) = tells-answer limits (has_site run.sites) run.log run.tickets command
 
 tells-step : (run : Run) (command : Command) → TellsStep run.log (step run command)
 unfolding step
 tells-step run (commands.Limits limits) = tells-limits run limits run.limits
 tells-step run (commands.Site word) = tells-site run word run.limits
 tells-step run (commands.Get want site moment) = tells-command run (commands.Get want site moment) run.limits
+tells-step run (commands.Claim transfer site) = tells-command run (commands.Claim transfer site) run.limits
 tells-step run (commands.Back transfer site ending moment) = tells-command run (commands.Back transfer site ending moment) run.limits
 tells-step run (commands.Drop transfer site moment) = tells-command run (commands.Drop transfer site moment) run.limits
+tells-step run (commands.Leave transfer site moment) = tells-command run (commands.Leave transfer site moment) run.limits
 tells-step run (commands.Look site) = tells-command run (commands.Look site) run.limits
 
 tells-line_step : (run : Run) (line : List ℕ) → TellsStep run.log (line_step run line)

@@ -113,6 +113,13 @@ get_form rest = do
   options ← options_of no_options moment.1
   Some (commands.Get (want_of transfer.0 lane.0 options) site.0 moment.0)
 
+-- claim T S
+unfoldable pub claim_form : List (List ℕ) → Option Command
+claim_form rest = do
+  transfer ← number_first (2 ^ 64) rest
+  site ← number_first (2 ^ 32) transfer.1
+  at_end site.1 (commands.Claim transfer.0 site.0)
+
 -- back T S KIND at M
 unfoldable pub back_form : List (List ℕ) → Option Command
 back_form rest = do
@@ -132,6 +139,15 @@ drop_form rest = do
   moment ← number_first (2 ^ 64) at
   at_end moment.1 (commands.Drop transfer.0 site.0 moment.0)
 
+-- leave T S at M
+unfoldable pub leave_form : List (List ℕ) → Option Command
+leave_form rest = do
+  transfer ← number_first (2 ^ 64) rest
+  site ← number_first (2 ^ 32) transfer.1
+  at ← text_first (codes "at") site.1
+  moment ← number_first (2 ^ 64) at
+  at_end moment.1 (commands.Leave transfer.0 site.0 moment.0)
+
 -- look S
 unfoldable pub look_form : List (List ℕ) → Option Command
 look_form rest = do
@@ -148,9 +164,11 @@ command_of name rest =
     if bytes_eq name (codes "limits") then formed (limits_form rest) else (
     if bytes_eq name (codes "site") then formed (site_form rest) else (
     if bytes_eq name (codes "get") then formed (get_form rest) else (
+    if bytes_eq name (codes "claim") then formed (claim_form rest) else (
     if bytes_eq name (codes "back") then formed (back_form rest) else (
     if bytes_eq name (codes "drop") then formed (drop_form rest) else (
-    if bytes_eq name (codes "look") then formed (look_form rest) else Err Unknown)))))
+    if bytes_eq name (codes "leave") then formed (leave_form rest) else (
+    if bytes_eq name (codes "look") then formed (look_form rest) else Err Unknown)))))))
 
 -- a line holds so many bytes at most, without its line end
 abbrev pub LONGEST_LINE : ℕ

@@ -52,6 +52,13 @@ lines_since old new = newest_lines (length new - length old) new
 abbrev pub refused : List ℕ → List ℕ
 refused word = codes "refused " ++ (word ++ codes "\n")
 
+-- the replies to a claim: the connection that the transfer was granted, or that it still waits
+abbrev pub claimed_line : ℕ → ℕ → List ℕ
+claimed_line host c = codes "claimed " ++ (decimal host ++ (codes "." ++ (decimal c ++ codes "\n")))
+
+abbrev pub still_line : List ℕ
+still_line = codes "still waiting\n"
+
 abbrev pub yes_or_no : Bool → List ℕ
 yes_or_no answer = if answer then codes "yes" else codes "no"
 

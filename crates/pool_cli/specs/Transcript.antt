@@ -101,9 +101,9 @@ Answers bytes meant (Ok text) run = meant ≡ Ok (run, bytes text)
 Answers bytes meant (Err kind) run = FailsBy meant kind
 
 -- the same of a host, whose commands fail only for want of memory
-abbrev pub Gives : {T : Type 0} → (T → List ℕ) → Answer → Result T FaultKind → List Entry → Type 0
-Gives bytes meant (Ok text) log = meant ≡ record { log = log; text = bytes text }
-Gives bytes meant (Err kind) log = kind ≡ Memory
+abbrev pub Gives : {T : Type 0} → (T → List ℕ) → Answer → Result T FaultKind → List Entry → List ℕ → Type 0
+Gives bytes meant (Ok text) log tickets = meant ≡ record { log = log; tickets = tickets; text = bytes text }
+Gives bytes meant (Err kind) log tickets = kind ≡ Memory
 
 -- a text that is that, unless memory ran out
 abbrev pub GivesText : {T : Type 0} → (T → List ℕ) → List ℕ → Result T FaultKind → Type 0

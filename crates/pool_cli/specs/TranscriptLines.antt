@@ -18,9 +18,9 @@ transcript_lines script = lines (whole_text (transcript script))
 abbrev pub begins : List ℕ → List ℕ → Bool
 begins text line = starts_with (λ a b. a == b) line text
 
--- a reply: to a look, or to what is refused
+-- a reply: to a look, to what is refused, or to a claim
 abbrev pub is_reply : List ℕ → Bool
-is_reply line = begins (codes "host ") line || begins (codes "refused ") line
+is_reply line = begins (codes "host ") line || begins (codes "refused ") line || begins (codes "claimed ") line || begins (codes "still ") line
 
 -- any other line tells of an event
 abbrev pub is_event_line : List ℕ → Bool

@@ -19,7 +19,7 @@ abbrev pub TellsBusyAndNoSuchSite : Type 0
 TellsBusyAndNoSuchSite = Tells (codes "limits 4 0 4\nsite http://a.test/\nget 1 0 0 at 0\nget 1 0 0 at 1\nget 1 7 0 at 1\nlook 7\n") (codes "opened 0.1 for 1 at 0\nrefused busy\nrefused bad-site\nrefused bad-site\n") None
 
 abbrev pub TellsNotPersistentAtTheLimit : Type 0
-TellsNotPersistentAtTheLimit = Tells (codes "limits 1 0 4\nsite http://a.test/\nget 1 0 0 at 0\nget 2 0 0 at 1\nback 1 0 close at 2\nlook 0\n") (codes "opened 0.1 for 1 at 0\nrefused at-limit\nreturned 0.1 by 1 at 2\nclosed 0.1 not-persistent at 2\nhost 0 open 0 idle 0 leased 0 waiting 0 queued no\n") None
+TellsNotPersistentAtTheLimit = Tells (codes "limits 1 0 4\nsite http://a.test/\nget 1 0 0 at 0\nget 2 0 0 at 1\nback 1 0 close at 2\nlook 0\n") (codes "opened 0.1 for 1 at 0\nwaits 2 host 0 at 1\nreturned 0.1 by 1 at 2\nclosed 0.1 not-persistent at 2\nopened 0.2 for 2 at 2\nhost 0 open 1 idle 0 leased 1 waiting 0 queued no\n") None
 
 abbrev pub TellsGetWithAMissingWord : Type 0
 TellsGetWithAMissingWord = Tells (codes "limits 4 0 4\nsite http://a.test/\nget 1 0 0 at 0\nget 1 0 0 at 1\nget 1 7 0 at 1\nlook 7\nget x\n") (codes "opened 0.1 for 1 at 0\nrefused busy\nrefused bad-site\nrefused bad-site\n") (Some (record { line = 7; kind = Form }))
@@ -56,6 +56,21 @@ TellsOneSiteInTwoSpellings = Tells (codes "limits 4 0 4\nsite http://a.test/\nsi
 
 abbrev pub TellsAnOptionTwice : Type 0
 TellsAnOptionTwice = Tells (codes "limits 4 0 4\nsite http://a.test/\nget 1 0 0 at 0 age 1 fresh age 1\n") [] (Some (record { line = 3; kind = Form }))
+
+abbrev pub TellsWaitThenClaim : Type 0
+TellsWaitThenClaim = Tells (codes "limits 1 0 4\nsite http://a.test/\nget 1 0 0 at 0\nget 2 0 0 at 5\nback 1 0 keep at 10\nclaim 2 0\nlook 0\n") (codes "opened 0.1 for 1 at 0\nwaits 2 host 0 at 5\nreturned 0.1 by 1 at 10\nleased 0.1 to 2 at 10\nclaimed 0.1\nhost 0 open 1 idle 0 leased 1 waiting 0 queued no\n") None
+
+abbrev pub TellsWithdrawAGrant : Type 0
+TellsWithdrawAGrant = Tells (codes "limits 1 0 4\nsite http://a.test/\nget 1 0 0 at 0\nget 2 0 0 at 1\nget 3 0 0 at 2\nback 1 0 keep at 3\nleave 2 0 at 4\nback 1 0 keep at 5\nclaim 2 0\n") (codes "opened 0.1 for 1 at 0\nwaits 2 host 0 at 1\nwaits 3 host 0 at 2\nreturned 0.1 by 1 at 3\nleased 0.1 to 2 at 3\nclosed 0.1 withdrawn at 4\nopened 0.2 for 3 at 4\nrefused stranger\nrefused stranger\n") None
+
+abbrev pub TellsMomentsClampedPerHost : Type 0
+TellsMomentsClampedPerHost = Tells (codes "limits 1 0 4\nsite http://a.test/\nget 1 0 0 at 9\nget 2 0 0 at 3\ndrop 1 0 at 1\nleave 2 0 at 0\nlook 0\n") (codes "opened 0.1 for 1 at 9\nwaits 2 host 0 at 9\nclosed 0.1 dropped at 9\nopened 0.2 for 2 at 9\nclosed 0.2 withdrawn at 9\nhost 0 open 0 idle 0 leased 0 waiting 0 queued no\n") None
+
+abbrev pub TellsTicketsAreNoLeases : Type 0
+TellsTicketsAreNoLeases = Tells (codes "limits 1 0 4\nsite http://a.test/\nget 1 0 0 at 0\nget 2 0 0 at 1\nget 2 0 0 at 1\nclaim 2 0\nclaim 1 0\nclaim 2 7\ndrop 2 0 at 2\nleave 1 0 at 2\nback 1 0 keep at 3\nback 2 0 keep at 4\nclaim 2 0\nclaim 2 0\nleave 2 0 at 4\nback 2 0 keep at 5\n") (codes "opened 0.1 for 1 at 0\nwaits 2 host 0 at 1\nrefused busy\nstill waiting\nrefused stranger\nrefused stranger\nrefused stranger\nrefused stranger\nreturned 0.1 by 1 at 3\nleased 0.1 to 2 at 3\nrefused stranger\nclaimed 0.1\nrefused stranger\nrefused stranger\nreturned 0.1 by 2 at 5\n") None
+
+abbrev pub TellsServedInOrder : Type 0
+TellsServedInOrder = Tells (codes "limits 1 0 4\nsite http://a.test/\nget 1 0 0 at 0\nget 2 0 1 at 1\nget 3 0 0 at 2 life 3\nget 4 0 1 at 3\nleave 4 0 at 4\nback 1 0 keep at 5\nlook 0\nclaim 3 0\nclaim 2 0\nback 2 0 keep at 6\nclaim 3 0\n") (codes "opened 0.1 for 1 at 0\nwaits 2 host 0 at 1\nwaits 3 host 0 at 2\nwaits 4 host 0 at 3\nleft 4 host 0 at 4\nreturned 0.1 by 1 at 5\nclosed 0.1 host-room at 5\nopened 0.2 for 2 at 5\nhost 0 open 1 idle 0 leased 1 waiting 1 queued no\nstill waiting\nclaimed 0.2\nreturned 0.2 by 2 at 6\nclosed 0.2 host-room at 6\nopened 0.3 for 3 at 6\nclaimed 0.3\n") None
 
 abbrev pub TellsUnknownCommand : Type 0
 TellsUnknownCommand = Tells (codes "limits 4 0 4\nsite http://a.test/\nget 1 0 0 at 0\nupkeep\n") (codes "opened 0.1 for 1 at 0\n") (Some (record { line = 4; kind = Unknown }))

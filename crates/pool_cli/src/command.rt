@@ -48,6 +48,11 @@ pub enum Command<'a> {
         site: u32,
         moment: u64,
     },
+    /// A transfer claims the connection that it waits for.
+    Claim {
+        transfer: u64,
+        site: u32,
+    },
     /// A transfer gives its connection back.
     Back {
         transfer: u64,
@@ -57,6 +62,12 @@ pub enum Command<'a> {
     },
     /// A transfer abandons its connection.
     Drop {
+        transfer: u64,
+        site: u32,
+        moment: u64,
+    },
+    /// A transfer leaves where it waits.
+    Leave {
         transfer: u64,
         site: u32,
         moment: u64,

@@ -1,6 +1,6 @@
 ghost use Rattle.std.specs.Prelude.{◌≡◌, ℕ, List, [], ◌∷◌};
 ghost use Rattle.pool_cli.specs.Words.{words};
-ghost use Rattle.pool_cli.specs.Grammar.{ending_of, ending_first, at_end, limits_form, site_form, get_form, back_form, drop_form, look_form, command_of, reading};
+ghost use Rattle.pool_cli.specs.Grammar.{ending_of, ending_first, at_end, limits_form, site_form, get_form, claim_form, back_form, drop_form, leave_form, look_form, command_of, reading};
 ghost use Rattle.std.specs.Option.{option_map};
 
 use crate::command::{Command, Ending, Limits};
@@ -80,6 +80,16 @@ fn get_form(line: &[u8]) -> Option<Command<'_>>
     })
 }
 
+/// `claim T S`.
+#[tactic(auto, unfolding(crate::specs::Grammar::claim_form))]
+fn claim_form(line: &[u8]) -> Option<Command<'_>>
+    ensures { result ≡ claim_form (words line.now) }
+{
+    let (transfer, line) = u64_first(line)?;
+    let (site, line) = u32_first(line)?;
+    at_end(line, Command::Claim { transfer, site })
+}
+
 /// `back T S KIND at M`.
 #[tactic(auto, unfolding(crate::specs::Grammar::back_form))]
 fn back_form(line: &[u8]) -> Option<Command<'_>>
@@ -120,6 +130,25 @@ fn drop_form(line: &[u8]) -> Option<Command<'_>>
     )
 }
 
+/// `leave T S at M`.
+#[tactic(auto, unfolding(crate::specs::Grammar::leave_form))]
+fn leave_form(line: &[u8]) -> Option<Command<'_>>
+    ensures { result ≡ leave_form (words line.now) }
+{
+    let (transfer, line) = u64_first(line)?;
+    let (site, line) = u32_first(line)?;
+    let line = text_first("at", line)?;
+    let (moment, line) = u64_first(line)?;
+    at_end(
+        line,
+        Command::Leave {
+            transfer,
+            site,
+            moment,
+        },
+    )
+}
+
 /// `look S`.
 #[tactic(auto, unfolding(crate::specs::Grammar::look_form))]
 fn look_form(line: &[u8]) -> Option<Command<'_>>
@@ -147,10 +176,14 @@ fn command_of<'a>(name: &[u8], line: &'a [u8]) -> Result<Command<'a>, FaultKind>
         site_form(line).ok_or(FaultKind::Form)
     } else if is_word(name, "get") {
         get_form(line).ok_or(FaultKind::Form)
+    } else if is_word(name, "claim") {
+        claim_form(line).ok_or(FaultKind::Form)
     } else if is_word(name, "back") {
         back_form(line).ok_or(FaultKind::Form)
     } else if is_word(name, "drop") {
         drop_form(line).ok_or(FaultKind::Form)
+    } else if is_word(name, "leave") {
+        leave_form(line).ok_or(FaultKind::Form)
     } else if is_word(name, "look") {
         look_form(line).ok_or(FaultKind::Form)
     } else {

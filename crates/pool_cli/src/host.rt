@@ -1,22 +1,17 @@
-//! The one host of a script: its bundle, and the leases that its transfers have.
+//! The one host of a script: its bundle, and the leases and tickets that its transfers have.
 
-ghost use Rattle.std.specs.Prelude.{◌≡◌, ◌≤◌, ◌==◌, if◌then◌else◌, true, None, OnOk, ℕ, List, [], length, reverse, drop, IfOk, IfErr, OnErr, flat_map, string_bytes, Some};
-ghost use Rattle.pool_cli.specs.Meaning.{terms_of, get_at, back_at, drop_at, look_at, grown, facts_of};
-ghost use Rattle.pool_cli.specs.Printing.{entry_line, refused};
+ghost use Rattle.std.specs.Prelude.{◌≡◌, ◌≤◌, IfOk, IfErr, flat_map, string_bytes, length, reverse, drop, []};
+ghost use Rattle.pool_cli.specs.Meaning.{terms_of, get_at, claim_at, back_at, drop_at, leave_at, look_at};
+ghost use Rattle.pool_cli.specs.Printing.{entry_line, refused, claimed_line, still_line};
 ghost use Rattle.pool_cli.specs.Transcript.{Gives, GivesText};
-ghost use Rattle.pool_cli.specs.Hosted.{KeepsLeases, AwaitsLease, IsKeptFor, lease_facts};
-ghost use Rattle.std.specs.Ordering.{nat_cmp};
-ghost use Rattle.std.specs.BTreeMap.{get};
-ghost use Rattle.bundle.specs.Calls.{after_give_back, after_abandon};
-ghost use Rattle.conn_log.specs.Connections.{is_held_by, held_number};
-ghost use Rattle.conn_log.specs.Sound.{IsSound};
 
-use crate::command::{Ending, Limits, facts_of};
+use crate::command::{Ending, Limits};
 use crate::fault::FaultKind;
+use crate::kept::{abandon, give_back, keep_lease, keep_ticket, spend_all, withdraw};
 use crate::printing::{EntryLine, LookLine};
-use bundle::{Bundle, Lease, Refusal};
+use bundle::{Bundle, Claimed, Got, Lease, Refusal, Ticket};
 use conn_log::{Log, Want};
-use std::alloc::{AllocError, Global};
+use std::alloc::Global;
 use std::collections::BTreeMap;
 use std::marker::Model;
 
@@ -26,56 +21,90 @@ const HOST: u32 = 0;
 /// The number of its first connection.
 const FIRST: u32 = 1;
 
-/// The host's bundle, and the lease of each transfer that has one. No stream is behind a lease.
+/// The host's bundle, and the lease or ticket of each transfer that has one. No stream is behind a
+/// lease.
 pub struct OneHost {
     bundle: Bundle<()>,
     leases: BTreeMap<u64, Lease<()>>,
+    tickets: BTreeMap<u64, Ticket>,
 }
 
 impl Model for OneHost {
     ghost use Rattle.std.specs.Prelude.{◌≡◌};
     ghost use Rattle.std.specs.Ordering.{nat_cmp};
-    ghost use Rattle.std.specs.BTreeMap.{get};
-    ghost use Rattle.pool_cli.specs.Hosted.{Hosted, KeepsLeases};
+    ghost use Rattle.std.specs.BTreeMap.{get, keys, IsOrdered};
+    ghost use Rattle.pool_cli.specs.Hosted.{Hosted, Keeps};
 
     ghost Value = { Hosted };
 
-    ghost view = { λ h. record { log = h.bundle.log; terms = h.bundle.terms } };
+    ghost view = { λ h. record { log = h.bundle.log; terms = h.bundle.terms; tickets = keys h.tickets } };
 
-    ghost invariant = { λ h. (h.bundle.terms.first ≡ 1) × KeepsLeases h.bundle.log (get nat_cmp h.leases) };
+    ghost invariant = { λ h. (h.bundle.terms.first ≡ 1) × Keeps h.bundle (get nat_cmp h.leases) (get nat_cmp h.tickets) × IsOrdered nat_cmp h.tickets };
 }
 
 impl OneHost {
     /// A host without connections.
     pub fn new(alloc: Global, limits: Limits) -> Result<OneHost, FaultKind>
-        ensures ok { IfOk result (λ h. h ≡ record { log = []; terms = terms_of limits }) }
+        ensures ok { IfOk result (λ h. h ≡ record { log = []; terms = terms_of limits; tickets = [] }) }
         ensures err { IfErr result (λ kind. kind ≡ FaultKind.Memory) }
     {
         match Bundle::new(alloc, limits.host, HOST, FIRST) {
             Ok(bundle) => Ok(OneHost {
                 bundle,
                 leases: BTreeMap::new(alloc),
+                tickets: BTreeMap::new(alloc),
             }),
             Err(_) => Err(FaultKind::Memory),
         }
     }
 
-    /// The transfer acquires a connection.
+    /// The transfer acquires a connection, or begins to wait for one.
     pub fn get(&mut self, alloc: Global, want: Want, moment: u64) -> Result<String, FaultKind>
-        ensures answer { Gives string_bytes (get_at self.old.terms want moment self.old.log) result self.new.log }
+        ensures answer { Gives string_bytes (get_at self.old.terms want moment self.old.log self.old.tickets) result self.new.log self.new.tickets }
         ensures terms { self.new.terms ≡ self.old.terms }
     {
         let place = self.bundle.log().len();
         match self.bundle.acquire(want, moment) {
-            Ok(lease) => {
+            Ok(Got::Lease(lease)) => {
                 let text = lines_since(alloc, self.bundle.log(), place, want.transfer);
-                store(&mut self.bundle, &mut self.leases, lease)?;
+                keep_lease(&mut self.bundle, &mut self.leases, lease)?;
+                text
+            }
+            Ok(Got::Wait(ticket)) => {
+                let text = lines_since(alloc, self.bundle.log(), place, want.transfer);
+                keep_ticket(&mut self.bundle, &mut self.tickets, ticket)?;
                 text
             }
             Err(Refusal::Memory) => Err(FaultKind::Memory),
             Err(Refusal::TransferBusy) => reply(alloc, "busy"),
             Err(Refusal::Exhausted) => reply(alloc, "exhausted"),
-            Err(Refusal::AtLimit) => reply(alloc, "at-limit"),
+        }
+    }
+
+    /// The transfer claims the connection that it waits for.
+    pub fn claim(&mut self, alloc: Global, transfer: u64) -> Result<String, FaultKind>
+        ensures answer { Gives string_bytes (claim_at transfer self.old.log self.old.tickets) result self.new.log self.new.tickets }
+        ensures terms { self.new.terms ≡ self.old.terms }
+    {
+        // The log is sound: who waits holds nothing.
+        let _log = self.bundle.log();
+        let Some(ticket) = self.tickets.remove(&transfer) else {
+            return reply(alloc, "stranger");
+        };
+        match self.bundle.claim(ticket) {
+            Ok(Claimed::Lease(lease)) => {
+                let number = lease.number();
+                keep_lease(&mut self.bundle, &mut self.leases, lease)?;
+                claimed(alloc, number)
+            }
+            Ok(Claimed::Still(ticket)) => {
+                keep_ticket(&mut self.bundle, &mut self.tickets, ticket)?;
+                still_waiting(alloc)
+            }
+            Err(stray) => {
+                stray.scrap();
+                reply(alloc, "stranger")
+            }
         }
     }
 
@@ -87,11 +116,15 @@ impl OneHost {
         ending: Ending,
         moment: u64,
     ) -> Result<String, FaultKind>
-        ensures answer { Gives string_bytes (back_at transfer ending moment self.old.log) result self.new.log }
+        ensures answer { Gives string_bytes (back_at self.old.terms transfer ending moment self.old.log self.old.tickets) result self.new.log self.new.tickets }
         ensures terms { self.new.terms ≡ self.old.terms }
     {
+        let place = self.bundle.log().len();
         match self.leases.remove(&transfer) {
-            Some(lease) => give_back(alloc, &mut self.bundle, lease, ending, moment),
+            Some(lease) => {
+                give_back(&mut self.bundle, lease, ending, moment);
+                lines_since(alloc, self.bundle.log(), place, transfer)
+            }
             None => reply(alloc, "stranger"),
         }
     }
@@ -103,18 +136,37 @@ impl OneHost {
         transfer: u64,
         moment: u64,
     ) -> Result<String, FaultKind>
-        ensures answer { Gives string_bytes (drop_at transfer moment self.old.log) result self.new.log }
+        ensures answer { Gives string_bytes (drop_at self.old.terms transfer moment self.old.log self.old.tickets) result self.new.log self.new.tickets }
         ensures terms { self.new.terms ≡ self.old.terms }
     {
+        let place = self.bundle.log().len();
         match self.leases.remove(&transfer) {
-            Some(lease) => abandon(alloc, &mut self.bundle, lease, moment),
+            Some(lease) => {
+                abandon(&mut self.bundle, lease, moment);
+                lines_since(alloc, self.bundle.log(), place, transfer)
+            }
+            None => reply(alloc, "stranger"),
+        }
+    }
+
+    /// The transfer leaves where it waits.
+    pub fn leave(&mut self, alloc: Global, transfer: u64, moment: u64) -> Result<String, FaultKind>
+        ensures answer { Gives string_bytes (leave_at self.old.terms transfer moment self.old.log self.old.tickets) result self.new.log self.new.tickets }
+        ensures terms { self.new.terms ≡ self.old.terms }
+    {
+        let place = self.bundle.log().len();
+        match self.tickets.remove(&transfer) {
+            Some(ticket) => {
+                withdraw(&mut self.bundle, ticket, moment);
+                lines_since(alloc, self.bundle.log(), place, transfer)
+            }
             None => reply(alloc, "stranger"),
         }
     }
 
     /// What the connections do.
     pub fn look(&self, alloc: Global) -> Result<String, FaultKind>
-        ensures { Gives string_bytes (look_at self.now.log) result self.now.log }
+        ensures { Gives string_bytes (look_at self.now.log self.now.tickets) result self.now.log self.now.tickets }
     {
         let line = LookLine {
             host: HOST,
@@ -126,73 +178,14 @@ impl OneHost {
         }
     }
 
-    /// Abandons the leases, at moment 0.
+    /// Abandons the leases and withdraws the tickets, by transfer, at moment 0.
     pub fn end(self) {
         let OneHost {
             mut bundle,
-            mut leases,
+            leases,
+            tickets,
         } = self;
-        while let Some((_, lease)) = leases.pop_first() {
-            give_up(&mut bundle, lease);
-        }
-        leases.destroy_empty();
-    }
-}
-
-/// Gives a lease back, and the lines that tell of it.
-fn give_back(
-    alloc: Global,
-    bundle: &mut Bundle<()>,
-    lease: Lease<()>,
-    ending: Ending,
-    moment: u64,
-) -> Result<String, FaultKind>
-    requires kept { IsKeptFor bundle.old.log lease.start.want.transfer lease }
-    ensures answer { Gives string_bytes (grown bundle.old.log (after_give_back bundle.old.log lease.start.number (facts_of ending) moment)) result bundle.new.log }
-    ensures terms { bundle.new.terms ≡ bundle.old.terms }
-    ensures holders { (t : ℕ) → held_number bundle.new.log t ≡ (if lease.start.want.transfer == t then None else held_number bundle.old.log t) }
-{
-    let place = bundle.log().len();
-    let by = lease.transfer();
-    match bundle.give_back(lease, facts_of(ending), moment) {
-        Ok(()) => lines_since(alloc, bundle.log(), place, by),
-        Err(stray) => {
-            stray.scrap();
-            reply(alloc, "stranger")
-        }
-    }
-}
-
-/// Abandons a lease, and the lines that tell of it.
-fn abandon(
-    alloc: Global,
-    bundle: &mut Bundle<()>,
-    lease: Lease<()>,
-    moment: u64,
-) -> Result<String, FaultKind>
-    requires kept { IsKeptFor bundle.old.log lease.start.want.transfer lease }
-    ensures answer { Gives string_bytes (grown bundle.old.log (after_abandon bundle.old.log lease.start.number moment)) result bundle.new.log }
-    ensures terms { bundle.new.terms ≡ bundle.old.terms }
-    ensures holders { (t : ℕ) → held_number bundle.new.log t ≡ (if lease.start.want.transfer == t then None else held_number bundle.old.log t) }
-{
-    let place = bundle.log().len();
-    let by = lease.transfer();
-    match bundle.abandon(lease, moment) {
-        Ok(()) => lines_since(alloc, bundle.log(), place, by),
-        Err(stray) => {
-            stray.scrap();
-            reply(alloc, "stranger")
-        }
-    }
-}
-
-/// Abandons a lease, at moment 0.
-fn give_up(bundle: &mut Bundle<()>, lease: Lease<()>)
-    ensures terms { bundle.new.terms ≡ bundle.old.terms }
-    ensures holders { is_held_by bundle.old.log lease.start.want.transfer lease.start.number ≡ true → (t : ℕ) → held_number bundle.new.log t ≡ (if lease.start.want.transfer == t then None else held_number bundle.old.log t) }
-{
-    if let Err(stray) = bundle.abandon(lease, 0) {
-        stray.scrap();
+        spend_all(&mut bundle, leases, tickets);
     }
 }
 
@@ -201,6 +194,26 @@ pub fn reply(alloc: Global, word: &str) -> Result<String, FaultKind>
     ensures { GivesText string_bytes (refused word.now) result }
 {
     match format!(in alloc; "refused {word}\n") {
+        Ok(text) => Ok(text),
+        Err(_) => Err(FaultKind::Memory),
+    }
+}
+
+/// The reply to a claim of what was granted.
+fn claimed(alloc: Global, number: u32) -> Result<String, FaultKind>
+    ensures { GivesText string_bytes (claimed_line 0 number) result }
+{
+    match format!(in alloc; "claimed {HOST}.{number}\n") {
+        Ok(text) => Ok(text),
+        Err(_) => Err(FaultKind::Memory),
+    }
+}
+
+/// The reply to a claim where the transfer still waits.
+fn still_waiting(alloc: Global) -> Result<String, FaultKind>
+    ensures { GivesText string_bytes still_line result }
+{
+    match format!(in alloc; "still waiting\n") {
         Ok(text) => Ok(text),
         Err(_) => Err(FaultKind::Memory),
     }
@@ -223,44 +236,4 @@ fn lines_since(alloc: Global, log: &Log, place: usize, by: u64) -> Result<String
         }
     }
     Ok(text)
-}
-
-/// The lease with a stream; where it has none, an empty one.
-fn with_stream(lease: Lease<()>) -> Lease<()>
-    ensures same { lease_facts result ≡ (lease.start.number, lease.start.want.transfer, true) }
-{
-    let mut lease = lease;
-    if !lease.has_stream() {
-        lease.attach(());
-    }
-    lease
-}
-
-/// Keeps a lease for its transfer, with an empty stream. Where memory is short, it is abandoned.
-fn store(
-    bundle: &mut Bundle<()>,
-    leases: &mut BTreeMap<u64, Lease<()>>,
-    lease: Lease<()>,
-) -> Result<(), FaultKind>
-    requires sound { IsSound bundle.old.terms bundle.old.log }
-    requires others { AwaitsLease bundle.old.log (get nat_cmp leases.old) lease.start.want.transfer }
-    requires held { held_number bundle.old.log lease.start.want.transfer ≡ Some lease.start.number }
-    ensures ok { OnOk result (bundle.new.log ≡ bundle.old.log) }
-    ensures err { IfErr result (λ kind. kind ≡ FaultKind.Memory) }
-    ensures terms { bundle.new.terms ≡ bundle.old.terms }
-    ensures kept { KeepsLeases bundle.new.log (get nat_cmp leases.new) }
-{
-    let transfer = lease.transfer();
-    match leases.insert(transfer, with_stream(lease)) {
-        Ok(None) => Ok(()),
-        Ok(Some(other)) => {
-            give_up(bundle, other);
-            Err(FaultKind::Memory)
-        }
-        Err(failed) => {
-            let (_, lease) = failed.value;
-            give_up(bundle, lease);
-            Err(FaultKind::Memory)
-        }
-    }
 }

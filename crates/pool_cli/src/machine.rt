@@ -50,7 +50,7 @@ impl Model for Engine {
 
     ghost Value = { Run };
 
-    ghost view = { λ e. record { limits = e.limits; sites = e.sites; has_begun = e.has_begun; log = option_map_or (λ (h : Hosted). h.log) e.host [] } };
+    ghost view = { λ e. record { limits = e.limits; sites = e.sites; has_begun = e.has_begun; log = option_map_or (λ (h : Hosted). h.log) e.host []; tickets = option_map_or (λ (h : Hosted). h.tickets) e.host [] } };
 
     ghost invariant = { λ e. (option_map (λ (h : Hosted). h.terms) e.host ≡ (if e.has_begun && has_site e.sites then option_map terms_of e.limits else None)) × (e.limits ≡ None → e.has_begun ≡ false) };
 }
@@ -64,8 +64,10 @@ impl Machine for Engine {
             Command::Limits(limits) => self.set_limits(limits),
             Command::Site(word) => self.add_site(&word),
             Command::Get { .. } => self.ask(command),
+            Command::Claim { .. } => self.ask(command),
             Command::Back { .. } => self.ask(command),
             Command::Drop { .. } => self.ask(command),
+            Command::Leave { .. } => self.ask(command),
             Command::Look { .. } => self.ask(command),
         }
     }
@@ -96,7 +98,7 @@ impl Engine {
         }
     }
 
-    /// Abandons the leases that are left.
+    /// Abandons the leases that are left, and withdraws the tickets.
     pub fn end(self) {
         let Engine {
             alloc: _,
@@ -201,21 +203,24 @@ fn site_of(command: &Command<'_>) -> u32
         Command::Limits(_) => 0,
         Command::Site(_) => 0,
         Command::Get { site, .. } => *site,
+        Command::Claim { site, .. } => *site,
         Command::Back { site, .. } => *site,
         Command::Drop { site, .. } => *site,
+        Command::Leave { site, .. } => *site,
         Command::Look { site } => *site,
     }
 }
 
 /// What the host answers.
 fn answer_at(host: &mut OneHost, alloc: Global, command: Command<'_>) -> Result<String, FaultKind>
-    ensures answer { Gives string_bytes (at_host host.old.terms host.old.log command.entry) result host.new.log }
+    ensures answer { Gives string_bytes (at_host host.old.terms host.old.log host.old.tickets command.entry) result host.new.log host.new.tickets }
     ensures terms { host.new.terms ≡ host.old.terms }
 {
     match command {
         Command::Limits(_) => Ok(String::new(alloc)),
         Command::Site(_) => Ok(String::new(alloc)),
         Command::Get { want, moment, .. } => host.get(alloc, want, moment),
+        Command::Claim { transfer, .. } => host.claim(alloc, transfer),
         Command::Back {
             transfer,
             ending,
@@ -227,20 +232,27 @@ fn answer_at(host: &mut OneHost, alloc: Global, command: Command<'_>) -> Result<
             moment,
             ..
         } => host.abandon(alloc, transfer, moment),
+        Command::Leave {
+            transfer,
+            moment,
+            ..
+        } => host.leave(alloc, transfer, moment),
         Command::Look { .. } => host.look(alloc),
     }
 }
 
 /// The answer at a site that is not there.
 fn answer_without_host(alloc: Global, command: Command<'_>) -> Result<String, FaultKind>
-    ensures { (log : List Entry) → Gives string_bytes (at_no_host log command.entry) result log }
+    ensures { (log : List Entry) (tickets : List ℕ) → Gives string_bytes (at_no_host log tickets command.entry) result log tickets }
 {
     match command {
         Command::Limits(_) => Ok(String::new(alloc)),
         Command::Site(_) => Ok(String::new(alloc)),
         Command::Get { .. } => reply(alloc, "bad-site"),
+        Command::Claim { .. } => reply(alloc, "stranger"),
         Command::Back { .. } => reply(alloc, "stranger"),
         Command::Drop { .. } => reply(alloc, "stranger"),
+        Command::Leave { .. } => reply(alloc, "stranger"),
         Command::Look { .. } => reply(alloc, "bad-site"),
     }
 }

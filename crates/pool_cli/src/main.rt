@@ -6,6 +6,7 @@ mod command;
 mod fault;
 mod grammar;
 mod host;
+mod kept;
 mod law;
 mod lines;
 mod machine;

@@ -10,7 +10,7 @@ use std::io::{Read, Write};
 use std::test::Fail;
 
 /// Scripts that run to their end, with their transcripts.
-const GOOD: [(&str, &str); 29] = [
+const GOOD: [(&str, &str); 38] = [
     (
         "limits 4 0 4\nsite http://a.test/\nget 1 0 0 at 0\nget 1 0 0 at 1\nget 1 7 0 at 1\nlook 7\n",
         "opened 0.1 for 1 at 0\nrefused busy\nrefused bad-site\nrefused bad-site\n",
@@ -22,7 +22,7 @@ const GOOD: [(&str, &str); 29] = [
     ),
     (
         "limits 1 0 4\nsite http://a.test/\nget 1 0 0 at 0\nget 2 0 0 at 1\nback 1 0 close at 2\nlook 0\n",
-        "opened 0.1 for 1 at 0\nrefused at-limit\nreturned 0.1 by 1 at 2\nclosed 0.1 not-persistent at 2\nhost 0 open 0 idle 0 leased 0 waiting 0 queued no\n",
+        "opened 0.1 for 1 at 0\nwaits 2 host 0 at 1\nreturned 0.1 by 1 at 2\nclosed 0.1 not-persistent at 2\nopened 0.2 for 2 at 2\nhost 0 open 1 idle 0 leased 1 waiting 0 queued no\n",
     ),
     (
         "limits 1 0 4\nsite http://a.test/\nget 1 0 0 at 0\nback 1 0 keep at 2\nget 2 0 0 at 3\ndrop 2 0 at 4\nlook 0\n",
@@ -112,13 +112,49 @@ const GOOD: [(&str, &str); 29] = [
         "limits 4 0 4\nsite http://a.test/\nback 1 0 keep at 1\ndrop 1 0 at 1\nget 1 0 0 at 0\ndrop 1 7 at 1\ndrop 1 0 at 1\ndrop 1 0 at 1\n",
         "refused stranger\nrefused stranger\nopened 0.1 for 1 at 0\nrefused stranger\nclosed 0.1 dropped at 1\nrefused stranger\n",
     ),
+    (
+        "limits 1 0 4\nsite http://a.test/\nget 1 0 0 at 0\nget 2 0 0 at 5\nback 1 0 keep at 10\nclaim 2 0\nlook 0\n",
+        "opened 0.1 for 1 at 0\nwaits 2 host 0 at 5\nreturned 0.1 by 1 at 10\nleased 0.1 to 2 at 10\nclaimed 0.1\nhost 0 open 1 idle 0 leased 1 waiting 0 queued no\n",
+    ),
+    (
+        "limits 1 0 4\nsite http://a.test/\nget 1 0 0 at 0\nget 2 0 0 at 1\nget 3 0 0 at 2\nback 1 0 keep at 3\nleave 2 0 at 4\nback 1 0 keep at 5\nclaim 2 0\n",
+        "opened 0.1 for 1 at 0\nwaits 2 host 0 at 1\nwaits 3 host 0 at 2\nreturned 0.1 by 1 at 3\nleased 0.1 to 2 at 3\nclosed 0.1 withdrawn at 4\nopened 0.2 for 3 at 4\nrefused stranger\nrefused stranger\n",
+    ),
+    (
+        "limits 1 0 4\nsite http://a.test/\nget 1 0 0 at 9\nget 2 0 0 at 3\ndrop 1 0 at 1\nleave 2 0 at 0\nlook 0\n",
+        "opened 0.1 for 1 at 9\nwaits 2 host 0 at 9\nclosed 0.1 dropped at 9\nopened 0.2 for 2 at 9\nclosed 0.2 withdrawn at 9\nhost 0 open 0 idle 0 leased 0 waiting 0 queued no\n",
+    ),
+    (
+        "limits 1 0 4\nsite http://a.test/\nget 1 0 0 at 0\nget 2 0 0 at 1\nget 2 0 0 at 1\nclaim 2 0\nclaim 1 0\nclaim 2 7\ndrop 2 0 at 2\nleave 1 0 at 2\nback 1 0 keep at 3\nback 2 0 keep at 4\nclaim 2 0\nclaim 2 0\nleave 2 0 at 4\nback 2 0 keep at 5\n",
+        "opened 0.1 for 1 at 0\nwaits 2 host 0 at 1\nrefused busy\nstill waiting\nrefused stranger\nrefused stranger\nrefused stranger\nrefused stranger\nreturned 0.1 by 1 at 3\nleased 0.1 to 2 at 3\nrefused stranger\nclaimed 0.1\nrefused stranger\nrefused stranger\nreturned 0.1 by 2 at 5\n",
+    ),
+    (
+        "limits 1 0 4\nsite http://a.test/\nget 1 0 0 at 0\nget 2 0 1 at 1\nget 3 0 0 at 2 life 3\nget 4 0 1 at 3\nleave 4 0 at 4\nback 1 0 keep at 5\nlook 0\nclaim 3 0\nclaim 2 0\nback 2 0 keep at 6\nclaim 3 0\n",
+        "opened 0.1 for 1 at 0\nwaits 2 host 0 at 1\nwaits 3 host 0 at 2\nwaits 4 host 0 at 3\nleft 4 host 0 at 4\nreturned 0.1 by 1 at 5\nclosed 0.1 host-room at 5\nopened 0.2 for 2 at 5\nhost 0 open 1 idle 0 leased 1 waiting 1 queued no\nstill waiting\nclaimed 0.2\nreturned 0.2 by 2 at 6\nclosed 0.2 host-room at 6\nopened 0.3 for 3 at 6\nclaimed 0.3\n",
+    ),
+    (
+        "limits 4 0 4\nclaim 1 0\nleave 1 0 at 0\n",
+        "refused stranger\nrefused stranger\n",
+    ),
+    (
+        "limits 1 0 4\nsite http://a.test/\nget 1 0 0 at 0\nget 2 0 0 at 1 life 1\nback 1 0 keep at 2\nclaim 2 0\nback 2 0 keep at 3\nlook 0\n",
+        "opened 0.1 for 1 at 0\nwaits 2 host 0 at 1\nreturned 0.1 by 1 at 2\nclosed 0.1 too-old at 2\nopened 0.2 for 2 at 2\nclaimed 0.2\nreturned 0.2 by 2 at 3\nhost 0 open 1 idle 1 leased 0 waiting 0 queued no\n",
+    ),
+    (
+        "limits 2 0 4\nsite http://a.test/\nget 1 0 0 at 0\nget 2 0 0 at 0\nget 3 0 0 at 1\nget 4 0 0 at 2\nlook 0\ndrop 1 0 at 3\nback 2 0 keep at 4\nlook 0\nleave 3 0 at 5\nclaim 4 0\nlook 0\n",
+        "opened 0.1 for 1 at 0\nopened 0.2 for 2 at 0\nwaits 3 host 0 at 1\nwaits 4 host 0 at 2\nhost 0 open 2 idle 0 leased 2 waiting 2 queued no\nclosed 0.1 dropped at 3\nopened 0.3 for 3 at 3\nreturned 0.2 by 2 at 4\nleased 0.2 to 4 at 4\nhost 0 open 2 idle 0 leased 2 waiting 0 queued no\nclosed 0.3 withdrawn at 5\nclaimed 0.2\nhost 0 open 1 idle 0 leased 1 waiting 0 queued no\n",
+    ),
+    (
+        "limits 1 0 4\nsite http://a.test/\nget 1 0 0 at 0\nget 2 0 0 at 1\nleave 2 0 at 2\nget 2 0 0 at 3\nback 1 0 keep at 4\nclaim 02 00\nget 3 0 0 at 5\n",
+        "opened 0.1 for 1 at 0\nwaits 2 host 0 at 1\nleft 2 host 0 at 2\nwaits 2 host 0 at 3\nreturned 0.1 by 1 at 4\nleased 0.1 to 2 at 4\nclaimed 0.1\nwaits 3 host 0 at 5\n",
+    ),
     ("", ""),
     ("\n", ""),
     ("# nothing", ""),
 ];
 
 /// Scripts with a fault: what they write before it, its line and kind.
-const FAULTY: [(&str, &str, u32, FaultKind); 48] = [
+const FAULTY: [(&str, &str, u32, FaultKind); 60] = [
     (
         "limits 4 0 4\nsite http://a.test/\nget 1 0 0 at 0\nget 1 0 0 at 1\nget 1 7 0 at 1\nlook 7\nget x\n",
         "opened 0.1 for 1 at 0\nrefused busy\nrefused bad-site\nrefused bad-site\n",
@@ -126,8 +162,20 @@ const FAULTY: [(&str, &str, u32, FaultKind); 48] = [
         FaultKind::Form,
     ),
     ("limits 0 0 0\n", "", 1, FaultKind::BadLimits),
-    ("limits 4 0 4\nclaim 1 0\n", "", 2, FaultKind::Unknown),
     ("limits 4 0 4\nupkeep\n", "", 2, FaultKind::Unknown),
+    ("limits 4 0 4\nprune 1 1 at 0\n", "", 2, FaultKind::Unknown),
+    ("limits 4 0 4\nlimit 0 4\n", "", 2, FaultKind::Unknown),
+    ("limits 4 0 4\nclaims 1 0\n", "", 2, FaultKind::Unknown),
+    ("limits 4 0 4\nclaim 1\n", "", 2, FaultKind::Form),
+    ("limits 4 0 4\nclaim 1 0 at 0\n", "", 2, FaultKind::Form),
+    (
+        "limits 4 0 4\nclaim 18446744073709551616 0\n",
+        "",
+        2,
+        FaultKind::Form,
+    ),
+    ("limits 4 0 4\nclaim 1 4294967296\n", "", 2, FaultKind::Form),
+    ("claim 1 0\n", "", 1, FaultKind::Place),
     ("\tlimits 4 0 4\n", "", 1, FaultKind::Unknown),
     (" # no comment\n", "", 1, FaultKind::Unknown),
     ("limits 4 0 4\nlook 0\r", "", 2, FaultKind::Form),
@@ -301,12 +349,28 @@ const FAULTY: [(&str, &str, u32, FaultKind); 48] = [
         2,
         FaultKind::Form,
     ),
-    ("limits 4 0 4\nleave 1 0 at 0\n", "", 2, FaultKind::Unknown),
+    ("limits 4 0 4\nleave 1 0\n", "", 2, FaultKind::Form),
+    ("limits 4 0 4\nleave 1 0 by 0\n", "", 2, FaultKind::Form),
+    ("limits 4 0 4\nleave 1 0 at -1\n", "", 2, FaultKind::Form),
+    ("limits 4 0 4\nleave 1 0 at 0 0\n", "", 2, FaultKind::Form),
+    ("leave 1 0 at 0\n", "", 1, FaultKind::Place),
+    (
+        "limits 1 0 4\nsite http://a.test/\nget 1 0 0 at 0\nget 2 0 0 at 1\nget 3 0 0 at 2\nlook\n",
+        "opened 0.1 for 1 at 0\nwaits 2 host 0 at 1\nwaits 3 host 0 at 2\n",
+        6,
+        FaultKind::Form,
+    ),
 ];
 
 const REUSE_THEN_DROP: (&str, &str) = (
     "limits 1 0 4\nsite http://a.test/\nget 1 0 0 at 0\nback 1 0 keep at 2\nget 2 0 0 at 3\ndrop 2 0 at 4\nlook 0\n",
     "opened 0.1 for 1 at 0\nreturned 0.1 by 1 at 2\nleased 0.1 to 2 at 3\nclosed 0.1 dropped at 4\nhost 0 open 0 idle 0 leased 0 waiting 0 queued no\n",
+);
+
+/// Transfers that wait, claim and leave; two tickets are left at the script's end.
+const WAITING: (&str, &str) = (
+    "limits 1 0 4\nsite http://a.test/\nget 1 0 0 at 0\nget 2 0 0 at 1\nget 3 0 0 at 2\nget 4 0 0 at 3\nclaim 2 0\nback 1 0 keep at 4\nclaim 2 0\nleave 3 0 at 5\ndrop 2 0 at 6\nget 5 0 0 at 7\n",
+    "opened 0.1 for 1 at 0\nwaits 2 host 0 at 1\nwaits 3 host 0 at 2\nwaits 4 host 0 at 3\nstill waiting\nreturned 0.1 by 1 at 4\nleased 0.1 to 2 at 4\nclaimed 0.1\nleft 3 host 0 at 5\nclosed 0.1 dropped at 6\nopened 0.2 for 4 at 6\nwaits 5 host 0 at 7\n",
 );
 
 #[test]
@@ -609,15 +673,16 @@ fn a_writer_that_fails_in_the_middle(rt: HostRuntime) -> Result<(), Fail> {
 // Under `rt try --test --fail-alloc N`: what is written is a front of the transcript.
 #[test]
 fn want_of_memory_leaves_a_front_of_the_transcript(rt: HostRuntime) -> Result<(), Fail> {
-    let (script, transcript) = REUSE_THEN_DROP;
-    let mut reader = script.as_bytes();
-    let mut writer = Expecting {
-        rest: transcript.as_bytes(),
-        takes_none: false,
-    };
-    match run_script(rt.alloc(), &mut reader, &mut writer) {
-        Ok(()) => assert!(rt; writer.rest.is_empty()),
-        Err(fault) => assert_eq!(rt; fault.kind, FaultKind::Memory),
+    for (script, transcript) in [REUSE_THEN_DROP, WAITING] {
+        let mut reader = script.as_bytes();
+        let mut writer = Expecting {
+            rest: transcript.as_bytes(),
+            takes_none: false,
+        };
+        match run_script(rt.alloc(), &mut reader, &mut writer) {
+            Ok(()) => assert!(rt; writer.rest.is_empty()),
+            Err(fault) => assert_eq!(rt; fault.kind, FaultKind::Memory),
+        }
     }
     Ok(())
 }

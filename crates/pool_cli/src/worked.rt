@@ -1,10 +1,10 @@
 //! Small scripts whose transcripts are known, against which the definition of a transcript was tried.
 
-ghost use Rattle.pool_cli.specs.Worked.{TellsReuseThenDrop, TellsBusyAndNoSuchSite, TellsNotPersistentAtTheLimit, TellsGetWithAMissingWord, TellsNoRoomToKeep, TellsIdleAsLongAsTheAge, TellsIdleLongerThanTheAge, TellsAsOldAsTheLifetime, TellsOlderThanTheLifetime, TellsAnotherLaneAtTheHostLimit, TellsForbiddenAndCut, TellsMomentGoesBack, TellsOptionsInAnotherOrder, TellsOneSiteInTwoSpellings, TellsAnOptionTwice, TellsUnknownCommand, TellsSecondLimits, TellsBadSite, TellsTwoSites, TellsLongestLine, TellsLineTooLongByOne, TellsEvents, TellsLeases};
+ghost use Rattle.pool_cli.specs.Worked.{TellsReuseThenDrop, TellsBusyAndNoSuchSite, TellsNotPersistentAtTheLimit, TellsGetWithAMissingWord, TellsNoRoomToKeep, TellsIdleAsLongAsTheAge, TellsIdleLongerThanTheAge, TellsAsOldAsTheLifetime, TellsOlderThanTheLifetime, TellsAnotherLaneAtTheHostLimit, TellsForbiddenAndCut, TellsMomentGoesBack, TellsOptionsInAnotherOrder, TellsOneSiteInTwoSpellings, TellsWaitThenClaim, TellsWithdrawAGrant, TellsMomentsClampedPerHost, TellsTicketsAreNoLeases, TellsServedInOrder, TellsAnOptionTwice, TellsUnknownCommand, TellsSecondLimits, TellsBadSite, TellsTwoSites, TellsLongestLine, TellsLineTooLongByOne, TellsEvents, TellsLeases};
 
-/// The transcripts of small scripts, by computation: ten of the worked ones, the options of `get` in
-/// another order, one site in two spellings, and one script of each fault that a line can have; and of
-/// one the lines of the log behind it.
+/// The transcripts of small scripts, by computation: twelve of the worked ones, three more of transfers
+/// that wait, the options of `get` in another order, one site in two spellings, and one script of each
+/// fault that a line can have; and of one the lines of the log behind it.
 pub fn worked_scripts()
     ensures reuse_then_drop { TellsReuseThenDrop }
     ensures busy_and_no_such_site { TellsBusyAndNoSuchSite }
@@ -20,6 +20,11 @@ pub fn worked_scripts()
     ensures moment_goes_back { TellsMomentGoesBack }
     ensures options_in_another_order { TellsOptionsInAnotherOrder }
     ensures one_site_in_two_spellings { TellsOneSiteInTwoSpellings }
+    ensures wait_then_claim { TellsWaitThenClaim }
+    ensures withdraw_a_grant { TellsWithdrawAGrant }
+    ensures moments_clamped_per_host { TellsMomentsClampedPerHost }
+    ensures tickets_are_no_leases { TellsTicketsAreNoLeases }
+    ensures served_in_order { TellsServedInOrder }
     ensures an_option_twice { TellsAnOptionTwice }
     ensures unknown_command { TellsUnknownCommand }
     ensures second_limits { TellsSecondLimits }

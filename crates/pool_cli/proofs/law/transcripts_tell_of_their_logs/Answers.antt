@@ -9,4 +9,4 @@ pub returns-clause-leases : goal.returns-clause-leases
 returns-clause-leases c = every_lease_is_told
 
 pub returns-clause-free : goal.returns-clause-free
-returns-clause-free c = every_leased_line_was_free
+returns-clause-free c = every_leased_line_was_free c.scripts_keep_the_law.ensures.leases

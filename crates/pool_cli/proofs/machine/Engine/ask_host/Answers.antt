@@ -12,7 +12,7 @@ pub returns-then-site_of-ne0 : goal.returns-then-site_of-ne0
 returns-then-site_of-ne0 c =
     let run = c.args.self.now in
     answered-elsewhere string_bytes run c.args.limits c.args.command c.answer_without_host.result c.requires.begun
-    (other-site (has_site run.sites) (site_of c.args.command) (λ zero. c.if-site_of-ne0.true (c.site_of.ensures ∙ zero))) (c.answer_without_host.ensures run.log)
+    (other-site (has_site run.sites) (site_of c.args.command) (λ zero. c.if-site_of-ne0.true (c.site_of.ensures ∙ zero))) (c.answer_without_host.ensures run.log run.tickets)
 
 pub returns-in_default : goal.returns-in_default
 returns-in_default c =
@@ -26,4 +26,4 @@ returns-in_default c =
     ∙ host-missing inside.has_begun (has_site inside.sites) c.args.limits (ap (λ (r : Run). r.has_begun) c.self.view_is ∙ c.requires.begun) hostless in
     let elsewhere : (has_site run.sites && (site_of c.args.command == 0)) ≡ false = ap (λ b. b && (site_of c.args.command == 0)) site in
     subst (λ (next : Run). Answers string_bytes (with_command run c.args.command (Some c.args.limits)) c.answer_without_host-in_default.result next) (sym c.self.view_is)
-    (answered-elsewhere string_bytes run c.args.limits c.args.command c.answer_without_host-in_default.result c.requires.begun elsewhere (c.answer_without_host-in_default.ensures run.log))
+    (answered-elsewhere string_bytes run c.args.limits c.args.command c.answer_without_host-in_default.result c.requires.begun elsewhere (c.answer_without_host-in_default.ensures run.log run.tickets))
