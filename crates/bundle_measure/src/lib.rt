@@ -1,0 +1,131 @@
+//! A static library that only measures: a program that counts instructions calls it. It is not a
+//! part of the product.
+#![tactic(auto)]
+
+ghost use Rattle.std.specs.Prelude.{◌≡◌, ◌≤◌, true, is_some};
+
+use bundle::{Bundle, Got, Lease, Ticket};
+use conn_log::Want;
+use persistence::{Facts, Framing, Version};
+use std::alloc::Global;
+
+/// A response that lets its connection persist.
+const KEEP: Facts = Facts {
+    version: Version::V11,
+    close: false,
+    keep_alive: false,
+    request_close: false,
+    framing: Framing::Counted,
+    both_lengths: false,
+    upgraded: false,
+    whole: true,
+    surplus: false,
+};
+
+/// Leaves so many connections of a host idle, then acquires and gives back one so many times.
+/// Answers how many of those acquires reused a connection: all, unless memory ran out.
+#[unsafe(no_mangle)]
+pub extern "C" fn warm_rounds(alloc: Global, idle: u32, rounds: u64) -> u64
+    ensures { result ≤ rounds }
+{
+    let Ok(mut host) = Bundle::new(alloc, u32::MAX, 0, 1) else {
+        return 0;
+    };
+    let mut leases = Vec::new(alloc);
+    open_all(&mut host, &mut leases, idle);
+    give_back_all(&mut host, leases);
+    use_often(&mut host, rounds)
+}
+
+/// Opens so many connections, each for a transfer of its own.
+fn open_all(host: &mut Bundle<()>, leases: &mut Vec<Lease<()>>, count: u32) {
+    for transfer in 0..count {
+        open_one(host, leases, u64::from(transfer));
+    }
+}
+
+/// Gives each of them back.
+fn give_back_all(host: &mut Bundle<()>, leases: Vec<Lease<()>>) {
+    let mut leases = leases;
+    while let Some(lease) = leases.pop() {
+        give_back(host, lease, 0);
+    }
+    leases.destroy_empty();
+}
+
+/// Acquires and gives back so many times, and answers how often an idle connection was reused.
+fn use_often(host: &mut Bundle<()>, rounds: u64) -> u64
+    ensures { result ≤ rounds }
+{
+    let mut reused = 0;
+    for round in 0..rounds {
+        if use_once(host, round) {
+            reused += 1;
+        }
+    }
+    reused
+}
+
+/// Opens a connection for the transfer.
+fn open_one(host: &mut Bundle<()>, leases: &mut Vec<Lease<()>>, transfer: u64) {
+    match host.acquire(want_of(transfer), 0) {
+        Ok(Got::Lease(lease)) => {
+            if let Err(failed) = leases.push(lease) {
+                give_back(host, failed.value, 0);
+            }
+        }
+        Ok(Got::Wait(ticket)) => leave(host, ticket, 0),
+        Err(_) => {}
+    }
+}
+
+/// Acquires a connection and gives it back; whether it was idle before.
+fn use_once(host: &mut Bundle<()>, moment: u64) -> bool {
+    match host.acquire(want_of(0), moment) {
+        Ok(Got::Lease(lease)) => {
+            let reused = lease.reused();
+            give_back(host, lease, moment);
+            reused
+        }
+        Ok(Got::Wait(ticket)) => {
+            leave(host, ticket, moment);
+            false
+        }
+        Err(_) => false,
+    }
+}
+
+fn give_back(host: &mut Bundle<()>, lease: Lease<()>, moment: u64) {
+    if let Err(stray) = host.give_back(with_stream(lease), KEEP, moment) {
+        stray.scrap();
+    }
+}
+
+fn leave(host: &mut Bundle<()>, ticket: Ticket, moment: u64) {
+    if let Err(stray) = host.withdraw(ticket, moment) {
+        stray.scrap();
+    }
+}
+
+/// The lease with a stream; where it has none, an empty one.
+fn with_stream(lease: Lease<()>) -> Lease<()>
+    ensures { is_some result.stream ≡ true }
+{
+    let mut lease = lease;
+    if !lease.has_stream() {
+        lease.attach(());
+    }
+    lease
+}
+
+/// A want of lane 0 without limits.
+fn want_of(transfer: u64) -> Want {
+    Want {
+        transfer,
+        lane: 0,
+        max_age: u64::MAX,
+        max_life: 0,
+        fresh: false,
+        forbid_reuse: false,
+    }
+}
