@@ -50,6 +50,22 @@ module _ {S : Type 0} (terms : Terms) (log : List Entry) (greatest_used : ℕ) (
   pub table_absent : (transfer : ℕ) → held_number log transfer ≡ None → held transfer ≡ None
   table_absent transfer free = none_of held_facts_of (held transfer) (r.held_at transfer ∙ ap (option_map (facts_if_held log)) free)
 
+  pub table_free : (transfer : ℕ) → held transfer ≡ None → held_number log transfer ≡ None
+  table_free transfer none = none_of (facts_if_held log) (held_number log transfer) (sym (r.held_at transfer) ∙ ap (option_map held_facts_of) none)
+
+  -- a table that has the same at each transfer
+  pub replays_same : (held' : ℕ → Option Held) (len : ℕ) → ((t : ℕ) → held' t ≡ held t) → len ≡ held_len → Replays terms log greatest_used idle held' len
+  replays_same held' len same counted = record {
+    sound = r.sound;
+    greatest_is = r.greatest_is;
+    idle_at = r.idle_at;
+    idle_distinct = r.idle_distinct;
+    idle_in_order = r.idle_in_order;
+    idle_len = r.idle_len;
+    held_at = λ t. ap (option_map held_facts_of) (same t) ∙ r.held_at t;
+    open_len = omega (arith, r.open_len, counted);
+  }
+
   pub below_limit : is_full terms log ≡ false → length (open_connections log) < terms.limit
   below_limit not_full = grind (arith, nat_tests, not_full, r.sound.orderly.within)
 

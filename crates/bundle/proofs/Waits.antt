@@ -25,6 +25,11 @@ no_want t wants out = none_there (waiting_want wants t) (is_some-waiting_want t 
     none_there None e = refl
     none_there (Some w) e = absurd (cc)
 
+-- nobody waits where as many wait as none
+pub nobody : (wants : List Want) → length wants ≡ 0 → wants ≡ []
+nobody [] none = refl
+nobody (x ∷ wants) none = absurd (omega (arith, none))
+
 -- with one more
 pub want_last : (want : Want) (t : ℕ) (wants : List Want) → waiting_want wants want.transfer ≡ None → waiting_want (wants ++ want ∷ []) t ≡ (if want.transfer == t then Some want else waiting_want wants t)
 want_last want t [] new = refl

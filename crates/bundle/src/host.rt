@@ -129,7 +129,12 @@ impl<S: Drop> Bundle<S> {
         ensures grew { OnOk result (GrowsBy self.old.log self.new.log) }
         ensures same { StaysThere self.old self.new }
     {
-        if let Some(reason) = self.reason_against(&want) {
+        let moment = self.state.moment(now);
+        if let Some((number, stream)) = self.state.lease_last(&want, moment) {
+            let lease = Lease::reusing(self.state.host(), number, want, moment, stream);
+            return Ok(Got::Lease(lease));
+        }
+        if let Some(reason) = reason_against(&self.state, &want) {
             return Err(reason);
         }
         let Ok(()) = self.grants.reserve(self.state.waiting_len() + 1) else {
@@ -138,25 +143,7 @@ impl<S: Drop> Bundle<S> {
         let Ok(()) = self.state.book() else {
             return Err(Refusal::Memory);
         };
-        let moment = self.state.moment(now);
         Ok(start_or_wait(&mut self.state, want, moment))
-    }
-
-    // Why the log is against an acquire, if it is.
-    #[inline(always)]
-    fn reason_against(&self, want: &Want) -> Option<Refusal>
-        ensures reason { result ≡ refusal self.now.terms self.now.log want.now }
-        ensures free { IfNone result (held_number self.now.log want.now.transfer ≡ None) }
-        ensures once { IfNone result (waits self.now.log want.now.transfer ≡ false) }
-        ensures number { IfNone result (is_exhausted self.now.terms self.now.log ≡ false) }
-    {
-        if self.state.holds(want.transfer) || self.state.waits(want.transfer) {
-            return Some(Refusal::TransferBusy);
-        }
-        if self.state.is_exhausted() {
-            return Some(Refusal::Exhausted);
-        }
-        None
     }
 
     // Whether that is the want of the transfer's ticket.
@@ -305,6 +292,22 @@ impl<S: Drop> Bundle<S> {
         open_for_head(&mut self.state, &mut self.grants, moment);
         Ok(())
     }
+}
+
+// Why the log is against an acquire, if it is.
+fn reason_against<S: Drop>(state: &State<S>, want: &Want) -> Option<Refusal>
+    ensures reason { result ≡ refusal state.now.terms state.now.log want.now }
+    ensures free { IfNone result (held_number state.now.log want.now.transfer ≡ None) }
+    ensures once { IfNone result (waits state.now.log want.now.transfer ≡ false) }
+    ensures number { IfNone result (is_exhausted state.now.terms state.now.log ≡ false) }
+{
+    if state.holds(want.transfer) || state.waits(want.transfer) {
+        return Some(Refusal::TransferBusy);
+    }
+    if state.is_exhausted() {
+        return Some(Refusal::Exhausted);
+    }
+    None
 }
 
 // Whether two wants agree in all.

@@ -55,6 +55,7 @@ fn goes_before<S>(idle: &Idle<S>, since: u64, number: u32) -> bool
 }
 
 /// The place of the newest that suits the want; none does where it is for a new one.
+#[inline(always)]
 pub(crate) fn newest_suiting<S>(idle: &[Idle<S>], want: &Want, moment: u64) -> Option<usize>
     ensures found { IfSome result (LastSuits want.now moment idle.now) }
     ensures none { IfNone result (NoneSuits want.now moment idle.now) }
@@ -72,10 +73,23 @@ pub(crate) fn newest_suiting<S>(idle: &[Idle<S>], want: &Want, moment: u64) -> O
     None
 }
 
+/// The place of the newest, where it suits the want.
+#[inline(always)]
+pub(crate) fn newest_if_suiting<S>(idle: &[Idle<S>], want: &Want, moment: u64) -> Option<usize>
+    ensures { IfSome result (LastSuits want.now moment idle.now) }
+{
+    let place = idle.len().checked_sub(1)?;
+    if !suits(&idle[place], want, moment) {
+        return None;
+    }
+    Some(place)
+}
+
 /// The place of the first that is too old for the want in its lane; none is where it is for a new
 /// one. Where the want sets no limit on
 /// the time since a connection was opened, the search ends at the first that is idle for a short
 /// enough time, since none after it is idle for longer.
+#[inline(always)]
 pub(crate) fn first_too_old<S>(idle: &[Idle<S>], want: &Want, moment: u64) -> Option<usize>
     requires { AreInOrder idle.now }
     ensures found { IfSome result (FirstTooOld want.now moment idle.now) }
@@ -96,6 +110,7 @@ pub(crate) fn first_too_old<S>(idle: &[Idle<S>], want: &Want, moment: u64) -> Op
 
 /// The place that one of that moment and number takes in the order. It is sought from the end: those
 /// that are passed are those that have to be moved.
+#[inline(always)]
 pub(crate) fn place_for<S>(idle: &[Idle<S>], since: u64, number: u32) -> usize
     requires { AreInOrder idle.now }
     ensures { IsPlaceFor since number idle.now result }
@@ -108,6 +123,7 @@ pub(crate) fn place_for<S>(idle: &[Idle<S>], since: u64, number: u32) -> usize
 }
 
 /// Takes out the one at that place. None is moved where it is the last.
+#[inline(always)]
 pub(crate) fn take_from<S: Drop>(idle: &mut Vec<Idle<S>>, place: usize) -> Idle<S>
     requires { place < vec_len idle.old }
     ensures value { result ≡ slice_index_or idle.old.items place result }
@@ -125,6 +141,7 @@ pub(crate) fn take_from<S: Drop>(idle: &mut Vec<Idle<S>>, place: usize) -> Idle<
 }
 
 /// Puts one in at that place, in room made before. None is moved where it is the last.
+#[inline(always)]
 pub(crate) fn put_in<S: Drop>(idle: &mut Vec<Idle<S>>, place: usize, new: Idle<S>)
     requires range { place ≤ vec_len idle.old }
     requires room { vec_len idle.old < vec_capacity idle.old }

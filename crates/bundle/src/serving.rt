@@ -21,7 +21,6 @@ use conn_log::{Cause, Want};
 
 /// Starts the transfer on the newest idle connection that fits, or on a new one; where others wait,
 /// or the host has no room, it waits.
-#[inline(always)]
 pub(crate) fn start_or_wait<S: Drop>(state: &mut State<S>, want: Want, moment: u64) -> Got<S>
     requires booked { state.old.booked ≡ 1 }
     requires later { last_moment state.old.log ≤ moment }

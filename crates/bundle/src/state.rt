@@ -12,8 +12,10 @@ ghost use Rattle.bundle.specs.State.{HostState, IsSameHost, ClosesIdle, ClosesOl
 ghost use Rattle.conn_log.specs.Legal.{IsAnyone, owed, ending_cause};
 ghost use Rattle.conn_log.specs.declared.entry.Want.{Want};
 
-use crate::held::{Held, enter, take_out};
-use crate::idle::{Idle, first_too_old, newest_suiting, place_for, put_in, take_from};
+use crate::held::{Held, enter, enter_if_free, take_out};
+use crate::idle::{
+    Idle, first_too_old, newest_if_suiting, newest_suiting, place_for, put_in, take_from,
+};
 use crate::queue::{Queue, spend_place};
 use crate::snapshot::Snapshot;
 use conn_log::{Cause, Entry, Event, Log, LogFault, Stamp, Want};
@@ -21,6 +23,9 @@ use persistence::Facts;
 use std::alloc::Global;
 use std::collections::HashMap;
 use std::marker::Model;
+
+/// How many entries a lease and its end may add.
+const ENTRIES_OF_A_LEASE: usize = 2;
 
 /// How many entries an acquire may add, with those of the end of its wait and of its lease.
 const ENTRIES_OF_AN_ACQUIRE: usize = 4;
@@ -179,6 +184,7 @@ impl<S: Drop> State<S> {
     }
 
     /// Whether that transfer waits.
+    #[inline(always)]
     pub(crate) fn waits(&self, transfer: u64) -> bool
         ensures { result ≡ waits self.now.log transfer }
     {
@@ -186,6 +192,7 @@ impl<S: Drop> State<S> {
     }
 
     /// Whether the transfer holds a connection.
+    #[inline(always)]
     pub(crate) fn holds(&self, transfer: u64) -> bool
         ensures holds { result ≡ holds self.now.log transfer }
         ensures number { result ≡ is_some (held_number self.now.log transfer) }
@@ -194,6 +201,7 @@ impl<S: Drop> State<S> {
     }
 
     /// What is kept of that connection, where that transfer holds it.
+    #[inline(always)]
     pub(crate) fn held(&self, transfer: u64, number: u32) -> Option<Held>
         ensures none { IfNone result (is_held_by self.now.log transfer number ≡ false) }
         ensures number { IfSome result (λ held. held.number ≡ number) }
@@ -207,6 +215,7 @@ impl<S: Drop> State<S> {
     }
 
     /// The moment of an event that is to be added: the greater of `now` and the last one.
+    #[inline(always)]
     pub(crate) fn moment(&self, now: u64) -> u64
         ensures { result ≡ moment_at self.now.log now }
     {
@@ -227,6 +236,7 @@ impl<S: Drop> State<S> {
 
     /// Makes room for all that an acquire, the end of its wait and the end of its lease will add. No
     /// other step takes memory.
+    #[inline(always)]
     pub(crate) fn book(&mut self) -> Result<(), LogFault>
         requires none { self.old.booked ≡ 0 }
         requires number { is_exhausted self.old.terms self.old.log ≡ false }
@@ -244,8 +254,55 @@ impl<S: Drop> State<S> {
         Ok(())
     }
 
+    /// Leases the connection that came back last to the transfer, where nothing else has to be done:
+    /// the transfer holds nothing, nobody waits, numbers are left, nothing that is idle is too old,
+    /// and that connection fits. Where memory runs out nothing has changed.
+    #[inline(always)]
+    pub(crate) fn lease_last(&mut self, want: &Want, moment: u64) -> Option<(u32, S)>
+        requires none { self.old.booked ≡ 0 }
+        requires later { last_moment self.old.log ≤ moment }
+        ensures none { IfNone result (self.new ≡ self.old) }
+        ensures free { OnSome result (held_number self.old.log want.now.transfer ≡ None) }
+        ensures alone { OnSome result (waiting self.old.log ≡ []) }
+        ensures number { OnSome result (is_exhausted self.old.terms self.old.log ≡ false) }
+        ensures none_too_old { OnSome result (oldest_too_old self.old.log want.now moment ≡ None) }
+        ensures some { IfSome result (λ leased. LeasesNewest self.old self.new want.now moment leased.0 leased.1) }
+    {
+        if !self.queue.is_empty() || self.is_exhausted() {
+            return None;
+        }
+        if let Some(_) = first_too_old(&self.idle, want, moment) {
+            return None;
+        }
+        let place = newest_if_suiting(&self.idle, want, moment)?;
+        let last = &self.idle[place];
+        let held = Held {
+            number: last.number,
+            lane: last.lane,
+            born: last.born,
+            forbids_reuse: want.forbid_reuse,
+        };
+        let entries = ENTRIES_OF_A_LEASE + self.idle.len() + 2 * self.held.len();
+        let Ok(()) = self.log.reserve(entries) else {
+            return None;
+        };
+        if !enter_if_free(&mut self.held, want.transfer, held) {
+            return None;
+        }
+        let Idle { number, stream, .. } = take_from(&mut self.idle, place);
+        self.log.append(Entry {
+            moment,
+            event: Event::Leased {
+                connection: number,
+                want: *want,
+            },
+        });
+        Some((number, stream))
+    }
+
     /// Leases the newest fit connection to the transfer, if there is one. The transfer is the first
     /// that waits; where nobody waits, any that holds nothing, for which room was made.
+    #[inline(always)]
     pub(crate) fn lease_newest_fit(&mut self, want: &Want, moment: u64) -> Option<(u32, S)>
         requires next { IsNext self.old.log want.now }
         requires booked { waiting self.old.log ≡ [] → self.old.booked ≡ 1 }
@@ -281,6 +338,7 @@ impl<S: Drop> State<S> {
 
     /// Closes the idle connections of the want's lane that are too old for it, the one idle for the
     /// longest first.
+    #[inline(always)]
     pub(crate) fn close_too_old(&mut self, want: &Want, moment: u64)
         requires { last_moment self.old.log ≤ moment }
         ensures log { self.new.log ≡ without_too_old want.now moment self.old.log }
@@ -290,6 +348,7 @@ impl<S: Drop> State<S> {
     }
 
     // Closes the one of them that is idle for the longest, if there is one.
+    #[inline(always)]
     fn close_oldest_too_old(&mut self, want: &Want, moment: u64) -> bool
         requires { last_moment self.old.log ≤ moment }
         ensures none { result ≡ false → (oldest_too_old self.old.log want.now moment ≡ None) × (self.new ≡ self.old) }
@@ -409,6 +468,7 @@ impl<S: Drop> State<S> {
     }
 
     /// The connection comes back and is idle from then on, with its stream.
+    #[inline(always)]
     pub(crate) fn come_back(
         &mut self,
         transfer: u64,

@@ -1,28 +1,119 @@
-use Rattle.std.proofs.Common.{◌≡◌, ◌⊎◌, ◌++◌, None, is_some, sym, ap, subst, ◌∙◌, arith}
-use Rattle.std.specs.Prelude.{if◌then◌else◌}
-use Rattle.conn_log.specs.Waiting.{waiting}
-use Rattle.bundle.specs.Calls.{moment_at, start_unless, after_acquire, refusal}
+use Rattle.std.proofs.Common.{◌≡◌, ℕ, ◌⊎◌, ◌++◌, length, Some, None, is_some, refl, sym, ap, subst, ◌∙◌, arith}
+use Rattle.std.specs.Prelude.{◌==◌, if◌then◌else◌}
+use Rattle.conn_log.specs.Waiting.{waiting, without}
+use Rattle.bundle.specs.Calls.{moment_at, start_unless, after_acquire, newest_start, refusal}
 use Rattle.bundle.specs.Grants.{GrantsKept, grant_streams}
 use Rattle.bundle.specs.Idle.{stream_of}
 use Rattle.bundle.specs.Laws.{IsSoundAndQuiet}
-use Rattle.bundle.specs.Lease.{OneHost}
-use Rattle.bundle.specs.State.{HostState}
+use Rattle.bundle.specs.Lease.{OneHost, Leasing}
+use Rattle.bundle.specs.State.{HostState, booked_after_start}
 use Rattle.bundle.proofs.Growth.{grows_acquire}
 use Rattle.bundle.proofs.KeptSound.{kept_acquire}
 use Rattle.bundle.proofs.Acquired.{Starts, Waits, allowed_by, begun}
 use Rattle.bundle.proofs.Answering.{gives_lease, gives_ticket, kept_begun, begun_stream, behind_only, behind_same}
-use Rattle.bundle.proofs.Acquiring.{queue_begun, acquired_lease, acquired_ticket}
+use Rattle.bundle.proofs.Acquiring.{queue_begun, reused_at_once, not_refused_at_once, acquired_lease, acquired_ticket}
 use Rattle.bundle.proofs.Settling.{grows_from}
 use Rattle.bundle.proofs.host.Bundle.acquire.Goals as goal
+
+pub invariant_of-self : goal.invariant_of-self
+invariant_of-self g c =
+    let state = c.self.inside.state in
+    let inv = c.self.invariant in
+    let told = c.in-Some.ensures in
+    let leased = told.some in
+    let allowed = not_refused_at_once state.terms state.log c.args.want inv.settled.sound told.free told.alone told.number in
+    let is = reused_at_once state.terms state.log c.lease_last.new.self.log c.args.want c.args.now c.moment-moment.result c.in-Some.number c.moment-moment.ensures told.alone told.none_too_old leased.newest leased.log in
+    let may = allowed_by state.terms state.log c.args.want inv.settled.sound allowed in
+    let started = subst (λ log. Starts c.args.want state.log log ⊎ Waits c.args.want state.log log) (sym is) (begun state.terms state.log c.args.want c.args.now inv.settled.sound allowed) in
+    let nobody : length (waiting c.lease_last.new.self.log) ≡ 0 = ap (λ log. length (waiting log)) leased.log ∙ ap (λ wants. length (without c.args.want.transfer wants)) told.alone in
+    record {
+      booked = leased.booked ∙ ap (λ wants. booked_after_start wants state.booked) told.alone;
+      settled = subst (λ terms. IsSoundAndQuiet terms c.lease_last.new.self.log) (sym leased.same.terms) (subst (λ log. IsSoundAndQuiet state.terms log) (sym is) (kept_acquire state.terms state.log c.args.want c.args.now inv.settled allowed));
+      grants = kept_begun state.terms state.log c.lease_last.new.self.log c.self.inside.grants.items inv.grants c.args.want may.free started;
+      room = omega (arith, inv.room, nobody);
+    }
+
+pub returns-in-Some-clause-log : goal.returns-in-Some-clause-log
+returns-in-Some-clause-log g c =
+    let state = c.self.inside.state in
+    let inv = c.self.invariant in
+    let told = c.in-Some.ensures in
+    let leased = told.some in
+    let allowed = not_refused_at_once state.terms state.log c.args.want inv.settled.sound told.free told.alone told.number in
+    let is = reused_at_once state.terms state.log c.lease_last.new.self.log c.args.want c.args.now c.moment-moment.result c.in-Some.number c.moment-moment.ensures told.alone told.none_too_old leased.newest leased.log in
+    is ∙ ap (λ (v : OneHost g.row.S.Denot). after_acquire v.terms v.log c.args.want c.args.now) c.self.view_is
+
+pub returns-in-Some-clause-stream : goal.returns-in-Some-clause-stream
+returns-in-Some-clause-stream g c =
+    let state = c.self.inside.state in
+    let inv = c.self.invariant in
+    let told = c.in-Some.ensures in
+    let leased = told.some in
+    let allowed = not_refused_at_once state.terms state.log c.args.want inv.settled.sound told.free told.alone told.number in
+    let is = reused_at_once state.terms state.log c.lease_last.new.self.log c.args.want c.args.now c.moment-moment.result c.in-Some.number c.moment-moment.ensures told.alone told.none_too_old leased.newest leased.log in
+    let may = allowed_by state.terms state.log c.args.want inv.settled.sound allowed in
+    let started = subst (λ log. Starts c.args.want state.log log ⊎ Waits c.args.want state.log log) (sym is) (begun state.terms state.log c.args.want c.args.now inv.settled.sound allowed) in
+    let grants = c.self.inside.grants.items in
+    let lease = c.reusing-lease.result in
+    let start_is : newest_start c.lease_last.new.self.log ≡ Some lease.start = ap newest_start leased.log ∙ sym (ap (λ (l : Leasing g.row.S.Denot). Some l.start) c.reusing-lease.ensures) in
+    let number = ap (λ (l : Leasing g.row.S.Denot). l.start.number) c.reusing-lease.ensures in
+    let after = subst (λ log. IsSoundAndQuiet state.terms log) (sym is) (kept_acquire state.terms state.log c.args.want c.args.now inv.settled allowed) in
+    let reused = ap (λ (l : Leasing g.row.S.Denot). l.start.reused) c.reusing-lease.ensures in
+    let kept : stream_of state.streams lease.start.number ≡ Some c.in-Some.stream = ap (stream_of state.streams) number ∙ leased.kept in
+    let all = sym (behind_only (grant_streams grants) state.streams lease.start.number (begun_stream state.terms state.log c.lease_last.new.self.log grants inv.grants c.args.want may.free after.sound.orderly lease.start started start_is)) ∙ ap (λ (v : OneHost g.row.S.Denot). stream_of v.streams lease.start.number) c.self.view_is in
+    ap (λ (l : Leasing g.row.S.Denot). l.stream) c.reusing-lease.ensures ∙ sym kept ∙ all ∙ sym (ap (λ b. if b then stream_of c.args.self.now.streams lease.start.number else None) reused)
+
+pub returns-in-Some-clause-streams : goal.returns-in-Some-clause-streams
+returns-in-Some-clause-streams g c d other still =
+    let state = c.self.inside.state in
+    let leased = c.in-Some.ensures.some in
+    let number = ap (λ (l : Leasing g.row.S.Denot). l.start.number) c.reusing-lease.ensures in
+    behind_same (grant_streams c.self.inside.grants.items) c.lease_last.new.self.streams state.streams d (leased.others d (ap (λ (n : ℕ). n == d) (sym number) ∙ other)) ∙ ap (λ (v : OneHost g.row.S.Denot). stream_of v.streams d) c.self.view_is
+
+pub returns-in-Some-clause-refused : goal.returns-in-Some-clause-refused
+returns-in-Some-clause-refused g c =
+    let state = c.self.inside.state in
+    let told = c.in-Some.ensures in
+    let allowed = not_refused_at_once state.terms state.log c.args.want c.self.invariant.settled.sound told.free told.alone told.number in
+    let shown : refusal c.args.self.now.terms c.args.self.now.log c.args.want ≡ None = ap (λ (v : OneHost g.row.S.Denot). refusal v.terms v.log c.args.want) (sym c.self.view_is) ∙ allowed in
+    rw shown tt
+
+pub returns-in-Some-clause-gets_lease : goal.returns-in-Some-clause-gets_lease
+returns-in-Some-clause-gets_lease g c =
+    let state = c.self.inside.state in
+    let inv = c.self.invariant in
+    let told = c.in-Some.ensures in
+    let leased = told.some in
+    let allowed = not_refused_at_once state.terms state.log c.args.want inv.settled.sound told.free told.alone told.number in
+    let is = reused_at_once state.terms state.log c.lease_last.new.self.log c.args.want c.args.now c.moment-moment.result c.in-Some.number c.moment-moment.ensures told.alone told.none_too_old leased.newest leased.log in
+    let may = allowed_by state.terms state.log c.args.want inv.settled.sound allowed in
+    let started = subst (λ log. Starts c.args.want state.log log ⊎ Waits c.args.want state.log log) (sym is) (begun state.terms state.log c.args.want c.args.now inv.settled.sound allowed) in
+    let grants = c.self.inside.grants.items in
+    let lease = c.reusing-lease.result in
+    let start_is : newest_start c.lease_last.new.self.log ≡ Some lease.start = ap newest_start leased.log ∙ sym (ap (λ (l : Leasing g.row.S.Denot). Some l.start) c.reusing-lease.ensures) in
+    let number = ap (λ (l : Leasing g.row.S.Denot). l.start.number) c.reusing-lease.ensures in
+    acquired_lease state.terms state.log c.lease_last.new.self.log grants inv.grants c.args.want may.free started _ _ _ _ _ grants refl c.args.self.now c.self.view_is lease.start start_is
+
+pub returns-in-Some-clause-grew : goal.returns-in-Some-clause-grew
+returns-in-Some-clause-grew g c =
+    let state = c.self.inside.state in
+    let inv = c.self.invariant in
+    let told = c.in-Some.ensures in
+    let leased = told.some in
+    let allowed = not_refused_at_once state.terms state.log c.args.want inv.settled.sound told.free told.alone told.number in
+    let is = reused_at_once state.terms state.log c.lease_last.new.self.log c.args.want c.args.now c.moment-moment.result c.in-Some.number c.moment-moment.ensures told.alone told.none_too_old leased.newest leased.log in
+    let grew = grows_acquire state.terms state.log c.args.want c.args.now in
+    grows_from state.log c.args.self.now.log c.lease_last.new.self.log (ap (λ (v : OneHost g.row.S.Denot). v.log) c.self.view_is) (grew.0, is ∙ grew.1)
 
 pub invariant_of-self-2 : goal.invariant_of-self-2
 invariant_of-self-2 g c =
     let state = c.self.inside.state in
     let grants = c.self.inside.grants.items in
     let inv = c.self.invariant in
-    let booked = c.in-Ok-book.ensures.ok in
-    let allowed : refusal state.terms state.log c.args.want ≡ None = sym (c.in_default.ensures.reason ∙ ap (λ (v : OneHost g.row.S.Denot). refusal v.terms v.log c.args.want) (sym c.self.view_is)) in
-    let moment_is : c.moment-moment.result ≡ moment_at state.log c.args.now = c.moment-moment.ensures ∙ ap (λ (v : HostState g.row.S.Denot). moment_at v.log c.args.now) booked in
+    let same = c.in_default.ensures.none in
+    let booked = c.in-Ok-book.ensures.ok ∙ ap (λ (v : HostState g.row.S.Denot). record v { booked = 1 }) same in
+    let allowed : refusal state.terms state.log c.args.want ≡ None = sym (c.in_default-reason_against.ensures.reason ∙ ap (λ (v : HostState g.row.S.Denot). refusal v.terms v.log c.args.want) same) in
+    let moment_is : c.moment-moment.result ≡ moment_at state.log c.args.now = c.moment-moment.ensures in
     let is : c.start_or_wait.new.state.log ≡ after_acquire state.terms state.log c.args.want c.args.now = c.start_or_wait.ensures.log ∙ ap (λ (v : HostState g.row.S.Denot). start_unless (waiting v.log) v.terms c.args.want c.moment-moment.result v.log) booked ∙ ap (λ k. start_unless (waiting state.log) state.terms c.args.want k state.log) moment_is in
     let may = allowed_by state.terms state.log c.args.want inv.settled.sound allowed in
     let started = subst (λ log. Starts c.args.want state.log log ⊎ Waits c.args.want state.log log) (sym is) (begun state.terms state.log c.args.want c.args.now inv.settled.sound allowed) in
@@ -31,7 +122,7 @@ invariant_of-self-2 g c =
       booked = c.start_or_wait.ensures.booked;
       settled = subst (λ terms. IsSoundAndQuiet terms c.start_or_wait.new.state.log) (sym (c.start_or_wait.ensures.same.terms ∙ ap (λ (v : HostState g.row.S.Denot). v.terms) booked)) (subst (λ log. IsSoundAndQuiet state.terms log) (sym is) (kept_acquire state.terms state.log c.args.want c.args.now inv.settled allowed));
       grants = subst (λ gs. GrantsKept c.start_or_wait.new.state.log gs) (sym c.reserve.ensures.items) (kept_begun state.terms state.log c.start_or_wait.new.state.log grants inv.grants c.args.want may.free started);
-      room = omega (arith, queue, c.in-Ok.ensures.ok, c.waiting_len.ensures, c.reserve.ensures.len);
+      room = omega (arith, queue, c.in-Ok.ensures.ok, c.waiting_len.ensures ∙ ap (λ (v : HostState g.row.S.Denot). length (waiting v.log)) same, c.reserve.ensures.len);
     }
 
 pub returns-clause-stream : goal.returns-clause-stream
@@ -39,9 +130,10 @@ returns-clause-stream g c =
     let state = c.self.inside.state in
     let grants = c.self.inside.grants.items in
     let inv = c.self.invariant in
-    let booked = c.in-Ok-book.ensures.ok in
-    let allowed : refusal state.terms state.log c.args.want ≡ None = sym (c.in_default.ensures.reason ∙ ap (λ (v : OneHost g.row.S.Denot). refusal v.terms v.log c.args.want) (sym c.self.view_is)) in
-    let moment_is : c.moment-moment.result ≡ moment_at state.log c.args.now = c.moment-moment.ensures ∙ ap (λ (v : HostState g.row.S.Denot). moment_at v.log c.args.now) booked in
+    let same = c.in_default.ensures.none in
+    let booked = c.in-Ok-book.ensures.ok ∙ ap (λ (v : HostState g.row.S.Denot). record v { booked = 1 }) same in
+    let allowed : refusal state.terms state.log c.args.want ≡ None = sym (c.in_default-reason_against.ensures.reason ∙ ap (λ (v : HostState g.row.S.Denot). refusal v.terms v.log c.args.want) same) in
+    let moment_is : c.moment-moment.result ≡ moment_at state.log c.args.now = c.moment-moment.ensures in
     let is : c.start_or_wait.new.state.log ≡ after_acquire state.terms state.log c.args.want c.args.now = c.start_or_wait.ensures.log ∙ ap (λ (v : HostState g.row.S.Denot). start_unless (waiting v.log) v.terms c.args.want c.moment-moment.result v.log) booked ∙ ap (λ k. start_unless (waiting state.log) state.terms c.args.want k state.log) moment_is in
     let may = allowed_by state.terms state.log c.args.want inv.settled.sound allowed in
     let started = subst (λ log. Starts c.args.want state.log log ⊎ Waits c.args.want state.log log) (sym is) (begun state.terms state.log c.args.want c.args.now inv.settled.sound allowed) in
@@ -53,9 +145,10 @@ returns-clause-streams g c =
     let state = c.self.inside.state in
     let grants = c.self.inside.grants.items in
     let inv = c.self.invariant in
-    let booked = c.in-Ok-book.ensures.ok in
-    let allowed : refusal state.terms state.log c.args.want ≡ None = sym (c.in_default.ensures.reason ∙ ap (λ (v : OneHost g.row.S.Denot). refusal v.terms v.log c.args.want) (sym c.self.view_is)) in
-    let moment_is : c.moment-moment.result ≡ moment_at state.log c.args.now = c.moment-moment.ensures ∙ ap (λ (v : HostState g.row.S.Denot). moment_at v.log c.args.now) booked in
+    let same = c.in_default.ensures.none in
+    let booked = c.in-Ok-book.ensures.ok ∙ ap (λ (v : HostState g.row.S.Denot). record v { booked = 1 }) same in
+    let allowed : refusal state.terms state.log c.args.want ≡ None = sym (c.in_default-reason_against.ensures.reason ∙ ap (λ (v : HostState g.row.S.Denot). refusal v.terms v.log c.args.want) same) in
+    let moment_is : c.moment-moment.result ≡ moment_at state.log c.args.now = c.moment-moment.ensures in
     let is : c.start_or_wait.new.state.log ≡ after_acquire state.terms state.log c.args.want c.args.now = c.start_or_wait.ensures.log ∙ ap (λ (v : HostState g.row.S.Denot). start_unless (waiting v.log) v.terms c.args.want c.moment-moment.result v.log) booked ∙ ap (λ k. start_unless (waiting state.log) state.terms c.args.want k state.log) moment_is in
     let may = allowed_by state.terms state.log c.args.want inv.settled.sound allowed in
     let started = subst (λ log. Starts c.args.want state.log log ⊎ Waits c.args.want state.log log) (sym is) (begun state.terms state.log c.args.want c.args.now inv.settled.sound allowed) in
@@ -66,9 +159,10 @@ returns-clause-kept g c =
     let state = c.self.inside.state in
     let grants = c.self.inside.grants.items in
     let inv = c.self.invariant in
-    let booked = c.in-Ok-book.ensures.ok in
-    let allowed : refusal state.terms state.log c.args.want ≡ None = sym (c.in_default.ensures.reason ∙ ap (λ (v : OneHost g.row.S.Denot). refusal v.terms v.log c.args.want) (sym c.self.view_is)) in
-    let moment_is : c.moment-moment.result ≡ moment_at state.log c.args.now = c.moment-moment.ensures ∙ ap (λ (v : HostState g.row.S.Denot). moment_at v.log c.args.now) booked in
+    let same = c.in_default.ensures.none in
+    let booked = c.in-Ok-book.ensures.ok ∙ ap (λ (v : HostState g.row.S.Denot). record v { booked = 1 }) same in
+    let allowed : refusal state.terms state.log c.args.want ≡ None = sym (c.in_default-reason_against.ensures.reason ∙ ap (λ (v : HostState g.row.S.Denot). refusal v.terms v.log c.args.want) same) in
+    let moment_is : c.moment-moment.result ≡ moment_at state.log c.args.now = c.moment-moment.ensures in
     let is : c.start_or_wait.new.state.log ≡ after_acquire state.terms state.log c.args.want c.args.now = c.start_or_wait.ensures.log ∙ ap (λ (v : HostState g.row.S.Denot). start_unless (waiting v.log) v.terms c.args.want c.moment-moment.result v.log) booked ∙ ap (λ k. start_unless (waiting state.log) state.terms c.args.want k state.log) moment_is in
     let may = allowed_by state.terms state.log c.args.want inv.settled.sound allowed in
     let started = subst (λ log. Starts c.args.want state.log log ⊎ Waits c.args.want state.log log) (sym is) (begun state.terms state.log c.args.want c.args.now inv.settled.sound allowed) in
@@ -79,9 +173,10 @@ returns-clause-gets_lease g c =
     let state = c.self.inside.state in
     let grants = c.self.inside.grants.items in
     let inv = c.self.invariant in
-    let booked = c.in-Ok-book.ensures.ok in
-    let allowed : refusal state.terms state.log c.args.want ≡ None = sym (c.in_default.ensures.reason ∙ ap (λ (v : OneHost g.row.S.Denot). refusal v.terms v.log c.args.want) (sym c.self.view_is)) in
-    let moment_is : c.moment-moment.result ≡ moment_at state.log c.args.now = c.moment-moment.ensures ∙ ap (λ (v : HostState g.row.S.Denot). moment_at v.log c.args.now) booked in
+    let same = c.in_default.ensures.none in
+    let booked = c.in-Ok-book.ensures.ok ∙ ap (λ (v : HostState g.row.S.Denot). record v { booked = 1 }) same in
+    let allowed : refusal state.terms state.log c.args.want ≡ None = sym (c.in_default-reason_against.ensures.reason ∙ ap (λ (v : HostState g.row.S.Denot). refusal v.terms v.log c.args.want) same) in
+    let moment_is : c.moment-moment.result ≡ moment_at state.log c.args.now = c.moment-moment.ensures in
     let is : c.start_or_wait.new.state.log ≡ after_acquire state.terms state.log c.args.want c.args.now = c.start_or_wait.ensures.log ∙ ap (λ (v : HostState g.row.S.Denot). start_unless (waiting v.log) v.terms c.args.want c.moment-moment.result v.log) booked ∙ ap (λ k. start_unless (waiting state.log) state.terms c.args.want k state.log) moment_is in
     let may = allowed_by state.terms state.log c.args.want inv.settled.sound allowed in
     let started = subst (λ log. Starts c.args.want state.log log ⊎ Waits c.args.want state.log log) (sym is) (begun state.terms state.log c.args.want c.args.now inv.settled.sound allowed) in
@@ -92,9 +187,10 @@ returns-clause-gets_ticket g c =
     let state = c.self.inside.state in
     let grants = c.self.inside.grants.items in
     let inv = c.self.invariant in
-    let booked = c.in-Ok-book.ensures.ok in
-    let allowed : refusal state.terms state.log c.args.want ≡ None = sym (c.in_default.ensures.reason ∙ ap (λ (v : OneHost g.row.S.Denot). refusal v.terms v.log c.args.want) (sym c.self.view_is)) in
-    let moment_is : c.moment-moment.result ≡ moment_at state.log c.args.now = c.moment-moment.ensures ∙ ap (λ (v : HostState g.row.S.Denot). moment_at v.log c.args.now) booked in
+    let same = c.in_default.ensures.none in
+    let booked = c.in-Ok-book.ensures.ok ∙ ap (λ (v : HostState g.row.S.Denot). record v { booked = 1 }) same in
+    let allowed : refusal state.terms state.log c.args.want ≡ None = sym (c.in_default-reason_against.ensures.reason ∙ ap (λ (v : HostState g.row.S.Denot). refusal v.terms v.log c.args.want) same) in
+    let moment_is : c.moment-moment.result ≡ moment_at state.log c.args.now = c.moment-moment.ensures in
     let is : c.start_or_wait.new.state.log ≡ after_acquire state.terms state.log c.args.want c.args.now = c.start_or_wait.ensures.log ∙ ap (λ (v : HostState g.row.S.Denot). start_unless (waiting v.log) v.terms c.args.want c.moment-moment.result v.log) booked ∙ ap (λ k. start_unless (waiting state.log) state.terms c.args.want k state.log) moment_is in
     let may = allowed_by state.terms state.log c.args.want inv.settled.sound allowed in
     let started = subst (λ log. Starts c.args.want state.log log ⊎ Waits c.args.want state.log log) (sym is) (begun state.terms state.log c.args.want c.args.now inv.settled.sound allowed) in
@@ -105,9 +201,10 @@ returns-clause-grew g c =
     let state = c.self.inside.state in
     let grants = c.self.inside.grants.items in
     let inv = c.self.invariant in
-    let booked = c.in-Ok-book.ensures.ok in
-    let allowed : refusal state.terms state.log c.args.want ≡ None = sym (c.in_default.ensures.reason ∙ ap (λ (v : OneHost g.row.S.Denot). refusal v.terms v.log c.args.want) (sym c.self.view_is)) in
-    let moment_is : c.moment-moment.result ≡ moment_at state.log c.args.now = c.moment-moment.ensures ∙ ap (λ (v : HostState g.row.S.Denot). moment_at v.log c.args.now) booked in
+    let same = c.in_default.ensures.none in
+    let booked = c.in-Ok-book.ensures.ok ∙ ap (λ (v : HostState g.row.S.Denot). record v { booked = 1 }) same in
+    let allowed : refusal state.terms state.log c.args.want ≡ None = sym (c.in_default-reason_against.ensures.reason ∙ ap (λ (v : HostState g.row.S.Denot). refusal v.terms v.log c.args.want) same) in
+    let moment_is : c.moment-moment.result ≡ moment_at state.log c.args.now = c.moment-moment.ensures in
     let is : c.start_or_wait.new.state.log ≡ after_acquire state.terms state.log c.args.want c.args.now = c.start_or_wait.ensures.log ∙ ap (λ (v : HostState g.row.S.Denot). start_unless (waiting v.log) v.terms c.args.want c.moment-moment.result v.log) booked ∙ ap (λ k. start_unless (waiting state.log) state.terms c.args.want k state.log) moment_is in
     let may = allowed_by state.terms state.log c.args.want inv.settled.sound allowed in
     let started = subst (λ log. Starts c.args.want state.log log ⊎ Waits c.args.want state.log log) (sym is) (begun state.terms state.log c.args.want c.args.now inv.settled.sound allowed) in
