@@ -32,15 +32,15 @@ pub extern "C" fn warm_rounds(alloc: Global, idle: u32, rounds: u64) -> u64
         return 0;
     };
     let mut leases = Vec::new(alloc);
-    open_all(&mut host, &mut leases, idle);
+    open_all(&mut host, &mut leases, idle, rounds);
     give_back_all(&mut host, leases);
     use_often(&mut host, rounds)
 }
 
 /// Opens so many connections, each for a transfer of its own.
-fn open_all(host: &mut Bundle<()>, leases: &mut Vec<Lease<()>>, count: u32) {
+fn open_all(host: &mut Bundle<()>, leases: &mut Vec<Lease<()>>, count: u32, max_age: u64) {
     for transfer in 0..count {
-        open_one(host, leases, u64::from(transfer));
+        open_one(host, leases, want_of(u64::from(transfer), max_age));
     }
 }
 
@@ -59,16 +59,16 @@ fn use_often(host: &mut Bundle<()>, rounds: u64) -> u64
 {
     let mut reused = 0;
     for round in 0..rounds {
-        if use_once(host, round) {
+        if use_once(host, want_of(round, rounds), round) {
             reused += 1;
         }
     }
     reused
 }
 
-/// Opens a connection for the transfer.
-fn open_one(host: &mut Bundle<()>, leases: &mut Vec<Lease<()>>, transfer: u64) {
-    match host.acquire(want_of(transfer), 0) {
+/// Opens a connection for the transfer of that want.
+fn open_one(host: &mut Bundle<()>, leases: &mut Vec<Lease<()>>, want: Want) {
+    match host.acquire(want, 0) {
         Ok(Got::Lease(lease)) => {
             if let Err(failed) = leases.push(lease) {
                 give_back(host, failed.value, 0);
@@ -80,8 +80,8 @@ fn open_one(host: &mut Bundle<()>, leases: &mut Vec<Lease<()>>, transfer: u64) {
 }
 
 /// Acquires a connection and gives it back; whether it was idle before.
-fn use_once(host: &mut Bundle<()>, moment: u64) -> bool {
-    match host.acquire(want_of(0), moment) {
+fn use_once(host: &mut Bundle<()>, want: Want, moment: u64) -> bool {
+    match host.acquire(want, moment) {
         Ok(Got::Lease(lease)) => {
             let reused = lease.reused();
             give_back(host, lease, moment);
@@ -118,12 +118,12 @@ fn with_stream(lease: Lease<()>) -> Lease<()>
     lease
 }
 
-/// A want of lane 0 without limits.
-fn want_of(transfer: u64) -> Want {
+/// A want of lane 0. Its age is known only when it runs, so that its test is a part of the count.
+fn want_of(transfer: u64, max_age: u64) -> Want {
     Want {
         transfer,
         lane: 0,
-        max_age: u64::MAX,
+        max_age,
         max_life: 0,
         fresh: false,
         forbid_reuse: false,
