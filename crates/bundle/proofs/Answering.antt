@@ -2,7 +2,7 @@
 use Rattle.std.proofs.Common.{◌≡◌, ℕ, ◌⊎◌, Bool, true, false, not, ◌&&◌, List, [], ◌∷◌, ◌++◌, Option, Some, None, is_some, refl, sym, ap, subst, inl, inr, ◌∙◌, arith}
 use Rattle.std.specs.Prelude.{◌==◌, if◌then◌else◌}
 use Rattle.std.specs.Option.{option_map, option_map_or, option_or}
-use mathlib.Core.Bool.{false≢true}
+use mathlib.Core.Bool.{false≢true, beq}
 use Rattle.std.proofs.lemmas.Bool.Decides.{nat_tests, eqb_tells}
 use Rattle.persistence.specs.declared.facts.Facts.{Facts}
 use Rattle.persistence.specs.Persistent.{is_persistent}
@@ -42,6 +42,20 @@ apart_open log c d closed still = elim (eqb_tells c d) [
   | inl same ↦ absurd (false≢true (sym closed ∙ ap (is_open log) same.1 ∙ still))
   | inr other ↦ other.0
 ]
+
+-- wants that agree in each part are one
+same_parts : (transfer lane age life transfer' lane' age' life' : ℕ) (fresh forbid fresh' forbid' : Bool) → (((transfer == transfer') && (lane == lane') && (age == age') && (life == life') && beq fresh fresh' && beq forbid forbid') ≡ true) → (let first : Want = record { transfer = transfer; lane = lane; max_age = age; max_life = life; fresh = fresh; forbid_reuse = forbid } in let second : Want = record { transfer = transfer'; lane = lane'; max_age = age'; max_life = life'; fresh = fresh'; forbid_reuse = forbid' } in second ≡ first)
+same_parts transfer lane age life transfer' lane' age' life' fresh forbid fresh' forbid' same =
+    let e1 : transfer' ≡ transfer = grind (arith, nat_tests, same) in
+    let e2 : lane' ≡ lane = grind (arith, nat_tests, same) in
+    let e3 : age' ≡ age = grind (arith, nat_tests, same) in
+    let e4 : life' ≡ life = grind (arith, nat_tests, same) in
+    let e5 : fresh' ≡ fresh = grind (arith, nat_tests, same) in
+    let e6 : forbid' ≡ forbid = grind (arith, nat_tests, same) in
+    cc
+
+same_want : (x y : Want) → is_same_want x y ≡ true → y ≡ x
+same_want x y same = same_parts x.transfer x.lane x.max_age x.max_life y.transfer y.lane y.max_age y.max_life x.fresh x.forbid_reuse y.fresh y.forbid_reuse same
 
 module _ {S : Type 0} where
   -- what an acquire gives, from what is known of it
@@ -181,6 +195,12 @@ module _ {S : Type 0} where
       wanted : (awaited : Option Want) → option_map_or (is_same_want want) awaited false ≡ true → is_some awaited ≡ true
       wanted None e = absurd (false≢true e)
       wanted (Some awaited) e = refl
+
+  -- and one of a transfer that was granted something is for what that was granted for
+  pub stood_granted : (log : List Entry) (grants : List (Grant S)) → GrantsKept log grants → (want : Want) (grant : Grant S) → grant_of grants want.transfer ≡ Some grant → option_map_or (is_same_want want) (ticketed log (grant_transfers grants) want.transfer) false ≡ true → grant.want ≡ want
+  stood_granted log grants kept want grant is stood =
+      let ticket = ticket_granted log grants kept want.transfer grant.want (ap (option_map (λ (g : Grant S). g.want)) is) in
+      same_want want grant.want (ap (λ (o : Option Want). option_map_or (is_same_want want) o false) (sym ticket) ∙ stood)
 
   -- a transfer that waits leaves
   module _ (terms : Terms) (log : List Entry) (orderly : IsOrderly terms log) (grants : List (Grant S)) (kept : GrantsKept log grants) (m t : ℕ) (waits_here : waits log t ≡ true) where

@@ -170,6 +170,7 @@ impl<S: Drop> Bundle<S> {
         ensures strange { IfErr result (λ stray. (stands self.old ticket.wait.want ≡ false) × (stray ≡ ticket)) }
         ensures log { self.new.log ≡ self.old.log }
         ensures lease { IfClaimed result (λ lease. (is_unclaimed self.old ticket.wait.want.transfer ≡ true) × (last_start self.old.log ticket.wait.want.transfer ≡ Some lease.start) × (lease.site ≡ self.old.host)) }
+        ensures want { IfClaimed result (λ lease. lease.start.want ≡ ticket.wait.want) }
         ensures stream { IfClaimed result (λ lease. lease.stream ≡ (if lease.start.reused then stream_of self.old.streams lease.start.number else None)) }
         ensures streams { IfClaimed result (λ lease. KeepsOthers lease.start.number self.old self.new) }
         ensures still { IfStill result (λ same. (is_unclaimed self.old ticket.wait.want.transfer ≡ false) × (same ≡ ticket) × (self.new ≡ self.old)) }

@@ -1,13 +1,13 @@
-use Rattle.std.proofs.Common.{◌≡◌, ℕ, false, None, Some, is_some, refl, sym, ap, subst, ◌∙◌, ◌++◌, arith}
+use Rattle.std.proofs.Common.{◌≡◌, ℕ, true, false, None, Some, is_some, refl, sym, ap, subst, ◌∙◌, ◌++◌, arith}
 use Rattle.std.specs.Prelude.{◌==◌, if◌then◌else◌}
 use Rattle.conn_log.specs.declared.entry.Want.{Want}
 use Rattle.conn_log.specs.Connections.{is_among}
 use Rattle.bundle.specs.Calls.{last_start}
 use Rattle.bundle.specs.Grants.{GrantsKept, grant_streams, grant_transfers}
 use Rattle.bundle.specs.Idle.{stream_of}
-use Rattle.bundle.specs.Lease.{OneHost, Leasing, is_unclaimed}
+use Rattle.bundle.specs.Lease.{OneHost, Leasing, is_unclaimed, stands}
 use Rattle.bundle.proofs.Granting.{is_some-grant_of, kept_at, kept_without}
-use Rattle.bundle.proofs.Answering.{claimed_among, claimed_left, claimed_stream, claimed_streams, gets_at}
+use Rattle.bundle.proofs.Answering.{stood_granted, claimed_among, claimed_left, claimed_stream, claimed_streams, gets_at}
 use Rattle.bundle.proofs.host.Bundle.claim.Goals as goal
 
 pub returns-in_default-clause-still : goal.returns-in_default-clause-still
@@ -47,6 +47,15 @@ returns-clause-lease g c =
     let log_is = ap (λ (v : OneHost g.row.S.Denot). v.log) c.self.view_is in
     let begun = ap (λ log. last_start log c.args.ticket.wait.want.transfer) (sym log_is) ∙ ap (last_start state.log) (sym (there.1 ∙ who)) ∙ there.0.start in
     (ap (λ (v : OneHost g.row.S.Denot). is_unclaimed v c.args.ticket.wait.want.transfer) (sym c.self.view_is) ∙ ap (λ (n : ℕ). is_among n (grant_transfers grants)) (sym who) ∙ among, begun ∙ ap (λ (l : Leasing g.row.S.Denot). Some l.start) (sym c.granted.ensures), ap (λ (l : Leasing g.row.S.Denot). l.site) c.granted.ensures ∙ c.host.ensures ∙ ap (λ (v : OneHost g.row.S.Denot). v.host) c.self.view_is)
+
+pub returns-clause-want : goal.returns-clause-want
+returns-clause-want g c =
+    let state = c.self.inside.state in
+    let grants = c.self.inside.grants.items in
+    let test : c.stands.result ≡ true = grind (arith, c.if-not-stands.false) in
+    let stood = ap (λ (v : OneHost g.row.S.Denot). stands v c.want-want.result) c.self.view_is ∙ sym c.stands.ensures ∙ test in
+    let granted_for = stood_granted state.log grants c.self.invariant.grants c.want-want.result c.in-Some.grant (sym c.in-Some.ensures.grant) stood in
+    ap (λ (l : Leasing g.row.S.Denot). l.start.want) c.granted.ensures ∙ granted_for ∙ c.want-want.ensures
 
 pub returns-clause-stream : goal.returns-clause-stream
 returns-clause-stream g c =
