@@ -1,4 +1,4 @@
-ghost use Rattle.std.specs.Prelude.{◌≡◌, ℕ, ◌+◌, ◌-◌, ◌*◌, ◌<◌, ◌≤◌, List, [], Bool, true, false, ◌==◌, length, ◌⊎◌, Some, None, IsSome, IfOk, IfErr, OnOk, OnErr, IfSome, IfNone, if◌then◌else◌};
+ghost use Rattle.std.specs.Prelude.{◌≡◌, ℕ, ◌+◌, ◌-◌, ◌*◌, ◌<◌, ◌≤◌, List, [], Bool, true, false, ◌==◌, length, ◌⊎◌, Some, None, IsSome, IfOk, IfErr, OnOk, OnErr, IfSome, IfNone, if◌then◌else◌, is_some};
 ghost use Rattle.conn_log.specs.declared.entry.Entry.{Entry};
 ghost use Rattle.conn_log.specs.Connections.{is_open, is_held_by, held_number, open_connections, idle_connections};
 ghost use Rattle.conn_log.specs.Waiting.{waiting, waits};
@@ -113,6 +113,7 @@ impl<S: Drop> Bundle<S> {
         ensures log { OnOk result (self.new.log ≡ after_acquire self.old.terms self.old.log want now) }
         ensures lease { IfLeased result (λ lease. (newest_start self.new.log ≡ Some lease.start) × (lease.site ≡ self.old.host)) }
         ensures ticket { IfWaits result (λ ticket. (newest_wait self.new.log ≡ Some ticket.wait) × (ticket.site ≡ self.old.host)) }
+        ensures has_stream { IfLeased result (λ lease. is_some lease.stream ≡ lease.start.reused) }
         ensures stream { IfLeased result (λ lease. lease.stream ≡ (if lease.start.reused then stream_of self.old.streams lease.start.number else None)) }
         ensures streams { IfLeased result (λ lease. KeepsOthers lease.start.number self.old self.new) }
         ensures kept { IfWaits result (λ ticket. (d : ℕ) → is_open self.new.log d ≡ true → stream_of self.new.streams d ≡ stream_of self.old.streams d) }
@@ -171,6 +172,7 @@ impl<S: Drop> Bundle<S> {
         ensures log { self.new.log ≡ self.old.log }
         ensures lease { IfClaimed result (λ lease. (is_unclaimed self.old ticket.wait.want.transfer ≡ true) × (last_start self.old.log ticket.wait.want.transfer ≡ Some lease.start) × (lease.site ≡ self.old.host)) }
         ensures want { IfClaimed result (λ lease. lease.start.want ≡ ticket.wait.want) }
+        ensures has_stream { IfClaimed result (λ lease. is_some lease.stream ≡ lease.start.reused) }
         ensures stream { IfClaimed result (λ lease. lease.stream ≡ (if lease.start.reused then stream_of self.old.streams lease.start.number else None)) }
         ensures streams { IfClaimed result (λ lease. KeepsOthers lease.start.number self.old self.new) }
         ensures still { IfStill result (λ same. (is_unclaimed self.old ticket.wait.want.transfer ≡ false) × (same ≡ ticket) × (self.new ≡ self.old)) }

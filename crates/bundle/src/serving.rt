@@ -1,4 +1,4 @@
-ghost use Rattle.std.specs.Prelude.{◌≡◌, ℕ, ◌+◌, ◌<◌, ◌≤◌, ◌++◌, ◌==◌, ◌&&◌, not, List, [], ◌∷◌, length, Some, None, IsSome, true, false, if◌then◌else◌, vec_len, vec_capacity};
+ghost use Rattle.std.specs.Prelude.{◌≡◌, ℕ, ◌+◌, ◌<◌, ◌≤◌, ◌++◌, ◌==◌, ◌&&◌, not, List, [], ◌∷◌, length, Some, None, IsSome, true, false, if◌then◌else◌, is_some, vec_len, vec_capacity};
 ghost use Rattle.conn_log.specs.declared.entry.Cause.TheVariants.{TooOld, HostRoom, TotalRoom};
 ghost use Rattle.conn_log.specs.declared.entry.Event.TheVariants.{Waited};
 ghost use Rattle.conn_log.specs.Connections.{last_moment, held_number, is_open, idle_connections};
@@ -30,6 +30,7 @@ pub(crate) fn start_or_wait<S: Drop>(state: &mut State<S>, want: Want, moment: u
     ensures log { state.new.log ≡ start_unless (waiting state.old.log) state.old.terms want moment state.old.log }
     ensures lease { GivesLease result (λ lease. (newest_start state.new.log ≡ Some lease.start) × (lease.site ≡ state.old.host)) }
     ensures ticket { GivesTicket result (λ ticket. (newest_wait state.new.log ≡ Some ticket.wait) × (ticket.site ≡ state.old.host)) }
+    ensures has_stream { GivesLease result (λ lease. is_some lease.stream ≡ lease.start.reused) }
     ensures stream { GivesLease result (λ lease. lease.stream ≡ (if lease.start.reused then stream_of state.old.streams lease.start.number else None)) }
     ensures others { GivesLease result (λ lease. (d : ℕ) → (lease.start.number == d) ≡ false → is_open state.new.log d ≡ true → stream_of state.new.streams d ≡ stream_of state.old.streams d) }
     ensures all { GivesTicket result (λ ticket. (d : ℕ) → is_open state.new.log d ≡ true → stream_of state.new.streams d ≡ stream_of state.old.streams d) }
