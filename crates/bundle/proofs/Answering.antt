@@ -155,10 +155,6 @@ module _ {S : Type 0} where
   pub front_first : (front xs : List (ℕ × S)) (d : ℕ) (stream : S) → stream_of front d ≡ Some stream → stream_of (front ++ xs) d ≡ Some stream
   front_first front xs d stream is = stream_of-append front xs d ∙ ap (λ s. option_or s (stream_of xs d)) is
 
-  -- who has what once a transfer has spent what it had
-  pub freed_spends : (t : ℕ) (log : List Entry) (grants : List (Grant S)) (after : List Entry) (left : List (Grant S)) (terms terms' : Terms) (host host' : ℕ) (streams streams' : List (ℕ × S)) → Freed t log grants after left → Spends (record { log = log; terms = terms; host = host; streams = streams; unclaimed = grant_transfers grants }) (record { log = after; terms = terms'; host = host'; streams = streams'; unclaimed = grant_transfers left }) t
-  freed_spends t log grants after left terms terms' host host' streams streams' freed = record { leases = freed.leases; tickets = freed.tickets }
-
   pub spends_at : (inner outer after : OneHost S) (t u : ℕ) → inner ≡ outer → t ≡ u → Spends inner after t → Spends outer after u
   spends_at inner outer after t u same who spent = subst (λ (v : OneHost S). Spends v after u) same (subst (λ (k : ℕ). Spends inner after k) who spent)
 
@@ -176,6 +172,27 @@ module _ {S : Type 0} where
           let wanted : grant.want ≡ want = cc in
           let among : is_among t (grant_transfers grants) ≡ true = sym (is_some-grant_of grants t) ∙ ap is_some here in
           ap (λ b. if b then granted_want log t else waiting_want (waiting log) t) among ∙ ap (granted_want log) (sym there.1) ∙ there.0.want ∙ ap (λ (w : Want). Some w) wanted
+
+  -- who has no ticket was granted nothing that it has not claimed
+  unclaimed_not : (log : List Entry) (grants : List (Grant S)) → GrantsKept log grants → (t : ℕ) → ticketed log (grant_transfers grants) t ≡ None → is_among t (grant_transfers grants) ≡ false
+  unclaimed_not log grants kept t none = by_grant (grant_of grants t) refl
+    where
+      never : (want : Want) → Some want ≡ None → is_among t (grant_transfers grants) ≡ false
+      never want e = absurd (cc)
+
+      by_grant : (found : Option (Grant S)) → grant_of grants t ≡ found → is_among t (grant_transfers grants) ≡ false
+      by_grant None here = sym (is_some-grant_of grants t) ∙ ap is_some here
+      by_grant (Some grant) here = never grant.want (sym (ticket_granted log grants kept t grant.want (ap (option_map (λ (g : Grant S). g.want)) here)) ∙ none)
+
+  -- who has what once a transfer has spent what it had
+  pub freed_spends : (t : ℕ) (log : List Entry) (grants : List (Grant S)) (after : List Entry) (left : List (Grant S)) (terms terms' : Terms) (host host' : ℕ) (streams streams' : List (ℕ × S)) → Freed t log grants after left → Spends (record { log = log; terms = terms; host = host; streams = streams; unclaimed = grant_transfers grants }) (record { log = after; terms = terms'; host = host'; streams = streams'; unclaimed = grant_transfers left }) t
+  freed_spends t log grants after left terms terms' host host' streams streams' freed =
+      let itself : (t == t) ≡ true = grind (arith, nat_tests) in
+      record {
+        leases = freed.leases;
+        tickets = freed.tickets;
+        unclaimed = unclaimed_not after left freed.kept t (freed.tickets t ∙ ap (λ b. if b then None else ticketed log (grant_transfers grants) t) itself);
+      }
 
   pub ticket_awaited : (log : List Entry) (grants : List (Grant S)) (t : ℕ) → option_map (λ (grant : Grant S). grant.want) (grant_of grants t) ≡ None → ticketed log (grant_transfers grants) t ≡ waiting_want (waiting log) t
   ticket_awaited log grants t is = by_grant (grant_of grants t) refl is

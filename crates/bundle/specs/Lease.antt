@@ -78,6 +78,7 @@ pub record GetsTicket {S : Type 0} (old new : OneHost S) (want : Want) : Type 0 
 pub record Spends {S : Type 0} (old new : OneHost S) (transfer : ℕ) : Type 0 where
   pub leases : (t : ℕ) → leased_number new t ≡ (if transfer == t then None else leased_number old t)
   pub tickets : (t : ℕ) → ticket_want new t ≡ (if transfer == t then None else ticket_want old t)
+  pub unclaimed : is_unclaimed new transfer ≡ false
 
 -- the host stays what it is
 pub record StaysThere {S : Type 0} (old new : OneHost S) : Type 0 where
