@@ -10,6 +10,7 @@ use crate::ticket::Ticket;
 use conn_key::Key;
 use conn_log::{Cause, Entry, Event, Stamp, Want};
 use persistence::{Facts, Framing, Version};
+use std::alloc::Global;
 use std::process::Abort;
 use std::test::Fail;
 
@@ -502,6 +503,17 @@ fn a_lease_of_another_host_is_a_stranger(rt: HostRuntime) -> Result<(), Fail> {
     Ok(())
 }
 
+// A new host with that limit; where memory is refused once, it comes the second time.
+fn new_at_last(rt: &impl Abort, alloc: Global, limit: u32) -> Result<Bundle<Stream>, Refusal> {
+    match Bundle::new(alloc, limit, 0, 1) {
+        Ok(bundle) => Ok(bundle),
+        Err(refusal) => {
+            assert_eq!(rt; refusal, Refusal::Memory);
+            Bundle::new(alloc, limit, 0, 1)
+        }
+    }
+}
+
 // Where memory runs out, the refusal says so and changes nothing, and the call that comes again
 // succeeds.
 fn leased_at_last(rt: &impl Abort, bundle: &mut Bundle<Stream>, transfer: u64) -> Lease<Stream> {
@@ -522,13 +534,7 @@ fn leased_at_last(rt: &impl Abort, bundle: &mut Bundle<Stream>, transfer: u64) -
 
 #[test]
 fn want_of_memory_refuses_an_acquire(rt: HostRuntime) -> Result<(), Fail> {
-    let mut bundle = match Bundle::new(rt.alloc(), 40, 0, 1) {
-        Ok(bundle) => bundle,
-        Err(refusal) => {
-            assert_eq!(rt; refusal, Refusal::Memory);
-            Bundle::new(rt.alloc(), 40, 0, 1)?
-        }
-    };
+    let mut bundle = new_at_last(&rt, rt.alloc(), 40)?;
     for transfer in 0..40 {
         let mut lease = leased_at_last(&rt, &mut bundle, transfer);
         attach_new(&mut lease);
@@ -538,5 +544,42 @@ fn want_of_memory_refuses_an_acquire(rt: HostRuntime) -> Result<(), Fail> {
         accept(&rt, bundle.abandon(again, 0));
     }
     assert_eq!(rt; bundle.log().len(), 160);
+    Ok(())
+}
+
+// A wait, likewise: want of memory changes nothing, and the acquire waits when it comes again.
+fn waits_at_last(rt: &impl Abort, bundle: &mut Bundle<Stream>, transfer: u64) -> Ticket {
+    let entries = bundle.log().len();
+    let before = bundle.look();
+    match bundle.acquire(want_of(transfer), 0) {
+        Ok(Got::Wait(ticket)) => ticket,
+        Ok(Got::Lease(lease)) => {
+            accept(rt, bundle.abandon(lease, 0));
+            panic!(rt; "it does not wait");
+        }
+        Err(refusal) => {
+            assert_eq!(rt; refusal, Refusal::Memory);
+            assert_eq!(rt; bundle.log().len(), entries);
+            assert_eq!(rt; bundle.look(), before);
+            waits(rt, bundle, transfer, 0)
+        }
+    }
+}
+
+#[test]
+fn want_of_memory_refuses_a_wait(rt: HostRuntime) -> Result<(), Fail> {
+    let mut bundle = new_at_last(&rt, rt.alloc(), 1)?;
+    let lease = leased_at_last(&rt, &mut bundle, 1);
+    let first = waits_at_last(&rt, &mut bundle, 2);
+    let second = waits_at_last(&rt, &mut bundle, 3);
+    for transfer in 4..40 {
+        let ticket = waits_at_last(&rt, &mut bundle, transfer);
+        leave(&rt, &mut bundle, ticket, 0);
+    }
+    accept(&rt, bundle.abandon(lease, 0));
+    let served = claimed(&rt, &mut bundle, first);
+    leave(&rt, &mut bundle, second, 0);
+    accept(&rt, bundle.abandon(served, 0));
+    assert_eq!(rt; bundle.log().len(), 79);
     Ok(())
 }
