@@ -18,4 +18,6 @@ pub mod ResponseLemmas
 pub mod StepLemmas
 pub mod PieceLemmas
 pub mod DataLemmas
+pub mod ChunkStepLemmas
+pub mod BodyLemmas
 pub mod InterimLemmas

@@ -97,7 +97,7 @@ refuses_further room kept piece filled taken fault is refuses = record {
 
 -- ---- a trailer section
 
-section_printed : IsPrinted (λ (u : Unit {0}) (text rest : List ℕ). ReadsTrailer text rest)
+pub section_printed : IsPrinted (λ (u : Unit {0}) (text rest : List ℕ). ReadsTrailer text rest)
 section_printed = record {
   unique = λ a b text r q x y. (refl, trailer_unique text r q x y);
   print = λ a text r x. (print_section x.fields x.last, x.reads.1, λ more. record { fields = x.fields; last = x.last; reads = (x.reads.0, refl); few = x.few; short = x.short });

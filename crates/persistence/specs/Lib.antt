@@ -11,4 +11,5 @@ pub mod Reading
 pub mod ReadingChunks
 pub mod ReadingBody
 pub mod ReadingPieces
+pub mod BodyPieces
 pub mod Response

@@ -1,5 +1,5 @@
 //! A chunk's data, which is counted and not looked at, and the CR LF after it.
-ghost use Rattle.std.specs.Prelude.{◌≡◌, ℕ, ◌+◌, ◌-◌, ◌<◌, true, false, List, [], ◌∷◌, ◌++◌, take, None, Some};
+ghost use Rattle.std.specs.Prelude.{◌≡◌, ℕ, ◌+◌, ◌-◌, ◌<◌, ◌≤◌, true, false, List, [], ◌∷◌, ◌++◌, take, None, Some};
 ghost use Rattle.persistence.specs.Faults.{ShowsBadChunk};
 ghost use Rattle.persistence.specs.ReadingPieces.{IsTaken, PassesTo, IsInData, IsAfterData};
 
@@ -9,6 +9,7 @@ use crate::count::{line_end_after, part_of};
 pub(crate) fn data_step(left: u64, piece: &[u8]) -> usize
     requires { 0 < left }
     ensures taken { IsTaken piece.now result }
+    ensures bound { result ≤ left }
     ensures open { (text : List ℕ) (len : ℕ) → IsInData text len left → result < left
         → IsInData (text ++ take result piece.now) (len + result) (left - result) }
     ensures full { (text : List ℕ) (len : ℕ) → IsInData text len left → result ≡ left

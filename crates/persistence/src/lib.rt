@@ -3,8 +3,11 @@
 #![tactic(auto)]
 
 mod body;
+mod body_pieces;
+mod body_state;
 mod buffer;
 mod chunk_data;
+mod chunk_pieces;
 mod chunks;
 mod count;
 mod elements;

@@ -1,0 +1,200 @@
+-- A body in chunks that comes in pieces: what a piece more makes of the part that is due.
+use Rattle.std.proofs.Common.{◌≡◌, ℕ, ◌+◌, ◌-◌, ◌<◌, ◌≤◌, Bool, true, false, List, [], ◌++◌, length, take, drop, Option, refl, sym, ap, subst, ◌∙◌, arith, append_assoc, length-append, length-take, length-drop}
+use Rattle.std.proofs.lemmas.Bool.Decides.{nat_tests}
+use Rattle.std.proofs.lemmas.List.{append-nil, take_all, take_rest, drop_at}
+use Rattle.std.proofs.Math.Seq.{take-add}
+use Rattle.std.proofs.lemmas.List.Elements.{All-nil}
+use Rattle.httparse.specs.Grammar.{IsField, lf, print_section, HasNoSection, MayBecomeSection}
+use Rattle.httparse.specs.Spans.{SectionExceeds}
+use Rattle.persistence.specs.declared.facts.Framing.TheVariants.{Chunked}
+use Rattle.persistence.specs.declared.fault.ReadFault.{ReadFault}
+use Rattle.persistence.specs.declared.body_state.BodyState.{BodyState}
+use Rattle.persistence.specs.declared.body_state.BodyPlace.{BodyPlace}
+use Rattle.persistence.specs.Heads.{most_fields}
+use Rattle.persistence.specs.Fields.{most_bytes}
+use Rattle.persistence.specs.Chunks.{most_trailer_bytes, ReadsSizeLine, ReachesTrailer}
+use Rattle.persistence.specs.Faults.{TrailerShows, BodyShows, HasLongTrailerBy, IsFirst}
+use Rattle.persistence.specs.Reading.{IsTrailerAwaited, line_ends}
+use Rattle.persistence.specs.ReadingChunks.{AwaitsLine, RefusesLine, EndsChunks}
+use Rattle.persistence.specs.ReadingPieces.{PassesTo, IsInData, KeepsLine, EndsLine, KeepsTrailer, EndsSection, ReachesSection, BeginsPart, EndsChunked}
+use Rattle.persistence.specs.BodyPieces.{IsLineDue, IsTrailerDue, IsDue, IsUnended, IsEnded, EndsBy, IsInChunks}
+use Rattle.persistence.proofs.LineLemmas.{line_ends-append, line_ends-section}
+use Rattle.persistence.proofs.StepLemmas.{taken_and_rest}
+use Rattle.persistence.proofs.SizeLine.{nothing_yet}
+use Rattle.persistence.proofs.TrailerLemmas.{trailer_awaited}
+use Rattle.persistence.proofs.ChunkedLemmas.{print_reaches, ReachesTrailer-append, first_in_trailer, first_bad_chunk}
+use Rattle.persistence.proofs.DataLemmas.{chunks_further, passes_further}
+
+-- where that part is due the body has not ended
+pub still_due : (place : BodyPlace) (text : List ℕ) (len : ℕ) (kept : List ℕ) (state : BodyState) → state ≡ record { place = place; len = len; whole = false; surplus = false }
+    → IsDue place text len kept → IsInChunks text state kept
+still_due place text len kept state is due = subst (λ (s : BodyState). IsInChunks text s kept) (sym is) (record { due = due; none_after = refl })
+
+-- where it has not ended a part is due
+pub due_now : (text : List ℕ) (state : BodyState) (kept : List ℕ) → IsInChunks text state kept → state.whole ≡ false → IsDue state.place text state.len kept
+due_now text state kept at open_end = let unended : IsUnended text state kept = subst (λ (w : Bool). EndsBy w text state kept) open_end at in unended.due
+
+-- ---- a piece taken in parts
+
+-- so much was taken, and then so much of the rest
+pub taken_further : (text piece : List ℕ) (taken used : ℕ) → (text ++ take taken piece) ++ take used (take (length piece - taken) (drop taken piece)) ≡ text ++ take (taken + used) piece
+taken_further text piece taken used =
+    append_assoc text (take taken piece) (take used (take (length piece - taken) (drop taken piece)))
+    ∙ ap (λ (t : List ℕ). text ++ (take taken piece ++ take used t)) (take_rest piece taken) ∙ ap (λ (t : List ℕ). text ++ t) (sym (take-add taken used piece))
+
+-- so much was taken, and then all the rest
+pub taken_all_rest : (text piece : List ℕ) (taken : ℕ) → (text ++ take taken piece) ++ take (length piece - taken) (drop taken piece) ≡ text ++ piece
+taken_all_rest text piece taken =
+    ap (λ (t : List ℕ). (text ++ take taken piece) ++ t) (take_rest piece taken) ∙ taken_and_rest text piece (text ++ take taken piece) taken refl
+
+-- what follows a body in chunks that has ended
+pub surplus_after : (text piece : List ℕ) (taken : ℕ) (state : BodyState) (kept : List ℕ) → IsInChunks (text ++ take taken piece) state kept → state.whole ≡ true → taken < length piece
+    → IsInChunks (text ++ piece) (record { place = state.place; len = state.len; whole = state.whole; surplus = true }) kept
+surplus_after text piece taken state kept at whole more =
+    let ended : IsEnded (text ++ take taken piece) state = subst (λ (w : Bool). EndsBy w (text ++ take taken piece) state kept) whole at in
+    subst (λ (w : Bool). EndsBy w (text ++ piece) (record { place = state.place; len = state.len; whole = state.whole; surplus = true }) kept) (sym whole)
+    (record {
+      place = ended.place;
+      front = ended.front;
+      rest = ended.rest ++ drop taken piece;
+      is = sym (taken_and_rest text piece (text ++ take taken piece) taken refl) ∙ ap (λ (t : List ℕ). t ++ drop taken piece) ended.is ∙ append_assoc ended.front ended.rest (drop taken piece);
+      ends = ended.ends;
+      after = (let a = length-append ended.rest (drop taken piece) in let d = length-drop taken piece in grind (arith, nat_tests, a, d, more));
+    })
+
+-- ---- a chunk's data
+
+-- all that is left of a chunk's data can be counted
+pub data_fits : (text : List ℕ) (len left : ℕ) → IsInData text len left → len + left ≤ most_bytes
+data_fits text len left at =
+    let came = at.came in
+    let fits = at.fits in
+    let before = at.passes.sums in
+    let few = at.passes.chunks.few in
+    omega (arith, at.sums, came, fits, before, few)
+
+-- ---- the line before a chunk
+
+-- after whole chunks a line is due, of which nothing is kept
+pub line_due : (text : List ℕ) (len : ℕ) → PassesTo text len [] → IsLineDue text len []
+line_due text len passes = record { passes = passes; awaits = nothing_yet (most_bytes - len) [] refl; short = omega arith }
+
+-- the line that a body in chunks begins with
+pub first_line_due : IsLineDue [] 0 []
+first_line_due = line_due [] 0 (record { sizes = []; sums = refl; chunks = record { few = omega arith; each = refl } })
+
+module _ (text : List ℕ) (len : ℕ) (kept : List ℕ) (due : IsLineDue text len kept) where
+  pub line_kept_on : (more after : List ℕ) → KeepsLine (most_bytes - len) (kept ++ more) after → IsLineDue (text ++ more) len after
+  line_kept_on more after keeps = record {
+    passes = subst (PassesTo (text ++ more) len) (sym keeps.is) (passes_further text len kept more due.passes);
+    awaits = subst (AwaitsLine (most_bytes - len)) (sym keeps.is) keeps.awaits;
+    short = omega (arith, ap length keeps.is, keeps.short);
+  }
+
+  pub line_begins : (more after : List ℕ) (size : ℕ) → EndsLine (most_bytes - len) (kept ++ more) after size → BeginsPart (text ++ more) len size
+  line_begins more after size ends = record {
+    last = λ none. record {
+      sizes = due.passes.sizes;
+      sums = due.passes.sums;
+      reaches = record {
+        middle = kept ++ more;
+        chunks = chunks_further text kept more due.passes.sizes due.passes.chunks;
+        last = subst (λ (n : ℕ). ReadsSizeLine n (kept ++ more) []) none ends.reads;
+      };
+    };
+    next = λ some. record {
+      before = len;
+      rest = kept ++ more;
+      passes = passes_further text len kept more due.passes;
+      size = size;
+      fits = ends.fits;
+      content = [];
+      line = ends.reads;
+      came = omega arith;
+      some = some;
+      sums = omega arith;
+    };
+  }
+
+  pub line_refused : (piece : List ℕ) (fault : ReadFault) → RefusesLine (most_bytes - len) (kept ++ piece) fault → (counted : Option ℕ)
+      → IsFirst (BodyShows Chunked counted) (HasLongTrailerBy Chunked) (text ++ piece) fault
+  line_refused piece fault refuses counted =
+      let sums = due.passes.sums in
+      first_bad_chunk (text ++ piece) counted fault (record {
+        is = refuses.is;
+        shows = record {
+          sizes = due.passes.sizes;
+          rest = kept ++ piece;
+          chunks = chunks_further text kept piece due.passes.sizes due.passes.chunks;
+          never = record {
+            last = λ more rest reads. refuses.never 0 more rest (omega arith) reads;
+            chunk = λ size more rest fits reads. refuses.never size more _ (omega (arith, sums, fits)) reads.reads;
+          };
+        };
+      })
+
+-- ---- the trailer section
+
+nothing_yet_there : HasNoSection []
+nothing_yet_there fs last rest reads = omega (arith, ap line_ends reads.1, line_ends-append (print_section fs last) rest, line_ends-section fs last reads.0)
+
+nothing_may : MayBecomeSection []
+nothing_may = (print_section [] lf, [], lf, (All-nil IsField, sym (append-nil (print_section [] lf))))
+
+nothing_taken : (text : List ℕ) → text ≡ [] → text ≡ take most_trailer_bytes text
+nothing_taken text is = sym (take_all most_trailer_bytes text (omega (arith, ap length is)))
+
+nothing_awaited : IsTrailerAwaited []
+nothing_awaited =
+    trailer_awaited [] (subst HasNoSection (nothing_taken [] refl) nothing_yet_there) (subst MayBecomeSection (nothing_taken [] refl) nothing_may)
+    (λ full. omega (arith, length-take {A = ℕ} most_trailer_bytes [], full)) (omega (arith, ap line_ends (nothing_taken [] refl)))
+
+-- after the last line a trailer section is due, of which nothing is kept
+pub trailer_due : (text : List ℕ) (len : ℕ) (kept : List ℕ) → kept ≡ [] → ReachesSection text len [] → IsTrailerDue text len kept
+trailer_due text len kept is reaches = record {
+  reaches = subst (ReachesSection text len) (sym is) reaches;
+  awaited = subst IsTrailerAwaited (sym is) nothing_awaited;
+  short = omega (arith, ap length is);
+}
+
+-- where the trailer section begins, as a place in the text
+pub section_place : (text : List ℕ) (len : ℕ) (kept : List ℕ) → ReachesSection text len kept → (at : ℕ) × EndsChunks text len at × (drop at text ≡ kept)
+section_place text len kept reaches =
+    let p = print_reaches reaches.sizes text kept reaches.reaches in
+    let cut : drop (length p.0) text ≡ kept = ap (drop (length p.0)) p.1 ∙ drop_at p.0 kept (length p.0) refl in (
+      length p.0,
+      record {
+        sizes = reaches.sizes;
+        sums = sym reaches.sums;
+        within = omega (arith, ap length p.1, length-append p.0 kept);
+        reaches = subst (λ (t : List ℕ). ReachesTrailer reaches.sizes text t) (sym cut) reaches.reaches;
+      },
+      cut,
+    )
+
+pub section_further : (text : List ℕ) (len : ℕ) (kept more : List ℕ) → ReachesSection text len kept → ReachesSection (text ++ more) len (kept ++ more)
+section_further text len kept more reaches = record {
+  sizes = reaches.sizes;
+  sums = reaches.sums;
+  reaches = ReachesTrailer-append reaches.sizes text kept more reaches.reaches;
+}
+
+module _ (text : List ℕ) (len : ℕ) (kept : List ℕ) (due : IsTrailerDue text len kept) where
+  pub trailer_kept : (more after : List ℕ) → KeepsTrailer (kept ++ more) after → IsTrailerDue (text ++ more) len after
+  trailer_kept more after keeps = record {
+    reaches = subst (ReachesSection (text ++ more) len) (sym keeps.is) (section_further text len kept more due.reaches);
+    awaited = subst IsTrailerAwaited (sym keeps.is) keeps.awaited;
+    short = omega (arith, ap length keeps.is, keeps.short);
+  }
+
+  pub trailer_ends : (more after : List ℕ) → EndsSection (kept ++ more) after → EndsChunked (text ++ more) len
+  trailer_ends more after ends =
+      let reaches = section_further text len kept more due.reaches in
+      record { sizes = reaches.sizes; sums = reaches.sums; reads = record { trailer = kept ++ more; chunks = reaches.reaches; reads = ends.reads } }
+
+  pub trailer_fault : (piece : List ℕ) (fault : ReadFault) → IsFirst TrailerShows (SectionExceeds most_fields) (kept ++ piece) fault → (counted : Option ℕ)
+      → IsFirst (BodyShows Chunked counted) (HasLongTrailerBy Chunked) (text ++ piece) fault
+  trailer_fault piece fault found counted =
+      let place = section_place (text ++ piece) len (kept ++ piece) (section_further text len kept piece due.reaches) in
+      first_in_trailer (text ++ piece) len place.0 place.1 counted fault
+      (subst (λ (t : List ℕ). IsFirst TrailerShows (SectionExceeds most_fields) t fault) (sym place.2) found)
