@@ -1,5 +1,5 @@
 -- Heads that come in pieces, one after another.
-use Rattle.std.proofs.Common.{◌≡◌, ℕ, ◌+◌, ◌<◌, true, false, List, [], ◌∷◌, ◌++◌, length, take, None, refl, sym, ap, subst, ◌∙◌, arith, length-append}
+use Rattle.std.proofs.Common.{◌≡◌, ℕ, ◌+◌, ◌<◌, true, false, List, [], ◌∷◌, ◌++◌, length, take, drop, None, refl, sym, ap, subst, ◌∙◌, arith, append_assoc, length-append}
 use Rattle.std.specs.Char.{is_ascii_digit}
 use Rattle.std.proofs.lemmas.List.{append-nil, take_all}
 use Rattle.std.proofs.lemmas.List.Elements.{All-nil, All-cons}
@@ -13,12 +13,13 @@ use Rattle.persistence.specs.Sequence.{ReadsEach}
 use Rattle.persistence.specs.Heads.{most_fields, most_head_bytes, most_interims, is_interim_status, ReadsInterim}
 use Rattle.persistence.specs.Faults.{HeadShows, Shows, HasLongSection, IsFirst, IsFirstFault}
 use Rattle.persistence.specs.Reading.{IsAwaited}
-use Rattle.persistence.specs.ReadingPieces.{KeepsHead, EndsHead, AwaitsHeads, EndsHeadsIn}
+use Rattle.persistence.specs.ReadingPieces.{KeepsHead, EndsHead, AwaitsHeads, EndsHeadsIn, NeverHasFinalHead}
 use Rattle.persistence.proofs.SequenceLemmas.{each-append, each-more}
 use Rattle.persistence.proofs.HeadLines.{print_response-some}
-use Rattle.persistence.proofs.HeadLemmas.{interim_printed, first_in_head, first_many}
+use Rattle.persistence.proofs.HeadLemmas.{interim_printed, no_final, head_shows_nothing, HeadShows-append, first_in_head, first_many}
 use Rattle.persistence.proofs.NextHead.{head_awaited}
-use Rattle.persistence.proofs.StepLemmas.{first_taken}
+use Rattle.persistence.proofs.StepLemmas.{taken_and_rest, first_taken}
+use Rattle.persistence.proofs.ResponseLemmas.{few_interims}
 
 -- ---- no bytes
 
@@ -110,3 +111,27 @@ module _ (bytes : List ℕ) (count : ℕ) (kept : List ℕ) (at : AwaitsHeads by
       → (method : Method) → IsFirstFault method (bytes ++ piece) fault
   heads_fault piece fault found method =
       first_in_head at.interims (bytes ++ piece) (kept ++ piece) (before piece) (let many = at.many in let few = at.few in omega (arith, many, few)) fault found method
+
+  -- ---- no final head any more
+
+  -- where the text in which a head is due shows a fault
+  pub heads_never : (piece : List ℕ) (fault : ReadFault) → IsFirst HeadShows (ResponseExceeds most_fields) (kept ++ piece) fault → NeverHasFinalHead (bytes ++ piece)
+  heads_never piece fault found more =
+      no_final at.interims ((bytes ++ piece) ++ more) ((kept ++ piece) ++ more) (each-append interim_printed at.interims (bytes ++ piece) (kept ++ piece) more (before piece))
+      (λ h rest reads. head_shows_nothing h ((kept ++ piece) ++ more) rest fault reads
+      (subst (λ (t : List ℕ). HeadShows (t ++ more) fault) (sym found.is) (HeadShows-append (found.front ++ found.later) more fault (HeadShows-append found.front found.later fault found.shown))))
+
+  -- and where one interim head more came than may
+  pub never_after_many : (piece : List ℕ) (used : ℕ) (after : List ℕ) (told : Head) → EndsHead (kept ++ take used piece) after told → is_interim_status told.status ≡ true
+      → count ≡ most_interims → NeverHasFinalHead (bytes ++ piece)
+  never_after_many piece used after told ends interim full more head text has =
+      let each = one_more (take used piece) after told ends interim in
+      let rest = drop used piece ++ more in
+      let is : (bytes ++ take used piece) ++ rest ≡ (bytes ++ piece) ++ more =
+      sym (append_assoc (bytes ++ take used piece) (drop used piece) more)
+      ∙ ap (λ (t : List ℕ). t ++ more) (taken_and_rest bytes piece (bytes ++ take used piece) used refl) in
+      let few = few_interims ((bytes ++ piece) ++ more) head text has (at.interims ++ ends.head ∷ []) rest
+      (subst (λ (t : List ℕ). ReadsEach ReadsInterim (at.interims ++ ends.head ∷ []) t rest) is
+      (each-append interim_printed (at.interims ++ ends.head ∷ []) (bytes ++ take used piece) [] rest each)) in
+      let many = at.many in
+      omega (arith, length-append at.interims (ends.head ∷ []), many, full, few)

@@ -26,7 +26,7 @@ use Rattle.persistence.proofs.SplitLemmas.{split_unique}
 
 -- ---- where a final head stands
 
-final_unique : (bytes : List ℕ) (a b : ResponseHead) (r q : List ℕ) → HasFinalHead bytes a r → HasFinalHead bytes b q → (a ≡ b) × (r ≡ q)
+pub final_unique : (bytes : List ℕ) (a b : ResponseHead) (r q : List ℕ) → HasFinalHead bytes a r → HasFinalHead bytes b q → (a ≡ b) × (r ≡ q)
 final_unique bytes a b r q x y = let u = heads_unique x.0 y.0 a b bytes r q x.1 y.1 in (u.1, u.2)
 
 -- nothing is shown before it
@@ -58,7 +58,7 @@ print_final bytes head text (interims, heads) =
     )
 
 -- and no more interim heads stand before it than may
-few_interims : (bytes : List ℕ) (head : ResponseHead) (text : List ℕ) → HasFinalHead bytes head text → (others : List ResponseHead) (place : List ℕ)
+pub few_interims : (bytes : List ℕ) (head : ResponseHead) (text : List ℕ) → HasFinalHead bytes head text → (others : List ResponseHead) (place : List ℕ)
     → ReadsEach ReadsInterim others bytes place → length others ≤ most_interims
 few_interims bytes head text (interims, heads) others place each = go (compared interim_printed interims others bytes heads.middle place heads.before.each each)
   where
@@ -124,92 +124,85 @@ module _ (method : Method) (head : ResponseHead) where
 
   -- ---- the body, and the response
 
-  module _ (bytes : List ℕ) (ended : Bool) (interims : List ResponseHead) (text : List ℕ) (heads : ReadsHeads interims head bytes text) where
-    -- where the body ends, if it does
-    abbrev EndsHere : Option ℕ → Type 0
-    EndsHere end = MatchOption end (HasNoEnd (body_kind method head) (counted_length (fields_of head)) ended text) (EndsAt (body_kind method head) (counted_length (fields_of head)) ended text)
-
-    -- a body that ends splits the bytes
-    abbrev parts_at : ℕ → Parts
-    parts_at end = record { interims = interims; head = head; body = take end text; rest = drop end text }
-
-    split_at : (end : ℕ) → EndsAt (body_kind method head) (counted_length (fields_of head)) ended text end → IsSplit method bytes ended (parts_at end)
-    split_at end ends = record {
-      heads = subst (ReadsHeads interims head bytes) (sym (take-append-drop end text)) heads;
-      body = ends.ends;
+  module _ (bytes text : List ℕ) (has : HasFinalHead bytes head text) where
+    pub length_there : (len : ℕ) → TellsBodyLength (body_kind method head) (counted_length (fields_of head)) text len → TellsLength method bytes len
+    length_there len came = record {
+      before = λ none. absurd (none head text has);
+      after = λ other rest further. (let u = final_unique bytes head other text rest has further in
+          subst (λ (h : ResponseHead). TellsBodyLength (body_kind method h) (counted_length (fields_of h)) rest len) u.0
+          (subst (λ (t : List ℕ). TellsBodyLength (body_kind method head) (counted_length (fields_of head)) t len) u.1 came));
     }
 
-    -- and a body that does not end leaves no split
-    no_split : HasNoEnd (body_kind method head) (counted_length (fields_of head)) ended text → IsNotWhole method bytes ended
-    no_split none parts split =
-        let u = final_unique bytes parts.head head (parts.body ++ parts.rest) text (parts.interims, split.heads) (interims, heads) in
-        none parts.body parts.rest (sym u.1) (subst (λ (h : ResponseHead). EndsBody (body_kind method h) (counted_length (fields_of h)) ended parts.body parts.rest) u.0 split.body)
+    pub status_there : TellsStatus bytes (Some (status_code head))
+    status_there = record {
+      before = λ none. absurd (none head text has);
+      after = λ other rest further. ap (λ (h : ResponseHead). Some (status_code h)) (final_unique bytes head other text rest has further).0;
+    }
 
-    -- bytes follow the body where it ends before all that came
-    surplus_at : (end : ℕ) → ends_before (length text) (Some end) ≡ is_some_text (drop end text)
-    surplus_at end = grind (arith, nat_tests, length-drop end text)
+    module _ (ended : Bool) where
+      -- a body that ends splits the bytes
+      abbrev pub parts_of : List ℕ → List ℕ → Parts
+      parts_of front rest = record { interims = has.0; head = head; body = front; rest = rest }
 
-    module _ (request_close : Bool) (body : Body) (tells : TellsBody (body_kind method head) (counted_length (fields_of head)) ended text body) where
-      -- the facts that the code gives
-      abbrev told_facts : Facts
-      told_facts = facts_of method request_close head (is_some body.end) (ends_before (length text) body.end)
+      pub split_of : (front rest : List ℕ) → text ≡ front ++ rest → EndsBody (body_kind method head) (counted_length (fields_of head)) ended front rest
+          → IsSplit method bytes ended (parts_of front rest)
+      split_of front rest is ends = record { heads = subst (ReadsHeads has.0 head bytes) is has.1; body = ends }
 
-      tells_facts : TellsFacts method request_close bytes ended told_facts
-      tells_facts = record {
-        before = λ none. absurd (none head text (interims, heads));
-        after = λ other rest has open_end. after other rest has open_end body.end tells.ends;
-        whole = λ parts split. whole parts split body.end tells.ends;
-      }
-        where
-          after : (other : ResponseHead) (rest : List ℕ) → HasFinalHead bytes other rest → IsNotWhole method bytes ended → (end : Option ℕ)
-              → EndsHere end
-              → facts_of method request_close head (is_some end) (ends_before (length text) end) ≡ facts_of method request_close other false false
-          after other rest has open_end None none = ap (λ (h : ResponseHead). facts_of method request_close h false false) (final_unique bytes head other text rest (interims, heads) has).0
-          after other rest has open_end (Some end) ends = absurd (open_end (parts_at end) (split_at end ends))
+      -- and a body that does not end leaves no split
+      pub no_split : HasNoEnd (body_kind method head) (counted_length (fields_of head)) ended text → IsNotWhole method bytes ended
+      no_split none parts split =
+          let u = final_unique bytes parts.head head (parts.body ++ parts.rest) text (parts.interims, split.heads) has in
+          none parts.body parts.rest (sym u.1) (subst (λ (h : ResponseHead). EndsBody (body_kind method h) (counted_length (fields_of h)) ended parts.body parts.rest) u.0 split.body)
 
-          whole : (parts : Parts) → IsSplit method bytes ended parts → (end : Option ℕ)
-              → EndsHere end
-              → facts_of method request_close head (is_some end) (ends_before (length text) end) ≡ facts_of method request_close parts.head true (is_some_text parts.rest)
-          whole parts split None none = absurd (no_split none parts split)
-          whole parts split (Some end) ends =
-              ap (λ b. facts_of method request_close head true b) (surplus_at end)
-              ∙ ap (λ (p : Parts). facts_of method request_close p.head true (is_some_text p.rest)) (split_unique method bytes ended (parts_at end) parts (split_at end ends) split)
+      module _ (request_close : Bool) where
+        pub facts_open : HasNoEnd (body_kind method head) (counted_length (fields_of head)) ended text
+            → TellsFacts method request_close bytes ended (facts_of method request_close head false false)
+        facts_open none = record {
+          before = λ no_head. absurd (no_head head text has);
+          after = λ other rest further open_end. ap (λ (h : ResponseHead). facts_of method request_close h false false) (final_unique bytes head other text rest has further).0;
+          whole = λ parts split. absurd (no_split none parts split);
+        }
 
-      tells_whole : TellsWhole method bytes ended (is_some body.end)
-      tells_whole = record { yes = yes body.end tells.ends; no = no body.end tells.ends }
-        where
-          yes : (end : Option ℕ) → EndsHere end
-              → is_some end ≡ true → (parts : Parts) × IsSplit method bytes ended parts
-          yes None none e = absurd (cc)
-          yes (Some end) ends e = (parts_at end, split_at end ends)
+        pub facts_whole : (front rest : List ℕ) → text ≡ front ++ rest → EndsBody (body_kind method head) (counted_length (fields_of head)) ended front rest
+            → TellsFacts method request_close bytes ended (facts_of method request_close head true (is_some_text rest))
+        facts_whole front rest is ends = record {
+          before = λ no_head. absurd (no_head head text has);
+          after = λ other more further open_end. absurd (open_end (parts_of front rest) (split_of front rest is ends));
+          whole = λ parts split. ap (λ (p : Parts). facts_of method request_close p.head true (is_some_text p.rest))
+              (split_unique method bytes ended (parts_of front rest) parts (split_of front rest is ends) split);
+        }
 
-          no : (end : Option ℕ) → EndsHere end
-              → is_some end ≡ false → IsNotWhole method bytes ended
-          no None none e = no_split none
-          no (Some end) ends e = absurd (cc)
+      -- bytes follow the body where it ends before all that came
+      surplus_at : (end : ℕ) → ends_before (length text) (Some end) ≡ is_some_text (drop end text)
+      surplus_at end = grind (arith, nat_tests, length-drop end text)
 
-      tells_length : TellsLength method bytes body.len
-      tells_length = record {
-        before = λ none. absurd (none head text (interims, heads));
-        after = λ other rest has. (let u = final_unique bytes head other text rest (interims, heads) has in
-            subst (λ (h : ResponseHead). TellsBodyLength (body_kind method h) (counted_length (fields_of h)) rest body.len) u.0
-            (subst (λ (t : List ℕ). TellsBodyLength (body_kind method head) (counted_length (fields_of head)) t body.len) u.1 tells.came));
-      }
+      module _ (request_close : Bool) (body : Body) (tells : TellsBody (body_kind method head) (counted_length (fields_of head)) ended text body) where
+        -- where the body ends, if it does
+        abbrev EndsHere : Option ℕ → Type 0
+        EndsHere end = MatchOption end (HasNoEnd (body_kind method head) (counted_length (fields_of head)) ended text) (EndsAt (body_kind method head) (counted_length (fields_of head)) ended text)
 
-      tells_status : TellsStatus bytes (Some (status_code head))
-      tells_status = record {
-        before = λ none. absurd (none head text (interims, heads));
-        after = λ other rest has. ap (λ (h : ResponseHead). Some (status_code h)) (final_unique bytes head other text rest (interims, heads) has).0;
-      }
+        tells_facts : (end : Option ℕ) → EndsHere end → TellsFacts method request_close bytes ended (facts_of method request_close head (is_some end) (ends_before (length text) end))
+        tells_facts None none = facts_open request_close none
+        tells_facts (Some end) ends =
+            subst (λ b. TellsFacts method request_close bytes ended (facts_of method request_close head true b)) (sym (surplus_at end))
+            (facts_whole request_close (take end text) (drop end text) (sym (take-append-drop end text)) ends.ends)
 
-      pub tells_after : TellsResponse method request_close bytes ended (record { status = Some (status_code head); facts = told_facts; body_len = body.len })
-      tells_after = record {
-        faultless = faultless bytes text (interims, heads) tells.clean;
-        status = tells_status;
-        facts = tells_facts;
-        length = tells_length;
-        whole = tells_whole;
-      }
+        tells_whole : (end : Option ℕ) → EndsHere end → TellsWhole method bytes ended (is_some end)
+        tells_whole None none = record { yes = λ e. absurd (cc); no = λ e. no_split none }
+        tells_whole (Some end) ends = record {
+          yes = λ e. (parts_of (take end text) (drop end text), split_of (take end text) (drop end text) (sym (take-append-drop end text)) ends.ends);
+          no = λ e. absurd (cc);
+        }
+
+        pub tells_after : TellsResponse method request_close bytes ended
+            (record { status = Some (status_code head); facts = facts_of method request_close head (is_some body.end) (ends_before (length text) body.end); body_len = body.len })
+        tells_after = record {
+          faultless = faultless bytes text has tells.clean;
+          status = status_there;
+          facts = tells_facts body.end tells.ends;
+          length = length_there body.len tells.came;
+          whole = tells_whole body.end tells.ends;
+        }
 
 -- before a final head
 pub tells_before : (method : Method) (request_close : Bool) (bytes : List ℕ) (ended : Bool) → FindsNoFinalHead bytes
@@ -246,7 +239,7 @@ module _ (method : Method) (bytes : List ℕ) (told : Head) (start : ℕ) (ends 
   tells_here request_close ended body tells whole surplus w s facts f =
       subst (λ (p : Option ℕ × Facts). TellsResponse method request_close bytes ended (record { status = p.0; facts = p.1; body_len = body.len }))
       (λ i. (Some (sym ends.says.status i), sym all i))
-      (tells_after method ends.head bytes ended ends.interims (drop start bytes) ends.heads request_close body
+      (tells_after method ends.head bytes (drop start bytes) (ends.interims, ends.heads) ended request_close body
       (subst (λ (n : Option ℕ). TellsBody (body_kind method ends.head) n ended (drop start bytes) body) ends.says.counted
       (subst (λ (t : List ℕ). TellsBody (body_kind method ends.head) told.counted ended t body) after
       (subst (λ (k : Framing). TellsBody k told.counted ended text body) is tells))))

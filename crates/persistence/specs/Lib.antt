@@ -13,3 +13,5 @@ pub mod ReadingBody
 pub mod ReadingPieces
 pub mod BodyPieces
 pub mod Response
+pub mod ReadingPlaces
+pub mod Reader

@@ -7,6 +7,7 @@ use Rattle.persistence.specs.Sequence.{ReadsEach}
 use Rattle.persistence.specs.Heads.{most_head_bytes, most_interims, ReadsHead, ReadsInterim, ReadsHeads}
 use Rattle.persistence.specs.Fields.{most_bytes}
 use Rattle.persistence.specs.Chunks.{most_line_bytes, most_trailer_bytes, ReadsSizeLine, ReadsChunks, ReadsTrailer, ReachesTrailer, ReadsChunked}
+use Rattle.persistence.specs.Told.{HasNoFinalHead}
 use Rattle.persistence.specs.Reading.{IsAwaited, TellsHead, IsTrailerAwaited}
 use Rattle.persistence.specs.ReadingChunks.{AwaitsLine}
 
@@ -117,6 +118,10 @@ pub record EndsHeadsIn (bytes kept : List ℕ) (told : Head) : Type 0 where
   pub head : ResponseHead
   pub heads : ReadsHeads interims head bytes []
   pub says : TellsHead head told
+
+-- no final head comes, whatever follows the bytes
+abbrev pub NeverHasFinalHead : List ℕ → Type 0
+NeverHasFinalHead bytes = (more : List ℕ) → HasNoFinalHead (bytes ++ more)
 
 -- whole chunks of so much data and the line of a chunk of size zero, and then the trailer section
 pub record ReachesSection (text : List ℕ) (len : ℕ) (kept : List ℕ) : Type 0 where

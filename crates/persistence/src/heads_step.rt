@@ -4,7 +4,7 @@ ghost use Rattle.persistence.specs.declared.method.Method.{Method};
 ghost use Rattle.persistence.specs.Heads.{most_head_bytes, most_interims};
 ghost use Rattle.persistence.specs.Faults.{IsFirstFault};
 ghost use Rattle.persistence.specs.Reading.{IsAwaited};
-ghost use Rattle.persistence.specs.ReadingPieces.{IsTaken, AwaitsHeads, EndsHeadsIn};
+ghost use Rattle.persistence.specs.ReadingPieces.{IsTaken, AwaitsHeads, EndsHeadsIn, NeverHasFinalHead};
 
 use crate::ReadFault;
 use crate::buffer::Buffer;
@@ -41,6 +41,7 @@ pub(crate) fn heads_step(
         MatchOption step.head (AwaitsHeads (bytes ++ take step.used piece.now) step.skipped buffer.new) (EndsHeadsIn (bytes ++ take step.used piece.now) buffer.new)) }
     ensures fault { (bytes : List ℕ) → AwaitsHeads bytes skipped buffer.old → IfErr result (λ fault. (method : Method)
         → IsFirstFault method (bytes ++ piece.now) fault) }
+    ensures none { (bytes : List ℕ) → AwaitsHeads bytes skipped buffer.old → IfErr result (λ _. NeverHasFinalHead (bytes ++ piece.now)) }
 {
     let step = match head_step(buffer, piece) {
         Ok(step) => step,

@@ -2,10 +2,12 @@
 //! (RFC 9112, sections 9.3 and 9.6).
 #![tactic(auto)]
 
+mod answer;
 mod body;
 mod body_pieces;
 mod body_state;
 mod buffer;
+mod bytes_fed;
 mod chunk_data;
 mod chunk_pieces;
 mod chunks;
@@ -13,7 +15,6 @@ mod count;
 mod elements;
 mod facts;
 mod fault;
-mod fed;
 mod fields;
 mod head;
 mod head_step;
@@ -24,15 +25,19 @@ mod line_step;
 mod lines;
 mod method;
 mod number;
+mod place;
+mod reader;
 mod response;
 mod size_line;
 mod trailer;
 mod trailer_step;
 
+pub use answer::Fed;
 pub use facts::{Facts, Framing, Version, persists};
 pub use fault::ReadFault;
 pub use laws::split_is_unique;
 pub use method::Method;
+pub use reader::ResponseReader;
 pub use response::{Response, read_response};
 
 #[cfg(test)]

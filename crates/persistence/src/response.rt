@@ -54,8 +54,8 @@ pub fn read_response(
     })
 }
 
-// The facts before a final head.
-fn facts_before_head(request_close: bool) -> Facts
+/// The facts before a final head.
+pub(crate) fn facts_before_head(request_close: bool) -> Facts
     ensures { result ≡ facts_before request_close }
 {
     Facts {

@@ -1,4 +1,4 @@
-use crate::{Facts, Framing, Version, persists};
+use crate::{Facts, Framing, Method, ReadFault, ResponseReader, Version, persists};
 
 /// The facts of a counted HTTP/1.1 response that was read whole, where nothing else is said.
 pub(crate) const KEEP: Facts = Facts {
@@ -129,4 +129,12 @@ fn persists_by_the_facts(rt: HostRuntime) {
     for (case, facts, expected) in ROWS {
         assert_eq!(rt; persists(&facts), expected, "{case}");
     }
+}
+
+fn is_send_and_sync<T: Send + Sync + Drop>(_value: T) {}
+
+#[test]
+fn a_reader_may_be_sent_and_shared(rt: HostRuntime) -> Result<(), ReadFault> {
+    is_send_and_sync(ResponseReader::new(rt.alloc(), Method::Get, false)?);
+    Ok(())
 }

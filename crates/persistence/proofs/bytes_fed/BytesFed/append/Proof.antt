@@ -29,26 +29,26 @@ use denote.Builtin.{u8}
 use denote.Exit.{yes}
 use denote.Slice.{ShrSlice, slice_val, shr_slice_vals, shr_slice_Tells}
 use Rattle.std.proofs.Common.{◌<◌, ◌^◌, length}
-use Rattle.persistence.specs.declared.fed.Fed.{Fed}
-use Rattle.persistence.specs.contracts.fed.Fed as T
-use Rattle.persistence.specs.contracts.fed.Fed.append.Key.{name as #it}
-use Rattle.persistence.specs.contracts.fed.Fed.append as it
-use Rattle.persistence.proofs.fed.Fed.append.Statement as stated
-use Rattle.persistence.proofs.fed.Fed.append.Code as code
+use Rattle.persistence.specs.declared.bytes_fed.BytesFed.{BytesFed}
+use Rattle.persistence.specs.contracts.bytes_fed.BytesFed as T
+use Rattle.persistence.specs.contracts.bytes_fed.BytesFed.append.Key.{name as #it}
+use Rattle.persistence.specs.contracts.bytes_fed.BytesFed.append as it
+use Rattle.persistence.proofs.bytes_fed.BytesFed.append.Statement as stated
+use Rattle.persistence.proofs.bytes_fed.BytesFed.append.Code as code
 
 abbrev Arg : Type 0
-Arg = MutBor Fed × (Bor (List ℕ) × Unit {0})
+Arg = MutBor BytesFed × (Bor (List ℕ) × Unit {0})
 
 abbrev stayed : Stays (it.ended).signature.params (it.ended).kept
 stayed = (stay_ref (0 ∷ []) tt (plain (λ _. T.the_row)), (stay_none_slice (1 ∷ []) tt (plain (λ _. u8)) yes, tt))
 
-module _ {M : Type 1} {𝓤 : Ura M} (𝓛 : Logic 𝓤) (at_mem : Memory → SProp 𝓤) (run : Routine → Fun 𝓤) (κ κ' : Lft) (q q' : Share) (b o : ℕ) (γ : GName) (h : Fed) (s : Bor (List ℕ)) where
+module _ {M : Type 1} {𝓤 : Ura M} (𝓛 : Logic 𝓤) (at_mem : Memory → SProp 𝓤) (run : Routine → Fun 𝓤) (κ κ' : Lft) (q q' : Share) (b o : ℕ) (γ : GName) (h : BytesFed) (s : Bor (List ℕ)) where
   open 𝓛 use {H, A}
 
   abbrev x : Arg
   x = (record { ref_ptr = (b, o); ghost_name = γ; now = h }, (s, tt))
 
-  abbrev h' : Fed
+  abbrev h' : BytesFed
   h' = record { marker = h.marker; bytes = h.bytes ++ s.now }
 
   abbrev at : List Val × (List Val × Unit {0})

@@ -21,17 +21,17 @@ use denote.Triple.Entry.{on_entry}
 use denote.Triple.Spec.{Meets, triple_of}
 use denote.Triple.Table.{entered}
 use denote.Triple.Walked.{says, ends_at, walked, walk_Meets}
-use Rattle.persistence.specs.declared.fed.Fed.{Fed}
-use Rattle.persistence.specs.contracts.fed.Fed as T
-use Rattle.persistence.specs.contracts.fed.Fed.new.Key.{name as #it}
-use Rattle.persistence.specs.contracts.fed.Fed.new as it
-use Rattle.persistence.proofs.fed.Fed.new.Statement as stated
-use Rattle.persistence.proofs.fed.Fed.new.Code as code
+use Rattle.persistence.specs.declared.bytes_fed.BytesFed.{BytesFed}
+use Rattle.persistence.specs.contracts.bytes_fed.BytesFed as T
+use Rattle.persistence.specs.contracts.bytes_fed.BytesFed.new.Key.{name as #it}
+use Rattle.persistence.specs.contracts.bytes_fed.BytesFed.new as it
+use Rattle.persistence.proofs.bytes_fed.BytesFed.new.Statement as stated
+use Rattle.persistence.proofs.bytes_fed.BytesFed.new.Code as code
 
 abbrev v : Val
 v = vstruct (vcons (vstruct vnil) vnil)
 
-abbrev r : Fed
+abbrev r : BytesFed
 r = record { marker = record {}; bytes = [] }
 
 meets : {M : Type 1} {𝓤 : Ura M} (𝓛 : Logic 𝓤) → (at_mem : Memory → SProp 𝓤) (run : Routine → Fun 𝓤) (𝓣 : Tables 𝓤 𝓛.H)

@@ -6,21 +6,27 @@ use std::marker::{Model, PhantomData};
 
 /// The bytes fed so far. It takes no memory, and its methods do nothing at run time.
 #[derive(Drop)]
-pub(crate) struct Fed {
+pub(crate) struct BytesFed {
     marker: PhantomData<u8>,
     pub ghost bytes: { List ℕ },
 }
 
-impl Model for Fed {
+impl Model for BytesFed {
     ghost also_owns = { λ _. ftrue };
 }
 
-impl Fed {
+// It owns nothing, so any thread may have it.
+unsafe impl Send for BytesFed {}
+
+// And so may several at once.
+unsafe impl Sync for BytesFed {}
+
+impl BytesFed {
     /// No bytes yet.
-    pub fn new() -> Fed
+    pub fn new() -> BytesFed
         ensures { result.bytes ≡ [] }
     {
-        Fed {
+        BytesFed {
             marker: PhantomData,
         }
     }

@@ -1,0 +1,330 @@
+-- Where a response that comes in pieces is read: what is told there, and where a piece leads.
+use Rattle.std.proofs.Common.{◌≡◌, ◌≢◌, ℕ, ◌+◌, Bool, true, false, List, [], ◌∷◌, ◌++◌, length, take, drop, sum, Option, None, Some, refl, sym, ap, subst, ◌∙◌, inl, inr, arith, append_assoc, length-append}
+use Rattle.std.specs.Option.{MatchOption}
+use Rattle.std.proofs.Math.Seq.{take-append-add, take-add}
+use Rattle.std.proofs.lemmas.List.{append-nil, take_all, take-append-drop}
+use Rattle.httparse.specs.Ascii.{crlf_bytes}
+use Rattle.httparse.specs.Grammar.{ResponseHead, print_chunk_line}
+use Rattle.persistence.specs.declared.facts.Facts.{Facts}
+use Rattle.persistence.specs.declared.facts.Framing.{Framing}
+use Rattle.persistence.specs.declared.facts.Framing.TheVariants.{NoBody, Counted, Chunked, UntilClose, Faulty}
+use Rattle.persistence.specs.declared.fault.ReadFault.{ReadFault}
+use Rattle.persistence.specs.declared.fault.ReadFault.TheVariants.{Memory, BadLength, BadChunk, TooManyInterims}
+use Rattle.persistence.specs.declared.method.Method.{Method}
+use Rattle.persistence.specs.declared.head.Head.{Head}
+use Rattle.persistence.specs.declared.body_state.BodyState.{BodyState}
+use Rattle.persistence.specs.declared.place.Place.{Place}
+use Rattle.persistence.specs.declared.place.Place.TheVariants.{Heads, Body, Fault}
+use Rattle.persistence.specs.Sequence.{ReadsEach}
+use Rattle.persistence.specs.Fields.{fields_of, counted_length}
+use Rattle.persistence.specs.Framing.{body_kind}
+use Rattle.persistence.specs.Chunks.{ReadsSizeLine, ReadsChunk}
+use Rattle.persistence.specs.Split.{EndsBody}
+use Rattle.persistence.specs.Told.{facts_of, facts_before, facts_after_fault, is_some_text, HasNoFinalHead, TellsFacts, TellsFactsAfterFault, TellsStatus, TellsBegun, TellsBodyLength, TellsLength}
+use Rattle.persistence.specs.Faults.{BodyShows, Shows, HasLongTrailerBy, HasLongSection, IsFaultless, IsFirst, IsFirstFault}
+use Rattle.persistence.specs.Response.{TellsWhole, TellsResponse}
+use Rattle.persistence.specs.Reading.{TellsHead, FindsNoFinalHead}
+use Rattle.persistence.specs.ReadingBody.{HasNoEnd}
+use Rattle.persistence.specs.ReadingPieces.{AwaitsHeads, EndsHeadsIn, NeverHasFinalHead}
+use Rattle.persistence.specs.BodyPieces.{whole_of, BodyAt, CountsFront, TellsPieces}
+use Rattle.persistence.specs.Reader.{TellsLengthWithin}
+use Rattle.persistence.specs.ReadingPlaces.{PassesHead, IsInBody, TellsFinalHead, IsFaulty, IsPlaced, fault_at}
+use Rattle.persistence.proofs.HeadLemmas.{no_final, nothing_shown, HasFinalHead-append}
+use Rattle.persistence.proofs.StepLemmas.{first_further, taken_and_rest}
+use Rattle.persistence.proofs.SizeLineLemmas.{print_words, words_of}
+use Rattle.persistence.proofs.InterimLemmas.{nothing_awaited}
+use Rattle.persistence.proofs.BodyLemmas.{tells_pieces}
+use Rattle.persistence.proofs.ResponseLemmas.{faultless, first_in_body, final_unique, length_there, status_there, split_of, no_split, parts_of, facts_open, facts_whole, tells_before}
+
+-- ---- where a head is due
+
+-- there is no final head, and nothing is wrong so far
+pub heads_none : (bytes : List ℕ) (count : ℕ) (kept : List ℕ) → AwaitsHeads bytes count kept → FindsNoFinalHead bytes
+heads_none bytes count kept at = record {
+  none = λ head text has. no_final at.interims bytes kept at.each at.awaited.none head text has;
+  clean = nothing_shown at.interims bytes kept at.each at.awaited.none (let many = at.many in let few = at.few in omega (arith, many, few)) at.awaited.clean;
+}
+
+-- so the response tells what it does before a final head
+pub heads_tell : (method : Method) (request_close : Bool) (bytes : List ℕ) (ended : Bool) (count : ℕ) (kept : List ℕ) → AwaitsHeads bytes count kept
+    → TellsResponse method request_close bytes ended (record { status = None; facts = facts_before request_close; body_len = 0 })
+heads_tell method request_close bytes ended count kept at = tells_before method request_close bytes ended (heads_none bytes count kept at)
+
+-- ---- after the final head
+
+module _ (method : Method) (bytes : List ℕ) (told : Head) (text : List ℕ) (passes : PassesHead bytes told text) where
+  pub passes_status : TellsStatus bytes (Some told.status)
+  passes_status = subst (λ n. TellsStatus bytes (Some n)) (sym passes.says.status) (status_there method passes.head bytes text passes.has)
+
+  pub passes_length : (len : ℕ) → TellsBodyLength (body_kind method passes.head) told.counted text len → TellsLength method bytes len
+  passes_length len came =
+      length_there method passes.head bytes text passes.has len
+      (subst (λ (n : Option ℕ). TellsBodyLength (body_kind method passes.head) n text len) passes.says.counted came)
+
+  pub passes_fault : (fault : ReadFault) → IsFirst (BodyShows (body_kind method passes.head) told.counted) (HasLongTrailerBy (body_kind method passes.head)) text fault
+      → IsFirstFault method bytes fault
+  passes_fault fault found =
+      first_in_body method passes.head bytes text passes.has fault
+      (subst (λ (n : Option ℕ). IsFirst (BodyShows (body_kind method passes.head) n) (HasLongTrailerBy (body_kind method passes.head)) text fault) passes.says.counted found)
+
+  module _ (ended : Bool) (len : ℕ) (whole surplus : Bool) (tells : TellsPieces (body_kind method passes.head) told.counted ended text len whole surplus) where
+    here : TellsPieces (body_kind method passes.head) (counted_length (fields_of passes.head)) ended text len whole surplus
+    here = subst (λ (n : Option ℕ). TellsPieces (body_kind method passes.head) n ended text len whole surplus) passes.says.counted tells
+
+    pub pieces_clean : IsFaultless method bytes
+    pieces_clean = faultless method passes.head bytes text passes.has here.clean
+
+    pub pieces_length : TellsLength method bytes len
+    pieces_length = passes_length len tells.came
+
+    -- what is known where it is whole, and where it is not
+    abbrev Ends : Type 0
+    Ends = (front : List ℕ) × (rest : List ℕ) × (text ≡ front ++ rest)
+        × EndsBody (body_kind method passes.head) (counted_length (fields_of passes.head)) ended front rest × (surplus ≡ is_some_text rest)
+
+    abbrev Lasts : Type 0
+    Lasts = HasNoEnd (body_kind method passes.head) (counted_length (fields_of passes.head)) ended text × (surplus ≡ false)
+
+    pub pieces_facts : (request_close : Bool) → TellsFacts method request_close bytes ended (facts_of method request_close passes.head whole surplus)
+    pieces_facts request_close = go whole here.yes here.no
+      where
+        go : (whole : Bool) → (whole ≡ true → Ends) → (whole ≡ false → Lasts) → TellsFacts method request_close bytes ended (facts_of method request_close passes.head whole surplus)
+        go true ends lasts =
+            let e = ends refl in
+            subst (λ b. TellsFacts method request_close bytes ended (facts_of method request_close passes.head true b)) (sym e.4)
+            (facts_whole method passes.head bytes text passes.has ended request_close e.0 e.1 e.2 e.3)
+        go false ends lasts =
+            let e = lasts refl in
+            subst (λ b. TellsFacts method request_close bytes ended (facts_of method request_close passes.head false b)) (sym e.1)
+            (facts_open method passes.head bytes text passes.has ended request_close e.0)
+
+    pub pieces_whole : TellsWhole method bytes ended whole
+    pieces_whole = record {
+      yes = λ is. (let e = here.yes is in (parts_of method passes.head bytes text passes.has ended e.0 e.1, split_of method passes.head bytes text passes.has ended e.0 e.1 e.2 e.3));
+      no = λ is. no_split method passes.head bytes text passes.has ended (here.no is).0;
+    }
+
+  -- after a fault
+  pub passes_facts : (request_close : Bool) → TellsFactsAfterFault method request_close bytes (facts_after_fault (facts_of method request_close passes.head false false))
+  passes_facts request_close = record {
+    before = λ none. absurd (none passes.head text passes.has);
+    after = λ other rest has. ap (λ (h : ResponseHead). facts_after_fault (facts_of method request_close h false false)) (final_unique bytes passes.head other text rest passes.has has).0;
+  }
+
+-- one piece more after the final head
+abbrev pub passes_more : (bytes text piece : List ℕ) (told : Head) → PassesHead bytes told text → PassesHead (bytes ++ piece) told (text ++ piece)
+passes_more bytes text piece told passes = record { head = passes.head; has = HasFinalHead-append bytes piece passes.head text passes.has; says = passes.says }
+
+-- the final head has just come
+abbrev pub passes_now : (bytes kept : List ℕ) (told : Head) → EndsHeadsIn bytes kept told → PassesHead bytes told []
+passes_now bytes kept told ends = record { head = ends.head; has = (ends.interims, ends.heads); says = ends.says }
+
+-- ---- after a fault
+
+pub never_now : (bytes : List ℕ) → NeverHasFinalHead bytes → HasNoFinalHead bytes
+never_now bytes never = subst HasNoFinalHead (append-nil bytes) (never [])
+
+pub never_facts : (method : Method) (request_close : Bool) (bytes : List ℕ) → NeverHasFinalHead bytes → TellsFactsAfterFault method request_close bytes (facts_before request_close)
+never_facts method request_close bytes never = record { before = λ none. refl; after = λ head text has. absurd (never_now bytes never head text has) }
+
+pub never_status : (bytes : List ℕ) → NeverHasFinalHead bytes → TellsStatus bytes None
+never_status bytes never = record { before = λ none. refl; after = λ head text has. absurd (never_now bytes never head text has) }
+
+pub never_length : (method : Method) (bytes : List ℕ) → NeverHasFinalHead bytes → TellsLength method bytes 0
+never_length method bytes never = record { before = λ none. refl; after = λ head text has. absurd (never_now bytes never head text has) }
+
+-- one piece more changes nothing
+pub faulty_more : (method : Method) (bytes piece : List ℕ) (fault : ReadFault) (head : Option Head) → IsFaulty method bytes fault head → IsFaulty method (bytes ++ piece) fault head
+faulty_more method bytes piece fault head faulty = record {
+  first = first_further (Shows method) (HasLongSection method) bytes piece fault faulty.first;
+  tells = go head faulty.tells;
+}
+  where
+    go : (head : Option Head) → TellsFinalHead bytes head → TellsFinalHead (bytes ++ piece) head
+    go None never = λ more. subst HasNoFinalHead (sym (append_assoc bytes piece more)) (never (piece ++ more))
+    go (Some told) (text, passes) = (text ++ piece, passes_more bytes text piece told passes)
+
+-- want of memory is never shown
+pub memory_never : (method : Method) (bytes : List ℕ) (fault : ReadFault) → IsFirstFault method bytes fault → fault ≢ Memory
+memory_never method bytes fault first is = never_shown method first.front (subst (Shows method first.front) is first.shown)
+  where
+    in_body : (kind : Framing) (counted : Option ℕ) (text : List ℕ) → BodyShows kind counted text Memory → ⊥
+    in_body NoBody counted text shown = shown
+    in_body Counted counted text shown = (let e : Memory ≡ BadLength = shown.0 in cc)
+    in_body Chunked counted text (inl shown) = (let e : Memory ≡ BadChunk = shown.0 in cc)
+    in_body Chunked counted text (inr shown) = shown.shows
+    in_body UntilClose counted text shown = (let e : Memory ≡ BadLength = shown.0 in cc)
+    in_body Faulty counted text shown = shown
+
+    never_shown : (method : Method) (front : List ℕ) → Shows method front Memory → ⊥
+    never_shown method front (inl shown) = shown.shows
+    never_shown method front (inr (inl shown)) = (let e : Memory ≡ TooManyInterims = shown.0 in cc)
+    never_shown method front (inr (inr shown)) = in_body (body_kind method shown.head) (counted_length (fields_of shown.head)) shown.text shown.shows
+
+-- ---- the number of body bytes when a fault was first answered
+
+-- no final head ever came
+pub length_none : (method : Method) (bytes piece : List ℕ) → NeverHasFinalHead (bytes ++ piece) → TellsLengthWithin method bytes piece 0
+length_none method bytes piece never = record {
+  taken = length piece;
+  within = omega arith;
+  tells = subst (λ (t : List ℕ). TellsLength method (bytes ++ t) 0) (sym (take_all (length piece) piece (omega arith))) (never_length method (bytes ++ piece) never);
+}
+
+-- the final head ends the bytes before the piece, of whose body there is none
+pub length_empty : (method : Method) (bytes piece : List ℕ) (told : Head) (passes : PassesHead bytes told []) → TellsBodyLength (body_kind method passes.head) told.counted [] 0
+    → TellsLengthWithin method bytes piece 0
+length_empty method bytes piece told passes came = record {
+  taken = 0;
+  within = omega arith;
+  tells = subst (λ (t : List ℕ). TellsLength method t 0) (sym (append-nil bytes)) (passes_length method bytes told [] passes 0 came);
+}
+
+-- some of the piece was counted
+pub length_counted : (method : Method) (bytes text piece : List ℕ) (told : Head) (passes : PassesHead bytes told text) (len : ℕ)
+    → CountsFront (body_kind method passes.head) told.counted text piece len → TellsLengthWithin method bytes piece len
+length_counted method bytes text piece told passes len counts = record {
+  taken = counts.used;
+  within = counts.within;
+  tells = passes_length method (bytes ++ take counts.used piece) told (text ++ take counts.used piece) (passes_more bytes text (take counts.used piece) told passes) len counts.counts;
+}
+
+-- the same after a front of the piece
+pub length_further : (method : Method) (bytes piece front rest : List ℕ) (len : ℕ) → piece ≡ front ++ rest → TellsLengthWithin method (bytes ++ front) rest len
+    → TellsLengthWithin method bytes piece len
+length_further method bytes piece front rest len is counts = record {
+  taken = length front + counts.taken;
+  within = (let w = counts.within in omega (arith, w, ap length is, length-append front rest));
+  tells = subst (λ (t : List ℕ). TellsLength method t len)
+      (append_assoc bytes front (take counts.taken rest)
+      ∙ ap (λ (t : List ℕ). bytes ++ t) (sym (ap (take (length front + counts.taken)) is ∙ take-append-add front rest counts.taken))) counts.tells;
+}
+
+-- no line before a chunk stands in no text
+no_line : (size : ℕ) (rest : List ℕ) → ReadsSizeLine size [] rest → ⊥
+no_line size rest reads = omega (
+  arith,
+  ap length reads.reads,
+  length-append (print_chunk_line reads.line) rest,
+  ap length (print_words reads.line),
+  length-append (words_of reads.line) (13 ∷ 10 ∷ []),
+)
+
+-- so no data of a body in chunks came in it
+no_data : (sizes rest : List ℕ) → ReadsEach ReadsChunk sizes [] rest → (begun : ℕ) × TellsBegun rest begun × (0 ≡ sum sizes + begun)
+no_data [] rest is = (0, record { before = λ none. refl; after = λ size more line. absurd (no_line size more (subst (λ (t : List ℕ). ReadsSizeLine size t more) (sym is) line)) }, refl)
+no_data (size ∷ sizes) rest (middle, chunk, more) = absurd (no_line size (chunk.content ++ (crlf_bytes ++ middle)) chunk.reads)
+
+-- and no bytes of any body
+pub empty_length : (kind : Framing) (counted : Option ℕ) (fault : ReadFault) → IsFirst (BodyShows kind counted) (HasLongTrailerBy kind) [] fault → TellsBodyLength kind counted [] 0
+empty_length NoBody counted fault found = refl
+empty_length Counted counted fault found = omega arith
+empty_length Chunked counted fault found = λ sizes rest chunks none. no_data sizes rest chunks.each
+empty_length UntilClose counted fault found = refl
+empty_length Faulty counted fault found = absurd found.shown
+
+-- ---- where the final head has just come
+
+module _ (method : Method) (bytes kept : List ℕ) (told : Head) (ends : EndsHeadsIn bytes kept told) (kind : Framing) (is : kind ≡ body_kind method ends.head) where
+  pub body_now : (state : BodyState) → BodyAt kind told.counted [] state [] → IsInBody method bytes told state kept
+  body_now state at = record {
+    text = [];
+    passes = passes_now bytes kept told ends;
+    at = subst (λ (t : List ℕ). BodyAt (body_kind method ends.head) told.counted [] state t) (sym ends.is) (subst (λ (k : Framing). BodyAt k told.counted [] state []) is at);
+  }
+
+  pub fault_now : (piece : List ℕ) (fault : ReadFault) → IsFirst (BodyShows kind told.counted) (HasLongTrailerBy kind) [] fault → IsFaulty method (bytes ++ piece) fault (Some told)
+  fault_now piece fault found = record {
+    first = first_further (Shows method) (HasLongSection method) bytes piece fault
+        (passes_fault method bytes told [] (passes_now bytes kept told ends) fault
+        (subst (λ (k : Framing). IsFirst (BodyShows k told.counted) (HasLongTrailerBy k) [] fault) is found));
+    tells = (piece, passes_more bytes [] piece told (passes_now bytes kept told ends));
+  }
+
+  pub length_now : (piece : List ℕ) (fault : ReadFault) → IsFirst (BodyShows kind told.counted) (HasLongTrailerBy kind) [] fault → TellsLengthWithin method bytes piece 0
+  length_now piece fault found =
+      length_empty method bytes piece told (passes_now bytes kept told ends)
+      (subst (λ (k : Framing). TellsBodyLength k told.counted [] 0) is (empty_length kind told.counted fault found))
+
+-- ---- a piece that is read from a place on
+
+module _ (bytes piece rest : List ℕ) (at : ℕ) (is : rest ≡ drop at piece) where
+  pub piece_whole : (bytes ++ take at piece) ++ rest ≡ bytes ++ piece
+  piece_whole = ap (λ (t : List ℕ). (bytes ++ take at piece) ++ t) is ∙ taken_and_rest bytes piece (bytes ++ take at piece) at refl
+
+  pub piece_further : (used : ℕ) → (bytes ++ take at piece) ++ take used rest ≡ bytes ++ take (at + used) piece
+  piece_further used =
+      ap (λ (t : List ℕ). (bytes ++ take at piece) ++ take used t) is ∙ append_assoc bytes (take at piece) (take used (drop at piece))
+      ∙ ap (λ (t : List ℕ). bytes ++ t) (sym (take-add at used piece))
+
+  -- and from a place further on
+  module _ (used : ℕ) (last : List ℕ) (after : last ≡ drop used rest) where
+    pub piece_last : ((bytes ++ take at piece) ++ take used rest) ++ last ≡ bytes ++ piece
+    piece_last = ap (λ (t : List ℕ). ((bytes ++ take at piece) ++ take used rest) ++ t) after
+        ∙ taken_and_rest (bytes ++ take at piece) rest ((bytes ++ take at piece) ++ take used rest) used refl ∙ piece_whole
+
+    pub length_last : (method : Method) (len : ℕ) → TellsLengthWithin method ((bytes ++ take at piece) ++ take used rest) last len → TellsLengthWithin method bytes piece len
+    length_last method len counts =
+        length_further method bytes piece (take at piece) rest len (sym (ap (λ (t : List ℕ). take at piece ++ t) is ∙ take-append-drop at piece))
+        (length_further method (bytes ++ take at piece) rest (take used rest) last len (sym (ap (λ (t : List ℕ). take used rest ++ t) after ∙ take-append-drop used rest)) counts)
+
+-- ---- any place
+
+-- nothing came yet
+pub nothing_placed : (bytes kept : List ℕ) → bytes ≡ [] → kept ≡ [] → AwaitsHeads bytes 0 kept
+nothing_placed bytes kept no_bytes none_kept =
+    subst (λ (t : List ℕ). AwaitsHeads t 0 kept) (sym no_bytes)
+    (subst (AwaitsHeads [] 0) (sym none_kept)
+    (record { interims = []; many = refl; few = omega arith; each = refl; awaited = nothing_awaited; short = omega arith }))
+
+module _ (method : Method) (bytes kept : List ℕ) where
+  pub placed_at : (one other : Place) → one ≡ other → IsPlaced method bytes one kept → IsPlaced method bytes other kept
+  placed_at one other is placed = subst (λ (place : Place). IsPlaced method bytes place kept) is placed
+
+  module _ (told : Head) (state : BodyState) (at : IsInBody method bytes told state kept) where
+    body_pieces : (ended : Bool) → TellsPieces (body_kind method at.passes.head) told.counted ended at.text state.len (whole_of state ended) state.surplus
+    body_pieces ended = tells_pieces (body_kind method at.passes.head) told.counted ended at.text state kept at.at
+
+    pub body_status : TellsStatus bytes (Some told.status)
+    body_status = passes_status method bytes told at.text at.passes
+
+    pub body_length : TellsLength method bytes state.len
+    body_length = pieces_length method bytes told at.text at.passes false state.len (whole_of state false) state.surplus (body_pieces false)
+
+    pub body_clean : IsFaultless method bytes
+    body_clean = pieces_clean method bytes told at.text at.passes false state.len (whole_of state false) state.surplus (body_pieces false)
+
+    pub body_whole : (ended : Bool) → TellsWhole method bytes ended (whole_of state ended)
+    body_whole ended = pieces_whole method bytes told at.text at.passes ended state.len (whole_of state ended) state.surplus (body_pieces ended)
+
+    pub body_facts : (request_close ended whole : Bool) (facts : Facts) → whole ≡ whole_of state ended
+        → ((head : ResponseHead) → TellsHead head told → facts ≡ facts_of method request_close head whole state.surplus) → TellsFacts method request_close bytes ended facts
+    body_facts request_close ended whole facts is given =
+        subst (TellsFacts method request_close bytes ended)
+        (sym (given at.passes.head at.passes.says ∙ ap (λ b. facts_of method request_close at.passes.head b state.surplus) is))
+        (pieces_facts method bytes told at.text at.passes ended state.len (whole_of state ended) state.surplus (body_pieces ended) request_close)
+
+  -- the bytes show the fault that is there, and none where there is none
+  pub placed_shown : (place : Place) → IsPlaced method bytes place kept → MatchOption (fault_at place) (IsFaultless method bytes) (IsFirstFault method bytes)
+  placed_shown (Heads count) at = (heads_none bytes count kept at).clean method
+  placed_shown (Body told state) at = body_clean told state at
+  placed_shown (Fault fault head len) at = at.first
+
+  -- a fault that is there is the first that the bytes show, and never want of memory
+  pub placed_fault : (place : Place) → IsPlaced method bytes place kept → (fault : ReadFault) → fault_at place ≡ Some fault
+      → (fault_at place ≡ Some fault) × IsFirstFault method bytes fault × (fault ≢ Memory)
+  placed_fault place placed fault is =
+      let first = subst (λ (f : Option ReadFault). MatchOption f (IsFaultless method bytes) (IsFirstFault method bytes)) is (placed_shown place placed) in
+      (is, first, memory_never method bytes fault first)
+
+-- the status, after a fault
+pub faulty_status : (method : Method) (bytes : List ℕ) (told : Head) → TellsFinalHead bytes (Some told) → TellsStatus bytes (Some told.status)
+faulty_status method bytes told (text, passes) = passes_status method bytes told text passes
+
+-- and the facts
+pub faulty_facts : (method : Method) (request_close : Bool) (bytes : List ℕ) (told : Head) (facts : Facts) → TellsFinalHead bytes (Some told)
+    → ((head : ResponseHead) → TellsHead head told → facts ≡ facts_of method request_close head false false)
+    → TellsFactsAfterFault method request_close bytes (record facts { framing = Faulty })
+faulty_facts method request_close bytes told facts (text, passes) given =
+    subst (TellsFactsAfterFault method request_close bytes) (sym (ap (λ (f : Facts). record f { framing = Faulty }) (given passes.head passes.says)))
+    (passes_facts method bytes told text passes request_close)

@@ -1,0 +1,40 @@
+-- A reader of a response, and what it tells of the bytes fed so far.
+use Rattle.std.specs.Prelude.{ℕ, ◌≤◌, Bool, false, List, [], ◌++◌, length, take, Option, None}
+use Rattle.persistence.specs.declared.fault.ReadFault.{ReadFault}
+use Rattle.persistence.specs.declared.method.Method.{Method}
+use Rattle.persistence.specs.declared.answer.Fed.{Fed}
+use Rattle.persistence.specs.declared.answer.Fed.TheVariants.{More, Whole}
+use Rattle.persistence.specs.Split.{Parts, IsSplit}
+use Rattle.persistence.specs.Told.{IsNotWhole, TellsLength}
+
+-- a reader: the request's method, and whether the request had the connection option close; the bytes fed
+-- so far, and whether the connection has ended; the fault that was answered; and the number of body bytes
+pub record Reading : Type 0 where
+  pub method : Method
+  pub request_close : Bool
+  pub bytes : List ℕ
+  pub ended : Bool
+  pub fault : Option ReadFault
+  pub len : ℕ
+
+-- the reader of a new response
+abbrev pub unread : Method → Bool → Reading
+unread method request_close = record {
+  method = method;
+  request_close = request_close;
+  bytes = [];
+  ended = false;
+  fault = None;
+  len = 0;
+}
+
+-- whether the response is whole while the connection lasts
+abbrev pub TellsFed : Method → List ℕ → Fed → Type 0
+TellsFed method bytes More = IsNotWhole method bytes false
+TellsFed method bytes Whole = (parts : Parts) × IsSplit method bytes false parts
+
+-- the number of body bytes that the bytes tell with a front of the piece
+pub record TellsLengthWithin (method : Method) (bytes piece : List ℕ) (len : ℕ) : Type 0 where
+  pub taken : ℕ
+  pub within : taken ≤ length piece
+  pub tells : TellsLength method (bytes ++ take taken piece) len

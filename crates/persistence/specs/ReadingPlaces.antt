@@ -1,0 +1,55 @@
+-- What is known where a response is read. No public contract needs these words.
+use Rattle.std.specs.Prelude.{ℕ, List, Option, None, Some}
+use Rattle.httparse.specs.Grammar.{ResponseHead}
+use Rattle.persistence.specs.declared.fault.ReadFault.{ReadFault}
+use Rattle.persistence.specs.declared.method.Method.{Method}
+use Rattle.persistence.specs.declared.head.Head.{Head}
+use Rattle.persistence.specs.declared.body_state.BodyState.{BodyState}
+use Rattle.persistence.specs.declared.place.Place.{Place}
+use Rattle.persistence.specs.declared.place.Place.TheVariants.{Heads, Body, Fault}
+use Rattle.persistence.specs.Heads.{HasFinalHead}
+use Rattle.persistence.specs.Framing.{body_kind}
+use Rattle.persistence.specs.Faults.{IsFirstFault}
+use Rattle.persistence.specs.Reading.{TellsHead}
+use Rattle.persistence.specs.ReadingPieces.{AwaitsHeads, NeverHasFinalHead}
+use Rattle.persistence.specs.BodyPieces.{BodyAt}
+
+-- the final head came, which says this, and so did this text after it
+pub record PassesHead (bytes : List ℕ) (told : Head) (text : List ℕ) : Type 0 where
+  pub head : ResponseHead
+  pub has : HasFinalHead bytes head text
+  pub says : TellsHead head told
+
+-- the final head came, which says this, and the body stands there
+pub record IsInBody (method : Method) (bytes : List ℕ) (told : Head) (body : BodyState) (kept : List ℕ) : Type 0 where
+  pub text : List ℕ
+  pub passes : PassesHead bytes told text
+  pub at : BodyAt (body_kind method passes.head) told.counted text body kept
+
+-- the final head, as far as the bytes have one
+abbrev pub TellsFinalHead : List ℕ → Option Head → Type 0
+TellsFinalHead bytes None = NeverHasFinalHead bytes
+TellsFinalHead bytes (Some told) = (text : List ℕ) × PassesHead bytes told text
+
+-- the bytes show the fault first, and have that final head
+pub record IsFaulty (method : Method) (bytes : List ℕ) (fault : ReadFault) (head : Option Head) : Type 0 where
+  pub first : IsFirstFault method bytes fault
+  pub tells : TellsFinalHead bytes head
+
+-- what is known at that place, where the buffer keeps these bytes
+abbrev pub IsPlaced : Method → List ℕ → Place → List ℕ → Type 0
+IsPlaced method bytes (Heads skipped) kept = AwaitsHeads bytes skipped kept
+IsPlaced method bytes (Body head body) kept = IsInBody method bytes head body kept
+IsPlaced method bytes (Fault fault head len) kept = IsFaulty method bytes fault head
+
+-- the fault that was answered
+abbrev pub fault_at : Place → Option ReadFault
+fault_at (Heads skipped) = None
+fault_at (Body head body) = None
+fault_at (Fault fault head len) = Some fault
+
+-- the number of body bytes that is told there
+abbrev pub len_at : Place → ℕ
+len_at (Heads skipped) = 0
+len_at (Body head body) = body.len
+len_at (Fault fault head len) = len

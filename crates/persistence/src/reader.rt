@@ -1,0 +1,209 @@
+//! A response that is read in whatever pieces its bytes come.
+ghost use Rattle.std.specs.Prelude.{◌≡◌, ◌≢◌, ℕ, false, true, List, ◌++◌, Err, None, Some, MatchOption, IfOk, IfErr};
+ghost use Rattle.persistence.specs.declared.fault.ReadFault.{ReadFault};
+ghost use Rattle.persistence.specs.declared.fault.ReadFault.TheVariants.{Memory};
+ghost use Rattle.persistence.specs.declared.method.Method.{Method};
+ghost use Rattle.persistence.specs.Told.{is_some_text, TellsFacts, TellsFactsAfterFault, TellsStatus, TellsLength};
+ghost use Rattle.persistence.specs.Faults.{IsFaultless, IsFirstFault};
+ghost use Rattle.persistence.specs.Reader.{unread, TellsFed, TellsLengthWithin};
+ghost use Rattle.persistence.specs.ReadingPlaces.{IsPlaced, fault_at};
+
+use crate::buffer::Buffer;
+use crate::bytes_fed::BytesFed;
+use crate::place::{Place, place_after};
+use crate::response::facts_before_head;
+use crate::{Facts, Fed, Framing, Method, ReadFault};
+use std::alloc::Global;
+use std::marker::Model;
+
+/// A reader of the response to one request: it is fed the bytes in whatever pieces they come, and tells of
+/// all bytes so far what `read_response` tells of them at once (RFC 9112, sections 2.1, 6.3 and 7.1). It
+/// keeps 16,384 bytes of memory, taken when it is made.
+#[derive(Drop)]
+pub struct ResponseReader {
+    method: Method,
+    request_close: bool,
+    buffer: Buffer,
+    place: Place,
+    ended: bool,
+    any_byte: bool,
+    fed: BytesFed,
+}
+
+impl Model for ResponseReader {
+    ghost use Rattle.persistence.specs.Reader.{Reading};
+
+    ghost Value = { Reading };
+
+    ghost use Rattle.std.specs.Prelude.{◌≡◌};
+    ghost use Rattle.persistence.specs.declared.method.Method.{Method};
+    ghost use Rattle.persistence.specs.Told.{is_some_text};
+    ghost use Rattle.persistence.specs.ReadingPlaces.{IsPlaced, fault_at, len_at};
+
+    ghost view = { λ reader. record {
+      method = reader.method;
+      request_close = reader.request_close;
+      bytes = reader.fed.bytes;
+      ended = reader.ended;
+      fault = fault_at reader.place;
+      len = len_at reader.place;
+    } };
+
+    ghost invariant = { λ reader. record {
+      placed : IsPlaced reader.method reader.fed.bytes reader.place reader.buffer;
+      any : reader.any_byte ≡ is_some_text reader.fed.bytes;
+    } };
+}
+
+impl ResponseReader {
+    /// A reader that was fed nothing, for the response to a request of that method, which had the connection
+    /// option `close` or not. All memory is taken here.
+    ///
+    /// # Errors
+    ///
+    /// `Memory`: there is no memory for it.
+    pub fn new(
+        alloc: Global,
+        method: Method,
+        request_close: bool,
+    ) -> Result<ResponseReader, ReadFault>
+        ensures unread { IfOk result (λ reader. reader ≡ unread method request_close) }
+        ensures memory { IfErr result (λ fault. fault ≡ Memory) }
+    {
+        let Ok(buffer) = Buffer::new(alloc) else {
+            return Err(ReadFault::Memory);
+        };
+        Ok(ResponseReader {
+            method,
+            request_close,
+            buffer,
+            place: Place::Heads { skipped: 0 },
+            ended: false,
+            any_byte: false,
+            fed: BytesFed::new(),
+        })
+    }
+
+    /// Reads one piece more, of any length: `Whole` from the piece on by which the response is whole, and
+    /// `More` before. What follows the response's end is noted and dropped. It takes no memory.
+    ///
+    /// # Errors
+    ///
+    /// The first fault that the bytes show, as `read_response` answers it for all of them: `BadHead`,
+    /// `HeadTooLong`, `TooManyInterims`, `BadLength`, `BadChunk` or `TrailerTooLong`, from the piece on by
+    /// which they show it. `Memory` never comes.
+    pub fn feed(&mut self, piece: &[u8]) -> Result<Fed, ReadFault>
+        requires { self.old.ended ≡ false }
+        ensures bytes { self.new.bytes ≡ self.old.bytes ++ piece.now }
+        ensures same { (self.new.method ≡ self.old.method) × (self.new.request_close ≡ self.old.request_close) × (self.new.ended ≡ self.old.ended) }
+        ensures told { IfOk result (TellsFed self.old.method self.new.bytes) }
+        ensures clean { IfOk result (λ _. (self.new.fault ≡ None) × IsFaultless self.old.method self.new.bytes) }
+        ensures fault { IfErr result (λ fault. (self.new.fault ≡ Some fault) × IsFirstFault self.old.method self.new.bytes fault × (fault ≢ Memory)) }
+        ensures again { (fault : ReadFault) → self.old.fault ≡ Some fault → (result ≡ Err fault) × (self.new.len ≡ self.old.len) }
+        ensures counts { self.old.fault ≡ None → IfErr result (λ _. TellsLengthWithin self.old.method self.old.bytes piece.now self.new.len) }
+    {
+        self.any_byte |= !piece.is_empty();
+        self.place = place_after(self.method, &mut self.buffer, self.place, piece);
+        self.fed.append(piece);
+        answer_at(&self.place)
+    }
+
+    /// The connection has ended: a body that lasts until then is whole. Nothing else changes.
+    pub fn end(&mut self)
+        ensures { self.new ≡ record self.old { ended = true } }
+    {
+        self.ended = true;
+    }
+
+    /// Whether the connection has ended.
+    pub fn ended(&self) -> bool
+        ensures { result ≡ self.now.ended }
+    {
+        self.ended
+    }
+
+    /// Whether a byte was fed.
+    pub fn any_byte(&self) -> bool
+        ensures { result ≡ is_some_text self.now.bytes }
+    {
+        self.any_byte
+    }
+
+    /// The status of the final head, once that has come; a fault does not change it.
+    pub fn status(&self) -> Option<u16>
+        ensures { TellsStatus self.now.bytes result }
+    {
+        match self.place {
+            Place::Heads { .. } => None,
+            Place::Body { head, .. } => Some(head.status),
+            Place::Fault { head, .. } => match head {
+                None => None,
+                Some(head) => Some(head.status),
+            },
+        }
+    }
+
+    /// What decides whether the response's connection persists, and whether the response is whole. After a
+    /// fault no framing can be relied on, and the response is never whole.
+    pub fn facts(&self) -> Facts
+        ensures shown { MatchOption self.now.fault (IsFaultless self.now.method self.now.bytes) (IsFirstFault self.now.method self.now.bytes) }
+        ensures told { self.now.fault ≡ None → TellsFacts self.now.method self.now.request_close self.now.bytes self.now.ended result }
+        ensures after_fault { (fault : ReadFault) → self.now.fault ≡ Some fault → TellsFactsAfterFault self.now.method self.now.request_close self.now.bytes result }
+    {
+        facts_at(self.method, self.request_close, &self.place, self.ended)
+    }
+
+    /// How many bytes of the body have come, of chunks the data alone; after a fault, how many had come when
+    /// it was first answered.
+    pub fn body_len(&self) -> u64
+        ensures len { result ≡ self.now.len }
+        ensures told { self.now.fault ≡ None → TellsLength self.now.method self.now.bytes result }
+    {
+        match self.place {
+            Place::Heads { .. } => 0,
+            Place::Body { body, .. } => body.len,
+            Place::Fault { len, .. } => len,
+        }
+    }
+}
+
+// What the reader answers there, while the connection lasts.
+fn answer_at(place: &Place) -> Result<Fed, ReadFault>
+    ensures told { (method : Method) (bytes kept : List ℕ) → IsPlaced method bytes place.now kept → IfOk result (TellsFed method bytes) }
+    ensures clean { (method : Method) (bytes kept : List ℕ) → IsPlaced method bytes place.now kept
+        → IfOk result (λ _. (fault_at place.now ≡ None) × IsFaultless method bytes) }
+    ensures fault { IfErr result (λ fault. fault_at place.now ≡ Some fault) }
+{
+    match place {
+        Place::Heads { .. } => Ok(Fed::More),
+        Place::Body { body, .. } => {
+            if body.is_whole(false) {
+                return Ok(Fed::Whole);
+            }
+            Ok(Fed::More)
+        }
+        Place::Fault { fault, .. } => Err(*fault),
+    }
+}
+
+// The facts there.
+fn facts_at(method: Method, request_close: bool, place: &Place, ended: bool) -> Facts
+    ensures told { (bytes kept : List ℕ) → IsPlaced method bytes place.now kept → fault_at place.now ≡ None
+        → TellsFacts method request_close bytes ended result }
+    ensures after_fault { (bytes kept : List ℕ) → IsPlaced method bytes place.now kept → (fault : ReadFault) → fault_at place.now ≡ Some fault
+        → TellsFactsAfterFault method request_close bytes result }
+{
+    match place {
+        Place::Heads { .. } => facts_before_head(request_close),
+        Place::Body { head, body } => {
+            head.facts(method, request_close, body.is_whole(ended), body.surplus)
+        }
+        Place::Fault { head, .. } => match head {
+            None => facts_before_head(request_close),
+            Some(head) => Facts {
+                framing: Framing::Faulty,
+                ..head.facts(method, request_close, false, false)
+            },
+        },
+    }
+}
