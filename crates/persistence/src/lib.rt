@@ -41,6 +41,12 @@ pub use reader::ResponseReader;
 pub use response::{Response, read_response};
 
 #[cfg(test)]
+mod drawn_tests;
+#[cfg(test)]
+mod reader_tests;
+#[cfg(test)]
+mod response_rows;
+#[cfg(test)]
 mod response_tests;
 #[cfg(test)]
 mod tests;

@@ -1,0 +1,520 @@
+//! What a `ResponseReader` tells of responses that come in pieces: what is expected of them, and what
+//! `read_response` tells of the same bytes.
+use crate::response_rows::{FAULTS, LIMITS, NO_HEAD, ROWS, repeated};
+use crate::tests::KEEP;
+use crate::{Facts, Fed, Framing, Method, ReadFault, Response, ResponseReader, read_response};
+use std::alloc::Global;
+use std::process::Abort;
+use std::test::Fail;
+
+/// What a reader says of a response, or why it is none.
+pub(crate) type Told = Result<Response, ReadFault>;
+
+/// The most bytes of a text that is cut at every place.
+const SHORT: usize = 400;
+
+/// A response's bytes, and whether the connection ends behind them.
+#[derive(Clone, Copy)]
+pub(crate) struct Sent<'a> {
+    pub method: Method,
+    pub text: &'a [u8],
+    pub ended: bool,
+}
+
+/// The facts after a fault that came behind the head of an HTTP/1.1 response.
+const FAULTY: Facts = Facts {
+    framing: Framing::Faulty,
+    whole: false,
+    ..KEEP
+};
+
+/// Sections with a 101st field and then a bad byte: both faults may be told where all comes at once.
+const LONG_SECTIONS: [(&str, &str, &str, ReadFault, ReadFault); 2] = [
+    (
+        "a head",
+        "HTTP/1.1 204 No Content\r\n",
+        "A: b\r\n",
+        ReadFault::HeadTooLong,
+        ReadFault::BadHead,
+    ),
+    (
+        "a trailer section",
+        "HTTP/1.1 200 OK\r\nTransfer-Encoding: chunked\r\n\r\n0\r\n",
+        "T: v\r\n",
+        ReadFault::TrailerTooLong,
+        ReadFault::BadChunk,
+    ),
+];
+
+/// Whole responses, their body length and framing; bytes that come after them are surplus, and change nothing else.
+const WHOLE: [(&str, u64, Framing); 4] = [
+    (
+        "HTTP/1.1 200 OK\r\nContent-Length: 2\r\n\r\nok",
+        2,
+        Framing::Counted,
+    ),
+    (
+        "HTTP/1.1 200 OK\r\nContent-Length: 0\r\n\r\n",
+        0,
+        Framing::Counted,
+    ),
+    (
+        "HTTP/1.1 200 OK\r\nTransfer-Encoding: chunked\r\n\r\n2\r\nok\r\n0\r\nT: v\r\n\r\n",
+        2,
+        Framing::Chunked,
+    ),
+    (
+        "HTTP/1.1 200 OK\r\nTransfer-Encoding: chunked\r\n\r\n0\r\n\r\n",
+        0,
+        Framing::Chunked,
+    ),
+];
+
+/// Texts, and whether the response is whole before and after the connection's end.
+const ENDS: [(&str, &str, bool, bool); 12] = [
+    ("no byte", "", false, false),
+    (
+        "a part of a head",
+        "HTTP/1.1 200 OK\r\nA: b\r",
+        false,
+        false,
+    ),
+    (
+        "an interim head alone",
+        "HTTP/1.1 100 Continue\r\n\r\n",
+        false,
+        false,
+    ),
+    (
+        "no body byte of two",
+        "HTTP/1.1 200 OK\r\nContent-Length: 2\r\n\r\n",
+        false,
+        false,
+    ),
+    (
+        "one body byte of two",
+        "HTTP/1.1 200 OK\r\nContent-Length: 2\r\n\r\no",
+        false,
+        false,
+    ),
+    (
+        "a counted body",
+        "HTTP/1.1 200 OK\r\nContent-Length: 2\r\n\r\nok",
+        true,
+        true,
+    ),
+    (
+        "a body of no byte, until the connection's end",
+        "HTTP/1.1 200 OK\r\n\r\n",
+        false,
+        true,
+    ),
+    (
+        "a body of two bytes, until the connection's end",
+        "HTTP/1.1 200 OK\r\n\r\nok",
+        false,
+        true,
+    ),
+    (
+        "chunks without their last line",
+        "HTTP/1.1 200 OK\r\nTransfer-Encoding: chunked\r\n\r\n2\r\nok\r\n",
+        false,
+        false,
+    ),
+    (
+        "chunks without the trailer section's last CR LF",
+        "HTTP/1.1 200 OK\r\nTransfer-Encoding: chunked\r\n\r\n2;a=b\r\nok\r\n0\r\nT: v\r\n",
+        false,
+        false,
+    ),
+    (
+        "chunks without the trailer section's last LF",
+        "HTTP/1.1 200 OK\r\nTransfer-Encoding: chunked\r\n\r\n2;a=b\r\nok\r\n0\r\nT: v\r\n\r",
+        false,
+        false,
+    ),
+    (
+        "chunks with an extension and a trailer section",
+        "HTTP/1.1 200 OK\r\nTransfer-Encoding: chunked\r\n\r\n2;a=b\r\nok\r\n0\r\nT: v\r\n\r\n",
+        true,
+        true,
+    ),
+];
+
+/// What the reader tells of what it was fed.
+fn response_of(reader: &ResponseReader) -> Response {
+    Response {
+        status: reader.status(),
+        facts: reader.facts(),
+        body_len: reader.body_len(),
+    }
+}
+
+/// What the reader tells after the piece; `feed` answers `Whole` exactly where the facts say so, and after a
+/// fault there is no framing.
+pub(crate) fn fed(rt: &impl Abort, reader: &mut ResponseReader, piece: &[u8]) -> Told {
+    assert!(rt; !reader.ended());
+    match reader.feed(piece) {
+        Ok(found) => {
+            assert_eq!(rt; matches!(found, Fed::Whole), reader.facts().whole);
+            Ok(response_of(reader))
+        }
+        Err(fault) => {
+            assert_eq!(rt; reader.facts().framing, Framing::Faulty);
+            assert!(rt; !reader.facts().whole);
+            Err(fault)
+        }
+    }
+}
+
+/// What the reader tells after the connection's end; nothing changes after a fault.
+pub(crate) fn at_end(rt: &impl Abort, reader: &mut ResponseReader, told: Told) -> Told {
+    let before = response_of(reader);
+    reader.end();
+    assert!(rt; reader.ended());
+    match told {
+        Ok(_) => Ok(response_of(reader)),
+        Err(fault) => {
+            assert_eq!(rt; response_of(reader), before);
+            Err(fault)
+        }
+    }
+}
+
+/// A reader that was fed the text, in a first piece of so many bytes and pieces of `each` bytes behind it, and what it
+/// told last; once it told a fault it tells no other.
+fn reader_fed(
+    rt: &impl Abort,
+    alloc: Global,
+    sent: Sent,
+    first: usize,
+    each: usize,
+) -> Result<(ResponseReader, Told), ReadFault> {
+    let mut reader = ResponseReader::new(alloc, sent.method, false)?;
+    let first = first.min(sent.text.len());
+    let mut told = fed(rt, &mut reader, &sent.text[..first]);
+    for piece in sent.text[first..].chunks(each.max(1)) {
+        let next = fed(rt, &mut reader, piece);
+        assert!(rt; told.is_ok() || next == told, "another fault");
+        told = next;
+    }
+    if sent.ended {
+        told = at_end(rt, &mut reader, told);
+    }
+    Ok((reader, told))
+}
+
+/// What a reader tells of the text in such pieces.
+fn told_in_pieces(rt: &impl Abort, alloc: Global, sent: Sent, first: usize, each: usize) -> Told {
+    match reader_fed(rt, alloc, sent, first, each) {
+        Ok((_, told)) => told,
+        Err(fault) => Err(fault),
+    }
+}
+
+/// Cuts the text at every place, and checks what is told of each two pieces.
+fn check_cuts(rt: &impl Abort, alloc: Global, case: &str, sent: Sent, told: Told) {
+    for first in 0..sent.text.len() {
+        let found = told_in_pieces(rt, alloc, sent, first, SHORT);
+        assert_eq!(rt; found, told, "{case}, cut at {first}");
+    }
+}
+
+/// Feeds the bytes from a place on one by one; after each it is told what `read_response` tells of all bytes so far.
+fn check_fronts(
+    rt: &impl Abort,
+    alloc: Global,
+    case: &str,
+    sent: Sent,
+    from: usize,
+) -> Result<(), ReadFault> {
+    let Sent { method, text, .. } = sent;
+    let from = from.min(text.len());
+    let mut reader = ResponseReader::new(alloc, method, false)?;
+    let start = fed(rt, &mut reader, &text[..from]);
+    assert_eq!(rt;
+        start,
+        read_response(method, false, &text[..from], false),
+        "{case}"
+    );
+    for place in from..text.len() {
+        let found = fed(rt, &mut reader, &text[place..place + 1]);
+        let plain = read_response(method, false, &text[..place + 1], false);
+        assert_eq!(rt; found, plain, "{case}, byte {place}");
+    }
+    Ok(())
+}
+
+/// Checks what is told of the text: at once, byte by byte, and cut in two at every place.
+fn check_short(
+    rt: &impl Abort,
+    alloc: Global,
+    case: &str,
+    sent: Sent,
+    told: Told,
+) -> Result<(), ReadFault> {
+    let plain = read_response(sent.method, false, sent.text, sent.ended);
+    assert_eq!(rt; plain, told, "{case}, by the plain reader");
+    let at_once = told_in_pieces(rt, alloc, sent, sent.text.len(), 1);
+    assert_eq!(rt; at_once, told, "{case}, at once");
+    let by_byte = told_in_pieces(rt, alloc, sent, 0, 1);
+    assert_eq!(rt; by_byte, told, "{case}, byte by byte");
+    check_cuts(rt, alloc, case, sent, told);
+    check_fronts(rt, alloc, case, sent, 0)
+}
+
+/// Checks what is told of the text: at once, in pieces of 1,000 bytes, and with its last 50 bytes one by one. All of
+/// it byte by byte would take too long, since a head is parsed again at each byte.
+fn check_long(
+    rt: &impl Abort,
+    alloc: Global,
+    case: &str,
+    sent: Sent,
+    told: Told,
+) -> Result<(), ReadFault> {
+    let last = sent.text.len().saturating_sub(50);
+    let at_once = told_in_pieces(rt, alloc, sent, sent.text.len(), 1);
+    assert_eq!(rt; at_once, told, "{case}, at once");
+    let by_thousands = told_in_pieces(rt, alloc, sent, 0, 1_000);
+    assert_eq!(rt; by_thousands, told, "{case}, by thousands");
+    let by_byte = told_in_pieces(rt, alloc, sent, last, 1);
+    assert_eq!(rt; by_byte, told, "{case}, the last 50 bytes one by one");
+    check_fronts(rt, alloc, case, sent, last)
+}
+
+#[test]
+fn responses_come_in_pieces(rt: HostRuntime) -> Result<(), Fail> {
+    for (case, method, text, ended, status, body_len, facts, _) in ROWS {
+        let told = Ok(Response {
+            status,
+            facts,
+            body_len,
+        });
+        let text = text.as_bytes();
+        assert!(rt; text.len() <= SHORT, "{case}");
+        let sent = Sent {
+            method,
+            text,
+            ended,
+        };
+        check_short(&rt, rt.alloc(), case, sent, told)?;
+    }
+    Ok(())
+}
+
+#[test]
+fn faults_come_in_pieces(rt: HostRuntime) -> Result<(), Fail> {
+    for (case, text, fault, _) in FAULTS {
+        let text = text.as_bytes();
+        assert!(rt; text.len() <= SHORT, "{case}");
+        let sent = Sent {
+            method: Method::Get,
+            text,
+            ended: false,
+        };
+        check_short(&rt, rt.alloc(), case, sent, Err(fault))?;
+    }
+    Ok(())
+}
+
+#[test]
+fn limits_are_kept_in_pieces(rt: HostRuntime) -> Result<(), Fail> {
+    for (case, start, piece, count, end, expected) in LIMITS {
+        let text = repeated(rt.alloc(), start, piece, count, end)?;
+        let sent = Sent {
+            method: Method::Get,
+            text: &text,
+            ended: false,
+        };
+        let told = read_response(Method::Get, false, &text, false);
+        let found = match told {
+            Ok(response) => Ok((response.status, response.body_len, response.facts.whole)),
+            Err(fault) => Err(fault),
+        };
+        assert_eq!(rt; found, expected, "{case}");
+        if text.len() <= SHORT {
+            check_short(&rt, rt.alloc(), case, sent, told)?;
+        } else {
+            check_long(&rt, rt.alloc(), case, sent, told)?;
+        }
+    }
+    Ok(())
+}
+
+#[test]
+fn a_long_section_shows_one_of_two_faults(rt: HostRuntime) -> Result<(), Fail> {
+    for (case, start, field, long, bad) in LONG_SECTIONS {
+        let text = repeated(rt.alloc(), start, field, 101, "\u{1}")?;
+        let sent = Sent {
+            method: Method::Get,
+            text: &text,
+            ended: false,
+        };
+        let at_once = told_in_pieces(&rt, rt.alloc(), sent, text.len(), 1);
+        assert!(rt; at_once == Err(long) || at_once == Err(bad), "{case}");
+        let plain = read_response(Method::Get, false, &text, false);
+        assert!(rt; plain == Err(long) || plain == Err(bad), "{case}");
+        let by_byte = told_in_pieces(&rt, rt.alloc(), sent, 0, 1);
+        assert_eq!(rt; by_byte, Err(long), "{case}, byte by byte");
+    }
+    Ok(())
+}
+
+/// Feeds more to a reader that told a fault; it tells the same fault, and nothing else of it changes.
+fn check_fault_stays(
+    rt: &impl Abort,
+    reader: &mut ResponseReader,
+    case: &str,
+    fault: ReadFault,
+    after: Response,
+) {
+    assert_eq!(rt; response_of(reader), after, "{case}");
+    for more in ["", "x", "\r\n", "HTTP/1.1 204 No Content\r\n\r\n"] {
+        assert_eq!(rt; fed(rt, reader, more.as_bytes()), Err(fault), "{case}");
+        assert_eq!(rt; response_of(reader), after, "{case}");
+    }
+    assert_eq!(rt; at_end(rt, reader, Err(fault)), Err(fault), "{case}");
+    assert!(rt; reader.any_byte(), "{case}");
+}
+
+#[test]
+fn a_fault_stays(rt: HostRuntime) -> Result<(), Fail> {
+    for (case, text, fault, came) in FAULTS {
+        let after = match came {
+            Some(body_len) => Response {
+                status: Some(200),
+                facts: FAULTY,
+                body_len,
+            },
+            None => Response {
+                status: None,
+                facts: NO_HEAD,
+                body_len: 0,
+            },
+        };
+        let sent = Sent {
+            method: Method::Get,
+            text: text.as_bytes(),
+            ended: false,
+        };
+        let (mut at_once, told) = reader_fed(&rt, rt.alloc(), sent, SHORT, SHORT)?;
+        assert_eq!(rt; told, Err(fault), "{case}");
+        check_fault_stays(&rt, &mut at_once, case, fault, after);
+        let (mut by_byte, told) = reader_fed(&rt, rt.alloc(), sent, 0, 1)?;
+        assert_eq!(rt; told, Err(fault), "{case}, byte by byte");
+        check_fault_stays(&rt, &mut by_byte, case, fault, after);
+    }
+    Ok(())
+}
+
+#[test]
+fn bytes_after_a_whole_response_are_surplus(rt: HostRuntime) -> Result<(), Fail> {
+    for (text, body_len, framing) in WHOLE {
+        let mut reader = ResponseReader::new(rt.alloc(), Method::Get, false)?;
+        let whole = Response {
+            status: Some(200),
+            facts: Facts { framing, ..KEEP },
+            body_len,
+        };
+        let with_surplus = Response {
+            facts: Facts {
+                surplus: true,
+                ..whole.facts
+            },
+            ..whole
+        };
+        assert_eq!(rt; fed(&rt, &mut reader, text.as_bytes()), Ok(whole), "{text}");
+        assert_eq!(rt; fed(&rt, &mut reader, b""), Ok(whole), "{text}");
+        assert_eq!(rt; fed(&rt, &mut reader, b"\x01"), Ok(with_surplus), "{text}");
+        assert_eq!(rt; fed(&rt, &mut reader, b""), Ok(with_surplus), "{text}");
+        assert_eq!(rt;
+            fed(&rt, &mut reader, text.as_bytes()),
+            Ok(with_surplus),
+            "{text}"
+        );
+        let told = at_end(&rt, &mut reader, Ok(with_surplus));
+        assert_eq!(rt; told, Ok(with_surplus), "{text}");
+    }
+    Ok(())
+}
+
+#[test]
+fn the_end_makes_whole_what_lasts_until_it(rt: HostRuntime) -> Result<(), Fail> {
+    for (case, text, whole_before, whole_after) in ENDS {
+        let sent = Sent {
+            method: Method::Get,
+            text: text.as_bytes(),
+            ended: false,
+        };
+        let (mut reader, told) = reader_fed(&rt, rt.alloc(), sent, 0, 1)?;
+        let before = response_of(&reader);
+        assert_eq!(rt; told, Ok(before), "{case}");
+        assert_eq!(rt; before.facts.whole, whole_before, "{case}");
+        let after = Response {
+            facts: Facts {
+                whole: whole_after,
+                ..before.facts
+            },
+            ..before
+        };
+        assert_eq!(rt; at_end(&rt, &mut reader, told), Ok(after), "{case}");
+        reader.end();
+        assert_eq!(rt; response_of(&reader), after, "{case}");
+        assert_eq!(rt; reader.any_byte(), !text.is_empty(), "{case}");
+    }
+    Ok(())
+}
+
+#[test]
+fn what_the_request_asked_is_told(rt: HostRuntime) -> Result<(), Fail> {
+    let mut reader = ResponseReader::new(rt.alloc(), Method::Head, true)?;
+    let before = Facts {
+        request_close: true,
+        ..NO_HEAD
+    };
+    assert!(rt; !reader.ended());
+    assert_eq!(rt; reader.facts(), before);
+    assert_eq!(rt; (reader.status(), reader.body_len()), (None, 0));
+    let text = b"HTTP/1.1 200 OK\r\nContent-Length: 2\r\n\r\n";
+    let facts = Facts {
+        request_close: true,
+        framing: Framing::NoBody,
+        ..KEEP
+    };
+    let told = Response {
+        status: Some(200),
+        facts,
+        body_len: 0,
+    };
+    assert_eq!(rt; fed(&rt, &mut reader, text), Ok(told));
+    Ok(())
+}
+
+#[test]
+fn any_byte_tells_of_the_first(rt: HostRuntime) -> Result<(), Fail> {
+    let mut reader = ResponseReader::new(rt.alloc(), Method::Get, false)?;
+    assert!(rt; !reader.any_byte());
+    assert!(rt; fed(&rt, &mut reader, b"").is_ok());
+    assert!(rt; !reader.any_byte());
+    assert!(rt; fed(&rt, &mut reader, b"\n").is_ok());
+    assert!(rt; reader.any_byte());
+    assert!(rt; fed(&rt, &mut reader, b"").is_ok());
+    assert!(rt; reader.any_byte());
+    Ok(())
+}
+
+/// Passes whichever allocation fails: `new` says so, and what follows asks for none.
+#[test]
+fn want_of_memory_refuses_a_reader(rt: HostRuntime) {
+    let (text, body_len, _) = WHOLE[2];
+    match ResponseReader::new(rt.alloc(), Method::Get, false) {
+        Ok(mut reader) => {
+            for piece in text.as_bytes().chunks(1) {
+                assert!(rt; fed(&rt, &mut reader, piece).is_ok());
+            }
+            assert!(rt; reader.facts().whole);
+            assert_eq!(rt; reader.body_len(), body_len);
+        }
+        Err(fault) => assert_eq!(rt; fault, ReadFault::Memory),
+    }
+}
