@@ -41,6 +41,8 @@ pub use reader::ResponseReader;
 pub use response::{Response, read_response};
 
 #[cfg(test)]
+mod cost_tests;
+#[cfg(test)]
 mod drawn_tests;
 #[cfg(test)]
 mod reader_tests;
