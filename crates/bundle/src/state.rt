@@ -271,10 +271,10 @@ impl<S: Drop> State<S> {
         if !self.queue.is_empty() || self.is_exhausted() {
             return None;
         }
+        let place = newest_if_suiting(&self.idle, want, moment)?;
         if let Some(_) = first_too_old(&self.idle, want, moment) {
             return None;
         }
-        let place = newest_if_suiting(&self.idle, want, moment)?;
         let last = &self.idle[place];
         let held = Held {
             number: last.number,
