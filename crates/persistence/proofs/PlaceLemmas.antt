@@ -304,6 +304,11 @@ module _ (method : Method) (bytes kept : List ℕ) where
         (sym (given at.passes.head at.passes.says ∙ ap (λ b. facts_of method request_close at.passes.head b state.surplus) is))
         (pieces_facts method bytes told at.text at.passes ended state.len (whole_of state ended) state.surplus (body_pieces ended) request_close)
 
+    pub body_facts_whole : (request_close ended whole : Bool) (facts : Facts) → whole ≡ whole_of state ended
+        → ((head : ResponseHead) → TellsHead head told → facts ≡ facts_of method request_close head whole state.surplus) → TellsWhole method bytes ended facts.whole
+    body_facts_whole request_close ended whole facts is given =
+        subst (TellsWhole method bytes ended) (sym (ap (λ (f : Facts). f.whole) (given at.passes.head at.passes.says) ∙ is)) (body_whole ended)
+
   -- the bytes show the fault that is there, and none where there is none
   pub placed_shown : (place : Place) → IsPlaced method bytes place kept → MatchOption (fault_at place) (IsFaultless method bytes) (IsFirstFault method bytes)
   placed_shown (Heads count) at = (heads_none bytes count kept at).clean method

@@ -5,6 +5,7 @@ ghost use Rattle.persistence.specs.declared.fault.ReadFault.TheVariants.{Memory}
 ghost use Rattle.persistence.specs.declared.method.Method.{Method};
 ghost use Rattle.persistence.specs.Told.{is_some_text, TellsFacts, TellsFactsAfterFault, TellsStatus, TellsLength};
 ghost use Rattle.persistence.specs.Faults.{IsFaultless, IsFirstFault};
+ghost use Rattle.persistence.specs.Response.{TellsWhole};
 ghost use Rattle.persistence.specs.Reader.{unread, TellsFed, TellsLengthWithin};
 ghost use Rattle.persistence.specs.ReadingPlaces.{IsPlaced, fault_at};
 
@@ -97,7 +98,7 @@ impl ResponseReader {
         ensures bytes { self.new.bytes ≡ self.old.bytes ++ piece.now }
         ensures same { (self.new.method ≡ self.old.method) × (self.new.request_close ≡ self.old.request_close) × (self.new.ended ≡ self.old.ended) }
         ensures told { IfOk result (TellsFed self.old.method self.new.bytes) }
-        ensures clean { IfOk result (λ _. (self.new.fault ≡ None) × IsFaultless self.old.method self.new.bytes) }
+        ensures faultless { IfOk result (λ _. (self.new.fault ≡ None) × IsFaultless self.old.method self.new.bytes) }
         ensures fault { IfErr result (λ fault. (self.new.fault ≡ Some fault) × IsFirstFault self.old.method self.new.bytes fault × (fault ≢ Memory)) }
         ensures again { (fault : ReadFault) → self.old.fault ≡ Some fault → (result ≡ Err fault) × (self.new.len ≡ self.old.len) }
         ensures counts { self.old.fault ≡ None → IfErr result (λ _. TellsLengthWithin self.old.method self.old.bytes piece.now self.new.len) }
@@ -148,6 +149,7 @@ impl ResponseReader {
     pub fn facts(&self) -> Facts
         ensures shown { MatchOption self.now.fault (IsFaultless self.now.method self.now.bytes) (IsFirstFault self.now.method self.now.bytes) }
         ensures told { self.now.fault ≡ None → TellsFacts self.now.method self.now.request_close self.now.bytes self.now.ended result }
+        ensures whole { self.now.fault ≡ None → TellsWhole self.now.method self.now.bytes self.now.ended result.whole }
         ensures after_fault { (fault : ReadFault) → self.now.fault ≡ Some fault → TellsFactsAfterFault self.now.method self.now.request_close self.now.bytes result }
     {
         facts_at(self.method, self.request_close, &self.place, self.ended)
@@ -170,7 +172,7 @@ impl ResponseReader {
 // What the reader answers there, while the connection lasts.
 fn answer_at(place: &Place) -> Result<Fed, ReadFault>
     ensures told { (method : Method) (bytes kept : List ℕ) → IsPlaced method bytes place.now kept → IfOk result (TellsFed method bytes) }
-    ensures clean { (method : Method) (bytes kept : List ℕ) → IsPlaced method bytes place.now kept
+    ensures faultless { (method : Method) (bytes kept : List ℕ) → IsPlaced method bytes place.now kept
         → IfOk result (λ _. (fault_at place.now ≡ None) × IsFaultless method bytes) }
     ensures fault { IfErr result (λ fault. fault_at place.now ≡ Some fault) }
 {
@@ -190,6 +192,7 @@ fn answer_at(place: &Place) -> Result<Fed, ReadFault>
 fn facts_at(method: Method, request_close: bool, place: &Place, ended: bool) -> Facts
     ensures told { (bytes kept : List ℕ) → IsPlaced method bytes place.now kept → fault_at place.now ≡ None
         → TellsFacts method request_close bytes ended result }
+    ensures whole { (bytes kept : List ℕ) → IsPlaced method bytes place.now kept → fault_at place.now ≡ None → TellsWhole method bytes ended result.whole }
     ensures after_fault { (bytes kept : List ℕ) → IsPlaced method bytes place.now kept → (fault : ReadFault) → fault_at place.now ≡ Some fault
         → TellsFactsAfterFault method request_close bytes result }
 {

@@ -1,8 +1,10 @@
 use Rattle.std.proofs.Common.{sym, subst, Option}
 use Rattle.persistence.specs.declared.head.Head.{Head}
+use Rattle.persistence.specs.declared.facts.Facts.{Facts}
 use Rattle.persistence.specs.Told.{TellsFacts, TellsFactsAfterFault}
+use Rattle.persistence.specs.Response.{TellsWhole}
 use Rattle.persistence.specs.ReadingPlaces.{TellsFinalHead}
-use Rattle.persistence.proofs.PlaceLemmas.{heads_tell, placed_at, body_facts, never_facts, faulty_facts}
+use Rattle.persistence.proofs.PlaceLemmas.{heads_tell, placed_at, body_facts, body_facts_whole, never_facts, faulty_facts}
 use Rattle.persistence.proofs.reader.facts_at.Goals as goal
 
 pub returns-in-Heads-clause-told : goal.returns-in-Heads-clause-told
@@ -25,3 +27,13 @@ pub returns-in-Some-clause-after_fault : goal.returns-in-Some-clause-after_fault
 returns-in-Some-clause-after_fault c = λ bytes kept placed fault is.
     faulty_facts c.args.method c.args.request_close bytes c.in-Some.head c.facts-in-Some.result
     (subst (λ (head : Option Head). TellsFinalHead bytes head) c.in-Some.is (placed_at c.args.method bytes kept c.args.place.now _ c.in-Fault.is placed).tells) c.facts-in-Some.ensures
+
+pub returns-in-Heads-clause-whole : goal.returns-in-Heads-clause-whole
+returns-in-Heads-clause-whole c = λ bytes kept placed none.
+    subst (λ (facts : Facts). TellsWhole c.args.method bytes c.args.ended facts.whole) (sym c.facts_before_head.ensures)
+    (heads_tell c.args.method c.args.request_close bytes c.args.ended c.in-Heads.skipped kept (placed_at c.args.method bytes kept c.args.place.now _ c.in-Heads.is placed)).whole
+
+pub returns-in-Body-clause-whole : goal.returns-in-Body-clause-whole
+returns-in-Body-clause-whole c = λ bytes kept placed none.
+    body_facts_whole c.args.method bytes kept c.in-Body.head c.in-Body.body (placed_at c.args.method bytes kept c.args.place.now _ c.in-Body.is placed) c.args.request_close c.args.ended
+    c.is_whole.result c.facts.result c.is_whole.ensures c.facts.ensures

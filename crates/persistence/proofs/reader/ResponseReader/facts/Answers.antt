@@ -15,3 +15,8 @@ pub returns-clause-after_fault : goal.returns-clause-after_fault
 returns-clause-after_fault c =
     let reader = c.self.inside in
     rw (← c.self.view_is) (c.facts_at.ensures.after_fault reader.fed.bytes reader.buffer c.self.invariant.placed)
+
+pub returns-clause-whole : goal.returns-clause-whole
+returns-clause-whole c =
+    let reader = c.self.inside in
+    rw (← c.self.view_is) (c.facts_at.ensures.whole reader.fed.bytes reader.buffer c.self.invariant.placed)

@@ -10,11 +10,11 @@ returns-clause-told c =
     rw (c.append.ensures, ← c.self.view_is)
     (c.answer_at.ensures.told reader.method (reader.fed.bytes ++ c.args.piece.now) _ (c.place_after-self-inside.ensures.placed reader.fed.bytes c.self.invariant.placed))
 
-pub returns-clause-clean : goal.returns-clause-clean
-returns-clause-clean c =
+pub returns-clause-faultless : goal.returns-clause-faultless
+returns-clause-faultless c =
     let reader = c.self.inside in
     rw (c.append.ensures, ← c.self.view_is)
-    (c.answer_at.ensures.clean reader.method (reader.fed.bytes ++ c.args.piece.now) _ (c.place_after-self-inside.ensures.placed reader.fed.bytes c.self.invariant.placed))
+    (c.answer_at.ensures.faultless reader.method (reader.fed.bytes ++ c.args.piece.now) _ (c.place_after-self-inside.ensures.placed reader.fed.bytes c.self.invariant.placed))
 
 pub returns-clause-fault : goal.returns-clause-fault
 returns-clause-fault c =
