@@ -18,7 +18,7 @@ use Rattle.persistence.specs.Reading.{IsTrailerAwaited, EndsTrailer}
 use Rattle.persistence.specs.ReadingChunks.{begins_crlf, FindsLine, AwaitsChunk, AwaitsChunks}
 use Rattle.persistence.specs.ReadingBody.{TellsBody}
 use Rattle.persistence.specs.ReadingPieces.{carriage, CountsBody, PassesTo, IsInData, IsAfterData}
-use Rattle.persistence.specs.BodyPieces.{whole_at, whole_of, HasCount, came_of, LastsFor, IsDue, IsEnded, EndsBy, IsInChunks, PlaceAt, BodyAt, CountsFront, TellsPieces}
+use Rattle.persistence.specs.BodyPieces.{whole_at, whole_of, HasCount, came_of, LastsFor, IsDue, IsEnded, EndsBy, IsInChunks, PlaceAt, BodyAt, FixesBody, TellsPieces}
 use Rattle.persistence.proofs.SequenceLemmas.{Reads-append}
 use Rattle.persistence.proofs.ChunkLemmas.{size_line_printed}
 use Rattle.persistence.proofs.NextChunk.{awaits_line, awaits_rest, awaits_end}
@@ -84,7 +84,7 @@ tells_counted Faulty counted count is ended text state counts = absurd is
 tells_lasting : (counted : Option ℕ) (ended : Bool) (text : List ℕ) (state : BodyState) → LastsFor text state → TellsPieces UntilClose counted ended text state.len ended state.surplus
 tells_lasting counted ended text state lasts = record {
   clean = λ fault shown. omega (arith, shown.1, lasts.few);
-  came = lasts.len;
+  came = omega (arith, lasts.len, lasts.few);
   yes = λ e. (text, [], sym (append-nil text), (e, refl, lasts.few), lasts.none_after);
   no = λ e. (λ front rest is ends. (let f = sym e ∙ ends.0 in absurd (cc)), lasts.none_after);
 }
@@ -191,7 +191,7 @@ tells_chunks counted ended text state kept true at = tells_ended counted ended t
 tells_chunks counted ended text state kept false at = tells_open counted ended text state.len state.surplus at.none_after (tells_due state.place counted ended text state.len kept at.due)
 
 -- what is told of a body in chunks, whole or not
-pub tells_in_chunks : (counted : Option ℕ) (ended : Bool) (text : List ℕ) (state : BodyState) (kept : List ℕ) → IsInChunks text state kept
+tells_in_chunks : (counted : Option ℕ) (ended : Bool) (text : List ℕ) (state : BodyState) (kept : List ℕ) → IsInChunks text state kept
     → TellsPieces Chunked counted ended text state.len state.whole state.surplus
 tells_in_chunks counted ended text state kept at = tells_chunks counted ended text state kept state.whole at
 
@@ -234,16 +234,9 @@ too_many_bytes kind counted text fault is bad over = subst (λ (k : Framing). Is
     first = record { front = text; later = []; is = sym (append-nil text); shown = (bad, over); first = λ shorter next more other e shown. inl (shown.0 ∙ sym bad) }
 
 -- as many of its bytes as can be counted
-pub greatest_front : (kind : Framing) (counted : Option ℕ) (text piece : List ℕ) (len : ℕ) → kind ≡ UntilClose → length text ≤ most_bytes → most_bytes < length (text ++ piece)
-    → len ≡ most_bytes → CountsFront kind counted text piece len
-greatest_front kind counted text piece len is few over greatest =
-    let within : most_bytes - length text ≤ length piece = omega (arith, length-append text piece, few, over) in
-    subst (λ (k : Framing). CountsFront k counted text piece len) (sym is)
-    (record {
-      used = most_bytes - length text;
-      within = within;
-      counts = omega (arith, length-append text (take (most_bytes - length text) piece), length-take (most_bytes - length text) piece, within, few, greatest);
-    })
+pub greatest_fixes : (kind : Framing) (counted : Option ℕ) (text : List ℕ) (len : ℕ) → kind ≡ UntilClose → most_bytes < length text → len ≡ most_bytes → FixesBody kind counted text len
+greatest_fixes kind counted text len is over greatest =
+    subst (λ (k : Framing). FixesBody k counted text len) (sym is) (λ more. omega (arith, length-append text more, over, greatest))
 
 -- the part that is due is one of a body in chunks
 abbrev pub IsChunkPlace : BodyPlace → Type 0

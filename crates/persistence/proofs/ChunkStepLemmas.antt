@@ -13,16 +13,17 @@ use Rattle.persistence.specs.declared.body_state.BodyPlace.{BodyPlace}
 use Rattle.persistence.specs.Heads.{most_fields}
 use Rattle.persistence.specs.Fields.{most_bytes}
 use Rattle.persistence.specs.Chunks.{most_trailer_bytes, ReadsSizeLine, ReachesTrailer}
+use Rattle.persistence.specs.Told.{TellsChunkData}
 use Rattle.persistence.specs.Faults.{TrailerShows, BodyShows, HasLongTrailerBy, IsFirst}
 use Rattle.persistence.specs.Reading.{IsTrailerAwaited, line_ends}
 use Rattle.persistence.specs.ReadingChunks.{AwaitsLine, RefusesLine, EndsChunks}
-use Rattle.persistence.specs.ReadingPieces.{PassesTo, IsInData, KeepsLine, EndsLine, KeepsTrailer, EndsSection, ReachesSection, BeginsPart, EndsChunked}
+use Rattle.persistence.specs.ReadingPieces.{PassesTo, IsInData, FixesData, KeepsLine, EndsLine, KeepsTrailer, EndsSection, ReachesSection, BeginsPart, EndsChunked}
 use Rattle.persistence.specs.BodyPieces.{IsLineDue, IsTrailerDue, IsDue, IsUnended, IsEnded, EndsBy, IsInChunks}
 use Rattle.persistence.proofs.LineLemmas.{line_ends-append, line_ends-section}
 use Rattle.persistence.proofs.StepLemmas.{taken_and_rest}
 use Rattle.persistence.proofs.SizeLine.{nothing_yet}
 use Rattle.persistence.proofs.TrailerLemmas.{trailer_awaited}
-use Rattle.persistence.proofs.ChunkedLemmas.{print_reaches, ReachesTrailer-append, first_in_trailer, first_bad_chunk}
+use Rattle.persistence.proofs.ChunkedLemmas.{print_reaches, ReachesTrailer-append, all_data, reaches_data, first_in_trailer, first_bad_chunk}
 use Rattle.persistence.proofs.DataLemmas.{chunks_further, passes_further}
 
 -- where that part is due the body has not ended
@@ -61,6 +62,10 @@ surplus_after text piece taken state kept at whole more =
       ends = ended.ends;
       after = (let a = length-append ended.rest (drop taken piece) in let d = length-drop taken piece in grind (arith, nat_tests, a, d, more));
     })
+
+-- data that is fixed stays fixed
+pub fixed_further : (text more : List ℕ) (len : ℕ) → FixesData text len → FixesData (text ++ more) len
+fixed_further text more len fixes after = subst (λ (t : List ℕ). TellsChunkData t len) (sym (append_assoc text more after)) (fixes (more ++ after))
 
 -- ---- a chunk's data
 
@@ -133,6 +138,16 @@ module _ (text : List ℕ) (len : ℕ) (kept : List ℕ) (due : IsLineDue text l
         };
       })
 
+  -- no line comes, so the data of the chunks is all
+  pub line_fixes : (piece : List ℕ) (fault : ReadFault) → RefusesLine (most_bytes - len) (kept ++ piece) fault → FixesData (text ++ piece) len
+  line_fixes piece fault refuses more =
+      let sums = due.passes.sums in
+      all_data due.passes.sizes ((text ++ piece) ++ more) ((kept ++ piece) ++ more) 0 len
+      (chunks_further (text ++ piece) (kept ++ piece) more due.passes.sizes (chunks_further text kept piece due.passes.sizes due.passes.chunks))
+      (λ size rest fits reads. refuses.never size more _ (omega (arith, sums, fits)) reads.reads)
+      (record { before = λ none. refl; after = λ size rest fits reads. absurd (refuses.never size more rest (omega (arith, sums, fits)) reads) })
+      (omega (arith, sums))
+
 -- ---- the trailer section
 
 nothing_yet_there : HasNoSection []
@@ -198,3 +213,9 @@ module _ (text : List ℕ) (len : ℕ) (kept : List ℕ) (due : IsTrailerDue tex
       let place = section_place (text ++ piece) len (kept ++ piece) (section_further text len kept piece due.reaches) in
       first_in_trailer (text ++ piece) len place.0 place.1 counted fault
       (subst (λ (t : List ℕ). IsFirst TrailerShows (SectionExceeds most_fields) t fault) (sym place.2) found)
+
+  -- no chunk follows the last line, so the data of the chunks is all
+  pub trailer_fixes : (piece : List ℕ) → FixesData (text ++ piece) len
+  trailer_fixes piece more =
+      let reaches = section_further (text ++ piece) len (kept ++ piece) more (section_further text len kept piece due.reaches) in
+      subst (TellsChunkData ((text ++ piece) ++ more)) reaches.sums (reaches_data reaches.sizes ((text ++ piece) ++ more) ((kept ++ piece) ++ more) reaches.reaches)

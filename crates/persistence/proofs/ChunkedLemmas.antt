@@ -8,8 +8,8 @@ use Rattle.persistence.specs.declared.fault.ReadFault.{ReadFault}
 use Rattle.persistence.specs.Sequence.{ReadsEach}
 use Rattle.persistence.specs.Heads.{most_fields}
 use Rattle.persistence.specs.Fields.{most_bytes}
-use Rattle.persistence.specs.Chunks.{ReadsSizeLine, ReadsChunk, room_after, ReadsTrailer, ReachesTrailer, ReadsChunked}
-use Rattle.persistence.specs.Told.{TellsBegun, TellsChunkData}
+use Rattle.persistence.specs.Chunks.{ReadsSizeLine, ReadsChunk, ReadsChunks, room_after, ReadsTrailer, ReachesTrailer, ReadsChunked}
+use Rattle.persistence.specs.Told.{HasNoChunk, TellsBegun, TellsChunkData}
 use Rattle.persistence.specs.Faults.{NeverHasChunk, TrailerShows, ShowsBadChunk, ChunkedShows, BodyShows, IsFirst, HasLongTrailer, HasLongTrailerBy}
 use Rattle.persistence.specs.Reading.{IsTrailerAwaited, EndsTrailer}
 use Rattle.persistence.specs.ReadingChunks.{FindsChunk, PassesChunks, AwaitsChunks, EndsChunks, IsFirstBadChunk}
@@ -85,21 +85,29 @@ reaches_no_bad sizes text trailer reaches shows = go (compared chunk_printed siz
     go (longer c cs m e reads) = no_more (room_after shows.sizes) shows.rest m c shows.never (follows sizes shows.sizes c cs e reaches.chunks.few) reads
     go (shorter c cs m e reads) = no_last c reaches.middle m trailer reads reaches.last
 
+-- whole chunks that no whole one follows, and what came of the next, are all the data
+pub all_data : (sizes text rest : List ℕ) (begun len : ℕ) → ReadsChunks sizes text rest → HasNoChunk (room_after sizes) rest → TellsBegun (room_after sizes) rest begun
+    → len ≡ sum sizes + begun → TellsChunkData text len
+all_data sizes text rest begun len chunks last tells sums others place passes none = go (compared chunk_printed sizes others text rest place chunks.each passes.each)
+  where
+    go : Compared chunk_printed sizes others rest place → (b : ℕ) × TellsBegun (room_after others) place b × (len ≡ sum others + b)
+    go (same e f) = (
+      begun,
+      subst (λ (t : List ℕ). TellsBegun (room_after others) t begun) f (subst (λ (xs : List ℕ). TellsBegun (room_after xs) rest begun) e tells),
+      sums ∙ ap (λ (xs : List ℕ). sum xs + begun) e,
+    )
+    go (longer c cs m e reads) = absurd (none c m (follows sizes others c cs e chunks.few) reads)
+    go (shorter c cs m e reads) = absurd (last c m (follows others sizes c cs e passes.few) reads)
+
 -- the data before the trailer section
 pub reaches_data : (sizes text trailer : List ℕ) → ReachesTrailer sizes text trailer → TellsChunkData text (sum sizes)
-reaches_data sizes text trailer reaches others rest chunks none = go (compared chunk_printed sizes others text reaches.middle rest reaches.chunks.each chunks.each)
-  where
-    go : Compared chunk_printed sizes others reaches.middle rest → (begun : ℕ) × TellsBegun rest begun × (sum sizes ≡ sum others + begun)
-    go (same e f) = (
-      0,
-      record {
-        before = λ none. refl;
-        after = λ size after reads. (let u = size_line_unique size 0 reaches.middle after trailer (subst (λ (t : List ℕ). ReadsSizeLine size t after) (sym f) reads) reaches.last in omega (arith, u.0));
-      },
-      omega (arith, ap sum e),
-    )
-    go (longer c cs m e reads) = absurd (none c m reads)
-    go (shorter c cs m e reads) = absurd (no_last c reaches.middle m trailer reads reaches.last)
+reaches_data sizes text trailer reaches =
+    all_data sizes text reaches.middle 0 (sum sizes) reaches.chunks (λ c m fits reads. no_last c reaches.middle m trailer reads reaches.last)
+    (record {
+      before = λ none. refl;
+      after = λ size after fits reads. (let u = size_line_unique size 0 reaches.middle after trailer reads reaches.last in omega (arith, u.0));
+    })
+    (omega arith)
 
 -- ---- chunks that have not ended
 
@@ -110,7 +118,7 @@ module _ (text : List ℕ) (len : ℕ) (awaits : AwaitsChunks text len) where
       go : Compared chunk_printed awaits.sizes shows.sizes awaits.rest shows.rest → ⊥
       go (same e f) = awaits.awaits.can (subst (λ (t : List ℕ). NeverHasChunk (room_after awaits.sizes) t) (sym f) (subst (λ (xs : List ℕ). NeverHasChunk (room_after xs) shows.rest) (sym e) shows.never))
       go (longer c cs m e reads) = no_more (room_after shows.sizes) shows.rest m c shows.never (follows awaits.sizes shows.sizes c cs e awaits.chunks.few) reads
-      go (shorter c cs m e reads) = awaits.awaits.none c m reads
+      go (shorter c cs m e reads) = awaits.awaits.none c m (follows shows.sizes awaits.sizes c cs e shows.chunks.few) reads
 
   awaits_no_trailer : (sizes trailer : List ℕ) → ReachesTrailer sizes text trailer → ⊥
   awaits_no_trailer sizes trailer reaches = go (compared chunk_printed awaits.sizes sizes text awaits.rest reaches.middle awaits.chunks.each reaches.chunks.each)
@@ -118,15 +126,10 @@ module _ (text : List ℕ) (len : ℕ) (awaits : AwaitsChunks text len) where
       go : Compared chunk_printed awaits.sizes sizes awaits.rest reaches.middle → ⊥
       go (same e f) = awaits.awaits.last trailer (subst (λ (t : List ℕ). ReadsSizeLine 0 t trailer) (sym f) reaches.last)
       go (longer c cs m e reads) = no_last c reaches.middle m trailer reads reaches.last
-      go (shorter c cs m e reads) = awaits.awaits.none c m reads
+      go (shorter c cs m e reads) = awaits.awaits.none c m (follows sizes awaits.sizes c cs e reaches.chunks.few) reads
 
   awaits_data : TellsChunkData text len
-  awaits_data others rest chunks none = go (compared chunk_printed awaits.sizes others text awaits.rest rest awaits.chunks.each chunks.each)
-    where
-      go : Compared chunk_printed awaits.sizes others awaits.rest rest → (begun : ℕ) × TellsBegun rest begun × (len ≡ sum others + begun)
-      go (same e f) = (awaits.begun, subst (λ (t : List ℕ). TellsBegun t awaits.begun) f awaits.awaits.tells, awaits.sums ∙ ap (λ (xs : List ℕ). sum xs + awaits.begun) e)
-      go (longer c cs m e reads) = absurd (none c m reads)
-      go (shorter c cs m e reads) = absurd (awaits.awaits.none c m reads)
+  awaits_data = all_data awaits.sizes text awaits.rest awaits.begun len awaits.chunks awaits.awaits.none awaits.awaits.tells awaits.sums
 
   pub tells_awaited : (counted : Option ℕ) (ended : Bool) → TellsBody Chunked counted ended text (record { len = len; end = None })
   tells_awaited counted ended = record {

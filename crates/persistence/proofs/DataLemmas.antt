@@ -1,14 +1,14 @@
 -- A chunk's len, counted piece by piece, and the CR LF after it.
-use Rattle.std.proofs.Common.{◌≡◌, ℕ, ◌+◌, ◌-◌, ◌<◌, ◌≤◌, Bool, true, false, List, [], ◌∷◌, ◌++◌, length, None, Some, sym, ap, subst, ◌∙◌, arith, append_assoc, length-append}
+use Rattle.std.proofs.Common.{◌≡◌, ℕ, ◌+◌, ◌-◌, ◌<◌, ◌≤◌, Bool, true, false, List, [], ◌∷◌, ◌++◌, length, min, None, Some, sym, ap, subst, ◌∙◌, arith, append_assoc, length-append}
 use Rattle.std.proofs.lemmas.Bool.Decides.{nat_tests}
 use Rattle.std.proofs.lemmas.List.{append-nil}
 use Rattle.persistence.specs.Chunks.{ReadsSizeLine, ReadsChunk, ReadsChunks, room_after}
 use Rattle.persistence.specs.Faults.{ShowsBadChunk}
 use Rattle.persistence.specs.ReadingChunks.{begins_crlf}
-use Rattle.persistence.specs.ReadingPieces.{carriage, PassesTo, IsInData, IsAfterData}
+use Rattle.persistence.specs.ReadingPieces.{carriage, PassesTo, IsInData, IsAfterData, FixesData}
 use Rattle.persistence.proofs.SequenceLemmas.{Reads-append, each-append, each-more}
 use Rattle.persistence.proofs.ChunkLemmas.{chunk_printed, size_line_printed, size_line_unique, same_fronts}
-use Rattle.persistence.proofs.ChunkedLemmas.{sum-append}
+use Rattle.persistence.proofs.ChunkedLemmas.{sum-append, all_data}
 use Rattle.persistence.proofs.NextChunk.{no_line_end}
 
 pub chunks_further : (text rest more sizes : List ℕ) → ReadsChunks sizes text rest → ReadsChunks sizes (text ++ more) (rest ++ more)
@@ -108,23 +108,43 @@ module _ (text : List ℕ) (len : ℕ) (has_cr : Bool) (b : ℕ) (at : IsAfterDa
         };
       }
 
+  -- the line stands there whatever follows
+  read_on : (more : List ℕ) → ReadsSizeLine at.size ((at.rest ++ b ∷ []) ++ more) ((at.content ++ (carriage has_cr ++ b ∷ [])) ++ more)
+  read_on more = Reads-append size_line_printed at.size (at.rest ++ b ∷ []) _ more line_and_byte
+
+  -- and no chunk does, where the byte is wrong
+  wrong_chunk : begins_crlf (carriage has_cr ++ b ∷ []) ≡ Some false → (size : ℕ) (more rest : List ℕ) → size ≤ room_after at.passes.sizes
+      → ReadsChunk size ((at.rest ++ b ∷ []) ++ more) rest → ⊥
+  wrong_chunk e size more rest fits reads =
+      let u = size_line_unique size at.size ((at.rest ++ b ∷ []) ++ more) _ _ reads.reads (read_on more) in
+      let tails : 13 ∷ 10 ∷ rest ≡ (carriage has_cr ++ b ∷ []) ++ more =
+      same_fronts reads.content at.content _ _ (reads.sized ∙ u.0 ∙ sym at.sized) (u.1 ∙ append_assoc at.content (carriage has_cr ++ b ∷ []) more) in
+      no_line_end (carriage has_cr ++ b ∷ []) more rest e (sym tails)
+
   pub end_wrong : begins_crlf (carriage has_cr ++ b ∷ []) ≡ Some false → ShowsBadChunk (text ++ b ∷ [])
   end_wrong e = record {
     sizes = at.passes.sizes;
     rest = at.rest ++ b ∷ [];
     chunks = chunks_further text at.rest (b ∷ []) at.passes.sizes at.passes.chunks;
-    never = record { last = last; chunk = chunk };
+    never = record { last = last; chunk = wrong_chunk e };
   }
     where
-      read_on : (more : List ℕ) → ReadsSizeLine at.size ((at.rest ++ b ∷ []) ++ more) ((at.content ++ (carriage has_cr ++ b ∷ [])) ++ more)
-      read_on more = Reads-append size_line_printed at.size (at.rest ++ b ∷ []) _ more line_and_byte
-
       last : (more rest : List ℕ) → ReadsSizeLine 0 ((at.rest ++ b ∷ []) ++ more) rest → ⊥
       last more rest reads = let u = size_line_unique 0 at.size ((at.rest ++ b ∷ []) ++ more) _ _ reads (read_on more) in let some = at.some in omega (arith, u.0, some)
 
-      chunk : (size : ℕ) (more rest : List ℕ) → size ≤ room_after at.passes.sizes → ReadsChunk size ((at.rest ++ b ∷ []) ++ more) rest → ⊥
-      chunk size more rest fits reads =
-          let u = size_line_unique size at.size ((at.rest ++ b ∷ []) ++ more) _ _ reads.reads (read_on more) in
-          let tails : 13 ∷ 10 ∷ rest ≡ (carriage has_cr ++ b ∷ []) ++ more =
-          same_fronts reads.content at.content _ _ (reads.sized ∙ u.0 ∙ sym at.sized) (u.1 ∙ append_assoc at.content (carriage has_cr ++ b ∷ []) more) in
-          no_line_end (carriage has_cr ++ b ∷ []) more rest e (sym tails)
+  -- so the chunk's data and that of the chunks before it is all
+  pub end_fixes : begins_crlf (carriage has_cr ++ b ∷ []) ≡ Some false → FixesData (text ++ b ∷ []) len
+  end_fixes e more =
+      let before = at.passes.sums in
+      let room = at.fits in
+      let fits : at.size ≤ room_after at.passes.sizes = omega (arith, before, room) in
+      all_data at.passes.sizes ((text ++ b ∷ []) ++ more) ((at.rest ++ b ∷ []) ++ more) at.size len
+      (chunks_further (text ++ b ∷ []) (at.rest ++ b ∷ []) more at.passes.sizes (chunks_further text at.rest (b ∷ []) at.passes.sizes at.passes.chunks))
+      (λ size rest within reads. wrong_chunk e size more rest within reads)
+      (record { before = λ none. absurd (none at.size _ fits (read_on more)); after = λ size rest within reads. told size rest reads })
+      (omega (arith, before, at.sums))
+    where
+      told : (size : ℕ) (rest : List ℕ) → ReadsSizeLine size ((at.rest ++ b ∷ []) ++ more) rest → at.size ≡ min size (length rest)
+      told size rest reads =
+          let u = size_line_unique size at.size ((at.rest ++ b ∷ []) ++ more) _ _ reads (read_on more) in
+          omega (arith, u.0, ap length u.1, length-append (at.content ++ (carriage has_cr ++ b ∷ [])) more, length-append at.content (carriage has_cr ++ b ∷ []), at.sized)

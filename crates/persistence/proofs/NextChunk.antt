@@ -50,10 +50,10 @@ completed size text more positive completes = record {
 
 pub awaits_line : (room : ℕ) (text : List ℕ) → AwaitsLine room text → AwaitsChunk room text 0
 awaits_line room text awaits = record {
-  none = λ size rest chunk. awaits.none size _ chunk.reads;
+  none = λ size rest fits chunk. awaits.none size _ chunk.reads;
   last = λ rest reads. awaits.none 0 rest reads;
   can = λ never. can never (cases_lt 0 awaits.size);
-  tells = record { before = λ none. refl; after = λ size rest reads. absurd (awaits.none size rest reads) };
+  tells = record { before = λ none. refl; after = λ size rest fits reads. absurd (awaits.none size rest reads) };
   fits = omega arith;
 }
   where
@@ -76,7 +76,7 @@ module _ (room : ℕ) (text : List ℕ) (line : SizeLine) (found : FindsLine roo
     awaits_data : (more content : List ℕ) → drop line.len text ++ more ≡ content ++ 13 ∷ 10 ∷ [] → length content ≡ line.size
         → length (drop line.len text) ≤ line.size + 1 → AwaitsChunk room text (min line.size (length (drop line.len text)))
     awaits_data more content completes sized short = record {
-      none = λ size rest chunk. no_chunk size rest chunk;
+      none = λ size rest fits chunk. no_chunk size rest chunk;
       last = λ rest reads. (let u = size_line_unique 0 line.size text _ _ reads found.reads in omega (arith, u.0, positive));
       can = λ never. never.chunk line.size more [] found.fits (record {
         positive = positive;
@@ -84,7 +84,7 @@ module _ (room : ℕ) (text : List ℕ) (line : SizeLine) (found : FindsLine roo
         sized = sized;
         reads = subst (λ (t : List ℕ). ReadsSizeLine line.size (text ++ more) t) completes (Reads-append size_line_printed line.size text _ more found.reads);
       });
-      tells = record { before = λ none. absurd (none _ _ found.reads); after = λ size rest reads. told size rest reads };
+      tells = record { before = λ none. absurd (none _ _ found.fits found.reads); after = λ size rest fits reads. told size rest reads };
       fits = omega (arith, found.fits);
     }
       where

@@ -1,10 +1,9 @@
 -- Where a response that comes in pieces is read: what is told there, and where a piece leads.
-use Rattle.std.proofs.Common.{◌≡◌, ◌≢◌, ℕ, ◌+◌, Bool, true, false, List, [], ◌∷◌, ◌++◌, length, take, drop, sum, Option, None, Some, refl, sym, ap, subst, ◌∙◌, inl, inr, arith, append_assoc, length-append}
+use Rattle.std.proofs.Common.{◌≡◌, ◌≢◌, ℕ, ◌+◌, Bool, true, false, List, [], ◌++◌, take, drop, Option, None, Some, refl, sym, ap, subst, ◌∙◌, inl, inr, arith, append_assoc}
 use Rattle.std.specs.Option.{MatchOption}
-use Rattle.std.proofs.Math.Seq.{take-append-add, take-add}
-use Rattle.std.proofs.lemmas.List.{append-nil, take_all, take-append-drop}
-use Rattle.httparse.specs.Ascii.{crlf_bytes}
-use Rattle.httparse.specs.Grammar.{ResponseHead, print_chunk_line}
+use Rattle.std.proofs.Math.Seq.{take-add}
+use Rattle.std.proofs.lemmas.List.{append-nil}
+use Rattle.httparse.specs.Grammar.{ResponseHead}
 use Rattle.persistence.specs.declared.facts.Facts.{Facts}
 use Rattle.persistence.specs.declared.facts.Framing.{Framing}
 use Rattle.persistence.specs.declared.facts.Framing.TheVariants.{NoBody, Counted, Chunked, UntilClose, Faulty}
@@ -15,23 +14,19 @@ use Rattle.persistence.specs.declared.head.Head.{Head}
 use Rattle.persistence.specs.declared.body_state.BodyState.{BodyState}
 use Rattle.persistence.specs.declared.place.Place.{Place}
 use Rattle.persistence.specs.declared.place.Place.TheVariants.{Heads, Body, Fault}
-use Rattle.persistence.specs.Sequence.{ReadsEach}
 use Rattle.persistence.specs.Fields.{fields_of, counted_length}
 use Rattle.persistence.specs.Framing.{body_kind}
-use Rattle.persistence.specs.Chunks.{ReadsSizeLine, ReadsChunk}
 use Rattle.persistence.specs.Split.{EndsBody}
-use Rattle.persistence.specs.Told.{facts_of, facts_before, facts_after_fault, is_some_text, HasNoFinalHead, TellsFacts, TellsFactsAfterFault, TellsStatus, TellsBegun, TellsBodyLength, TellsLength}
+use Rattle.persistence.specs.Told.{facts_of, facts_before, facts_after_fault, is_some_text, HasNoFinalHead, TellsFacts, TellsFactsAfterFault, TellsStatus, TellsBodyLength, TellsLength}
 use Rattle.persistence.specs.Faults.{BodyShows, Shows, HasLongTrailerBy, HasLongSection, IsFaultless, IsFirst, IsFirstFault}
 use Rattle.persistence.specs.Response.{TellsWhole, TellsResponse}
 use Rattle.persistence.specs.Reading.{TellsHead, FindsNoFinalHead}
 use Rattle.persistence.specs.ReadingBody.{HasNoEnd}
 use Rattle.persistence.specs.ReadingPieces.{AwaitsHeads, EndsHeadsIn, NeverHasFinalHead}
-use Rattle.persistence.specs.BodyPieces.{whole_of, BodyAt, CountsFront, TellsPieces}
-use Rattle.persistence.specs.Reader.{TellsLengthWithin}
-use Rattle.persistence.specs.ReadingPlaces.{PassesHead, IsInBody, TellsFinalHead, IsFaulty, IsPlaced, fault_at}
+use Rattle.persistence.specs.BodyPieces.{whole_of, BodyAt, FixesBody, TellsPieces}
+use Rattle.persistence.specs.ReadingPlaces.{PassesHead, IsInBody, TellsFinalHead, FixesLength, IsFaulty, IsPlaced, fault_at}
 use Rattle.persistence.proofs.HeadLemmas.{no_final, nothing_shown, HasFinalHead-append}
 use Rattle.persistence.proofs.StepLemmas.{first_further, taken_and_rest}
-use Rattle.persistence.proofs.SizeLineLemmas.{print_words, words_of}
 use Rattle.persistence.proofs.InterimLemmas.{nothing_awaited}
 use Rattle.persistence.proofs.BodyLemmas.{tells_pieces}
 use Rattle.persistence.proofs.ResponseLemmas.{faultless, first_in_body, final_unique, length_there, status_there, split_of, no_split, parts_of, facts_open, facts_whole, tells_before}
@@ -115,6 +110,11 @@ module _ (method : Method) (bytes : List ℕ) (told : Head) (text : List ℕ) (p
 abbrev pub passes_more : (bytes text piece : List ℕ) (told : Head) → PassesHead bytes told text → PassesHead (bytes ++ piece) told (text ++ piece)
 passes_more bytes text piece told passes = record { head = passes.head; has = HasFinalHead-append bytes piece passes.head text passes.has; says = passes.says }
 
+-- what fixes the body's length fixes that of all bytes
+pub passes_fixes : (method : Method) (bytes : List ℕ) (told : Head) (text : List ℕ) (passes : PassesHead bytes told text) (len : ℕ) → FixesBody (body_kind method passes.head) told.counted text len
+    → FixesLength method bytes len
+passes_fixes method bytes told text passes len fixes more = passes_length method (bytes ++ more) told (text ++ more) (passes_more bytes text more told passes) len (fixes more)
+
 -- the final head has just come
 abbrev pub passes_now : (bytes kept : List ℕ) (told : Head) → EndsHeadsIn bytes kept told → PassesHead bytes told []
 passes_now bytes kept told ends = record { head = ends.head; has = (ends.interims, ends.heads); says = ends.says }
@@ -130,14 +130,19 @@ never_facts method request_close bytes never = record { before = λ none. refl; 
 pub never_status : (bytes : List ℕ) → NeverHasFinalHead bytes → TellsStatus bytes None
 never_status bytes never = record { before = λ none. refl; after = λ head text has. absurd (never_now bytes never head text has) }
 
-pub never_length : (method : Method) (bytes : List ℕ) → NeverHasFinalHead bytes → TellsLength method bytes 0
-never_length method bytes never = record { before = λ none. refl; after = λ head text has. absurd (never_now bytes never head text has) }
+pub never_fixes : (method : Method) (bytes : List ℕ) → NeverHasFinalHead bytes → FixesLength method bytes 0
+never_fixes method bytes never more = record { before = λ none. refl; after = λ head text has. absurd (never more head text has) }
+
+-- the number of body bytes that is fixed is told
+pub fixed_length : (method : Method) (bytes : List ℕ) (len : ℕ) → FixesLength method bytes len → TellsLength method bytes len
+fixed_length method bytes len fixes = subst (λ (t : List ℕ). TellsLength method t len) (append-nil bytes) (fixes [])
 
 -- one piece more changes nothing
-pub faulty_more : (method : Method) (bytes piece : List ℕ) (fault : ReadFault) (head : Option Head) → IsFaulty method bytes fault head → IsFaulty method (bytes ++ piece) fault head
-faulty_more method bytes piece fault head faulty = record {
+pub faulty_more : (method : Method) (bytes piece : List ℕ) (fault : ReadFault) (head : Option Head) (len : ℕ) → IsFaulty method bytes fault head len → IsFaulty method (bytes ++ piece) fault head len
+faulty_more method bytes piece fault head len faulty = record {
   first = first_further (Shows method) (HasLongSection method) bytes piece fault faulty.first;
   tells = go head faulty.tells;
+  fixes = λ more. subst (λ (t : List ℕ). TellsLength method t len) (sym (append_assoc bytes piece more)) (faulty.fixes (piece ++ more));
 }
   where
     go : (head : Option Head) → TellsFinalHead bytes head → TellsFinalHead (bytes ++ piece) head
@@ -161,68 +166,6 @@ memory_never method bytes fault first is = never_shown method first.front (subst
     never_shown method front (inr (inl shown)) = (let e : Memory ≡ TooManyInterims = shown.0 in cc)
     never_shown method front (inr (inr shown)) = in_body (body_kind method shown.head) (counted_length (fields_of shown.head)) shown.text shown.shows
 
--- ---- the number of body bytes when a fault was first answered
-
--- no final head ever came
-pub length_none : (method : Method) (bytes piece : List ℕ) → NeverHasFinalHead (bytes ++ piece) → TellsLengthWithin method bytes piece 0
-length_none method bytes piece never = record {
-  taken = length piece;
-  within = omega arith;
-  tells = subst (λ (t : List ℕ). TellsLength method (bytes ++ t) 0) (sym (take_all (length piece) piece (omega arith))) (never_length method (bytes ++ piece) never);
-}
-
--- the final head ends the bytes before the piece, of whose body there is none
-pub length_empty : (method : Method) (bytes piece : List ℕ) (told : Head) (passes : PassesHead bytes told []) → TellsBodyLength (body_kind method passes.head) told.counted [] 0
-    → TellsLengthWithin method bytes piece 0
-length_empty method bytes piece told passes came = record {
-  taken = 0;
-  within = omega arith;
-  tells = subst (λ (t : List ℕ). TellsLength method t 0) (sym (append-nil bytes)) (passes_length method bytes told [] passes 0 came);
-}
-
--- some of the piece was counted
-pub length_counted : (method : Method) (bytes text piece : List ℕ) (told : Head) (passes : PassesHead bytes told text) (len : ℕ)
-    → CountsFront (body_kind method passes.head) told.counted text piece len → TellsLengthWithin method bytes piece len
-length_counted method bytes text piece told passes len counts = record {
-  taken = counts.used;
-  within = counts.within;
-  tells = passes_length method (bytes ++ take counts.used piece) told (text ++ take counts.used piece) (passes_more bytes text (take counts.used piece) told passes) len counts.counts;
-}
-
--- the same after a front of the piece
-pub length_further : (method : Method) (bytes piece front rest : List ℕ) (len : ℕ) → piece ≡ front ++ rest → TellsLengthWithin method (bytes ++ front) rest len
-    → TellsLengthWithin method bytes piece len
-length_further method bytes piece front rest len is counts = record {
-  taken = length front + counts.taken;
-  within = (let w = counts.within in omega (arith, w, ap length is, length-append front rest));
-  tells = subst (λ (t : List ℕ). TellsLength method t len)
-      (append_assoc bytes front (take counts.taken rest)
-      ∙ ap (λ (t : List ℕ). bytes ++ t) (sym (ap (take (length front + counts.taken)) is ∙ take-append-add front rest counts.taken))) counts.tells;
-}
-
--- no line before a chunk stands in no text
-no_line : (size : ℕ) (rest : List ℕ) → ReadsSizeLine size [] rest → ⊥
-no_line size rest reads = omega (
-  arith,
-  ap length reads.reads,
-  length-append (print_chunk_line reads.line) rest,
-  ap length (print_words reads.line),
-  length-append (words_of reads.line) (13 ∷ 10 ∷ []),
-)
-
--- so no data of a body in chunks came in it
-no_data : (sizes rest : List ℕ) → ReadsEach ReadsChunk sizes [] rest → (begun : ℕ) × TellsBegun rest begun × (0 ≡ sum sizes + begun)
-no_data [] rest is = (0, record { before = λ none. refl; after = λ size more line. absurd (no_line size more (subst (λ (t : List ℕ). ReadsSizeLine size t more) (sym is) line)) }, refl)
-no_data (size ∷ sizes) rest (middle, chunk, more) = absurd (no_line size (chunk.content ++ (crlf_bytes ++ middle)) chunk.reads)
-
--- and no bytes of any body
-pub empty_length : (kind : Framing) (counted : Option ℕ) (fault : ReadFault) → IsFirst (BodyShows kind counted) (HasLongTrailerBy kind) [] fault → TellsBodyLength kind counted [] 0
-empty_length NoBody counted fault found = refl
-empty_length Counted counted fault found = omega arith
-empty_length Chunked counted fault found = λ sizes rest chunks none. no_data sizes rest chunks.each
-empty_length UntilClose counted fault found = refl
-empty_length Faulty counted fault found = absurd found.shown
-
 -- ---- where the final head has just come
 
 module _ (method : Method) (bytes kept : List ℕ) (told : Head) (ends : EndsHeadsIn bytes kept told) (kind : Framing) (is : kind ≡ body_kind method ends.head) where
@@ -233,18 +176,16 @@ module _ (method : Method) (bytes kept : List ℕ) (told : Head) (ends : EndsHea
     at = subst (λ (t : List ℕ). BodyAt (body_kind method ends.head) told.counted [] state t) (sym ends.is) (subst (λ (k : Framing). BodyAt k told.counted [] state []) is at);
   }
 
-  pub fault_now : (piece : List ℕ) (fault : ReadFault) → IsFirst (BodyShows kind told.counted) (HasLongTrailerBy kind) [] fault → IsFaulty method (bytes ++ piece) fault (Some told)
-  fault_now piece fault found = record {
-    first = first_further (Shows method) (HasLongSection method) bytes piece fault
-        (passes_fault method bytes told [] (passes_now bytes kept told ends) fault
-        (subst (λ (k : Framing). IsFirst (BodyShows k told.counted) (HasLongTrailerBy k) [] fault) is found));
-    tells = (piece, passes_more bytes [] piece told (passes_now bytes kept told ends));
-  }
-
-  pub length_now : (piece : List ℕ) (fault : ReadFault) → IsFirst (BodyShows kind told.counted) (HasLongTrailerBy kind) [] fault → TellsLengthWithin method bytes piece 0
-  length_now piece fault found =
-      length_empty method bytes piece told (passes_now bytes kept told ends)
-      (subst (λ (k : Framing). TellsBodyLength k told.counted [] 0) is (empty_length kind told.counted fault found))
+  pub fault_now : (piece : List ℕ) (fault : ReadFault) → IsFirst (BodyShows kind told.counted) (HasLongTrailerBy kind) [] fault → FixesBody kind told.counted [] 0
+      → IsFaulty method (bytes ++ piece) fault (Some told) 0
+  fault_now piece fault found fixes =
+      faulty_more method bytes piece fault (Some told) 0
+      (record {
+        first = passes_fault method bytes told [] (passes_now bytes kept told ends) fault
+            (subst (λ (k : Framing). IsFirst (BodyShows k told.counted) (HasLongTrailerBy k) [] fault) is found);
+        tells = ([], passes_now bytes kept told ends);
+        fixes = passes_fixes method bytes told [] (passes_now bytes kept told ends) 0 (subst (λ (k : Framing). FixesBody k told.counted [] 0) is fixes);
+      })
 
 -- ---- a piece that is read from a place on
 
@@ -262,11 +203,6 @@ module _ (bytes piece rest : List ℕ) (at : ℕ) (is : rest ≡ drop at piece) 
     pub piece_last : ((bytes ++ take at piece) ++ take used rest) ++ last ≡ bytes ++ piece
     piece_last = ap (λ (t : List ℕ). ((bytes ++ take at piece) ++ take used rest) ++ t) after
         ∙ taken_and_rest (bytes ++ take at piece) rest ((bytes ++ take at piece) ++ take used rest) used refl ∙ piece_whole
-
-    pub length_last : (method : Method) (len : ℕ) → TellsLengthWithin method ((bytes ++ take at piece) ++ take used rest) last len → TellsLengthWithin method bytes piece len
-    length_last method len counts =
-        length_further method bytes piece (take at piece) rest len (sym (ap (λ (t : List ℕ). take at piece ++ t) is ∙ take-append-drop at piece))
-        (length_further method (bytes ++ take at piece) rest (take used rest) last len (sym (ap (λ (t : List ℕ). take used rest ++ t) after ∙ take-append-drop used rest)) counts)
 
 -- ---- any place
 

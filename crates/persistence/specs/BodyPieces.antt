@@ -1,5 +1,5 @@
 -- Where the reading of a body that comes in pieces stands. No public contract needs these words.
-use Rattle.std.specs.Prelude.{◌≡◌, ℕ, ◌-◌, ◌<◌, ◌≤◌, Bool, true, false, List, [], ◌++◌, length, take, Option, Some}
+use Rattle.std.specs.Prelude.{◌≡◌, ℕ, ◌-◌, ◌<◌, ◌≤◌, Bool, true, false, List, [], ◌++◌, length, Option, Some}
 use Rattle.persistence.specs.declared.facts.Framing.{Framing}
 use Rattle.persistence.specs.declared.facts.Framing.TheVariants.{NoBody, Counted, Chunked, UntilClose}
 use Rattle.persistence.specs.declared.fault.ReadFault.{ReadFault}
@@ -114,11 +114,9 @@ PlaceAt _ kind counted text state kept = (kind ≡ Chunked) × IsInChunks text s
 abbrev pub BodyAt : Framing → Option ℕ → List ℕ → BodyState → List ℕ → Type 0
 BodyAt kind counted text state kept = PlaceAt state.place kind counted text state kept
 
--- so much of the body came in a front of the text that has at least the bytes before the piece
-pub record CountsFront (kind : Framing) (counted : Option ℕ) (text piece : List ℕ) (len : ℕ) : Type 0 where
-  pub used : ℕ
-  pub within : used ≤ length piece
-  pub counts : TellsBodyLength kind counted (text ++ take used piece) len
+-- the text after the head has so much of the body, whatever follows it
+abbrev pub FixesBody : Framing → Option ℕ → List ℕ → ℕ → Type 0
+FixesBody kind counted text len = (more : List ℕ) → TellsBodyLength kind counted (text ++ more) len
 
 -- the body in the text after the head, in which nothing is wrong so far
 pub record TellsPieces (kind : Framing) (counted : Option ℕ) (ended : Bool) (text : List ℕ) (len : ℕ) (whole surplus : Bool) : Type 0 where

@@ -1,11 +1,11 @@
 -- A reader of a response, and what it tells of the bytes fed so far.
-use Rattle.std.specs.Prelude.{ℕ, ◌≤◌, Bool, false, List, [], ◌++◌, length, take, Option, None}
+use Rattle.std.specs.Prelude.{ℕ, Bool, false, List, [], Option, None}
 use Rattle.persistence.specs.declared.fault.ReadFault.{ReadFault}
 use Rattle.persistence.specs.declared.method.Method.{Method}
 use Rattle.persistence.specs.declared.answer.Fed.{Fed}
 use Rattle.persistence.specs.declared.answer.Fed.TheVariants.{More, Whole}
 use Rattle.persistence.specs.Split.{Parts, IsSplit}
-use Rattle.persistence.specs.Told.{IsNotWhole, TellsLength}
+use Rattle.persistence.specs.Told.{IsNotWhole}
 
 -- a reader: the request's method, and whether the request had the connection option close; the bytes fed
 -- so far, and whether the connection has ended; the fault that was answered; and the number of body bytes
@@ -32,9 +32,3 @@ unread method request_close = record {
 abbrev pub TellsFed : Method → List ℕ → Fed → Type 0
 TellsFed method bytes More = IsNotWhole method bytes false
 TellsFed method bytes Whole = (parts : Parts) × IsSplit method bytes false parts
-
--- the number of body bytes that the bytes tell with a front of the piece
-pub record TellsLengthWithin (method : Method) (bytes piece : List ℕ) (len : ℕ) : Type 0 where
-  pub taken : ℕ
-  pub within : taken ≤ length piece
-  pub tells : TellsLength method (bytes ++ take taken piece) len

@@ -42,10 +42,10 @@ pub record RefusesLine (room : ℕ) (text : List ℕ) (fault : ReadFault) : Type
 
 -- no chunk and no last line is there yet, one that fits the room can come, and so many bytes of its data came
 pub record AwaitsChunk (room : ℕ) (text : List ℕ) (begun : ℕ) : Type 0 where
-  pub none : HasNoChunk text
+  pub none : HasNoChunk room text
   pub last : (rest : List ℕ) → ¬ (ReadsSizeLine 0 text rest)
   pub can : ¬ (NeverHasChunk room text)
-  pub tells : TellsBegun text begun
+  pub tells : TellsBegun room text begun
   pub fits : begun ≤ room
 
 -- a whole chunk of that size and length begins the text

@@ -7,7 +7,7 @@ use Rattle.persistence.specs.Sequence.{ReadsEach}
 use Rattle.persistence.specs.Heads.{most_head_bytes, most_interims, ReadsHead, ReadsInterim, ReadsHeads}
 use Rattle.persistence.specs.Fields.{most_bytes}
 use Rattle.persistence.specs.Chunks.{most_line_bytes, most_trailer_bytes, ReadsSizeLine, ReadsChunks, ReadsTrailer, ReachesTrailer, ReadsChunked}
-use Rattle.persistence.specs.Told.{HasNoFinalHead}
+use Rattle.persistence.specs.Told.{HasNoFinalHead, TellsChunkData}
 use Rattle.persistence.specs.Reading.{IsAwaited, TellsHead, IsTrailerAwaited}
 use Rattle.persistence.specs.ReadingChunks.{AwaitsLine}
 
@@ -101,6 +101,10 @@ pub record IsAfterData (text : List ℕ) (len : ℕ) (has_cr : Bool) : Type 0 wh
   pub sized : length content ≡ size
   pub line : ReadsSizeLine size rest (content ++ carriage has_cr)
   pub sums : len ≡ before + size
+
+-- the text has so much data in chunks, whatever follows it
+abbrev pub FixesData : List ℕ → ℕ → Type 0
+FixesData text len = (more : List ℕ) → TellsChunkData (text ++ more) len
 
 -- so many interim heads came, and a head still comes, of which these bytes are kept
 pub record AwaitsHeads (bytes : List ℕ) (count : ℕ) (kept : List ℕ) : Type 0 where

@@ -1,5 +1,5 @@
 -- What is known where a response is read. No public contract needs these words.
-use Rattle.std.specs.Prelude.{ℕ, List, Option, None, Some}
+use Rattle.std.specs.Prelude.{ℕ, List, ◌++◌, Option, None, Some}
 use Rattle.httparse.specs.Grammar.{ResponseHead}
 use Rattle.persistence.specs.declared.fault.ReadFault.{ReadFault}
 use Rattle.persistence.specs.declared.method.Method.{Method}
@@ -9,6 +9,7 @@ use Rattle.persistence.specs.declared.place.Place.{Place}
 use Rattle.persistence.specs.declared.place.Place.TheVariants.{Heads, Body, Fault}
 use Rattle.persistence.specs.Heads.{HasFinalHead}
 use Rattle.persistence.specs.Framing.{body_kind}
+use Rattle.persistence.specs.Told.{TellsLength}
 use Rattle.persistence.specs.Faults.{IsFirstFault}
 use Rattle.persistence.specs.Reading.{TellsHead}
 use Rattle.persistence.specs.ReadingPieces.{AwaitsHeads, NeverHasFinalHead}
@@ -31,16 +32,21 @@ abbrev pub TellsFinalHead : List ℕ → Option Head → Type 0
 TellsFinalHead bytes None = NeverHasFinalHead bytes
 TellsFinalHead bytes (Some told) = (text : List ℕ) × PassesHead bytes told text
 
--- the bytes show the fault first, and have that final head
-pub record IsFaulty (method : Method) (bytes : List ℕ) (fault : ReadFault) (head : Option Head) : Type 0 where
+-- the bytes tell that number of body bytes, whatever follows them
+abbrev pub FixesLength : Method → List ℕ → ℕ → Type 0
+FixesLength method bytes len = (more : List ℕ) → TellsLength method (bytes ++ more) len
+
+-- the bytes show the fault first, and have that final head and so much of the body
+pub record IsFaulty (method : Method) (bytes : List ℕ) (fault : ReadFault) (head : Option Head) (len : ℕ) : Type 0 where
   pub first : IsFirstFault method bytes fault
   pub tells : TellsFinalHead bytes head
+  pub fixes : FixesLength method bytes len
 
 -- what is known at that place, where the buffer keeps these bytes
 abbrev pub IsPlaced : Method → List ℕ → Place → List ℕ → Type 0
 IsPlaced method bytes (Heads skipped) kept = AwaitsHeads bytes skipped kept
 IsPlaced method bytes (Body head body) kept = IsInBody method bytes head body kept
-IsPlaced method bytes (Fault fault head len) kept = IsFaulty method bytes fault head
+IsPlaced method bytes (Fault fault head len) kept = IsFaulty method bytes fault head len
 
 -- the fault that was answered
 abbrev pub fault_at : Place → Option ReadFault

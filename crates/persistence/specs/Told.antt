@@ -1,6 +1,6 @@
 -- What the bytes of a response tell: its status, the length of its body, and the facts that decide
 -- whether its connection persists (RFC 9112, sections 6.3, 9.3 and 9.6).
-use Rattle.std.specs.Prelude.{◌≡◌, ℕ, ◌+◌, min, Bool, true, false, ◌==◌, nat_lt, if◌then◌else◌, List, length, sum, Option, Some, None, unwrap_or}
+use Rattle.std.specs.Prelude.{◌≡◌, ℕ, ◌+◌, ◌≤◌, min, Bool, true, false, ◌==◌, nat_lt, if◌then◌else◌, List, length, sum, Option, Some, None, unwrap_or}
 use Rattle.httparse.specs.Grammar.{ResponseHead, status_code}
 use Rattle.persistence.specs.declared.facts.Facts.{Facts}
 use Rattle.persistence.specs.declared.facts.Framing.{Framing}
@@ -10,9 +10,9 @@ use Rattle.persistence.specs.declared.facts.Version.TheVariants.{V10, V11}
 use Rattle.persistence.specs.declared.method.Method.{Method}
 use Rattle.std.specs.Prelude.{codes}
 use Rattle.persistence.specs.Heads.{HasFinalHead}
-use Rattle.persistence.specs.Fields.{fields_of, has_option, has_both_lengths, counted_length}
+use Rattle.persistence.specs.Fields.{fields_of, has_option, has_both_lengths, counted_length, most_bytes}
 use Rattle.persistence.specs.Framing.{body_kind, framing_of}
-use Rattle.persistence.specs.Chunks.{ReadsSizeLine, ReadsChunk, ReadsChunks}
+use Rattle.persistence.specs.Chunks.{ReadsSizeLine, ReadsChunk, ReadsChunks, room_after}
 use Rattle.persistence.specs.Split.{Parts, IsSplit}
 
 -- the version of a head
@@ -83,26 +83,27 @@ pub record TellsStatus (bytes : List ℕ) (status : Option ℕ) : Type 0 where
   pub before : HasNoFinalHead bytes → status ≡ None
   pub after : (head : ResponseHead) (text : List ℕ) → HasFinalHead bytes head text → status ≡ Some (status_code head)
 
--- no whole chunk begins the text
-abbrev pub HasNoChunk : List ℕ → Type 0
-HasNoChunk text = (size : ℕ) (rest : List ℕ) → ¬ (ReadsChunk size text rest)
+-- no whole chunk whose size fits the room begins the text
+abbrev pub HasNoChunk : ℕ → List ℕ → Type 0
+HasNoChunk room text = (size : ℕ) (rest : List ℕ) → size ≤ room → ¬ (ReadsChunk size text rest)
 
--- the data that has come of a chunk that is not whole: what follows its line, at most its size
-pub record TellsBegun (text : List ℕ) (len : ℕ) : Type 0 where
-  pub before : ((size : ℕ) (rest : List ℕ) → ¬ (ReadsSizeLine size text rest)) → len ≡ 0
-  pub after : (size : ℕ) (rest : List ℕ) → ReadsSizeLine size text rest → len ≡ min size (length rest)
+-- the data that has come of a chunk that is not whole: what follows a line whose size fits the room, at
+-- most that size
+pub record TellsBegun (room : ℕ) (text : List ℕ) (len : ℕ) : Type 0 where
+  pub before : ((size : ℕ) (rest : List ℕ) → size ≤ room → ¬ (ReadsSizeLine size text rest)) → len ≡ 0
+  pub after : (size : ℕ) (rest : List ℕ) → size ≤ room → ReadsSizeLine size text rest → len ≡ min size (length rest)
 
 -- the data in the chunks so far, the last of which may not be whole
 abbrev pub TellsChunkData : List ℕ → ℕ → Type 0
-TellsChunkData text len = (sizes : List ℕ) (rest : List ℕ) → ReadsChunks sizes text rest → HasNoChunk rest
-    → (begun : ℕ) × TellsBegun rest begun × (len ≡ sum sizes + begun)
+TellsChunkData text len = (sizes : List ℕ) (rest : List ℕ) → ReadsChunks sizes text rest → HasNoChunk (room_after sizes) rest
+    → (begun : ℕ) × TellsBegun (room_after sizes) rest begun × (len ≡ sum sizes + begun)
 
--- the bytes of a body of that kind that stand in the text after the head
+-- the bytes of a body of that kind that stand in the text after the head, no more than can be counted
 abbrev pub TellsBodyLength : Framing → Option ℕ → List ℕ → ℕ → Type 0
 TellsBodyLength NoBody counted text len = len ≡ 0
 TellsBodyLength Counted counted text len = len ≡ min (unwrap_or counted 0) (length text)
 TellsBodyLength Chunked counted text len = TellsChunkData text len
-TellsBodyLength UntilClose counted text len = len ≡ length text
+TellsBodyLength UntilClose counted text len = len ≡ min most_bytes (length text)
 TellsBodyLength Faulty counted text len = ⊥
 
 -- the number of body bytes that the bytes tell

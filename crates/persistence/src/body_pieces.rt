@@ -6,7 +6,7 @@ ghost use Rattle.persistence.specs.declared.fault.ReadFault.TheVariants.{BadLeng
 ghost use Rattle.persistence.specs.Fields.{most_bytes};
 ghost use Rattle.persistence.specs.Faults.{BodyShows, HasLongTrailerBy, IsFirst};
 ghost use Rattle.persistence.specs.ReadingPieces.{CountsBody};
-ghost use Rattle.persistence.specs.BodyPieces.{came_of, LastsFor, BodyAt, CountsFront};
+ghost use Rattle.persistence.specs.BodyPieces.{came_of, LastsFor, BodyAt, FixesBody};
 
 use crate::body_state::{BodyPlace, BodyState};
 use crate::buffer::Buffer;
@@ -20,6 +20,7 @@ pub(crate) fn begin_body(kind: Framing, counted: Option<u64>) -> Result<BodyStat
     requires { kind ≢ Faulty }
     ensures begun { IfOk result (λ state. BodyAt kind counted [] state []) }
     ensures fault { IfErr result (IsFirst (BodyShows kind counted) (HasLongTrailerBy kind) []) }
+    ensures fixes { IfErr result (λ _. FixesBody kind counted [] 0) }
 {
     match kind {
         Framing::NoBody => Ok(first_of(BodyPlace::Counted { count: 0 }, true)),
@@ -58,8 +59,8 @@ pub(crate) fn feed_body(
         → IfOk result (λ _. BodyAt kind counted (text ++ piece.now) state.new buffer.new) }
     ensures fault { (kind : Framing) (counted : Option ℕ) (text : List ℕ) → BodyAt kind counted text state.old buffer.old
         → IfErr result (IsFirst (BodyShows kind counted) (HasLongTrailerBy kind) (text ++ piece.now)) }
-    ensures counts { (kind : Framing) (counted : Option ℕ) (text : List ℕ) → BodyAt kind counted text state.old buffer.old
-        → IfErr result (λ _. CountsFront kind counted text piece.now state.new.len) }
+    ensures fixes { (kind : Framing) (counted : Option ℕ) (text : List ℕ) → BodyAt kind counted text state.old buffer.old
+        → IfErr result (λ _. FixesBody kind counted (text ++ piece.now) state.new.len) }
 {
     match state.place {
         BodyPlace::Counted { count } => {

@@ -1,7 +1,7 @@
 //! A chunk's data, which is counted and not looked at, and the CR LF after it.
 ghost use Rattle.std.specs.Prelude.{◌≡◌, ℕ, ◌+◌, ◌-◌, ◌<◌, ◌≤◌, true, false, List, [], ◌∷◌, ◌++◌, take, None, Some};
 ghost use Rattle.persistence.specs.Faults.{ShowsBadChunk};
-ghost use Rattle.persistence.specs.ReadingPieces.{IsTaken, PassesTo, IsInData, IsAfterData};
+ghost use Rattle.persistence.specs.ReadingPieces.{IsTaken, PassesTo, IsInData, IsAfterData, FixesData};
 
 use crate::count::{line_end_after, part_of};
 
@@ -27,6 +27,8 @@ pub(crate) fn chunk_end_step(has_cr: bool, byte: u8) -> Option<bool>
         → PassesTo (text ++ byte ∷ []) len [] }
     ensures fault { result ≡ Some false → (text : List ℕ) (len : ℕ) → IsAfterData text len has_cr
         → ShowsBadChunk (text ++ byte ∷ []) }
+    ensures fixes { result ≡ Some false → (text : List ℕ) (len : ℕ) → IsAfterData text len has_cr
+        → FixesData (text ++ byte ∷ []) len }
 {
     line_end_after(has_cr, byte)
 }

@@ -2,8 +2,8 @@
 ghost use Rattle.std.specs.Prelude.{◌≡◌, ◌<◌, ℕ, false, List, Option, [], ◌∷◌, ◌++◌, length, take, IfOk, IfErr};
 ghost use Rattle.persistence.specs.declared.facts.Framing.TheVariants.{Chunked};
 ghost use Rattle.persistence.specs.Faults.{BodyShows, HasLongTrailerBy, IsFirst};
-ghost use Rattle.persistence.specs.ReadingPieces.{IsTaken};
-ghost use Rattle.persistence.specs.BodyPieces.{IsLineDue, IsDataDue, IsLineEndDue, IsTrailerDue, IsDue, IsInChunks, CountsFront};
+ghost use Rattle.persistence.specs.ReadingPieces.{IsTaken, FixesData};
+ghost use Rattle.persistence.specs.BodyPieces.{IsLineDue, IsDataDue, IsLineEndDue, IsTrailerDue, IsDue, IsInChunks};
 
 use crate::ReadFault;
 use crate::body_state::{BodyPlace, BodyState};
@@ -31,8 +31,7 @@ pub(crate) fn feed_chunks(
     ensures told { (text : List ℕ) → IsInChunks text state.old buffer.old → IfOk result (λ _. IsInChunks (text ++ piece.now) state.new buffer.new) }
     ensures fault { (counted : Option ℕ) (text : List ℕ) → IsInChunks text state.old buffer.old
         → IfErr result (IsFirst (BodyShows Chunked counted) (HasLongTrailerBy Chunked) (text ++ piece.now)) }
-    ensures counts { (counted : Option ℕ) (text : List ℕ) → IsInChunks text state.old buffer.old
-        → IfErr result (λ _. CountsFront Chunked counted text piece.now state.new.len) }
+    ensures fixes { (text : List ℕ) → IsInChunks text state.old buffer.old → IfErr result (λ _. FixesData (text ++ piece.now) state.new.len) }
 {
     let mut at = 0;
     while at < piece.len() {
@@ -64,6 +63,7 @@ fn chunk_step(
     ensures told { (text : List ℕ) → IsDue place text len buffer.old → IfOk result (λ step. IsInChunks (text ++ take step.used piece.now) step.state buffer.new) }
     ensures fault { (counted : Option ℕ) (text : List ℕ) → IsDue place text len buffer.old
         → IfErr result (IsFirst (BodyShows Chunked counted) (HasLongTrailerBy Chunked) (text ++ piece.now)) }
+    ensures fixes { (text : List ℕ) → IsDue place text len buffer.old → IfErr result (λ _. FixesData (text ++ piece.now) len) }
 {
     match place {
         BodyPlace::Line => step_in_line(len, buffer, piece),
@@ -81,6 +81,7 @@ fn step_in_line(len: u64, buffer: &mut Buffer, piece: &[u8]) -> Result<ChunkStep
     ensures told { (text : List ℕ) → IsLineDue text len buffer.old → IfOk result (λ step. IsInChunks (text ++ take step.used piece.now) step.state buffer.new) }
     ensures fault { (counted : Option ℕ) (text : List ℕ) → IsLineDue text len buffer.old
         → IfErr result (IsFirst (BodyShows Chunked counted) (HasLongTrailerBy Chunked) (text ++ piece.now)) }
+    ensures fixes { (text : List ℕ) → IsLineDue text len buffer.old → IfErr result (λ _. FixesData (text ++ piece.now) len) }
 {
     let step = match line_step(buffer, u64::MAX - len, piece) {
         Ok(step) => step,
@@ -131,6 +132,7 @@ fn step_after_data(len: u64, has_cr: bool, piece: &[u8]) -> Result<ChunkStep, Re
     ensures told { (text : List ℕ) → IsLineEndDue has_cr text len [] → IfOk result (λ step. IsInChunks (text ++ take step.used piece.now) step.state []) }
     ensures fault { (counted : Option ℕ) (text : List ℕ) → IsLineEndDue has_cr text len []
         → IfErr result (IsFirst (BodyShows Chunked counted) (HasLongTrailerBy Chunked) (text ++ piece.now)) }
+    ensures fixes { (text : List ℕ) → IsLineEndDue has_cr text len [] → IfErr result (λ _. FixesData (text ++ piece.now) len) }
 {
     match chunk_end_step(has_cr, piece[0]) {
         None => Ok(ChunkStep {
@@ -152,6 +154,7 @@ fn step_in_trailer(len: u64, buffer: &mut Buffer, piece: &[u8]) -> Result<ChunkS
     ensures told { (text : List ℕ) → IsTrailerDue text len buffer.old → IfOk result (λ step. IsInChunks (text ++ take step.used piece.now) step.state buffer.new) }
     ensures fault { (counted : Option ℕ) (text : List ℕ) → IsTrailerDue text len buffer.old
         → IfErr result (IsFirst (BodyShows Chunked counted) (HasLongTrailerBy Chunked) (text ++ piece.now)) }
+    ensures fixes { (text : List ℕ) → IsTrailerDue text len buffer.old → IfErr result (λ _. FixesData (text ++ piece.now) len) }
 {
     let step = match trailer_step(buffer, piece) {
         Ok(step) => step,

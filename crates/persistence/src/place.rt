@@ -1,10 +1,9 @@
-//! Where a response is read, and where a piece leads from there.
-ghost use Rattle.std.specs.Prelude.{◌≡◌, ℕ, List, ◌++◌, None, Some};
+//! How far the reading of a response has come.
+ghost use Rattle.std.specs.Prelude.{◌≡◌, ℕ, List, ◌++◌, Some};
 ghost use Rattle.persistence.specs.declared.fault.ReadFault.{ReadFault};
 ghost use Rattle.persistence.specs.declared.method.Method.{Method};
 ghost use Rattle.persistence.specs.ReadingPieces.{AwaitsHeads, EndsHeadsIn};
-ghost use Rattle.persistence.specs.Reader.{TellsLengthWithin};
-ghost use Rattle.persistence.specs.ReadingPlaces.{IsInBody, IsPlaced, fault_at, len_at};
+ghost use Rattle.persistence.specs.ReadingPlaces.{IsInBody, IsPlaced, fault_at};
 
 use crate::body_pieces::{begin_body, feed_body};
 use crate::body_state::BodyState;
@@ -13,7 +12,7 @@ use crate::head::Head;
 use crate::heads_step::heads_step;
 use crate::{Method, ReadFault};
 
-/// Where a response is read.
+/// How far the reading of a response has come.
 #[derive(Clone, Copy, Debug)]
 pub(crate) enum Place {
     /// In a head; so many interim heads came before it.
@@ -25,7 +24,7 @@ pub(crate) enum Place {
         head: Head,
         body: BodyState,
     },
-    /// No further: what the final head says, if it came, and how many bytes of the body did.
+    /// A fault was found; the final head, if it came before, and the number of body bytes before the fault.
     Fault {
         fault: ReadFault,
         head: Option<Head>,
@@ -33,13 +32,11 @@ pub(crate) enum Place {
     },
 }
 
-/// Where the response is read after one piece more.
+/// How far the reading has come after one piece more.
 pub(crate) fn place_after(method: Method, buffer: &mut Buffer, place: Place, piece: &[u8]) -> Place
     requires stands { (bytes : List ℕ) × IsPlaced method bytes place buffer.old }
     ensures placed { (bytes : List ℕ) → IsPlaced method bytes place buffer.old → IsPlaced method (bytes ++ piece.now) result buffer.new }
     ensures again { (fault : ReadFault) → fault_at place ≡ Some fault → result ≡ place }
-    ensures counts { (bytes : List ℕ) → IsPlaced method bytes place buffer.old → fault_at place ≡ None
-        → (fault : ReadFault) → fault_at result ≡ Some fault → TellsLengthWithin method bytes piece.now (len_at result) }
 {
     match place {
         Place::Heads { skipped } => after_heads(method, buffer, skipped, piece),
@@ -52,8 +49,6 @@ pub(crate) fn place_after(method: Method, buffer: &mut Buffer, place: Place, pie
 fn after_heads(method: Method, buffer: &mut Buffer, skipped: usize, piece: &[u8]) -> Place
     requires stands { (bytes : List ℕ) × AwaitsHeads bytes skipped buffer.old }
     ensures placed { (bytes : List ℕ) → AwaitsHeads bytes skipped buffer.old → IsPlaced method (bytes ++ piece.now) result buffer.new }
-    ensures counts { (bytes : List ℕ) → AwaitsHeads bytes skipped buffer.old
-        → (fault : ReadFault) → fault_at result ≡ Some fault → TellsLengthWithin method bytes piece.now (len_at result) }
 {
     let mut at = 0;
     let mut count = skipped;
@@ -82,8 +77,6 @@ fn after_heads(method: Method, buffer: &mut Buffer, skipped: usize, piece: &[u8]
 fn after_head(method: Method, head: Head, buffer: &mut Buffer, piece: &[u8]) -> Place
     requires stands { (bytes : List ℕ) × EndsHeadsIn bytes buffer.old head }
     ensures placed { (bytes : List ℕ) → EndsHeadsIn bytes buffer.old head → IsPlaced method (bytes ++ piece.now) result buffer.new }
-    ensures counts { (bytes : List ℕ) → EndsHeadsIn bytes buffer.old head
-        → (fault : ReadFault) → fault_at result ≡ Some fault → TellsLengthWithin method bytes piece.now (len_at result) }
 {
     match begin_body(head.body_kind(method), head.counted) {
         Ok(body) => after_body(head, body, buffer, piece),
@@ -99,8 +92,6 @@ fn after_head(method: Method, head: Head, buffer: &mut Buffer, piece: &[u8]) -> 
 fn after_body(head: Head, body: BodyState, buffer: &mut Buffer, piece: &[u8]) -> Place
     requires stands { (method : Method) × (bytes : List ℕ) × IsInBody method bytes head body buffer.old }
     ensures placed { (method : Method) (bytes : List ℕ) → IsInBody method bytes head body buffer.old → IsPlaced method (bytes ++ piece.now) result buffer.new }
-    ensures counts { (method : Method) (bytes : List ℕ) → IsInBody method bytes head body buffer.old
-        → (fault : ReadFault) → fault_at result ≡ Some fault → TellsLengthWithin method bytes piece.now (len_at result) }
 {
     let mut body = body;
     match feed_body(&mut body, buffer, piece) {

@@ -6,7 +6,7 @@ ghost use Rattle.persistence.specs.declared.method.Method.{Method};
 ghost use Rattle.persistence.specs.Told.{is_some_text, TellsFacts, TellsFactsAfterFault, TellsStatus, TellsLength};
 ghost use Rattle.persistence.specs.Faults.{IsFaultless, IsFirstFault};
 ghost use Rattle.persistence.specs.Response.{TellsWhole};
-ghost use Rattle.persistence.specs.Reader.{unread, TellsFed, TellsLengthWithin};
+ghost use Rattle.persistence.specs.Reader.{unread, TellsFed};
 ghost use Rattle.persistence.specs.ReadingPlaces.{IsPlaced, fault_at};
 
 use crate::buffer::Buffer;
@@ -17,9 +17,10 @@ use crate::{Facts, Fed, Framing, Method, ReadFault};
 use std::alloc::Global;
 use std::marker::Model;
 
-/// A reader of the response to one request: it is fed the bytes in whatever pieces they come, and tells of
-/// all bytes so far what `read_response` tells of them at once (RFC 9112, sections 2.1, 6.3 and 7.1). It
-/// keeps 16,384 bytes of memory, taken when it is made.
+/// A reader of the response to one request: it is fed the bytes in whatever pieces they come, and tells the
+/// status, the facts and the body's length of all bytes so far; while they show no fault, those that
+/// `read_response` tells (RFC 9112, sections 2.1, 6.3 and 7.1). It keeps 16,384 bytes of memory, taken when
+/// it is made.
 #[derive(Drop)]
 pub struct ResponseReader {
     method: Method,
@@ -85,14 +86,17 @@ impl ResponseReader {
         })
     }
 
-    /// Reads one piece more, of any length: `Whole` from the piece on by which the response is whole, and
-    /// `More` before. What follows the response's end is noted and dropped. It takes no memory.
+    /// Reads one piece more, of any length; the connection must not have ended. `Whole` from the piece on by
+    /// which the response is whole, `More` before, and always `More` for a body that lasts until the
+    /// connection ends. Bytes after the response's end make its facts say `surplus` and are otherwise
+    /// dropped. It takes no memory.
     ///
     /// # Errors
     ///
-    /// The first fault that the bytes show, as `read_response` answers it for all of them: `BadHead`,
-    /// `HeadTooLong`, `TooManyInterims`, `BadLength`, `BadChunk` or `TrailerTooLong`, from the piece on by
-    /// which they show it. `Memory` never comes.
+    /// The fault that the shortest front of the bytes shows that shows any; past a 101st field it may be one
+    /// that the section shows further on. It is answered from the piece on by which it shows, and by each
+    /// later call: `BadHead`, `HeadTooLong`, `TooManyInterims`, `BadLength`, `BadChunk` or
+    /// `TrailerTooLong`. `Memory` never comes.
     pub fn feed(&mut self, piece: &[u8]) -> Result<Fed, ReadFault>
         requires { self.old.ended ≡ false }
         ensures bytes { self.new.bytes ≡ self.old.bytes ++ piece.now }
@@ -101,7 +105,6 @@ impl ResponseReader {
         ensures faultless { IfOk result (λ _. (self.new.fault ≡ None) × IsFaultless self.old.method self.new.bytes) }
         ensures fault { IfErr result (λ fault. (self.new.fault ≡ Some fault) × IsFirstFault self.old.method self.new.bytes fault × (fault ≢ Memory)) }
         ensures again { (fault : ReadFault) → self.old.fault ≡ Some fault → (result ≡ Err fault) × (self.new.len ≡ self.old.len) }
-        ensures counts { self.old.fault ≡ None → IfErr result (λ _. TellsLengthWithin self.old.method self.old.bytes piece.now self.new.len) }
     {
         self.any_byte |= !piece.is_empty();
         self.place = place_after(self.method, &mut self.buffer, self.place, piece);
@@ -109,14 +112,15 @@ impl ResponseReader {
         answer_at(&self.place)
     }
 
-    /// The connection has ended: a body that lasts until then is whole. Nothing else changes.
+    /// The connection has ended: where the final head came and no fault was answered, a body that lasts
+    /// until then is whole. Nothing else changes; it may be called again.
     pub fn end(&mut self)
         ensures { self.new ≡ record self.old { ended = true } }
     {
         self.ended = true;
     }
 
-    /// Whether the connection has ended.
+    /// Whether `end` was called.
     pub fn ended(&self) -> bool
         ensures { result ≡ self.now.ended }
     {
@@ -145,7 +149,8 @@ impl ResponseReader {
     }
 
     /// What decides whether the response's connection persists, and whether the response is whole. After a
-    /// fault no framing can be relied on, and the response is never whole.
+    /// fault the framing is `Faulty`, `whole` and `surplus` are false, and the rest is what the final head
+    /// says, if it came.
     pub fn facts(&self) -> Facts
         ensures shown { MatchOption self.now.fault (IsFaultless self.now.method self.now.bytes) (IsFirstFault self.now.method self.now.bytes) }
         ensures told { self.now.fault ≡ None → TellsFacts self.now.method self.now.request_close self.now.bytes self.now.ended result }
@@ -155,11 +160,11 @@ impl ResponseReader {
         facts_at(self.method, self.request_close, &self.place, self.ended)
     }
 
-    /// How many bytes of the body have come, of chunks the data alone; after a fault, how many had come when
-    /// it was first answered.
+    /// How many bytes of the body have come, of chunks the data alone; after a fault, how many came before
+    /// it.
     pub fn body_len(&self) -> u64
         ensures len { result ≡ self.now.len }
-        ensures told { self.now.fault ≡ None → TellsLength self.now.method self.now.bytes result }
+        ensures told { TellsLength self.now.method self.now.bytes result }
     {
         match self.place {
             Place::Heads { .. } => 0,

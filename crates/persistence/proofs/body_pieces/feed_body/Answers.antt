@@ -3,8 +3,8 @@ use Rattle.std.proofs.lemmas.Result.{IfOk-weaker, IfErr-weaker}
 use Rattle.std.specs.Result.{IfErr}
 use Rattle.persistence.specs.declared.facts.Framing.{Framing}
 use Rattle.persistence.specs.Faults.{BodyShows, HasLongTrailerBy, IsFirst}
-use Rattle.persistence.specs.BodyPieces.{CountsFront}
-use Rattle.persistence.proofs.BodyLemmas.{lasts_at, too_many_bytes, greatest_front, chunks_at, body_in_chunks}
+use Rattle.persistence.specs.BodyPieces.{FixesBody}
+use Rattle.persistence.proofs.BodyLemmas.{lasts_at, too_many_bytes, greatest_fixes, chunks_at, body_in_chunks}
 use Rattle.persistence.proofs.body_pieces.feed_body.Goals as goal
 
 pub returns-in-UntilClose-clause-fault : goal.returns-in-UntilClose-clause-fault
@@ -13,10 +13,10 @@ returns-in-UntilClose-clause-fault c = λ kind counted text at.
     IfErr-weaker c.feed_until_close.result _ _ (λ fault over. too_many_bytes kind counted (text ++ c.args.piece.now) fault lasts.0 over.0 over.1)
     (c.feed_until_close.ensures.fault text lasts.1)
 
-pub returns-in-UntilClose-clause-counts : goal.returns-in-UntilClose-clause-counts
-returns-in-UntilClose-clause-counts c = λ kind counted text at.
+pub returns-in-UntilClose-clause-fixes : goal.returns-in-UntilClose-clause-fixes
+returns-in-UntilClose-clause-fixes c = λ kind counted text at.
     let lasts = lasts_at kind counted text c.args.state.now c.args.buffer.now c.in-UntilClose.is at in
-    IfErr-weaker c.feed_until_close.result _ _ (λ fault over. greatest_front kind counted text c.args.piece.now c.feed_until_close.new.state.len lasts.0 lasts.1.few over.1 over.2)
+    IfErr-weaker c.feed_until_close.result _ _ (λ fault over. greatest_fixes kind counted (text ++ c.args.piece.now) c.feed_until_close.new.state.len lasts.0 over.1 over.2)
     (c.feed_until_close.ensures.fault text lasts.1)
 
 pub returns-in-Line : goal.returns-in-Line
@@ -31,9 +31,9 @@ returns-in-Line c = record {
       subst (λ (k : Framing). IfErr c.feed_chunks.result (IsFirst (BodyShows k counted) (HasLongTrailerBy k) (text ++ c.args.piece.now))) (sym chunks.0)
       (c.feed_chunks.ensures.fault counted text chunks.1)
       );
-  counts = λ kind counted text at. (
+  fixes = λ kind counted text at. (
       let chunks = chunks_at kind counted text c.args.state.now c.args.buffer.now c.in-Line.is at in
-      subst (λ (k : Framing). IfErr c.feed_chunks.result (λ _. CountsFront k counted text c.args.piece.now c.feed_chunks.new.state.len)) (sym chunks.0)
-      (c.feed_chunks.ensures.counts counted text chunks.1)
+      subst (λ (k : Framing). IfErr c.feed_chunks.result (λ _. FixesBody k counted (text ++ c.args.piece.now) c.feed_chunks.new.state.len)) (sym chunks.0)
+      (c.feed_chunks.ensures.fixes text chunks.1)
       );
 }

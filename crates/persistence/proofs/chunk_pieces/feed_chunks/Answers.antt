@@ -1,10 +1,10 @@
-use Rattle.std.proofs.Common.{ℕ, ◌-◌, false, List, ◌++◌, length, take, drop, sym, subst, arith, length-take, length-drop}
+use Rattle.std.proofs.Common.{ℕ, ◌-◌, List, ◌++◌, length, take, drop, sym, subst, arith, length-take, length-drop}
 use Rattle.std.proofs.lemmas.List.{append-nil, take_all}
 use Rattle.persistence.specs.declared.facts.Framing.TheVariants.{Chunked}
 use Rattle.persistence.specs.Faults.{BodyShows, HasLongTrailerBy, IsFirst}
+use Rattle.persistence.specs.ReadingPieces.{FixesData}
 use Rattle.persistence.specs.BodyPieces.{IsInChunks}
 use Rattle.persistence.proofs.ChunkStepLemmas.{due_now, taken_further, taken_all_rest, surplus_after}
-use Rattle.persistence.proofs.BodyLemmas.{tells_in_chunks}
 use Rattle.persistence.proofs.chunk_pieces.feed_chunks.Goals as goal
 
 pub loop-at-init : goal.loop-at-init
@@ -37,12 +37,11 @@ returns-in-Err-clause-fault c = λ counted text at.
     subst (λ (t : List ℕ). IsFirst (BodyShows Chunked counted) (HasLongTrailerBy Chunked) t c.in-Err.fault) (taken_all_rest text c.args.piece.now c.loop-at.at)
     (c.in-Err.ensures.fault counted now due)
 
-pub returns-in-Err-clause-counts : goal.returns-in-Err-clause-counts
-returns-in-Err-clause-counts c = λ counted text at. record {
-  used = c.loop-at.at;
-  within = c.loop-at.invariant.0;
-  counts = (tells_in_chunks counted false (text ++ take c.loop-at.at c.args.piece.now) c.loop-at.state c.loop-at.buffer (c.loop-at.invariant.1 text at)).came;
-}
+pub returns-in-Err-clause-fixes : goal.returns-in-Err-clause-fixes
+returns-in-Err-clause-fixes c = λ text at.
+    let now = text ++ take c.loop-at.at c.args.piece.now in
+    let due = due_now now c.loop-at.state c.loop-at.buffer (c.loop-at.invariant.1 text at) c.if-state.false in
+    subst (λ (t : List ℕ). FixesData t c.loop-at.state.len) (taken_all_rest text c.args.piece.now c.loop-at.at) (c.in-Err.ensures.fixes now due)
 
 pub returns-clause-told : goal.returns-clause-told
 returns-clause-told c = λ text at.

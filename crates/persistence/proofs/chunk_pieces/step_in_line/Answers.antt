@@ -1,10 +1,13 @@
 use Rattle.std.proofs.Common.{◌++◌, take, arith}
 use Rattle.persistence.specs.declared.body_state.BodyPlace.TheVariants as place
-use Rattle.persistence.proofs.ChunkStepLemmas.{still_due, line_kept_on, line_begins, line_refused, trailer_due}
+use Rattle.persistence.proofs.ChunkStepLemmas.{still_due, line_kept_on, line_begins, line_refused, line_fixes, trailer_due}
 use Rattle.persistence.proofs.chunk_pieces.step_in_line.Goals as goal
 
 pub returns-in-Err-clause-fault : goal.returns-in-Err-clause-fault
 returns-in-Err-clause-fault c = λ counted text due. line_refused text c.args.len c.args.buffer.now due c.args.piece.now c.in-Err.fault c.in-Err.ensures.fault counted
+
+pub returns-in-Err-clause-fixes : goal.returns-in-Err-clause-fixes
+returns-in-Err-clause-fixes c = λ text due. line_fixes text c.args.len c.args.buffer.now due c.args.piece.now c.in-Err.fault c.in-Err.ensures.fault
 
 pub returns-in_default-clause-told : goal.returns-in_default-clause-told
 returns-in_default-clause-told c = λ text due.

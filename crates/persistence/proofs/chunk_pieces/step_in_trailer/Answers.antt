@@ -1,11 +1,14 @@
 use Rattle.std.proofs.Common.{[], ◌++◌, take, refl, sym}
 use Rattle.std.proofs.lemmas.List.{append-nil}
 use Rattle.persistence.specs.declared.body_state.BodyPlace.TheVariants as place
-use Rattle.persistence.proofs.ChunkStepLemmas.{still_due, trailer_kept, trailer_ends, trailer_fault}
+use Rattle.persistence.proofs.ChunkStepLemmas.{still_due, trailer_kept, trailer_ends, trailer_fault, trailer_fixes}
 use Rattle.persistence.proofs.chunk_pieces.step_in_trailer.Goals as goal
 
 pub returns-in-Err-clause-fault : goal.returns-in-Err-clause-fault
 returns-in-Err-clause-fault c = λ counted text due. trailer_fault text c.args.len c.args.buffer.now due c.args.piece.now c.in-Err.fault c.in-Err.ensures.fault counted
+
+pub returns-in-Err-clause-fixes : goal.returns-in-Err-clause-fixes
+returns-in-Err-clause-fixes c = λ text due. trailer_fixes text c.args.len c.args.buffer.now due c.args.piece.now
 
 pub returns-then-step-clause-told : goal.returns-then-step-clause-told
 returns-then-step-clause-told c = λ text due.

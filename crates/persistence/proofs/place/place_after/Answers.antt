@@ -4,11 +4,7 @@ use Rattle.persistence.specs.ReadingPlaces.{IsPlaced}
 use Rattle.persistence.proofs.PlaceLemmas.{faulty_more}
 use Rattle.persistence.proofs.place.place_after.Goals as goal
 
-pub returns-in-Body-clause-counts : goal.returns-in-Body-clause-counts
-returns-in-Body-clause-counts c = λ bytes placed none.
-    c.after_body.ensures.counts c.args.method bytes (subst (λ (place : Place). IsPlaced c.args.method bytes place c.args.buffer.now) c.in-Body.is placed)
-
 pub returns-in-Fault-clause-placed : goal.returns-in-Fault-clause-placed
 returns-in-Fault-clause-placed c = λ bytes placed.
-    faulty_more c.args.method bytes c.args.piece.now c.in-Fault.fault c.in-Fault.head
+    faulty_more c.args.method bytes c.args.piece.now c.in-Fault.fault c.in-Fault.head c.in-Fault.len
     (subst (λ (place : Place). IsPlaced c.args.method bytes place c.args.buffer.now) c.in-Fault.is placed)

@@ -1,6 +1,5 @@
-use Rattle.std.proofs.Common.{◌++◌, ap, ◌∙◌}
+use Rattle.std.proofs.Common.{◌++◌}
 use Rattle.std.proofs.lemmas.Result.{IfErr-weaker}
-use Rattle.persistence.specs.Reader.{Reading}
 use Rattle.persistence.proofs.PlaceLemmas.{placed_fault}
 use Rattle.persistence.proofs.reader.ResponseReader.feed.Goals as goal
 
@@ -21,9 +20,3 @@ returns-clause-fault c =
     let reader = c.self.inside in
     rw (c.append.ensures, ← c.self.view_is)
     (IfErr-weaker c.answer_at.result _ _ (placed_fault reader.method (reader.fed.bytes ++ c.args.piece.now) _ c.place_after-self-inside.result (c.place_after-self-inside.ensures.placed reader.fed.bytes c.self.invariant.placed)) c.answer_at.ensures.fault)
-
-pub returns-clause-counts : goal.returns-clause-counts
-returns-clause-counts c = λ none.
-    let reader = c.self.inside in
-    rw (← c.self.view_is)
-    (IfErr-weaker c.answer_at.result _ _ (c.place_after-self-inside.ensures.counts reader.fed.bytes c.self.invariant.placed (ap (λ (r : Reading). r.fault) c.self.view_is ∙ none)) c.answer_at.ensures.fault)
