@@ -1,5 +1,5 @@
 //! A body in chunks that comes in pieces (RFC 9112, section 7.1).
-ghost use Rattle.std.specs.Prelude.{◌≡◌, ◌<◌, ℕ, false, List, Option, [], ◌∷◌, ◌++◌, length, take, IfOk, IfErr};
+ghost use Rattle.std.specs.Prelude.{◌≡◌, ◌<◌, ℕ, false, List, Option, [], ◌++◌, length, take, IfOk, IfErr};
 ghost use Rattle.persistence.specs.declared.facts.Framing.TheVariants.{Chunked};
 ghost use Rattle.persistence.specs.Faults.{BodyShows, HasLongTrailerBy, IsFirst};
 ghost use Rattle.persistence.specs.ReadingPieces.{IsTaken, FixesData};
