@@ -19,3 +19,4 @@ pub mod Stakes
 pub mod Ticketed
 pub mod Telling
 pub mod LeasedLines
+pub mod Ending

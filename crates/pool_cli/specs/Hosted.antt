@@ -5,6 +5,7 @@ use Rattle.conn_log.specs.declared.entry.Entry.{Entry}
 use Rattle.conn_log.specs.declared.entry.Want.{Want}
 use Rattle.conn_log.specs.Legal.{Terms}
 use Rattle.bundle.specs.Lease.{OneHost, Leasing, Ticketed, leased_number, ticket_want}
+use Rattle.pool_cli.specs.Meaning.{with_ticket}
 
 pub record Hosted : Type 0 where
   pub log : List Entry
@@ -47,3 +48,8 @@ abbrev pub is_ticket_first : List ℕ → List ℕ → Bool
 is_ticket_first holders [] = false
 is_ticket_first [] (waiter ∷ waiters) = true
 is_ticket_first (holder ∷ holders) (waiter ∷ waiters) = nat_lt waiter holder
+
+-- all of them in one list, in ascending order
+abbrev pub merged : List ℕ → List ℕ → List ℕ
+merged holders [] = holders
+merged holders (waiter ∷ waiters) = with_ticket waiter (merged holders waiters)

@@ -5,6 +5,7 @@ pub mod Site
 pub mod Printing
 pub mod Meaning
 pub mod Hosted
+pub mod Ending
 pub mod Transcript
 pub mod Streams
 pub mod Running

@@ -1,14 +1,15 @@
 //! The leases and tickets that a host keeps for its transfers, until they are spent.
 
-ghost use Rattle.std.specs.Prelude.{◌≡◌, ◌+◌, ◌<◌, ℕ, OnOk, IfErr, IsSome, Some, None, true};
+ghost use Rattle.std.specs.Prelude.{◌≡◌, ◌+◌, ◌<◌, ℕ, OnOk, IfErr, IsSome, Some, None, true, ◌∷◌};
 ghost use Rattle.std.specs.Ordering.{nat_cmp};
 ghost use Rattle.std.specs.BTreeMap.{get, keys, btree_map_len, IsOrdered};
-ghost use Rattle.conn_log.specs.Connections.{is_held_by};
+ghost use Rattle.conn_log.specs.Connections.{is_held_by, held_number};
 ghost use Rattle.conn_log.specs.Sound.{IsSound};
 ghost use Rattle.bundle.specs.Calls.{after_give_back, after_abandon, after_withdraw};
 ghost use Rattle.bundle.specs.Lease.{Spends, leased_number, ticket_want, stands};
-ghost use Rattle.pool_cli.specs.Meaning.{with_ticket, facts_of};
-ghost use Rattle.pool_cli.specs.Hosted.{KeepsLeases, KeepsTickets, leases_of, due_others, lease_facts, is_ticket_first};
+ghost use Rattle.pool_cli.specs.Meaning.{with_ticket, without_ticket, facts_of};
+ghost use Rattle.pool_cli.specs.Ending.{after_dropping, after_giving_up, IsEnding};
+ghost use Rattle.pool_cli.specs.Hosted.{Keeps, KeepsLeases, KeepsTickets, leases_of, due_others, lease_facts, is_ticket_first, merged};
 
 use crate::command::{Ending, facts_of};
 use crate::fault::FaultKind;
@@ -129,31 +130,99 @@ pub fn spend_all(
     bundle: &mut Bundle<()>,
     leases: BTreeMap<u64, Lease<()>>,
     tickets: BTreeMap<u64, Ticket>,
-) {
+)
+    requires keeps { Keeps bundle.old (get nat_cmp leases) (get nat_cmp tickets) }
+    ensures log { IsEnding bundle.old.terms bundle.old.log (keys tickets) bundle.new.log }
+    ensures leases { (t : ℕ) → leased_number bundle.new t ≡ None }
+    ensures tickets { (t : ℕ) → ticket_want bundle.new t ≡ None }
+    ensures terms { bundle.new.terms ≡ bundle.old.terms }
+{
+    // The log is sound, and the keys of a map ascend.
+    let _log = bundle.log();
+    let _holders = leases.len();
+    let _waiters = tickets.len();
     let mut leases = leases;
     let mut tickets = tickets;
-    while !leases.is_empty() || !tickets.is_empty() {
-        spend_first(bundle, &mut leases, &mut tickets);
+    while leases.len() != 0 || tickets.len() != 0 {
+        let _ = spend_first(bundle, &mut leases, &mut tickets);
     }
     leases.destroy_empty();
     tickets.destroy_empty();
 }
 
-/// Spends the lease or the ticket of the first transfer that has one, at moment 0.
+/// Spends the lease or the ticket of the first transfer that has one, at moment 0. Tells which
+/// transfer that is.
 fn spend_first(
     bundle: &mut Bundle<()>,
     leases: &mut BTreeMap<u64, Lease<()>>,
     tickets: &mut BTreeMap<u64, Ticket>,
-)
-    requires { 0 < btree_map_len leases.old + btree_map_len tickets.old }
-    ensures { btree_map_len leases.new + btree_map_len tickets.new + 1 ≡ btree_map_len leases.old + btree_map_len tickets.old }
+) -> u64
+    requires some { 0 < btree_map_len leases.old + btree_map_len tickets.old }
+    requires keeps { Keeps bundle.old (get nat_cmp leases.old) (get nat_cmp tickets.old) }
+    requires holders { IsOrdered nat_cmp leases.old }
+    requires waiters { IsOrdered nat_cmp tickets.old }
+    ensures first { merged (keys leases.old) (keys tickets.old) ≡ result ∷ merged (keys leases.new) (keys tickets.new) }
+    ensures less { btree_map_len leases.new + btree_map_len tickets.new + 1 ≡ btree_map_len leases.old + btree_map_len tickets.old }
+    ensures tickets { keys tickets.new ≡ without_ticket result (keys tickets.old) }
+    ensures log { bundle.new.log ≡ after_giving_up bundle.old.terms bundle.old.log (keys tickets.old) result }
+    ensures terms { bundle.new.terms ≡ bundle.old.terms }
+    ensures keeps { Keeps bundle.new (get nat_cmp leases.new) (get nat_cmp tickets.new) }
+    ensures ordered { IsOrdered nat_cmp leases.new × IsOrdered nat_cmp tickets.new }
 {
+    // The log is sound: who has a ticket has no lease.
+    let _log = bundle.log();
     if is_ticket_first(leases, tickets) {
-        if let Some((_, ticket)) = tickets.pop_first() {
-            withdraw(bundle, ticket, 0);
+        withdraw_first(bundle, tickets)
+    } else {
+        abandon_first(bundle, leases)
+    }
+}
+
+/// Withdraws the first of the tickets, at moment 0. Tells whose it is.
+fn withdraw_first(bundle: &mut Bundle<()>, tickets: &mut BTreeMap<u64, Ticket>) -> u64
+    requires some { 0 < btree_map_len tickets.old }
+    requires keeps { KeepsTickets (ticket_want bundle.old) (get nat_cmp tickets.old) }
+    ensures own { IsSome (ticket_want bundle.old result) }
+    ensures first { keys tickets.old ≡ result ∷ keys tickets.new }
+    ensures less { btree_map_len tickets.new + 1 ≡ btree_map_len tickets.old }
+    ensures log { bundle.new.log ≡ after_withdraw bundle.old.terms bundle.old.log result 0 }
+    ensures spends { Spends bundle.old bundle.new result }
+    ensures terms { bundle.new.terms ≡ bundle.old.terms }
+    ensures keeps { KeepsTickets (ticket_want bundle.new) (get nat_cmp tickets.new) }
+    ensures ordered { IsOrdered nat_cmp tickets.new }
+{
+    // The log is sound: a ticket is of its transfer.
+    let _log = bundle.log();
+    match tickets.pop_first() {
+        Some((transfer, first)) => {
+            withdraw(bundle, first, 0);
+            transfer
         }
-    } else if let Some((_, lease)) = leases.pop_first() {
-        abandon(bundle, lease, 0);
+        None => unreachable!(),
+    }
+}
+
+/// Abandons the first of the leases, at moment 0. Tells whose it is.
+fn abandon_first(bundle: &mut Bundle<()>, leases: &mut BTreeMap<u64, Lease<()>>) -> u64
+    requires some { 0 < btree_map_len leases.old }
+    requires keeps { KeepsLeases (leases_of bundle.old) (get nat_cmp leases.old) }
+    ensures own { IsSome (leased_number bundle.old result) }
+    ensures first { keys leases.old ≡ result ∷ keys leases.new }
+    ensures less { btree_map_len leases.new + 1 ≡ btree_map_len leases.old }
+    ensures log { bundle.new.log ≡ after_dropping bundle.old.terms bundle.old.log (held_number bundle.old.log result) }
+    ensures spends { Spends bundle.old bundle.new result }
+    ensures terms { bundle.new.terms ≡ bundle.old.terms }
+    ensures keeps { KeepsLeases (leases_of bundle.new) (get nat_cmp leases.new) }
+    ensures ordered { IsOrdered nat_cmp leases.new }
+{
+    // The log is sound: what a transfer has a lease of, it holds.
+    let _log = bundle.log();
+    match leases.pop_first() {
+        Some((transfer, first)) => {
+            abandon(bundle, first, 0);
+            transfer
+        }
+        None => unreachable!(),
     }
 }
 
