@@ -194,6 +194,11 @@ abbrev pub with_command : Run → Command → Option Limits → Result (Run × L
 with_command run command None = Err Place
 with_command run command (Some limits) = Ok (after_answer run (answer_of limits (has_site run.sites) run.log run.tickets command))
 
+-- the script's end: where limits are given the run has begun by then
+abbrev pub at_end : Run → Option Limits → Run
+at_end run None = run
+at_end run (Some limits) = record run { has_begun = true }
+
 unfoldable pub step : Run → Command → Result (Run × List ℕ) FaultKind
 step run (commands.Limits limits) = with_limits run limits run.limits
 step run (commands.Site word) = with_url run word run.limits

@@ -1,7 +1,7 @@
 //! What a script's commands do, one after another.
 
 ghost use Rattle.std.specs.Prelude.{◌≡◌, ℕ, List, [], ◌∷◌, IfErr, IfOk, OnOk, OnErr, Some, None, true, string_bytes};
-ghost use Rattle.pool_cli.specs.Meaning.{Run, start, step, with_limits, with_url, with_command, at_host, at_no_host, site_of, are_good, terms_of};
+ghost use Rattle.pool_cli.specs.Meaning.{Run, start, step, with_limits, with_url, with_command, at_end, at_host, at_no_host, site_of, are_good, terms_of};
 ghost use Rattle.pool_cli.specs.Site.{has_site};
 ghost use Rattle.pool_cli.specs.Transcript.{Answers, Gives};
 ghost use Rattle.conn_log.specs.declared.entry.Entry.{Entry};
@@ -26,9 +26,11 @@ pub trait Machine {
     fn answer(&mut self, command: Command<'_>) -> Result<String, FaultKind>
         ensures { Answers string_bytes (step (run self.old) command.entry) result (run self.new) };
 
-    /// What is due at the script's end.
+    /// What is due at the script's end: where limits are given the host is made by then, also where
+    /// no command came. The only error is `Memory`.
     fn end_of_script(&mut self) -> Result<(), FaultKind>
-        ensures { IfErr result (λ kind. kind ≡ FaultKind.Memory) };
+        ensures ok { OnOk result (run self.new ≡ at_end (run self.old) (run self.old).limits) }
+        ensures err { IfErr result (λ kind. kind ≡ FaultKind.Memory) };
 }
 
 /// A run of a script over at most one host.

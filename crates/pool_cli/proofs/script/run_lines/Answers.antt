@@ -40,4 +40,4 @@ returns-in-Err-end_of_script g c =
     let run = g.M.Machine.run in
     let contents = g.W.Write.contents in
     run-short (contents c.args.writer.now) (contents c.loop-rest.writer) (told (run c.args.machine.now) 1 (lines c.args.script.now)) (run c.loop-rest.machine) c.loop-rest.line (c.loop-rest.line + 1)
-    (lines c.loop-rest.rest.now) c.in-Err-end_of_script.kind (no-lines c.loop-rest.rest.now (grind (arith, nat_tests))) c.in-Err-end_of_script.ensures c.loop-rest.invariant.so_far
+    (lines c.loop-rest.rest.now) c.in-Err-end_of_script.kind (no-lines c.loop-rest.rest.now (grind (arith, nat_tests))) c.in-Err-end_of_script.ensures.err c.loop-rest.invariant.so_far
