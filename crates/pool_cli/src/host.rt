@@ -2,6 +2,7 @@
 
 ghost use Rattle.std.specs.Prelude.{◌≡◌, ◌≤◌, IfOk, IfErr, flat_map, string_bytes, length, reverse, drop, []};
 ghost use Rattle.pool_cli.specs.Meaning.{terms_of, get_at, claim_at, back_at, drop_at, leave_at, look_at};
+ghost use Rattle.pool_cli.specs.Ending.{IsEnding};
 ghost use Rattle.pool_cli.specs.Printing.{entry_line, refused, claimed_line, still_line};
 ghost use Rattle.pool_cli.specs.Transcript.{Gives, GivesText};
 
@@ -178,14 +179,19 @@ impl OneHost {
         }
     }
 
-    /// Abandons the leases and withdraws the tickets, by transfer, at moment 0.
-    pub fn end(self) {
+    /// Abandons the leases and withdraws the tickets, by transfer, at moment 0; gives the bundle that
+    /// is left.
+    pub fn end(self) -> Bundle<()>
+        ensures ending { IsEnding self.terms self.log self.tickets result.log }
+        ensures terms { result.terms ≡ self.terms }
+    {
         let OneHost {
             mut bundle,
             leases,
             tickets,
         } = self;
         spend_all(&mut bundle, leases, tickets);
+        bundle
     }
 }
 

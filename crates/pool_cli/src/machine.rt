@@ -1,8 +1,9 @@
 //! What a script's commands do, one after another.
 
-ghost use Rattle.std.specs.Prelude.{◌≡◌, ℕ, List, [], ◌∷◌, IfErr, IfOk, OnOk, OnErr, Some, None, true, string_bytes};
+ghost use Rattle.std.specs.Prelude.{◌≡◌, ℕ, List, [], ◌∷◌, IfErr, IfOk, OnOk, OnErr, IfSome, IsSome, Some, None, true, ◌&&◌, string_bytes};
 ghost use Rattle.pool_cli.specs.Meaning.{Run, start, step, with_limits, with_url, with_command, at_end, at_host, at_no_host, site_of, are_good, terms_of};
 ghost use Rattle.pool_cli.specs.Site.{has_site};
+ghost use Rattle.pool_cli.specs.Ending.{IsEnding};
 ghost use Rattle.pool_cli.specs.Transcript.{Answers, Gives};
 ghost use Rattle.conn_log.specs.declared.entry.Entry.{Entry};
 
@@ -10,6 +11,7 @@ use crate::command::{Command, Limits};
 use crate::fault::FaultKind;
 use crate::host::{OneHost, reply};
 use crate::site::SiteWord;
+use bundle::Bundle;
 use conn_key::Sites;
 use std::alloc::Global;
 use std::marker::Model;
@@ -100,8 +102,12 @@ impl Engine {
         }
     }
 
-    /// Abandons the leases that are left, and withdraws the tickets.
-    pub fn end(self) {
+    /// Abandons the leases that are left, and withdraws the tickets, by transfer, at moment 0; gives
+    /// the bundle that is left, where a host was made.
+    pub fn end(self) -> Option<Bundle<()>>
+        ensures ending { IfSome result (λ bundle. IsEnding bundle.terms self.log self.tickets bundle.log) }
+        ensures host { (self.has_begun && has_site self.sites) ≡ true → IsSome self.limits → IsSome result }
+    {
         let Engine {
             alloc: _,
             limits: _,
@@ -109,7 +115,7 @@ impl Engine {
             has_begun: _,
             host,
         } = self;
-        end_host(host);
+        end_host(host)
     }
 
     /// `limits`: once, before all others.
@@ -166,7 +172,7 @@ impl Engine {
         }
         if !self.sites.is_empty() {
             let host = OneHost::new(self.alloc, limits)?;
-            end_host(mem::replace(&mut self.host, Some(host)));
+            put_host(&mut self.host, host);
         }
         self.has_begun = true;
         Ok(())
@@ -259,10 +265,21 @@ fn answer_without_host(alloc: Global, command: Command<'_>) -> Result<String, Fa
     }
 }
 
-/// Ends a host, where there is one.
-fn end_host(host: Option<OneHost>) {
+/// Puts the host in its place; one that was there is ended.
+fn put_host(place: &mut Option<OneHost>, host: OneHost)
+    ensures { place.new ≡ Some host }
+{
+    let _ = end_host(mem::replace(place, Some(host)));
+}
+
+/// Ends a host, where there is one; gives its bundle.
+fn end_host(host: Option<OneHost>) -> Option<Bundle<()>>
+    ensures none { host ≡ None → result ≡ None }
+    ensures ending { IfSome host (λ h. IfSome result (λ bundle. IsEnding h.terms h.log h.tickets bundle.log × (bundle.terms ≡ h.terms))) }
+    ensures some { IsSome host → IsSome result }
+{
     match host {
-        Some(host) => host.end(),
-        None => {}
+        Some(host) => Some(host.end()),
+        None => None,
     }
 }

@@ -47,7 +47,7 @@ fn run_engine<W: Write>(alloc: Global, script: &[u8], writer: &mut W) -> Result<
         Err(kind) => return Err(ScriptFault { line: 0, kind }),
     };
     let result = run_lines(alloc, &mut engine, script, writer);
-    engine.end();
+    let _ = engine.end();
     result
 }
 
