@@ -263,8 +263,8 @@ fn check_short(
     check_fronts(rt, alloc, case, sent, 0)
 }
 
-/// Checks what is told of the text: at once, in pieces of 1,000 bytes, and with its last 50 bytes one by one. All of
-/// it byte by byte would take too long, since a head is parsed again at each byte.
+/// Checks what is told of the text: at once, in pieces of 1,000 bytes, and with its last 50 bytes one by one. What is
+/// told of it byte by byte has a test of its own, since a head is parsed again at each byte.
 fn check_long(
     rt: &impl Abort,
     alloc: Global,
@@ -337,6 +337,23 @@ fn limits_are_kept_in_pieces(rt: HostRuntime) -> Result<(), Fail> {
         } else {
             check_long(&rt, rt.alloc(), case, sent, told)?;
         }
+    }
+    Ok(())
+}
+
+/// Built without optimization this takes longer than a test may.
+#[test]
+fn limits_are_kept_byte_by_byte(rt: HostRuntime) -> Result<(), Fail> {
+    for (case, start, piece, count, end, _) in LIMITS {
+        let text = repeated(rt.alloc(), start, piece, count, end)?;
+        let sent = Sent {
+            method: Method::Get,
+            text: &text,
+            ended: false,
+        };
+        let told = read_response(Method::Get, false, &text, false);
+        let by_byte = told_in_pieces(&rt, rt.alloc(), sent, 0, 1);
+        assert_eq!(rt; by_byte, told, "{case}");
     }
     Ok(())
 }
