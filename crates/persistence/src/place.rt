@@ -45,7 +45,7 @@ pub(crate) fn place_after(method: Method, buffer: &mut Buffer, place: Place, pie
     }
 }
 
-// The same where a head is due.
+// How far it has come where a head was due before the piece.
 fn after_heads(method: Method, buffer: &mut Buffer, skipped: usize, piece: &[u8]) -> Place
     requires stands { (bytes : List ℕ) × AwaitsHeads bytes skipped buffer.old }
     ensures placed { (bytes : List ℕ) → AwaitsHeads bytes skipped buffer.old → IsPlaced method (bytes ++ piece.now) result buffer.new }
@@ -73,7 +73,7 @@ fn after_heads(method: Method, buffer: &mut Buffer, skipped: usize, piece: &[u8]
     Place::Heads { skipped: count }
 }
 
-// The same where the final head has just come.
+// How far it has come where the final head ended just before the piece.
 fn after_head(method: Method, head: Head, buffer: &mut Buffer, piece: &[u8]) -> Place
     requires stands { (bytes : List ℕ) × EndsHeadsIn bytes buffer.old head }
     ensures placed { (bytes : List ℕ) → EndsHeadsIn bytes buffer.old head → IsPlaced method (bytes ++ piece.now) result buffer.new }
@@ -88,7 +88,7 @@ fn after_head(method: Method, head: Head, buffer: &mut Buffer, piece: &[u8]) -> 
     }
 }
 
-// The same where the body is due.
+// How far it has come where the body was due before the piece.
 fn after_body(head: Head, body: BodyState, buffer: &mut Buffer, piece: &[u8]) -> Place
     requires stands { (method : Method) × (bytes : List ℕ) × IsInBody method bytes head body buffer.old }
     ensures placed { (method : Method) (bytes : List ℕ) → IsInBody method bytes head body buffer.old → IsPlaced method (bytes ++ piece.now) result buffer.new }

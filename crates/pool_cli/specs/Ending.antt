@@ -11,12 +11,13 @@ use Rattle.pool_cli.specs.Meaning.{without_ticket}
 abbrev pub has_either : List Entry → List ℕ → ℕ → Bool
 has_either log tickets transfer = is_among transfer tickets || is_some (held_number log transfer)
 
--- the log after a transfer gives up what it has, at moment 0: its ticket is withdrawn, or else what it holds is
--- abandoned
+-- the log after the connection that a transfer holds, if any, is abandoned at moment 0
 abbrev pub after_dropping : Terms → List Entry → Option ℕ → List Entry
 after_dropping terms log None = log
 after_dropping terms log (Some c) = after_abandon terms log c 0
 
+-- the log after a transfer gives up what it has, at moment 0: its ticket is withdrawn, or else what it holds is
+-- abandoned
 abbrev pub after_giving_up : Terms → List Entry → List ℕ → ℕ → List Entry
 after_giving_up terms log tickets transfer = if is_among transfer tickets then after_withdraw terms log transfer 0 else after_dropping terms log (held_number log transfer)
 

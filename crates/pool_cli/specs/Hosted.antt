@@ -49,7 +49,7 @@ is_ticket_first holders [] = false
 is_ticket_first [] (waiter ∷ waiters) = true
 is_ticket_first (holder ∷ holders) (waiter ∷ waiters) = nat_lt waiter holder
 
--- all of them in one list, in ascending order
+-- the transfers of both lists in one, in ascending order
 abbrev pub merged : List ℕ → List ℕ → List ℕ
 merged holders [] = holders
 merged holders (waiter ∷ waiters) = with_ticket waiter (merged holders waiters)
