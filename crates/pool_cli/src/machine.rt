@@ -6,6 +6,7 @@ ghost use Rattle.pool_cli.specs.Site.{has_site};
 ghost use Rattle.pool_cli.specs.Ending.{IsEnding};
 ghost use Rattle.pool_cli.specs.Transcript.{Answers, Gives};
 ghost use Rattle.conn_log.specs.declared.entry.Entry.{Entry};
+ghost use Rattle.pool_cli.specs.declared.command.Limits.{Limits};
 
 use crate::command::{Command, Limits};
 use crate::fault::FaultKind;
@@ -106,6 +107,7 @@ impl Engine {
     /// the bundle that is left, where a host was made.
     pub fn end(self) -> Option<Bundle<()>>
         ensures ending { IfSome result (λ bundle. IsEnding bundle.terms self.log self.tickets bundle.log) }
+        ensures terms { (limits : Limits) → self.limits ≡ Some limits → IfSome result (λ bundle. bundle.terms ≡ terms_of limits) }
         ensures host { (self.has_begun && has_site self.sites) ≡ true → IsSome self.limits → IsSome result }
     {
         let Engine {
