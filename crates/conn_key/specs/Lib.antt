@@ -2,3 +2,4 @@ pub mod Index
 pub mod Site
 pub mod Sites
 pub mod Target
+pub mod Wants

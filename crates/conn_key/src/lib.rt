@@ -3,6 +3,9 @@
 #![tactic(auto)]
 
 mod key;
+mod memory;
+#[cfg(test)]
+mod memory_tests;
 mod site;
 mod sites;
 mod target;
@@ -10,6 +13,7 @@ mod target;
 mod tests;
 
 pub use key::Key;
+pub use memory::{CountedMemory, TargetMemory};
 pub use site::Site;
 pub use sites::{Sites, SitesFault};
 pub use target::{KeyError, Target, read_target};

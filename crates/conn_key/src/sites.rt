@@ -1,4 +1,5 @@
-ghost use Rattle.std.specs.Prelude.{◌≡◌, [], length, slice_get, option_copied, IsTrue, ◌↔◌, IfSome, IfOk, IfErr, OnOk, OnErr, string_bytes};
+ghost use Rattle.std.specs.Prelude.{◌≡◌, [], length, slice_get, option_copied, IsTrue, ◌↔◌};
+ghost use Rattle.std.specs.Prelude.{IfSome, IfOk, IfErr, OnOk, OnErr, string_bytes};
 ghost use Rattle.std.specs.Result.{IsOkUnless};
 ghost use Rattle.std.specs.HashMap.{IsUnchanged};
 ghost use Rattle.conn_key.specs.Site.{site_of};

@@ -1,7 +1,10 @@
-ghost use Rattle.std.specs.Prelude.{IfOk, IfErr};
+ghost use Rattle.std.specs.Prelude.{◌≡◌, ◌≤◌, IfOk, IfErr};
+ghost use Rattle.conn_key.specs.declared.target.KeyError.TheVariants.{Memory};
 ghost use Rattle.conn_key.specs.Target.{IsHttp, LeadsTo, GivesTarget, Refuses};
+ghost use Rattle.conn_key.specs.Wants.{Rises};
 
-use std::alloc::{AllocError, Global};
+use crate::memory::TargetMemory;
+use std::alloc::AllocError;
 use thiserror::Error;
 use url::{ParseError, Url};
 
@@ -48,16 +51,17 @@ impl From<AllocError> for KeyError {
 /// Standard's parser, without its user data and fragment.
 ///
 /// Errors, in this order: `TooLong` where the text has more than 2,048 bytes, `NotUrl` where the
-/// parser refuses it, `NotHttp` where the scheme isn't `http`. `Memory` may come in place of all
-/// but `TooLong`.
-pub fn read_target(alloc: Global, text: &str) -> Result<Target, KeyError>
+/// parser refuses it, `NotHttp` where the scheme isn't `http`. `Memory` comes only where the memory
+/// counted a want, in place of any but `TooLong`.
+pub fn read_target<M: TargetMemory>(memory: &mut M, text: &str) -> Result<Target, KeyError>
     ensures target { IfOk result (GivesTarget text.now) }
     ensures refused { IfErr result (Refuses text.now) }
+    ensures memory { IfErr result (λ error. error ≡ Memory → Rises (M.wants memory.old) (M.wants memory.new)) }
 {
     if text.len() > MOST_URL_BYTES {
         return Err(KeyError::TooLong);
     }
-    let url = match Url::parse(alloc, text) {
+    let url = match memory.parse(text) {
         Ok(url) => url,
         Err(ParseError::OutOfMemory | ParseError::Overflow) => return Err(KeyError::Memory),
         Err(_) => return Err(KeyError::NotUrl),
@@ -65,22 +69,24 @@ pub fn read_target(alloc: Global, text: &str) -> Result<Target, KeyError>
     if url.scheme() != "http" {
         return Err(KeyError::NotHttp);
     }
-    let target = target_of(alloc, &url)?;
+    let target = target_of(memory, &url)?;
     Ok(target)
 }
 
 /// The target that an http URL leads to.
-fn target_of(alloc: Global, url: &Url) -> Result<Target, AllocError>
+fn target_of<M: TargetMemory>(memory: &mut M, url: &Url) -> Result<Target, AllocError>
     requires { IsHttp url.now }
-    ensures { IfOk result (LeadsTo url.now) }
+    ensures target { IfOk result (LeadsTo url.now) }
+    ensures wants { IfErr result (λ _. Rises (M.wants memory.old) (M.wants memory.new)) }
+    ensures kept { M.wants memory.old ≤ M.wants memory.new }
 {
-    let mut path = String::from_str(alloc, url.path())?;
+    let mut path = memory.copy(url.path())?;
     if let Some(query) = url.query() {
-        path.push('?')?;
-        path.push_str(query)?;
+        memory.add(&mut path, "?")?;
+        memory.add(&mut path, query)?;
     }
     // An http URL has a host.
-    let host = String::from_str(alloc, url.host_str().unwrap())?;
+    let host = memory.copy(url.host_str().unwrap())?;
     Ok(Target {
         host,
         port: url.port().unwrap_or(80),

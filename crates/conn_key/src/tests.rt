@@ -79,11 +79,11 @@ fn padded(alloc: Global, text: &str, len: usize) -> Result<String, AllocError> {
 #[test]
 fn a_url_has_at_most_2048_bytes(rt: HostRuntime) -> Result<(), Fail> {
     let longest = padded(rt.alloc(), "http://a.test/", 2048)?;
-    let target = read_target(rt.alloc(), longest.as_str())?;
+    let target = read_target(&mut CountedMemory::new(rt.alloc()), longest.as_str())?;
     assert_eq!(rt; target.path.len(), 2035);
     for start in ["http://a.test/", "https://a.test/", "nothing"] {
         let longer = padded(rt.alloc(), start, 2049)?;
-        let refused = read_target(rt.alloc(), longer.as_str());
+        let refused = read_target(&mut CountedMemory::new(rt.alloc()), longer.as_str());
         assert!(rt; matches!(refused, Err(KeyError::TooLong)), "at {start}");
     }
     Ok(())
@@ -124,8 +124,9 @@ fn a_key_is_ordered_by_site_and_then_lane(rt: HostRuntime) -> Result<(), Fail> {
 
 /// The target of the text, read once more where memory ran out.
 fn read_again(alloc: Global, text: &str) -> Result<Target, KeyError> {
-    match read_target(alloc, text) {
-        Err(KeyError::Memory) => read_target(alloc, text),
+    let mut memory = CountedMemory::new(alloc);
+    match read_target(&mut memory, text) {
+        Err(KeyError::Memory) => read_target(&mut memory, text),
         read => read,
     }
 }
@@ -185,7 +186,7 @@ fn hosts(alloc: Global, count: u32) -> Result<(Vec<Target>, Sites), Fail> {
     let mut sites = Sites::new(alloc)?;
     for n in 0..count.min(8000) {
         let text = format!(in alloc; "http://host-{}.test/", 1000 + n)?;
-        let target = read_target(alloc, text.as_str())?;
+        let target = read_target(&mut CountedMemory::new(alloc), text.as_str())?;
         sites.add(&target)?;
         targets.push(target)?;
     }
@@ -213,11 +214,14 @@ fn each_of_8_sites_is_found(rt: HostRuntime) -> Result<(), Fail> {
 fn at_most_1024_sites_are_kept(rt: HostRuntime) -> Result<(), Fail> {
     let (targets, mut sites) = hosts(rt.alloc(), 1024)?;
     assert!(rt; finds_each(&sites, targets.as_slice()));
-    let more = read_target(rt.alloc(), "http://host-999.test/")?;
+    let more = read_target(&mut CountedMemory::new(rt.alloc()), "http://host-999.test/")?;
     assert_eq!(rt; sites.add(&more), Err(SitesFault::TooMany));
     assert_eq!(rt; sites.find(&more), None);
     assert_eq!(rt; sites.len(), 1024);
-    let old = read_target(rt.alloc(), "http://host-1700.test/b")?;
+    let old = read_target(
+        &mut CountedMemory::new(rt.alloc()),
+        "http://host-1700.test/b",
+    )?;
     assert_eq!(rt; sites.add(&old)?, 700);
     assert_eq!(rt; sites.find(&old), Some(700));
     Ok(())

@@ -1,0 +1,96 @@
+ghost use Rattle.std.specs.Prelude.{◌≡◌, ◌≤◌, true};
+ghost use Rattle.conn_key.specs.Wants.{Rises};
+
+use super::*;
+use std::alloc::AllocError;
+use std::test::Fail;
+use url::{ParseError, Url};
+
+/// Memory that answers so many calls, and then a want in place of each.
+#[derive(Drop)]
+struct ScarceMemory {
+    memory: CountedMemory,
+    calls_left: u32,
+    wants: u64,
+}
+
+impl ScarceMemory {
+    fn is_short(&mut self) -> bool
+        ensures wants { result ≡ true → Rises self.old.wants self.new.wants }
+        ensures kept { self.old.wants ≤ self.new.wants }
+    {
+        if self.calls_left == 0 {
+            self.wants = self.wants.saturating_add(1);
+            return true;
+        }
+        self.calls_left -= 1;
+        false
+    }
+}
+
+impl TargetMemory for ScarceMemory {
+    ghost wants = { λ scarce. scarce.wants };
+
+    fn parse(&mut self, text: &str) -> Result<Url, ParseError> {
+        if self.is_short() {
+            return Err(ParseError::OutOfMemory);
+        }
+        let parsed = self.memory.parse(text);
+        if let Err(ParseError::OutOfMemory | ParseError::Overflow) = &parsed {
+            self.wants = self.wants.saturating_add(1);
+        }
+        parsed
+    }
+
+    fn copy(&mut self, text: &str) -> Result<String, AllocError> {
+        if self.is_short() {
+            return Err(AllocError);
+        }
+        let copy = self.memory.copy(text);
+        if copy.is_err() {
+            self.wants = self.wants.saturating_add(1);
+        }
+        copy
+    }
+
+    fn add(&mut self, text: &mut String, more: &str) -> Result<(), AllocError> {
+        if self.is_short() {
+            return Err(AllocError);
+        }
+        let added = self.memory.add(text, more);
+        if added.is_err() {
+            self.wants = self.wants.saturating_add(1);
+        }
+        added
+    }
+}
+
+/// Texts, how many calls of the memory each needs, and what is then answered: a port, or an error.
+const CALLS: [(&str, u32, Result<u16, KeyError>); 5] = [
+    ("http://a.test:81/b?c", 5, Ok(81)),
+    ("http://a.test/b", 3, Ok(80)),
+    ("https://a.test/", 1, Err(KeyError::NotHttp)),
+    ("nothing", 1, Err(KeyError::NotUrl)),
+    ("http://[::1/", 1, Err(KeyError::NotUrl)),
+];
+
+#[test]
+fn each_want_of_memory_is_answered_as_one(rt: HostRuntime) -> Result<(), Fail> {
+    for (text, needed, answer) in CALLS {
+        for calls in 0..=needed {
+            let mut scarce = ScarceMemory {
+                memory: CountedMemory::new(rt.alloc()),
+                calls_left: calls,
+                wants: 0,
+            };
+            let port = read_target(&mut scarce, text).map(|target| target.port);
+            if calls < needed {
+                assert_eq!(rt; port, Err(KeyError::Memory), "{text} after {calls} calls");
+                assert_eq!(rt; scarce.wants, 1, "{text} after {calls} calls");
+            } else {
+                assert_eq!(rt; port, answer, "{text}");
+            }
+        }
+    }
+    Ok(())
+}
