@@ -19,7 +19,8 @@ pub trait TargetMemory {
     /// as wants of memory: it had none, or the URL came to 4 GB.
     fn parse(&mut self, text: &str) -> Result<Url, ParseError>
         ensures value { Gives result (parse_url None text.now) }
-        ensures wants { IfErr result (λ e. IsOutOfRoom e → Rises (wants self.old) (wants self.new)) }
+        ensures wants { IfErr result (λ error. IsOutOfRoom error
+            → Rises (wants self.old) (wants self.new)) }
         ensures kept { wants self.old ≤ wants self.new };
 
     /// A copy of the text.
@@ -30,7 +31,8 @@ pub trait TargetMemory {
 
     /// Adds a text at the end of another.
     fn add(&mut self, text: &mut String, more: &str) -> Result<(), AllocError>
-        ensures value { IfOk result (λ _. string_bytes text.new ≡ string_bytes text.old ++ more.now) }
+        ensures value { IfOk result (λ _.
+            string_bytes text.new ≡ string_bytes text.old ++ more.now) }
         ensures wants { IfErr result (λ _. Rises (wants self.old) (wants self.new)) }
         ensures kept { wants self.old ≤ wants self.new };
 }

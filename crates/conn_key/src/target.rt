@@ -56,7 +56,8 @@ impl From<AllocError> for KeyError {
 pub fn read_target<M: TargetMemory>(memory: &mut M, text: &str) -> Result<Target, KeyError>
     ensures target { IfOk result (GivesTarget text.now) }
     ensures refused { IfErr result (Refuses text.now) }
-    ensures memory { IfErr result (λ error. error ≡ Memory → Rises (M.wants memory.old) (M.wants memory.new)) }
+    ensures memory { IfErr result (λ error. error ≡ Memory
+        → Rises (M.wants memory.old) (M.wants memory.new)) }
 {
     if text.len() > MOST_URL_BYTES {
         return Err(KeyError::TooLong);
