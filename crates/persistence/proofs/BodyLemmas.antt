@@ -5,26 +5,22 @@ use Rattle.std.proofs.lemmas.Bool.Decides.{nat_tests}
 use Rattle.std.proofs.lemmas.List.{append-nil, take-append-drop, drop_at}
 use Rattle.persistence.specs.declared.facts.Framing.{Framing}
 use Rattle.persistence.specs.declared.facts.Framing.TheVariants.{NoBody, Counted, Chunked, UntilClose, Faulty}
-use Rattle.persistence.specs.declared.fault.ReadFault.{ReadFault}
-use Rattle.persistence.specs.declared.fault.ReadFault.TheVariants.{BadLength}
-use Rattle.persistence.specs.declared.body_state.BodyState.{BodyState}
-use Rattle.persistence.specs.declared.body_state.BodyPlace.{BodyPlace}
-use Rattle.persistence.specs.declared.body_state.BodyPlace.TheVariants as place
-use Rattle.persistence.specs.Fields.{most_bytes}
+use Rattle.persistence.specs.declared.answer.ReadFault.{ReadFault}
+use Rattle.persistence.specs.declared.answer.ReadFault.TheVariants.{BadLength}
+use Rattle.persistence.specs.declared.body.state.BodyState.{BodyState}
+use Rattle.persistence.specs.declared.body.state.BodyPlace.{BodyPlace}
+use Rattle.persistence.specs.declared.body.state.BodyPlace.TheVariants as place
+use Rattle.persistence.specs.Limits.{most_bytes}
 use Rattle.persistence.specs.Chunks.{ReadsSizeLine, ReadsTrailer, ReachesTrailer}
 use Rattle.persistence.specs.Told.{is_some_text}
 use Rattle.persistence.specs.Faults.{BodyShows, HasLongTrailerBy, IsFirst}
-use Rattle.persistence.specs.Reading.{IsTrailerAwaited, EndsTrailer}
-use Rattle.persistence.specs.ReadingChunks.{begins_crlf, FindsLine, AwaitsChunk, AwaitsChunks}
-use Rattle.persistence.specs.ReadingBody.{TellsBody}
-use Rattle.persistence.specs.ReadingPieces.{carriage, CountsBody, PassesTo, IsInData, IsAfterData}
-use Rattle.persistence.specs.BodyPieces.{whole_at, whole_of, HasCount, came_of, LastsFor, IsDue, IsEnded, EndsBy, IsInChunks, PlaceAt, BodyAt, FixesBody, TellsPieces}
+use Rattle.persistence.specs.ReadingChunks.{begins_crlf, FindsLine, AwaitsChunk, AwaitsChunks, carriage, PassesTo, IsInData, IsAfterData, ReachesSection, IsDue, IsEnded, EndsBy, IsInChunks}
+use Rattle.persistence.specs.ReadingBody.{CountsBody, whole_at, whole_of, HasCount, came_of, LastsFor, PlaceAt, BodyAt, FixesBody, TellsPieces}
 use Rattle.persistence.proofs.SequenceLemmas.{Reads-append}
 use Rattle.persistence.proofs.ChunkLemmas.{size_line_printed}
 use Rattle.persistence.proofs.NextChunk.{awaits_line, awaits_rest, awaits_end}
-use Rattle.persistence.proofs.ChunkedLemmas.{ReachesTrailer-append, tells_awaited, tells_open_trailer, tells_trailer}
+use Rattle.persistence.proofs.ChunkedLemmas.{ReachesTrailer-append, tells_awaited, tells_open_trailer, data_before, clean_at_end}
 use Rattle.persistence.proofs.PieceLemmas.{section_printed}
-use Rattle.persistence.proofs.ChunkStepLemmas.{section_place}
 
 -- ---- a body that is counted
 
@@ -91,16 +87,6 @@ tells_lasting counted ended text state lasts = record {
 
 -- ---- a body in chunks
 
--- what is told of a body in chunks that has not ended
-tells_open : (counted : Option ℕ) (ended : Bool) (text : List ℕ) (len : ℕ) (surplus : Bool) → surplus ≡ false → TellsBody Chunked counted ended text (record { len = len; end = None })
-    → TellsPieces Chunked counted ended text len false surplus
-tells_open counted ended text len surplus none tells = record {
-  clean = tells.clean;
-  came = tells.came;
-  yes = λ e. absurd (cc);
-  no = λ e. (tells.ends, none);
-}
-
 -- a chunk that is not whole after whole chunks
 chunks_awaited : (text : List ℕ) (before : ℕ) (rest : List ℕ) (begun len : ℕ) → PassesTo text before rest → AwaitsChunk (most_bytes - before) rest begun → len ≡ before + begun
     → AwaitsChunks text len
@@ -153,14 +139,13 @@ data_ended text len has_cr at =
     at.sums
 
 tells_due : (place : BodyPlace) (counted : Option ℕ) (ended : Bool) (text : List ℕ) (len : ℕ) (kept : List ℕ) → IsDue place text len kept
-    → TellsBody Chunked counted ended text (record { len = len; end = None })
+    → TellsPieces Chunked counted ended text len false false
 tells_due place.Line counted ended text len kept due =
     tells_awaited text len (chunks_awaited text len kept 0 len due.passes (awaits_line (most_bytes - len) kept due.awaits) (omega arith)) counted ended
 tells_due (place.Data left) counted ended text len kept due = tells_awaited text len (data_awaited text len left due.within) counted ended
 tells_due (place.AfterData has_cr) counted ended text len kept due = tells_awaited text len (data_ended text len has_cr due.after) counted ended
 tells_due place.Trailer counted ended text len kept due =
-    let place = section_place text len kept due.reaches in
-    tells_open_trailer text len place.0 place.1 counted ended (subst IsTrailerAwaited (sym place.2) due.awaited)
+    tells_open_trailer text len kept due.reaches counted ended due.awaited
 tells_due (place.Counted count) counted ended text len kept due = absurd due
 tells_due place.UntilClose counted ended text len kept due = absurd due
 tells_due place.End counted ended text len kept due = absurd due
@@ -170,17 +155,14 @@ tells_ended counted ended text state at =
     let trailer = at.ends.reads.trailer in
     let reaches : ReachesTrailer at.ends.sizes (at.front ++ at.rest) (trailer ++ at.rest) = ReachesTrailer-append at.ends.sizes at.front trailer at.rest at.ends.reads.chunks in
     let section : ReadsTrailer (trailer ++ at.rest) at.rest = Reads-append section_printed tt trailer [] at.rest at.ends.reads.reads in
-    let place = section_place text state.len (trailer ++ at.rest)
-    (record { sizes = at.ends.sizes; sums = at.ends.sums; reaches = subst (λ (t : List ℕ). ReachesTrailer at.ends.sizes t (trailer ++ at.rest)) (sym at.is) reaches }) in
-    let cut : drop (length trailer) (drop place.0 text) ≡ at.rest = ap (drop (length trailer)) place.2 ∙ drop_at trailer at.rest (length trailer) refl in
-    let ends : EndsTrailer (drop place.0 text) (length trailer) = record {
-      within = omega (arith, ap length place.2, length-append trailer at.rest);
-      reads = subst (ReadsTrailer (drop place.0 text)) (sym cut) (subst (λ (t : List ℕ). ReadsTrailer t at.rest) (sym place.2) section);
+    let ends : ReachesSection text state.len (trailer ++ at.rest) = record {
+      sizes = at.ends.sizes;
+      sums = at.ends.sums;
+      reaches = subst (λ (t : List ℕ). ReachesTrailer at.ends.sizes t (trailer ++ at.rest)) (sym at.is) reaches;
     } in
-    let tells = tells_trailer text state.len place.0 place.1 counted ended (length trailer) ends in
     record {
-      clean = tells.clean;
-      came = tells.came;
+      clean = clean_at_end text state.len (trailer ++ at.rest) ends at.rest section;
+      came = data_before text state.len (trailer ++ at.rest) ends;
       yes = λ e. (at.front, at.rest, at.is, (at.ends.sizes, record { trailer = trailer ++ at.rest; chunks = reaches; reads = section }), at.after);
       no = λ e. absurd (cc);
     }
@@ -188,7 +170,8 @@ tells_ended counted ended text state at =
 tells_chunks : (counted : Option ℕ) (ended : Bool) (text : List ℕ) (state : BodyState) (kept : List ℕ) (whole : Bool) → EndsBy whole text state kept
     → TellsPieces Chunked counted ended text state.len whole state.surplus
 tells_chunks counted ended text state kept true at = tells_ended counted ended text state at
-tells_chunks counted ended text state kept false at = tells_open counted ended text state.len state.surplus at.none_after (tells_due state.place counted ended text state.len kept at.due)
+tells_chunks counted ended text state kept false at =
+    subst (λ b. TellsPieces Chunked counted ended text state.len false b) (sym at.none_after) (tells_due state.place counted ended text state.len kept at.due)
 
 -- what is told of a body in chunks, whole or not
 tells_in_chunks : (counted : Option ℕ) (ended : Bool) (text : List ℕ) (state : BodyState) (kept : List ℕ) → IsInChunks text state kept

@@ -1,29 +1,26 @@
 -- A body in chunks that comes in pieces: what a piece more makes of the part that is due.
 use Rattle.std.proofs.Common.{◌≡◌, ℕ, ◌+◌, ◌-◌, ◌<◌, ◌≤◌, Bool, true, false, List, [], ◌++◌, length, take, drop, Option, refl, sym, ap, subst, ◌∙◌, arith, append_assoc, length-append, length-take, length-drop}
 use Rattle.std.proofs.lemmas.Bool.Decides.{nat_tests}
-use Rattle.std.proofs.lemmas.List.{append-nil, take_all, take_rest, drop_at}
+use Rattle.std.proofs.lemmas.List.{append-nil, take_all, take_rest}
 use Rattle.std.proofs.Math.Seq.{take-add}
 use Rattle.std.proofs.lemmas.List.Elements.{All-nil}
 use Rattle.httparse.specs.Grammar.{IsField, lf, print_section, HasNoSection, MayBecomeSection}
 use Rattle.httparse.specs.Spans.{SectionExceeds}
 use Rattle.persistence.specs.declared.facts.Framing.TheVariants.{Chunked}
-use Rattle.persistence.specs.declared.fault.ReadFault.{ReadFault}
-use Rattle.persistence.specs.declared.body_state.BodyState.{BodyState}
-use Rattle.persistence.specs.declared.body_state.BodyPlace.{BodyPlace}
-use Rattle.persistence.specs.Heads.{most_fields}
-use Rattle.persistence.specs.Fields.{most_bytes}
-use Rattle.persistence.specs.Chunks.{most_trailer_bytes, ReadsSizeLine, ReachesTrailer}
+use Rattle.persistence.specs.declared.answer.ReadFault.{ReadFault}
+use Rattle.persistence.specs.declared.body.state.BodyState.{BodyState}
+use Rattle.persistence.specs.declared.body.state.BodyPlace.{BodyPlace}
+use Rattle.persistence.specs.Limits.{most_fields, most_bytes, most_trailer_bytes}
+use Rattle.persistence.specs.Chunks.{ReadsSizeLine}
 use Rattle.persistence.specs.Told.{TellsChunkData}
 use Rattle.persistence.specs.Faults.{TrailerShows, BodyShows, HasLongTrailerBy, IsFirst}
-use Rattle.persistence.specs.Reading.{IsTrailerAwaited, line_ends}
-use Rattle.persistence.specs.ReadingChunks.{AwaitsLine, RefusesLine, EndsChunks}
-use Rattle.persistence.specs.ReadingPieces.{PassesTo, IsInData, FixesData, KeepsLine, EndsLine, KeepsTrailer, EndsSection, ReachesSection, BeginsPart, EndsChunked}
-use Rattle.persistence.specs.BodyPieces.{IsLineDue, IsTrailerDue, IsDue, IsUnended, IsEnded, EndsBy, IsInChunks}
+use Rattle.persistence.specs.ReadingChunks.{IsTrailerAwaited, AwaitsLine, RefusesLine, PassesTo, IsInData, FixesData, KeepsLine, EndsLine, KeepsTrailer, EndsSection, ReachesSection, BeginsPart, EndsChunked, IsLineDue, IsTrailerDue, IsDue, IsUnended, IsEnded, EndsBy, IsInChunks}
+use Rattle.persistence.specs.ReadingHeads.{line_ends}
 use Rattle.persistence.proofs.LineLemmas.{line_ends-append, line_ends-section}
 use Rattle.persistence.proofs.StepLemmas.{taken_and_rest}
 use Rattle.persistence.proofs.SizeLine.{nothing_yet}
 use Rattle.persistence.proofs.TrailerLemmas.{trailer_awaited}
-use Rattle.persistence.proofs.ChunkedLemmas.{print_reaches, ReachesTrailer-append, all_data, reaches_data, first_in_trailer, first_bad_chunk}
+use Rattle.persistence.proofs.ChunkedLemmas.{ReachesTrailer-append, all_data, reaches_data, first_in_trailer, first_bad_chunk}
 use Rattle.persistence.proofs.DataLemmas.{chunks_further, passes_further}
 
 -- where that part is due the body has not ended
@@ -172,21 +169,6 @@ trailer_due text len kept is reaches = record {
   short = omega (arith, ap length is);
 }
 
--- where the trailer section begins, as a place in the text
-pub section_place : (text : List ℕ) (len : ℕ) (kept : List ℕ) → ReachesSection text len kept → (at : ℕ) × EndsChunks text len at × (drop at text ≡ kept)
-section_place text len kept reaches =
-    let p = print_reaches reaches.sizes text kept reaches.reaches in
-    let cut : drop (length p.0) text ≡ kept = ap (drop (length p.0)) p.1 ∙ drop_at p.0 kept (length p.0) refl in (
-      length p.0,
-      record {
-        sizes = reaches.sizes;
-        sums = sym reaches.sums;
-        within = omega (arith, ap length p.1, length-append p.0 kept);
-        reaches = subst (λ (t : List ℕ). ReachesTrailer reaches.sizes text t) (sym cut) reaches.reaches;
-      },
-      cut,
-    )
-
 pub section_further : (text : List ℕ) (len : ℕ) (kept more : List ℕ) → ReachesSection text len kept → ReachesSection (text ++ more) len (kept ++ more)
 section_further text len kept more reaches = record {
   sizes = reaches.sizes;
@@ -210,9 +192,7 @@ module _ (text : List ℕ) (len : ℕ) (kept : List ℕ) (due : IsTrailerDue tex
   pub trailer_fault : (piece : List ℕ) (fault : ReadFault) → IsFirst TrailerShows (SectionExceeds most_fields) (kept ++ piece) fault → (counted : Option ℕ)
       → IsFirst (BodyShows Chunked counted) (HasLongTrailerBy Chunked) (text ++ piece) fault
   trailer_fault piece fault found counted =
-      let place = section_place (text ++ piece) len (kept ++ piece) (section_further text len kept piece due.reaches) in
-      first_in_trailer (text ++ piece) len place.0 place.1 counted fault
-      (subst (λ (t : List ℕ). IsFirst TrailerShows (SectionExceeds most_fields) t fault) (sym place.2) found)
+      first_in_trailer (text ++ piece) len (kept ++ piece) (section_further text len kept piece due.reaches) counted fault found
 
   -- no chunk follows the last line, so the data of the chunks is all
   pub trailer_fixes : (piece : List ℕ) → FixesData (text ++ piece) len

@@ -1,20 +1,18 @@
 -- A body in chunks: what its text shows, and what it tells.
-use Rattle.std.proofs.Common.{◌≡◌, ℕ, ◌+◌, ◌-◌, ◌≤◌, ◌⊎◌, Bool, List, [], ◌∷◌, ◌++◌, drop, Option, None, Some, refl, sym, ap, subst, ◌∙◌, inl, inr, arith, append_assoc, length-drop, sum}
-use Rattle.std.proofs.lemmas.List.{append-nil, take-append-drop, drop-drop}
+use Rattle.std.proofs.Common.{◌≡◌, ℕ, ◌+◌, ◌-◌, ◌≤◌, ◌⊎◌, Bool, false, List, [], ◌∷◌, ◌++◌, Option, refl, sym, ap, subst, ◌∙◌, inl, inr, arith, append_assoc, sum}
+use Rattle.std.proofs.lemmas.List.{append-nil}
 use Rattle.std.proofs.lemmas.List.Sums.{sum_by-cons, sum_by-append}
 use Rattle.httparse.specs.Spans.{SectionExceeds}
 use Rattle.persistence.specs.declared.facts.Framing.TheVariants.{Chunked}
-use Rattle.persistence.specs.declared.fault.ReadFault.{ReadFault}
+use Rattle.persistence.specs.declared.answer.ReadFault.{ReadFault}
 use Rattle.persistence.specs.Sequence.{ReadsEach}
-use Rattle.persistence.specs.Heads.{most_fields}
-use Rattle.persistence.specs.Fields.{most_bytes}
+use Rattle.persistence.specs.Limits.{most_fields, most_bytes}
 use Rattle.persistence.specs.Chunks.{ReadsSizeLine, ReadsChunk, ReadsChunks, room_after, ReadsTrailer, ReachesTrailer, ReadsChunked}
 use Rattle.persistence.specs.Told.{HasNoChunk, TellsBegun, TellsChunkData}
 use Rattle.persistence.specs.Faults.{NeverHasChunk, TrailerShows, ShowsBadChunk, ChunkedShows, BodyShows, IsFirst, HasLongTrailer, HasLongTrailerBy}
-use Rattle.persistence.specs.Reading.{IsTrailerAwaited, EndsTrailer}
-use Rattle.persistence.specs.ReadingChunks.{FindsChunk, PassesChunks, AwaitsChunks, EndsChunks, IsFirstBadChunk}
-use Rattle.persistence.specs.ReadingBody.{TellsBody}
-use Rattle.persistence.proofs.SequenceLemmas.{print_each, each-append, each-more, Compared, same, longer, shorter, compared}
+use Rattle.persistence.specs.ReadingChunks.{IsTrailerAwaited, AwaitsChunks, IsFirstBadChunk, ReachesSection}
+use Rattle.persistence.specs.ReadingBody.{TellsPieces}
+use Rattle.persistence.proofs.SequenceLemmas.{print_each, each-append, Compared, same, longer, shorter, compared}
 use Rattle.persistence.proofs.ChunkLemmas.{chunk_printed, size_line_printed, size_line_unique, no_last, reaches_unique}
 use Rattle.persistence.proofs.TrailerLemmas.{trailer_shows_nothing}
 
@@ -22,21 +20,6 @@ use Rattle.persistence.proofs.TrailerLemmas.{trailer_shows_nothing}
 
 pub sum-append : (xs ys : List ℕ) → sum (xs ++ ys) ≡ sum xs + sum ys
 sum-append xs ys = sum_by-append (λ x. x) xs ys
-
-pub passes_more : (text : List ℕ) (len at size n : ℕ) → PassesChunks text len at → FindsChunk (most_bytes - len) (drop at text) size n → len ≤ most_bytes
-    → PassesChunks text (len + size) (at + n)
-passes_more text len at size n passes found few = record {
-  sizes = passes.sizes ++ size ∷ [];
-  sums = omega (arith, sum-append passes.sizes (size ∷ []), passes.sums);
-  within = omega (arith, found.within, length-drop at text, passes.within);
-  chunks = record {
-    few = omega (arith, sum-append passes.sizes (size ∷ []), passes.sums, found.fits, few);
-    each = each-more chunk_printed passes.sizes size text (drop at text) (drop (at + n) text) passes.chunks.each
-        (subst (ReadsChunk size (drop at text)) (drop-drop n at text) found.reads);
-  };
-}
-
--- ---- the trailer section
 
 -- what stands before a trailer section is read the same whatever follows it
 pub print_reaches : (sizes text trailer : List ℕ) → ReachesTrailer sizes text trailer
@@ -131,11 +114,12 @@ module _ (text : List ℕ) (len : ℕ) (awaits : AwaitsChunks text len) where
   awaits_data : TellsChunkData text len
   awaits_data = all_data awaits.sizes text awaits.rest awaits.begun len awaits.chunks awaits.awaits.none awaits.awaits.tells awaits.sums
 
-  pub tells_awaited : (counted : Option ℕ) (ended : Bool) → TellsBody Chunked counted ended text (record { len = len; end = None })
+  pub tells_awaited : (counted : Option ℕ) (ended : Bool) → TellsPieces Chunked counted ended text len false false
   tells_awaited counted ended = record {
     clean = clean;
     came = awaits_data;
-    ends = λ front rest e ends. awaits_no_trailer ends.0 ends.1.trailer (subst (λ (t : List ℕ). ReachesTrailer ends.0 t ends.1.trailer) (sym e) ends.1.chunks);
+    yes = λ e. absurd (cc);
+    no = λ e. (λ front rest e ends. awaits_no_trailer ends.0 ends.1.trailer (subst (λ (t : List ℕ). ReachesTrailer ends.0 t ends.1.trailer) (sym e) ends.1.chunks), refl);
   }
     where
       clean : (fault : ReadFault) → ChunkedShows text fault → ⊥
@@ -144,47 +128,40 @@ module _ (text : List ℕ) (len : ℕ) (awaits : AwaitsChunks text len) where
 
 -- ---- chunks that have ended
 
-module _ (text : List ℕ) (len at : ℕ) (ends : EndsChunks text len at) where
+module _ (text : List ℕ) (len : ℕ) (kept : List ℕ) (ends : ReachesSection text len kept) where
   -- what the chunks show is what the trailer section shows
-  clean_after : ((fault : ReadFault) → TrailerShows (drop at text) fault → ⊥) → (fault : ReadFault) → ChunkedShows text fault → ⊥
-  clean_after clean fault (inl shown) = reaches_no_bad ends.sizes text (drop at text) ends.reaches shown.1
+  clean_after : ((fault : ReadFault) → TrailerShows kept fault → ⊥) → (fault : ReadFault) → ChunkedShows text fault → ⊥
+  clean_after clean fault (inl shown) = reaches_no_bad ends.sizes text kept ends.reaches shown.1
   clean_after clean fault (inr shown) =
-      let u = reaches_unique shown.sizes ends.sizes text shown.trailer (drop at text) shown.reaches ends.reaches in
+      let u = reaches_unique shown.sizes ends.sizes text shown.trailer kept shown.reaches ends.reaches in
       clean fault (subst (λ (t : List ℕ). TrailerShows t fault) u.1 shown.shows)
 
-  data_before : TellsChunkData text len
-  data_before = subst (TellsChunkData text) (sym ends.sums) (reaches_data ends.sizes text (drop at text) ends.reaches)
+  -- the data of the chunks is all
+  pub data_before : TellsChunkData text len
+  data_before = subst (TellsChunkData text) ends.sums (reaches_data ends.sizes text kept ends.reaches)
 
-  pub tells_open_trailer : (counted : Option ℕ) (ended : Bool) → IsTrailerAwaited (drop at text) → TellsBody Chunked counted ended text (record { len = len; end = None })
-  tells_open_trailer counted ended awaited = record { clean = clean_after awaited.clean; came = data_before; ends = no_end }
+  pub tells_open_trailer : (counted : Option ℕ) (ended : Bool) → IsTrailerAwaited kept → TellsPieces Chunked counted ended text len false false
+  tells_open_trailer counted ended awaited = record {
+    clean = clean_after awaited.clean;
+    came = data_before;
+    yes = λ e. absurd (cc);
+    no = λ e. (no_end, refl);
+  }
     where
       no_end : (front rest : List ℕ) → text ≡ front ++ rest → (sizes : List ℕ) × ReadsChunked sizes (front ++ rest) rest → ⊥
       no_end front rest e (sizes, chunked) =
-          let u = reaches_unique sizes ends.sizes text chunked.trailer (drop at text) (subst (λ (t : List ℕ). ReachesTrailer sizes t chunked.trailer) (sym e) chunked.chunks) ends.reaches in
+          let u = reaches_unique sizes ends.sizes text chunked.trailer kept (subst (λ (t : List ℕ). ReachesTrailer sizes t chunked.trailer) (sym e) chunked.chunks) ends.reaches in
           awaited.none rest (subst (λ (t : List ℕ). ReadsTrailer t rest) u.1 chunked.reads)
 
-  pub tells_trailer : (counted : Option ℕ) (ended : Bool) (n : ℕ) → EndsTrailer (drop at text) n → TellsBody Chunked counted ended text (record { len = len; end = Some (at + n) })
-  tells_trailer counted ended n trailer = record {
-    clean = clean_after (λ fault shown. trailer_shows_nothing (drop at text) (drop n (drop at text)) fault trailer.reads shown);
-    came = data_before;
-    ends = record {
-      within = omega (arith, trailer.within, length-drop at text, ends.within);
-      ends = (
-        ends.sizes,
-        record {
-          trailer = drop at text;
-          chunks = subst (λ (t : List ℕ). ReachesTrailer ends.sizes t (drop at text)) (sym (take-append-drop (at + n) text)) ends.reaches;
-          reads = subst (ReadsTrailer (drop at text)) (drop-drop n at text) trailer.reads;
-        },
-      );
-    };
-  }
+  -- nothing is wrong with a body in chunks that has ended
+  pub clean_at_end : (rest : List ℕ) → ReadsTrailer kept rest → (fault : ReadFault) → ChunkedShows text fault → ⊥
+  clean_at_end rest reads = clean_after (λ fault shown. trailer_shows_nothing kept rest fault reads shown)
 
   -- the fault that the trailer section shows first
-  pub first_in_trailer : (counted : Option ℕ) (fault : ReadFault) → IsFirst TrailerShows (SectionExceeds most_fields) (drop at text) fault
+  pub first_in_trailer : (counted : Option ℕ) (fault : ReadFault) → IsFirst TrailerShows (SectionExceeds most_fields) kept fault
       → IsFirst (BodyShows Chunked counted) (HasLongTrailerBy Chunked) text fault
   first_in_trailer counted fault found =
-      let p = print_reaches ends.sizes text (drop at text) ends.reaches in
+      let p = print_reaches ends.sizes text kept ends.reaches in
       record {
         front = p.0 ++ found.front;
         later = found.later;

@@ -4,8 +4,7 @@ use Rattle.std.proofs.lemmas.Bool.Decides.{nat_tests}
 use Rattle.std.proofs.lemmas.List.{append-nil}
 use Rattle.persistence.specs.Chunks.{ReadsSizeLine, ReadsChunk, ReadsChunks, room_after}
 use Rattle.persistence.specs.Faults.{ShowsBadChunk}
-use Rattle.persistence.specs.ReadingChunks.{begins_crlf}
-use Rattle.persistence.specs.ReadingPieces.{carriage, PassesTo, IsInData, IsAfterData, FixesData}
+use Rattle.persistence.specs.ReadingChunks.{begins_crlf, carriage, PassesTo, IsInData, IsAfterData, FixesData}
 use Rattle.persistence.proofs.SequenceLemmas.{Reads-append, each-append, each-more}
 use Rattle.persistence.proofs.ChunkLemmas.{chunk_printed, size_line_printed, size_line_unique, same_fronts}
 use Rattle.persistence.proofs.ChunkedLemmas.{sum-append, all_data}

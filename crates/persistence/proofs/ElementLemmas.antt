@@ -10,7 +10,7 @@ use Rattle.std.proofs.lemmas.List.Splits.{slice_split_first, slice_split_none}
 use Rattle.std.proofs.Common.{inl, inr}
 use Rattle.httparse.specs.Grammar.{trim_ows}
 use Rattle.persistence.specs.Fields.{elements, is_comma, is_word, later_coding, last_coding}
-use Rattle.persistence.specs.Reading.{chunked_after, FirstIs}
+use Rattle.persistence.specs.ReadingHeads.{chunked_after, FirstIs}
 
 -- the coding that comes last decides
 later : (known : Option (List ℕ)) (before : Option Bool) (coding : List ℕ)

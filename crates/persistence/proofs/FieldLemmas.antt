@@ -1,15 +1,12 @@
 -- What fields say, one field after another.
-use Rattle.std.proofs.Common.{◌≡◌, ℕ, ◌+◌, ◌<◌, ◌≤◌, Bool, true, false, ◌&&◌, cond, nat_le, inl, inr, List, [], ◌∷◌, ◌++◌, length, get_or, drop, codes, Option, None, Some, option_map, unwrap_or, refl, sym, ap, ◌∙◌, arith}
+use Rattle.std.proofs.Common.{◌≡◌, ℕ, ◌+◌, ◌<◌, Bool, true, false, cond, List, [], ◌∷◌, ◌++◌, length, get_or, drop, codes, Option, None, Some, option_map, unwrap_or, refl, sym, ap, ◌∙◌}
 use Rattle.std.specs.Option.{option_or}
-use Rattle.std.specs.List.{filter, flat_map, list_all}
-use Rattle.std.specs.Str.Parse.{digits_value}
+use Rattle.std.specs.List.{filter, flat_map}
 use Rattle.std.proofs.lemmas.List.{drop_more}
-use Rattle.std.proofs.lemmas.Bool.{cases_lt}
-use Rattle.std.proofs.lemmas.Bool.Decides.{nat_tests}
 use Rattle.httparse.specs.Spans.{header_bytes}
 use Rattle.httparse.specs.declared.spans.HeaderSpan.{HeaderSpan}
-use Rattle.persistence.specs.Fields.{NameAndValue, is_named, elements, elements_of, is_word, later_coding, last_coding, is_number, one_number, most_bytes}
-use Rattle.persistence.specs.Reading.{fields_at, FirstIs}
+use Rattle.persistence.specs.Fields.{NameAndValue, is_named, elements, elements_of, is_word, later_coding, last_coding}
+use Rattle.persistence.specs.ReadingHeads.{fields_at, FirstIs}
 
 -- a field of the name brings its elements, and another field none
 pub elements_of-cons : (name : List ℕ) (field : NameAndValue) (fields : List NameAndValue)
@@ -76,27 +73,6 @@ FirstIs-drop name text spans i d first below named (others, begins) =
           ∙ ap (λ b. cond b (elements field.1 ++ elements_of name rest) (elements_of name rest)) named
           ∙ ap (λ (e : List (List ℕ)). e ++ elements_of name rest) begins,
     )
-
--- the number of a list whose first element is that number
-pub one_number-first : (list : List (List ℕ)) (first : List ℕ) (n : ℕ) → FirstIs list first → is_number n first ≡ true → n ≤ most_bytes
-    → one_number list ≡ cond (list_all (is_number n) list) (Some n) None
-one_number-first list first n (others, begins) number fits =
-    let value : digits_value 10 first ≡ n = grind (arith, nat_tests, number) in
-    ap one_number begins
-    ∙ ap (λ v. cond (nat_le v most_bytes && list_all (is_number v) (first ∷ others)) (Some v) None) value
-    ∙ ap (λ b. cond (b && list_all (is_number n) (first ∷ others)) (Some n) None) {y = true} (grind (arith, nat_tests, fits))
-    ∙ sym (ap (λ (l : List (List ℕ)). cond (list_all (is_number n) l) (Some n) None) begins)
-
--- a list whose first element is no number has none
-pub one_number-none : (list : List (List ℕ)) (first : List ℕ) → FirstIs list first → ((n : ℕ) → n ≤ most_bytes → is_number n first ≡ false)
-    → one_number list ≡ None
-one_number-none list first (others, begins) none = ap one_number begins ∙ by_cases (digits_value 10 first)
-  where
-    by_cases : (n : ℕ) → cond (nat_le n most_bytes && list_all (is_number n) (first ∷ others)) (Some n) None ≡ None
-    by_cases n = elim (cases_lt most_bytes n) [
-      | inl over ↦ grind (arith, nat_tests, over)
-      | inr fits ↦ ap (λ b. cond (nat_le n most_bytes && (b && list_all (is_number n) others)) (Some n) None) (none n fits) ∙ grind (arith, nat_tests, fits)
-    ]
 
 -- what stands where no field does
 abbrev pub no_span : HeaderSpan

@@ -4,11 +4,12 @@ use Rattle.std.proofs.lemmas.List.{append-nil, take-append-le, take-append-drop,
 use Rattle.httparse.specs.Grammar.{ResponseHead, ReadsResponse, print_response, HasNoResponse}
 use Rattle.httparse.specs.Spans.{ResponseExceeds}
 use Rattle.httparse.proofs.GrammarLemmas.{response_unique}
-use Rattle.persistence.specs.declared.fault.ReadFault.{ReadFault}
-use Rattle.persistence.specs.declared.fault.ReadFault.TheVariants.{Memory, BadHead, BadLength, BadChunk, HeadTooLong, TooManyInterims, TrailerTooLong}
+use Rattle.persistence.specs.declared.answer.ReadFault.{ReadFault}
+use Rattle.persistence.specs.declared.answer.ReadFault.TheVariants.{Memory, BadHead, BadLength, BadChunk, HeadTooLong, TooManyInterims, TrailerTooLong}
 use Rattle.persistence.specs.declared.method.Method.{Method}
 use Rattle.persistence.specs.Sequence.{ReadsEach}
-use Rattle.persistence.specs.Heads.{most_fields, most_head_bytes, most_interims, is_interim, ReadsHead, ReadsInterim, ReadsFinal, ReadsHeads, HasFinalHead}
+use Rattle.persistence.specs.Limits.{most_fields, most_head_bytes, most_interims}
+use Rattle.persistence.specs.Heads.{is_interim, ReadsHead, ReadsInterim, ReadsFinal, ReadsHeads, HasFinalHead}
 use Rattle.persistence.specs.Faults.{HeadShows, ShowsTooManyInterims, Shows, IsFaultless, IsFirst, IsFirstFault, HasLongSection}
 use Rattle.persistence.proofs.SequenceLemmas.{IsPrinted, Reads-append, print_each, each-append, Compared, same, longer, shorter, compared}
 use Rattle.persistence.proofs.LineLemmas.{cut_twice}

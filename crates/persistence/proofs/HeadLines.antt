@@ -8,7 +8,7 @@ use Rattle.std.proofs.lemmas.List.Elements.{All-take}
 use Rattle.httparse.specs.Grammar.{is_value_byte, AllPass, LineEnd, crlf, lf, print_end, print_blank, print_version, print_field, IsField, print_section, ResponseHead, print_reason, reason_phrase, print_response, IsResponseHead, ReadsResponse, HasNoResponse, MayBecomeResponse}
 use Rattle.httparse.specs.Spans.{ResponseExceeds}
 use Rattle.httparse.proofs.GrammarLemmas.{cons-append, response_unique}
-use Rattle.persistence.specs.Reading.{skip_newlines, line_ends}
+use Rattle.persistence.specs.ReadingHeads.{skip_newlines, line_ends}
 use Rattle.persistence.proofs.LineLemmas.{cut_twice, line_ends-append, none_in, line_ends-print_end, line_ends-section, EndsLine-section, EndsLine-append, last_line, lines_cut, fields_before}
 
 -- the status line without the blank lines before it

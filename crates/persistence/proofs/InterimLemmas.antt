@@ -5,15 +5,15 @@ use Rattle.std.proofs.lemmas.List.{append-nil, take_all}
 use Rattle.std.proofs.lemmas.List.Elements.{All-nil, All-cons}
 use Rattle.httparse.specs.Grammar.{ResponseHead, IsField, lf, is_value_byte, print_response, HasNoResponse, MayBecomeResponse}
 use Rattle.httparse.specs.Spans.{ResponseExceeds}
-use Rattle.persistence.specs.declared.fault.ReadFault.{ReadFault}
-use Rattle.persistence.specs.declared.fault.ReadFault.TheVariants.{TooManyInterims}
+use Rattle.persistence.specs.declared.answer.ReadFault.{ReadFault}
+use Rattle.persistence.specs.declared.answer.ReadFault.TheVariants.{TooManyInterims}
 use Rattle.persistence.specs.declared.method.Method.{Method}
 use Rattle.persistence.specs.declared.head.Head.{Head}
 use Rattle.persistence.specs.Sequence.{ReadsEach}
-use Rattle.persistence.specs.Heads.{most_fields, most_head_bytes, most_interims, is_interim_status, ReadsInterim}
+use Rattle.persistence.specs.Limits.{most_fields, most_head_bytes, most_interims}
+use Rattle.persistence.specs.Heads.{is_interim_status, ReadsInterim}
 use Rattle.persistence.specs.Faults.{HeadShows, Shows, HasLongSection, IsFirst, IsFirstFault}
-use Rattle.persistence.specs.Reading.{IsAwaited}
-use Rattle.persistence.specs.ReadingPieces.{KeepsHead, EndsHead, AwaitsHeads, EndsHeadsIn, NeverHasFinalHead}
+use Rattle.persistence.specs.ReadingHeads.{IsAwaited, KeepsHead, EndsHead, AwaitsHeads, EndsHeadsIn, NeverHasFinalHead}
 use Rattle.persistence.proofs.SequenceLemmas.{each-append, each-more}
 use Rattle.persistence.proofs.HeadLines.{print_response-some}
 use Rattle.persistence.proofs.HeadLemmas.{interim_printed, no_final, head_shows_nothing, HeadShows-append, first_in_head, first_many}

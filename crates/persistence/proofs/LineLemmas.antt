@@ -10,7 +10,7 @@ use Rattle.std.proofs.lemmas.List.Elements.{All-head, All-tail, All-take}
 use Rattle.httparse.specs.Grammar.{is_token_byte, is_value_byte, AllPass, LineEnd, crlf, lf, print_end, Field, print_field, IsField, print_section, ReadsSection, HasNoSection, MayBecomeSection}
 use Rattle.httparse.specs.Spans.{SectionExceeds}
 use Rattle.httparse.proofs.GrammarLemmas.{section_unique}
-use Rattle.persistence.specs.Reading.{line_ends}
+use Rattle.persistence.specs.ReadingHeads.{line_ends}
 
 -- ---- lists
 

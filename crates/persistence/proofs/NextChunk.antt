@@ -3,14 +3,13 @@ use Rattle.std.proofs.Common.{◌≡◌, ℕ, ◌+◌, ◌-◌, ◌<◌, ◌≤�
 use Rattle.std.proofs.Math.ListN.{replicate}
 use Rattle.std.proofs.lemmas.Bool.{cases_lt}
 use Rattle.std.proofs.lemmas.Bool.Decides.{nat_tests}
-use Rattle.std.proofs.lemmas.List.{take-append-drop, take_rest, drop-drop, length-replicate}
-use Rattle.persistence.specs.declared.fault.ReadFault.TheVariants.{BadChunk}
-use Rattle.persistence.specs.declared.size_line.SizeLine.{SizeLine}
+use Rattle.std.proofs.lemmas.List.{take-append-drop, length-replicate}
+use Rattle.persistence.specs.declared.chunks.size_line.SizeLine.{SizeLine}
 use Rattle.persistence.specs.Chunks.{ReadsSizeLine, ReadsChunk}
 use Rattle.persistence.specs.Faults.{NeverHasChunk}
-use Rattle.persistence.specs.ReadingChunks.{begins_crlf, AwaitsLine, FindsLine, AwaitsChunk, FindsChunk, RefusesChunk}
+use Rattle.persistence.specs.ReadingChunks.{begins_crlf, AwaitsLine, FindsLine, AwaitsChunk}
 use Rattle.persistence.proofs.SequenceLemmas.{Reads-append}
-use Rattle.persistence.proofs.ChunkLemmas.{size_line_unique, size_line_printed, same_fronts}
+use Rattle.persistence.proofs.ChunkLemmas.{size_line_unique, size_line_printed}
 
 -- ---- what the two bytes after the data show
 
@@ -18,14 +17,6 @@ unended : (tail : List ℕ) → begins_crlf tail ≡ None → (more : List ℕ) 
 unended [] e = (13 ∷ 10 ∷ [], refl, omega arith)
 unended (b ∷ []) e = (10 ∷ [], (let first : b ≡ 13 = grind (arith, nat_tests, e) in ap (λ x. x ∷ 10 ∷ []) first), omega arith)
 unended (b ∷ c ∷ tail) e = absurd (cc)
-
-line_end_after : (tail : List ℕ) → begins_crlf tail ≡ Some true → (rest : List ℕ) × (tail ≡ 13 ∷ 10 ∷ rest)
-line_end_after [] e = absurd (cc)
-line_end_after (b ∷ []) e = absurd (grind (arith, nat_tests, e))
-line_end_after (b ∷ c ∷ tail) e =
-    let first : b ≡ 13 = grind (arith, nat_tests, e) in
-    let second : c ≡ 10 = grind (arith, nat_tests, e) in
-    (tail, ap (λ x. x ∷ c ∷ tail) first ∙ ap (λ y. 13 ∷ y ∷ tail) second)
 
 pub no_line_end : (tail more rest : List ℕ) → begins_crlf tail ≡ Some false → tail ++ more ≡ 13 ∷ 10 ∷ rest → ⊥
 no_line_end [] more rest w e = cc
@@ -64,13 +55,6 @@ awaits_line room text awaits = record {
 -- ---- a line
 
 module _ (room : ℕ) (text : List ℕ) (line : SizeLine) (found : FindsLine room text line) where
-  -- the data and what follows it, as the code cuts them
-  pub data_is : take (length text - line.len) (drop line.len text) ≡ drop line.len text
-  data_is = take_rest text line.len
-
-  pub after_data : (came : List ℕ) → came ≡ drop line.len text → take (length came - line.size) (drop line.size came) ≡ drop line.size (drop line.len text)
-  after_data came e = take_rest came line.size ∙ ap (drop line.size) e
-
   module _ (positive : 0 < line.size) where
     -- where so many bytes of data came, and the CR LF after them has not
     awaits_data : (more content : List ℕ) → drop line.len text ++ more ≡ content ++ 13 ∷ 10 ∷ [] → length content ≡ line.size
@@ -124,41 +108,3 @@ module _ (room : ℕ) (text : List ℕ) (line : SizeLine) (found : FindsLine roo
           (awaits_data open_end.0 (take line.size came)
           (ap (λ (t : List ℕ). t ++ open_end.0) data_cut ∙ append_assoc (take line.size came) (drop line.size came) open_end.0 ∙ ap (λ (t : List ℕ). take line.size came ++ t) open_end.1)
           data_sized (omega (arith, full, open_end.2, length-drop line.size came)))
-
-      -- a whole chunk
-      pub finds_chunk : begins_crlf (drop line.size (drop line.len text)) ≡ Some true → FindsChunk room text line.size (line.len + line.size + 2)
-      finds_chunk whole =
-          let came = drop line.len text in
-          let after = line_end_after (drop line.size came) whole in
-          let rest : drop (line.len + line.size + 2) text ≡ after.0 =
-          sym (drop-drop 2 (line.len + line.size) text) ∙ ap (drop 2) (sym (drop-drop line.size line.len text)) ∙ ap (drop 2) after.1 in
-          record {
-            within = omega (arith, found.within, full, ap length after.1, length-drop line.size came, length-drop line.len text);
-            fits = found.fits;
-            reads = record {
-              positive = positive;
-              content = take line.size came;
-              sized = data_sized;
-              reads = subst (ReadsSizeLine line.size text)
-                  (data_cut ∙ ap (λ (t : List ℕ). take line.size came ++ t) (after.1 ∙ ap (λ (t : List ℕ). 13 ∷ 10 ∷ t) (sym rest))) found.reads;
-            };
-          }
-
-      -- other bytes where the CR LF is due
-      pub refuses_end : begins_crlf (drop line.size (drop line.len text)) ≡ Some false → RefusesChunk room text BadChunk
-      refuses_end wrong = record { is = refl; never = record { last = last; chunk = chunk } }
-        where
-          read_on : (more : List ℕ) → ReadsSizeLine line.size (text ++ more) (drop line.len text ++ more)
-          read_on more = Reads-append size_line_printed line.size text _ more found.reads
-
-          last : (more rest : List ℕ) → ReadsSizeLine 0 (text ++ more) rest → ⊥
-          last more rest reads = let u = size_line_unique 0 line.size (text ++ more) _ _ reads (read_on more) in omega (arith, u.0, positive)
-
-          chunk : (size : ℕ) (more rest : List ℕ) → size ≤ room → ReadsChunk size (text ++ more) rest → ⊥
-          chunk size more rest fits reads =
-              let came = drop line.len text in
-              let u = size_line_unique size line.size (text ++ more) _ _ reads.reads (read_on more) in
-              let tails : 13 ∷ 10 ∷ rest ≡ drop line.size came ++ more =
-              same_fronts reads.content (take line.size came) _ _ (reads.sized ∙ u.0 ∙ sym data_sized)
-              (u.1 ∙ ap (λ (t : List ℕ). t ++ more) data_cut ∙ append_assoc (take line.size came) (drop line.size came) more) in
-              no_line_end (drop line.size came) more rest wrong (sym tails)

@@ -1,8 +1,6 @@
 -- What the parser's answer says of the text where a head begins.
-use Rattle.std.proofs.Common.{◌≡◌, ◌≢◌, ℕ, ◌+◌, ◌<◌, ◌≤◌, ◌⊎◌, List, [], ◌∷◌, ◌++◌, ◌-◌, Option, None, Some, Ok, length, take, drop, refl, sym, ap, subst, ◌∙◌, inl, inr, arith, append_assoc, length-append, length-take, length-drop, min, true, false}
-use Rattle.std.specs.Option.{MatchOption}
-use Rattle.std.proofs.lemmas.Bool.{cases_lt}
-use Rattle.std.proofs.lemmas.List.{append-nil, take-append-drop, take_all, take_rest, drop_at, drop-drop, length-map}
+use Rattle.std.proofs.Common.{◌≡◌, ◌≢◌, ℕ, ◌+◌, ◌<◌, ◌≤◌, ◌⊎◌, List, [], ◌∷◌, ◌++◌, ◌-◌, Ok, length, take, drop, refl, sym, ap, subst, ◌∙◌, inl, inr, arith, append_assoc, length-append, length-take, true, false}
+use Rattle.std.proofs.lemmas.List.{append-nil, take-append-drop, take_all, drop_at, length-map}
 use Rattle.std.proofs.lemmas.List.Elements.{All-weaker}
 use Rattle.httparse.specs.Grammar.{ResponseHead, ReadsResponse, print_response, HasNoResponse, NeverHasResponse, MayBecomeResponse}
 use Rattle.httparse.specs.Spans.{IsHeaderWithin, IsResponseWithin, IsResponseAt, header_bytes, name_and_value, ResponseExceeds}
@@ -13,17 +11,12 @@ use Rattle.httparse.specs.declared.Status.{Status}
 use Rattle.httparse.specs.declared.Status.TheVariants.{Complete, Partial}
 use Rattle.httparse.specs.declared.spans.HeaderSpan.{HeaderSpan}
 use Rattle.httparse.specs.declared.spans.ResponseSpans.{ResponseSpans}
-use Rattle.persistence.specs.declared.fault.ReadFault.{ReadFault}
-use Rattle.persistence.specs.declared.fault.ReadFault.TheVariants.{Memory, BadHead, BadLength, BadChunk, HeadTooLong, TooManyInterims, TrailerTooLong}
-use Rattle.persistence.specs.declared.method.Method.{Method}
-use Rattle.persistence.specs.declared.head.Head.{Head}
-use Rattle.persistence.specs.Sequence.{ReadsEach}
-use Rattle.persistence.specs.Heads.{most_fields, most_head_bytes, most_interims, is_interim, ReadsHead, ReadsInterim}
-use Rattle.persistence.specs.Faults.{HeadShows, IsFirst, IsFirstFault}
-use Rattle.persistence.specs.Reading.{IsAwaited, SkipsInterims, FindsHead, FindsNoFinalHead, EndsHeads, TellsHead, is_too_many, skip_newlines, line_ends}
-use Rattle.persistence.proofs.SequenceLemmas.{each-more}
+use Rattle.persistence.specs.declared.answer.ReadFault.{ReadFault}
+use Rattle.persistence.specs.declared.answer.ReadFault.TheVariants.{Memory, BadHead, BadLength, BadChunk, HeadTooLong, TooManyInterims, TrailerTooLong}
+use Rattle.persistence.specs.Limits.{most_fields, most_head_bytes}
+use Rattle.persistence.specs.Faults.{HeadShows, IsFirst}
+use Rattle.persistence.specs.ReadingHeads.{IsAwaited, FindsHead, is_too_many, skip_newlines, line_ends}
 use Rattle.persistence.proofs.HeadLines.{response_exceeds_lines, response_exceeds_cut}
-use Rattle.persistence.proofs.HeadLemmas.{interim_printed, no_final, nothing_shown, first_in_head, first_many}
 
 -- the text is its front and the rest
 cut_front : (text : List ℕ) → text ≡ take most_head_bytes text ++ drop most_head_bytes text
@@ -148,83 +141,11 @@ bad_head text never = record {
 
 -- ---- one head after another
 
--- the place after a head
-drop_further : (bytes : List ℕ) (at n : ℕ) → drop n (drop at bytes) ≡ drop (at + n) bytes
-drop_further bytes at n = drop-drop n at bytes
-
-pub skips_more : (bytes : List ℕ) (count at : ℕ) (fields : List HeaderSpan) (spans : ResponseSpans) → SkipsInterims bytes count at
-    → (found : FindsHead (drop at bytes) fields spans) → is_interim found.head ≡ true → SkipsInterims bytes (count + 1) (at + spans.len)
-skips_more bytes count at fields spans skips found interim = record {
-  interims = skips.interims ++ found.head ∷ [];
-  many = omega (arith, length-append skips.interims (found.head ∷ []), skips.many);
-  within = omega (arith, found.within, length-drop at bytes, skips.within);
-  each = subst (λ (t : List ℕ). ReadsEach ReadsInterim (skips.interims ++ found.head ∷ []) bytes t) (drop_further bytes at spans.len)
-      (each-more interim_printed skips.interims found.head bytes (drop at bytes) _ skips.each (record { reads = found.reads; interim = interim }));
-}
-
-pub finds_none : (bytes : List ℕ) (count at : ℕ) → SkipsInterims bytes count at → count ≤ most_interims → IsAwaited (drop at bytes) → FindsNoFinalHead bytes
-finds_none bytes count at skips few awaited = record {
-  none = λ head text has. no_final skips.interims bytes (drop at bytes) skips.each awaited.none head text has;
-  clean = nothing_shown skips.interims bytes (drop at bytes) skips.each awaited.none (omega (arith, skips.many, few)) awaited.clean;
-}
-
-pub ends_heads : (bytes : List ℕ) (count at : ℕ) (fields : List HeaderSpan) (spans : ResponseSpans) → SkipsInterims bytes count at → count ≤ most_interims
-    → (found : FindsHead (drop at bytes) fields spans) → is_interim found.head ≡ false → (told : Head) → TellsHead found.head told → EndsHeads bytes told (at + spans.len)
-ends_heads bytes count at fields spans skips few found final told says = record {
-  interims = skips.interims;
-  head = found.head;
-  heads = record {
-    middle = drop at bytes;
-    before = record { few = omega (arith, skips.many, few); each = skips.each };
-    reads = record { reads = subst (λ (t : List ℕ). ReadsHead found.head (drop at bytes) t) (drop_further bytes at spans.len) found.reads; final = final };
-  };
-  says = says;
-  within = omega (arith, found.within, length-drop at bytes, skips.within);
-}
-
-pub first_fault_here : (bytes : List ℕ) (count at : ℕ) (fault : ReadFault) → SkipsInterims bytes count at → count ≤ most_interims
-    → IsFirst HeadShows (ResponseExceeds most_fields) (drop at bytes) fault → (method : Method) → IsFirstFault method bytes fault
-first_fault_here bytes count at fault skips few found = first_in_head skips.interims bytes (drop at bytes) skips.each (omega (arith, skips.many, few)) fault found
-
-pub one_too_many : (bytes : List ℕ) (count at : ℕ) → SkipsInterims bytes count at → count ≡ most_interims + 1 → (method : Method) → IsFirstFault method bytes TooManyInterims
-one_too_many bytes count at skips full = first_many skips.interims bytes (drop at bytes) skips.each (skips.many ∙ full)
-
--- the front as the code cuts it
-pub take_front : (text : List ℕ) (n : ℕ) → (n ≡ min (length text) most_head_bytes) → take n text ≡ take most_head_bytes text
-take_front text n e = ap (λ k. take k text) e ∙ elim (cases_lt most_head_bytes (length text)) [
-  | inl over ↦ ap (λ k. take k text) {y = most_head_bytes} (omega (arith, over))
-  | inr under ↦ take_all (min (length text) most_head_bytes) text (omega (arith, under)) ∙ sym (take_all most_head_bytes text under)
-]
-
--- ---- what an answer says at one of its values
-
 pub at_complete : {A : Type 0} (P : A → Type 0) (s : Status A) (a : A) → s ≡ Complete a → IfComplete {E = Error} (Ok s) P → P a
 at_complete {A} P s a e h = subst (λ (s : Status A). IfComplete {E = Error} (Ok s) P) e h
 
 pub at_partial : {A : Type 0} (P : Type 0) (s : Status A) → s ≡ Partial → OnPartial {E = Error} (Ok s) P → P
 at_partial {A} P s e h = subst (λ (s : Status A). OnPartial {E = Error} (Ok s) P) e h
-
--- the text from a place on, as the code cuts it
-pub rest_is : (bytes : List ℕ) (at : ℕ) → take (length bytes - at) (drop at bytes) ≡ drop at bytes
-rest_is bytes at = take_rest bytes at
-
-pub found_here : (bytes : List ℕ) (at : ℕ) (fields : List HeaderSpan) (o : Option ResponseSpans) (spans : ResponseSpans) → o ≡ Some spans
-    → MatchOption o (IsAwaited (take (length bytes - at) (drop at bytes))) (FindsHead (take (length bytes - at) (drop at bytes)) fields)
-    → FindsHead (drop at bytes) fields spans
-found_here bytes at fields o spans e h =
-    subst (λ (t : List ℕ). FindsHead t fields spans) (rest_is bytes at)
-    (subst (λ (o : Option ResponseSpans). MatchOption o (IsAwaited (take (length bytes - at) (drop at bytes))) (FindsHead (take (length bytes - at) (drop at bytes)) fields)) e h)
-
-pub awaited_here : (bytes : List ℕ) (at : ℕ) (fields : List HeaderSpan) (o : Option ResponseSpans) → o ≡ None
-    → MatchOption o (IsAwaited (take (length bytes - at) (drop at bytes))) (FindsHead (take (length bytes - at) (drop at bytes)) fields)
-    → IsAwaited (drop at bytes)
-awaited_here bytes at fields o e h =
-    subst IsAwaited (rest_is bytes at)
-    (subst (λ (o : Option ResponseSpans). MatchOption o (IsAwaited (take (length bytes - at) (drop at bytes))) (FindsHead (take (length bytes - at) (drop at bytes)) fields)) e h)
-
-pub fault_here : (bytes : List ℕ) (at : ℕ) (fault : ReadFault) → IsFirst HeadShows (ResponseExceeds most_fields) (take (length bytes - at) (drop at bytes)) fault
-    → IsFirst HeadShows (ResponseExceeds most_fields) (drop at bytes) fault
-fault_here bytes at fault h = subst (λ (t : List ℕ). IsFirst HeadShows (ResponseExceeds most_fields) t fault) (rest_is bytes at) h
 
 pub too_many_is : (error : Error) → is_too_many error ≡ true → error ≡ TooManyHeaders
 too_many_is TooManyHeaders e = refl

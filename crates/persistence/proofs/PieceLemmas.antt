@@ -4,24 +4,21 @@ use Rattle.std.proofs.lemmas.List.{append-nil, take-append-drop, take-append-le,
 use Rattle.httparse.specs.Grammar.{print_section, print_chunk_line}
 use Rattle.httparse.specs.declared.spans.HeaderSpan.{HeaderSpan}
 use Rattle.httparse.specs.declared.spans.ResponseSpans.{ResponseSpans}
-use Rattle.persistence.specs.declared.fault.ReadFault.{ReadFault}
+use Rattle.persistence.specs.declared.answer.ReadFault.{ReadFault}
 use Rattle.persistence.specs.declared.head.Head.{Head}
-use Rattle.persistence.specs.declared.size_line.SizeLine.{SizeLine}
-use Rattle.persistence.specs.Heads.{most_head_bytes, ReadsHead}
+use Rattle.persistence.specs.declared.chunks.size_line.SizeLine.{SizeLine}
+use Rattle.persistence.specs.Limits.{most_head_bytes, most_line_bytes}
+use Rattle.persistence.specs.Heads.{ReadsHead}
 use Rattle.persistence.specs.Fields.{fields_of}
-use Rattle.persistence.specs.Chunks.{most_line_bytes, ReadsSizeLine, ReadsTrailer}
-use Rattle.persistence.specs.Reading.{AreWithin, fields_at, IsAwaited, FindsHead, TellsHead, IsTrailerAwaited, EndsTrailer}
-use Rattle.persistence.specs.ReadingChunks.{AwaitsLine, FindsLine, RefusesLine}
-use Rattle.persistence.specs.ReadingPieces.{IsTaken, EndsHead, KeepsLine, EndsLine, EndsSection}
+use Rattle.persistence.specs.Chunks.{ReadsSizeLine, ReadsTrailer}
+use Rattle.persistence.specs.ReadingHeads.{AreWithin, fields_at, IsAwaited, FindsHead, TellsHead, IsTaken, EndsHead}
+use Rattle.persistence.specs.ReadingChunks.{IsTrailerAwaited, EndsTrailer, AwaitsLine, FindsLine, RefusesLine, KeepsLine, EndsLine, EndsSection}
 use Rattle.persistence.proofs.SequenceLemmas.{IsPrinted}
 use Rattle.persistence.proofs.HeadLemmas.{head_printed}
 use Rattle.persistence.proofs.ChunkLemmas.{size_line_printed, trailer_unique}
 use Rattle.persistence.proofs.StepLemmas.{EndsIn, ends_in, taken_and_rest}
 
 -- ---- what was taken
-
-pub taken_all : (piece kept : List ℕ) (most taken : ℕ) → taken ≡ min (length piece) (most - length kept) → length kept < most → IsTaken piece taken
-taken_all piece kept most taken is short = record { within = omega (arith, is); some = λ some. omega (arith, is, short, some) }
 
 pub filled_most : (kept piece filled : List ℕ) (taken most : ℕ) → filled ≡ kept ++ take taken piece → taken ≡ min (length piece) (most - length kept) → length kept < most → length filled ≤ most
 filled_most kept piece filled taken most is told short = omega (arith, ap length is, length-append kept (take taken piece), length-take taken piece, told, short)

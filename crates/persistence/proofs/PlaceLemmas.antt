@@ -7,43 +7,41 @@ use Rattle.httparse.specs.Grammar.{ResponseHead}
 use Rattle.persistence.specs.declared.facts.Facts.{Facts}
 use Rattle.persistence.specs.declared.facts.Framing.{Framing}
 use Rattle.persistence.specs.declared.facts.Framing.TheVariants.{NoBody, Counted, Chunked, UntilClose, Faulty}
-use Rattle.persistence.specs.declared.fault.ReadFault.{ReadFault}
-use Rattle.persistence.specs.declared.fault.ReadFault.TheVariants.{Memory, BadLength, BadChunk, TooManyInterims}
+use Rattle.persistence.specs.declared.answer.ReadFault.{ReadFault}
+use Rattle.persistence.specs.declared.answer.ReadFault.TheVariants.{Memory, BadLength, BadChunk, TooManyInterims}
 use Rattle.persistence.specs.declared.method.Method.{Method}
 use Rattle.persistence.specs.declared.head.Head.{Head}
-use Rattle.persistence.specs.declared.body_state.BodyState.{BodyState}
-use Rattle.persistence.specs.declared.place.Place.{Place}
-use Rattle.persistence.specs.declared.place.Place.TheVariants.{Heads, Body, Fault}
+use Rattle.persistence.specs.declared.body.state.BodyState.{BodyState}
+use Rattle.persistence.specs.declared.reader.place.Place.{Place}
+use Rattle.persistence.specs.declared.reader.place.Place.TheVariants.{Heads, Body, Fault}
 use Rattle.persistence.specs.Fields.{fields_of, counted_length}
 use Rattle.persistence.specs.Framing.{body_kind}
 use Rattle.persistence.specs.Split.{EndsBody}
 use Rattle.persistence.specs.Told.{facts_of, facts_before, facts_after_fault, is_some_text, HasNoFinalHead, TellsFacts, TellsFactsAfterFault, TellsStatus, TellsBodyLength, TellsLength}
 use Rattle.persistence.specs.Faults.{BodyShows, Shows, HasLongTrailerBy, HasLongSection, IsFaultless, IsFirst, IsFirstFault}
-use Rattle.persistence.specs.Response.{TellsWhole, TellsResponse}
-use Rattle.persistence.specs.Reading.{TellsHead, FindsNoFinalHead}
-use Rattle.persistence.specs.ReadingBody.{HasNoEnd}
-use Rattle.persistence.specs.ReadingPieces.{AwaitsHeads, EndsHeadsIn, NeverHasFinalHead}
-use Rattle.persistence.specs.BodyPieces.{whole_of, BodyAt, FixesBody, TellsPieces}
+use Rattle.persistence.specs.Reader.{TellsWhole}
+use Rattle.persistence.specs.ReadingHeads.{TellsHead, AwaitsHeads, EndsHeadsIn, NeverHasFinalHead}
+use Rattle.persistence.specs.ReadingBody.{HasNoEnd, whole_of, BodyAt, FixesBody, TellsPieces}
 use Rattle.persistence.specs.ReadingPlaces.{PassesHead, IsInBody, TellsFinalHead, FixesLength, IsFaulty, IsPlaced, fault_at}
 use Rattle.persistence.proofs.HeadLemmas.{no_final, nothing_shown, HasFinalHead-append}
 use Rattle.persistence.proofs.StepLemmas.{first_further, taken_and_rest}
 use Rattle.persistence.proofs.InterimLemmas.{nothing_awaited}
 use Rattle.persistence.proofs.BodyLemmas.{tells_pieces}
-use Rattle.persistence.proofs.ResponseLemmas.{faultless, first_in_body, final_unique, length_there, status_there, split_of, no_split, parts_of, facts_open, facts_whole, tells_before}
+use Rattle.persistence.proofs.ResponseLemmas.{faultless, first_in_body, final_unique, length_there, status_there, split_of, no_split, parts_of, facts_open, facts_whole, TellsNoHead, tells_before}
 
 -- ---- where a head is due
 
--- there is no final head, and nothing is wrong so far
-pub heads_none : (bytes : List ℕ) (count : ℕ) (kept : List ℕ) → AwaitsHeads bytes count kept → FindsNoFinalHead bytes
-heads_none bytes count kept at = record {
-  none = λ head text has. no_final at.interims bytes kept at.each at.awaited.none head text has;
-  clean = nothing_shown at.interims bytes kept at.each at.awaited.none (let many = at.many in let few = at.few in omega (arith, many, few)) at.awaited.clean;
-}
+-- nothing is wrong so far
+pub heads_clean : (method : Method) (bytes : List ℕ) (count : ℕ) (kept : List ℕ) → AwaitsHeads bytes count kept → IsFaultless method bytes
+heads_clean method bytes count kept at =
+    nothing_shown at.interims bytes kept at.each at.awaited.none (let many = at.many in let few = at.few in omega (arith, many, few)) at.awaited.clean method
 
--- so the response tells what it does before a final head
+-- and there is no final head
 pub heads_tell : (method : Method) (request_close : Bool) (bytes : List ℕ) (ended : Bool) (count : ℕ) (kept : List ℕ) → AwaitsHeads bytes count kept
-    → TellsResponse method request_close bytes ended (record { status = None; facts = facts_before request_close; body_len = 0 })
-heads_tell method request_close bytes ended count kept at = tells_before method request_close bytes ended (heads_none bytes count kept at)
+    → TellsNoHead method request_close bytes ended
+heads_tell method request_close bytes ended count kept at =
+    tells_before method request_close bytes ended
+    (λ head text has. no_final at.interims bytes kept at.each at.awaited.none head text has) (heads_clean method bytes count kept at)
 
 -- ---- after the final head
 
@@ -247,7 +245,7 @@ module _ (method : Method) (bytes kept : List ℕ) where
 
   -- the bytes show the fault that is there, and none where there is none
   pub placed_shown : (place : Place) → IsPlaced method bytes place kept → MatchOption (fault_at place) (IsFaultless method bytes) (IsFirstFault method bytes)
-  placed_shown (Heads count) at = (heads_none bytes count kept at).clean method
+  placed_shown (Heads count) at = heads_clean method bytes count kept at
   placed_shown (Body told state) at = body_clean told state at
   placed_shown (Fault fault head len) at = at.first
 

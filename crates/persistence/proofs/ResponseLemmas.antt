@@ -1,25 +1,18 @@
 -- A response: what its bytes show after the final head, and what they tell.
-use Rattle.std.proofs.Common.{◌≡◌, ℕ, ◌≤◌, ◌⊎◌, Bool, true, false, List, ◌∷◌, ◌++◌, length, take, drop, Option, None, Some, is_some, refl, sym, ap, subst, ◌∙◌, inl, inr, arith, append_assoc, length-append, length-drop}
-use Rattle.std.specs.Option.{MatchOption}
-use Rattle.std.proofs.lemmas.Bool.Decides.{nat_tests}
-use Rattle.std.proofs.lemmas.List.{take-append-drop}
+use Rattle.std.proofs.Common.{◌≡◌, ℕ, ◌≤◌, ◌⊎◌, Bool, true, false, List, ◌∷◌, ◌++◌, length, None, Some, refl, sym, ap, subst, ◌∙◌, inl, inr, arith, append_assoc, length-append}
 use Rattle.httparse.specs.Grammar.{ResponseHead, status_code}
-use Rattle.persistence.specs.declared.facts.Facts.{Facts}
-use Rattle.persistence.specs.declared.facts.Framing.{Framing}
-use Rattle.persistence.specs.declared.fault.ReadFault.{ReadFault}
+use Rattle.persistence.specs.declared.answer.ReadFault.{ReadFault}
 use Rattle.persistence.specs.declared.method.Method.{Method}
-use Rattle.persistence.specs.declared.head.Head.{Head}
-use Rattle.persistence.specs.declared.body.Body.{Body}
 use Rattle.persistence.specs.Sequence.{ReadsEach}
-use Rattle.persistence.specs.Heads.{most_interims, ReadsInterim, ReadsHeads, HasFinalHead}
+use Rattle.persistence.specs.Limits.{most_interims}
+use Rattle.persistence.specs.Heads.{ReadsInterim, ReadsHeads, HasFinalHead}
 use Rattle.persistence.specs.Fields.{fields_of, counted_length}
 use Rattle.persistence.specs.Framing.{body_kind}
 use Rattle.persistence.specs.Split.{EndsBody, Parts, IsSplit}
-use Rattle.persistence.specs.Told.{facts_of, facts_before, IsNotWhole, is_some_text, TellsFacts, TellsStatus, TellsBodyLength, TellsLength}
+use Rattle.persistence.specs.Told.{facts_of, facts_before, IsNotWhole, is_some_text, HasNoFinalHead, TellsFacts, TellsStatus, TellsBodyLength, TellsLength}
 use Rattle.persistence.specs.Faults.{HeadShows, BodyShows, Shows, IsFaultless, IsFirst, HasLongTrailerBy, HasLongSection, IsFirstFault}
-use Rattle.persistence.specs.Response.{TellsWhole, TellsResponse}
-use Rattle.persistence.specs.Reading.{FindsNoFinalHead, EndsHeads}
-use Rattle.persistence.specs.ReadingBody.{HasNoEnd, EndsAt, TellsBody, ends_before}
+use Rattle.persistence.specs.Reader.{TellsWhole}
+use Rattle.persistence.specs.ReadingBody.{HasNoEnd}
 use Rattle.persistence.proofs.SequenceLemmas.{print_each, each-append, Compared, same, longer, shorter, compared}
 use Rattle.persistence.proofs.HeadLemmas.{interim_printed, final_printed, interim_or_final, head_shows_nothing, HeadShows-append, HasFinalHead-append, heads_unique}
 use Rattle.persistence.proofs.SplitLemmas.{split_unique}
@@ -172,79 +165,29 @@ module _ (method : Method) (head : ResponseHead) where
               (split_unique method bytes ended (parts_of front rest) parts (split_of front rest is ends) split);
         }
 
-      -- bytes follow the body where it ends before all that came
-      surplus_at : (end : ℕ) → ends_before (length text) (Some end) ≡ is_some_text (drop end text)
-      surplus_at end = grind (arith, nat_tests, length-drop end text)
+-- ---- before a final head
 
-      module _ (request_close : Bool) (body : Body) (tells : TellsBody (body_kind method head) (counted_length (fields_of head)) ended text body) where
-        -- where the body ends, if it does
-        abbrev EndsHere : Option ℕ → Type 0
-        EndsHere end = MatchOption end (HasNoEnd (body_kind method head) (counted_length (fields_of head)) ended text) (EndsAt (body_kind method head) (counted_length (fields_of head)) ended text)
+-- what is told while a head is due
+pub record TellsNoHead (method : Method) (request_close : Bool) (bytes : List ℕ) (ended : Bool) : Type 0 where
+  pub faultless : IsFaultless method bytes
+  pub status : TellsStatus bytes None
+  pub facts : TellsFacts method request_close bytes ended (facts_before request_close)
+  pub length : TellsLength method bytes 0
+  pub whole : TellsWhole method bytes ended false
 
-        tells_facts : (end : Option ℕ) → EndsHere end → TellsFacts method request_close bytes ended (facts_of method request_close head (is_some end) (ends_before (length text) end))
-        tells_facts None none = facts_open request_close none
-        tells_facts (Some end) ends =
-            subst (λ b. TellsFacts method request_close bytes ended (facts_of method request_close head true b)) (sym (surplus_at end))
-            (facts_whole request_close (take end text) (drop end text) (sym (take-append-drop end text)) ends.ends)
-
-        tells_whole : (end : Option ℕ) → EndsHere end → TellsWhole method bytes ended (is_some end)
-        tells_whole None none = record { yes = λ e. absurd (cc); no = λ e. no_split none }
-        tells_whole (Some end) ends = record {
-          yes = λ e. (parts_of (take end text) (drop end text), split_of (take end text) (drop end text) (sym (take-append-drop end text)) ends.ends);
-          no = λ e. absurd (cc);
-        }
-
-        pub tells_after : TellsResponse method request_close bytes ended
-            (record { status = Some (status_code head); facts = facts_of method request_close head (is_some body.end) (ends_before (length text) body.end); body_len = body.len })
-        tells_after = record {
-          faultless = faultless bytes text has tells.clean;
-          status = status_there;
-          facts = tells_facts body.end tells.ends;
-          length = length_there body.len tells.came;
-          whole = tells_whole body.end tells.ends;
-        }
-
--- before a final head
-pub tells_before : (method : Method) (request_close : Bool) (bytes : List ℕ) (ended : Bool) → FindsNoFinalHead bytes
-    → TellsResponse method request_close bytes ended (record { status = None; facts = facts_before request_close; body_len = 0 })
-tells_before method request_close bytes ended found = record {
-  faultless = found.clean method;
-  status = record { before = λ none. refl; after = λ head text has. absurd (found.none head text has) };
+pub tells_before : (method : Method) (request_close : Bool) (bytes : List ℕ) (ended : Bool) → HasNoFinalHead bytes → IsFaultless method bytes
+    → TellsNoHead method request_close bytes ended
+tells_before method request_close bytes ended no_head clean = record {
+  faultless = clean;
+  status = record { before = λ none. refl; after = λ head text has. absurd (no_head head text has) };
   facts = record {
     before = λ none. refl;
-    after = λ head text has open_end. absurd (found.none head text has);
+    after = λ head text has open_end. absurd (no_head head text has);
     whole = λ parts split. absurd (no_whole parts split);
   };
-  length = record { before = λ none. refl; after = λ head text has. absurd (found.none head text has) };
+  length = record { before = λ none. refl; after = λ head text has. absurd (no_head head text has) };
   whole = record { yes = λ e. absurd (cc); no = λ e parts split. no_whole parts split };
 }
   where
     no_whole : (parts : Parts) → IsSplit method bytes ended parts → ⊥
-    no_whole parts split = found.none parts.head (parts.body ++ parts.rest) (parts.interims, split.heads)
-
--- ---- the same, as the code has it
-
-module _ (method : Method) (bytes : List ℕ) (told : Head) (start : ℕ) (ends : EndsHeads bytes told start) (kind : Framing) (is : kind ≡ body_kind method ends.head)
-    (text : List ℕ) (after : text ≡ drop start bytes) where
-  pub first_here : (fault : ReadFault) → IsFirst (BodyShows kind told.counted) (HasLongTrailerBy kind) text fault → IsFirstFault method bytes fault
-  first_here fault found =
-      first_in_body method ends.head bytes (drop start bytes) (ends.interims, ends.heads) fault
-      (subst (λ (n : Option ℕ). IsFirst (BodyShows (body_kind method ends.head) n) (HasLongTrailerBy (body_kind method ends.head)) (drop start bytes) fault) ends.says.counted
-      (subst (λ (t : List ℕ). IsFirst (BodyShows (body_kind method ends.head) told.counted) (HasLongTrailerBy (body_kind method ends.head)) t fault) after
-      (subst (λ (k : Framing). IsFirst (BodyShows k told.counted) (HasLongTrailerBy k) text fault) is found)))
-
-  pub tells_here : (request_close ended : Bool) (body : Body) → TellsBody kind told.counted ended text body → (whole surplus : Bool) → whole ≡ is_some body.end
-      → surplus ≡ ends_before (length text) body.end → (facts : Facts) → facts ≡ facts_of method request_close ends.head whole surplus
-      → TellsResponse method request_close bytes ended (record { status = Some told.status; facts = facts; body_len = body.len })
-  tells_here request_close ended body tells whole surplus w s facts f =
-      subst (λ (p : Option ℕ × Facts). TellsResponse method request_close bytes ended (record { status = p.0; facts = p.1; body_len = body.len }))
-      (λ i. (Some (sym ends.says.status i), sym all i))
-      (tells_after method ends.head bytes (drop start bytes) (ends.interims, ends.heads) ended request_close body
-      (subst (λ (n : Option ℕ). TellsBody (body_kind method ends.head) n ended (drop start bytes) body) ends.says.counted
-      (subst (λ (t : List ℕ). TellsBody (body_kind method ends.head) told.counted ended t body) after
-      (subst (λ (k : Framing). TellsBody k told.counted ended text body) is tells))))
-    where
-      all : facts ≡ facts_of method request_close ends.head (is_some body.end) (ends_before (length (drop start bytes)) body.end)
-      all =
-          f ∙ ap (λ b. facts_of method request_close ends.head b surplus) w
-          ∙ ap (λ b. facts_of method request_close ends.head (is_some body.end) b) (s ∙ ap (λ (t : List ℕ). ends_before (length t) body.end) after)
+    no_whole parts split = no_head parts.head (parts.body ++ parts.rest) (parts.interims, split.heads)

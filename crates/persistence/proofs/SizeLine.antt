@@ -8,9 +8,8 @@ use Rattle.std.proofs.lemmas.List.Elements.{All-head, All-tail, All-cons, All-ni
 use Rattle.std.proofs.lemmas.List.Sums.{fails_before_first, passes_at_first}
 use Rattle.httparse.specs.Grammar.{AllPass, is_ows, is_extension_byte, ChunkLine, print_chunk_line}
 use Rattle.persistence.specs.Chunks.{ReadsSizeLine}
-use Rattle.persistence.specs.declared.fault.ReadFault.TheVariants.{BadChunk}
-use Rattle.persistence.specs.Reading.{IsWrittenSize}
-use Rattle.persistence.specs.ReadingChunks.{begins_crlf, AwaitsLine, FindsLine, RefusesLine}
+use Rattle.persistence.specs.declared.answer.ReadFault.TheVariants.{BadChunk}
+use Rattle.persistence.specs.ReadingChunks.{IsWrittenSize, begins_crlf, AwaitsLine, FindsLine, RefusesLine}
 use Rattle.persistence.proofs.LineLemmas.{cut_twice}
 use Rattle.persistence.proofs.SizeLineLemmas.{words_of, print_words, words_pass, written_front}
 

@@ -7,9 +7,8 @@ use Rattle.std.proofs.lemmas.List.{append-nil, take_at}
 use Rattle.std.proofs.lemmas.List.Elements.{All-append, All-head, All-tail, All-nil, All-cons, All-weaker}
 use Rattle.std.proofs.lemmas.Str.Parse.{digits_value-take-le}
 use Rattle.httparse.specs.Grammar.{AllPass, is_ows, is_extension_byte, ChunkLine, print_extension, print_chunk_line, IsExtension}
-use Rattle.httparse.proofs.RunLemmas.{run_unique}
-use Rattle.persistence.specs.Chunks.{IsSizeLine, ReadsSizeLine}
-use Rattle.persistence.specs.Reading.{IsWrittenSize}
+use Rattle.persistence.specs.Chunks.{IsSizeLine}
+use Rattle.persistence.specs.ReadingChunks.{IsWrittenSize}
 use Rattle.persistence.proofs.LineLemmas.{cut_twice}
 
 -- the words of a line, without its line end
@@ -115,24 +114,3 @@ written_front words more n some w =
           is = p ∙ ap (λ b. w.digits ++ (w.pad ++ b ∷ z)) (sym first);
           gives = w.gives;
         }
-
--- a line has the words that stand before its line end
-pub line_words : (words rest : List ℕ) (size : ℕ) (tail : List ℕ) → AllPass is_extension_byte words → words ++ 13 ∷ rest ≡ tail
-    → (after : List ℕ) → ReadsSizeLine size tail after → IsWrittenSize words size × (13 ∷ rest ≡ 13 ∷ 10 ∷ after)
-line_words words rest size tail pass e after reads =
-    let line = reads.line in
-    let same = run_unique is_extension_byte words (words_of line) (13 ∷ rest) (13 ∷ 10 ∷ after) pass (words_pass line reads.valid) refl refl
-    (e ∙ reads.reads ∙ ap (λ (t : List ℕ). t ++ after) (print_words line) ∙ append_assoc (words_of line) (13 ∷ 10 ∷ []) after) in (
-      record {
-        digits = line.digits;
-        pad = line.pad;
-        extension = line.extension;
-        some = reads.valid.some;
-        valid = reads.valid.digits;
-        blank = reads.valid.pad;
-        rest = reads.valid.extension;
-        is = same.0;
-        gives = reads.gives;
-      },
-      same.1,
-    )

@@ -1,26 +1,20 @@
 -- What the parser's answer says of the text where a trailer section begins.
-use Rattle.std.proofs.Common.{◌≡◌, ◌≢◌, ℕ, ◌<◌, ◌≤◌, ◌⊎◌, List, [], ◌∷◌, ◌++◌, length, take, drop, min, refl, sym, ap, subst, ◌∙◌, inl, inr, arith, append_assoc, length-append, length-take}
-use Rattle.std.proofs.lemmas.Bool.{cases_lt}
+use Rattle.std.proofs.Common.{◌≡◌, ◌≢◌, ℕ, ◌<◌, ◌≤◌, ◌⊎◌, List, [], ◌∷◌, ◌++◌, length, take, drop, refl, sym, ap, subst, ◌∙◌, inl, inr, arith, append_assoc, length-append, length-take}
 use Rattle.std.proofs.lemmas.List.{append-nil, take-append-drop, take_all, drop_at, length-map, length-take-le}
 use Rattle.httparse.specs.Grammar.{Field, LineEnd, lf, ReadsSection, print_section, HasNoSection, NeverHasSection, MayBecomeSection}
 use Rattle.httparse.specs.Spans.{IsSectionWithin, IsSectionAt, header_bytes, name_and_value, SectionExceeds}
 use Rattle.httparse.specs.declared.spans.HeaderSpan.{HeaderSpan}
-use Rattle.persistence.specs.declared.fault.ReadFault.{ReadFault}
-use Rattle.persistence.specs.declared.fault.ReadFault.TheVariants.{Memory, BadHead, BadLength, BadChunk, HeadTooLong, TooManyInterims, TrailerTooLong}
-use Rattle.persistence.specs.Heads.{most_fields}
-use Rattle.persistence.specs.Chunks.{most_trailer_bytes, ReadsTrailer}
+use Rattle.persistence.specs.declared.answer.ReadFault.{ReadFault}
+use Rattle.persistence.specs.declared.answer.ReadFault.TheVariants.{Memory, BadHead, BadLength, BadChunk, HeadTooLong, TooManyInterims, TrailerTooLong}
+use Rattle.persistence.specs.Limits.{most_fields, most_trailer_bytes}
+use Rattle.persistence.specs.Chunks.{ReadsTrailer}
 use Rattle.persistence.specs.Faults.{TrailerShows, IsFirst}
-use Rattle.persistence.specs.Reading.{IsTrailerAwaited, EndsTrailer, line_ends}
+use Rattle.persistence.specs.ReadingChunks.{IsTrailerAwaited, EndsTrailer}
+use Rattle.persistence.specs.ReadingHeads.{line_ends}
 use Rattle.persistence.proofs.LineLemmas.{cut_twice, section_exceeds_lines, section_exceeds_none, section_exceeds_cut}
 
 cut_front : (text : List ℕ) → text ≡ take most_trailer_bytes text ++ drop most_trailer_bytes text
 cut_front text = sym (take-append-drop most_trailer_bytes text)
-
-pub take_trailer : (text : List ℕ) (n : ℕ) → (n ≡ min (length text) most_trailer_bytes) → take n text ≡ take most_trailer_bytes text
-take_trailer text n e = ap (λ k. take k text) e ∙ elim (cases_lt most_trailer_bytes (length text)) [
-  | inl over ↦ ap (λ k. take k text) {y = most_trailer_bytes} (omega (arith, over))
-  | inr under ↦ take_all (min (length text) most_trailer_bytes) text (omega (arith, under)) ∙ sym (take_all most_trailer_bytes text under)
-]
 
 -- a whole section
 pub ends_trailer : (text : List ℕ) (spans : List HeaderSpan) (len count : ℕ) → length spans ≡ most_fields

@@ -8,8 +8,7 @@ use Rattle.std.proofs.lemmas.Bool.Decides.{nat_tests}
 use Rattle.std.proofs.lemmas.List.{take_at, drop_at, take-append-drop, take_rest}
 use Rattle.std.proofs.lemmas.List.Elements.{All-head, All-tail, All-nil, All-cons}
 use Rattle.httparse.specs.Grammar.{AllPass, is_ows, skip_ows, is_extension_byte, print_extension}
-use Rattle.persistence.specs.Reading.{IsWrittenSize}
-use Rattle.persistence.specs.ReadingChunks.{begins_extension}
+use Rattle.persistence.specs.ReadingChunks.{IsWrittenSize, begins_extension}
 
 -- where the digits end
 abbrev pub digits_place : List ℕ → ℕ

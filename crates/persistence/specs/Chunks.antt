@@ -1,20 +1,11 @@
 -- A body in chunks (RFC 9112, section 7.1). The lines before chunks have a grammar of this project's
 -- own: `httparse` reads at most 16 digits.
-use Rattle.std.specs.Prelude.{◌≡◌, ℕ, ◌-◌, ◌<◌, ◌≤◌, List, ◌++◌, length, sum}
 use Rattle.std.specs.Char.{is_ascii_hexdigit}
+use Rattle.std.specs.Prelude.{◌≡◌, ℕ, ◌-◌, ◌<◌, ◌≤◌, List, ◌++◌, length, sum}
 use Rattle.httparse.specs.Ascii.{crlf_bytes}
 use Rattle.httparse.specs.Grammar.{AllPass, is_ows, ChunkLine, print_chunk_line, chunk_size, IsExtension, Field, LineEnd, print_section, ReadsSection}
+use Rattle.persistence.specs.Limits.{most_fields, most_bytes, most_line_bytes, most_trailer_bytes}
 use Rattle.persistence.specs.Sequence.{ReadsEach}
-use Rattle.persistence.specs.Heads.{most_fields}
-use Rattle.persistence.specs.Fields.{most_bytes}
-
--- the most bytes of the line before a chunk, with its line end
-abbrev pub most_line_bytes : ℕ
-most_line_bytes = 1024
-
--- the most bytes of a trailer section, with its empty line
-abbrev pub most_trailer_bytes : ℕ
-most_trailer_bytes = 8192
 
 -- one or more hexadecimal digits, spaces and tabs, and perhaps a semicolon and a text, within the limit
 pub record IsSizeLine (line : ChunkLine) : Type 0 where

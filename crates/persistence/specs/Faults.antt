@@ -6,13 +6,14 @@ use Rattle.httparse.specs.Spans.{ResponseExceeds, SectionExceeds}
 use Rattle.persistence.specs.declared.facts.Framing.{Framing}
 use Rattle.persistence.specs.declared.facts.Framing.TheVariants.{NoBody, Counted, Chunked, UntilClose, Faulty}
 use Rattle.persistence.specs.declared.method.Method.{Method}
-use Rattle.persistence.specs.declared.fault.ReadFault.{ReadFault}
-use Rattle.persistence.specs.declared.fault.ReadFault.TheVariants.{BadHead, BadLength, BadChunk, HeadTooLong, TooManyInterims, TrailerTooLong}
+use Rattle.persistence.specs.declared.answer.ReadFault.{ReadFault}
+use Rattle.persistence.specs.declared.answer.ReadFault.TheVariants.{BadHead, BadLength, BadChunk, HeadTooLong, TooManyInterims, TrailerTooLong}
 use Rattle.persistence.specs.Sequence.{ReadsEach}
-use Rattle.persistence.specs.Heads.{most_fields, most_head_bytes, most_interims, ReadsInterim, ReadsInterims, HasFinalHead}
-use Rattle.persistence.specs.Fields.{fields_of, counted_length, most_bytes}
+use Rattle.persistence.specs.Limits.{most_fields, most_head_bytes, most_interims, most_bytes, most_trailer_bytes}
+use Rattle.persistence.specs.Heads.{ReadsInterim, ReadsInterims, HasFinalHead}
+use Rattle.persistence.specs.Fields.{fields_of, counted_length}
 use Rattle.persistence.specs.Framing.{body_kind}
-use Rattle.persistence.specs.Chunks.{most_trailer_bytes, ReadsSizeLine, ReadsChunk, ReadsChunks, room_after, ReachesTrailer}
+use Rattle.persistence.specs.Chunks.{ReadsSizeLine, ReadsChunk, ReadsChunks, room_after, ReachesTrailer}
 
 -- so many bytes came of a head, and it is not complete
 abbrev pub IsHeadPastLimit : List ℕ → Type 0

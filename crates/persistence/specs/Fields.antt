@@ -1,12 +1,13 @@
 -- What the fields of a head say: the connection options (RFC 9110, section 7.6.1), the transfer codings
 -- (RFC 9112, section 6.1) and the lengths (RFC 9110, section 8.6, and RFC 9112, section 6.3).
-use Rattle.std.specs.Prelude.{ℕ, Bool, false, ◌&&◌, ◌==◌, nat_lt, nat_le, if◌then◌else◌, List, [], ◌∷◌, length, map, codes, Option, Some, None}
-use Rattle.std.specs.List.{flat_map, filter, list_all, list_any, slice_split}
 use Rattle.std.specs.Char.{is_ascii_digit}
+use Rattle.std.specs.List.{flat_map, filter, list_all, list_any, slice_split}
+use Rattle.std.specs.Prelude.{ℕ, Bool, false, ◌&&◌, ◌==◌, nat_lt, nat_le, if◌then◌else◌, List, [], ◌∷◌, length, map, codes, Option, Some, None}
 use Rattle.std.specs.Str.{str_eq_ignore_ascii_case}
 use Rattle.std.specs.Str.Parse.{digits_value}
 use Rattle.httparse.specs.Grammar.{ResponseHead, trim_ows}
 use Rattle.httparse.specs.Spans.{name_and_value}
+use Rattle.persistence.specs.Limits.{most_bytes}
 
 -- a field's name, and its value without the white space around it
 abbrev pub NameAndValue : Type 0
@@ -70,10 +71,6 @@ is_chunked_last fields = is_chunked_coding (last_coding (elements_of (codes "tra
 -- there is a Content-Length field
 abbrev pub has_content_length : List NameAndValue → Bool
 has_content_length fields = has_field (codes "content-length") fields
-
--- the greatest number of bytes: that of a u64
-abbrev pub most_bytes : ℕ
-most_bytes = 18446744073709551615
 
 -- the element is that number: one or more digits (RFC 9110, section 8.6)
 abbrev pub is_number : ℕ → List ℕ → Bool

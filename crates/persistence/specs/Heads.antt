@@ -2,19 +2,8 @@
 -- section 15.2). What a head is, the grammar of `httparse` says.
 use Rattle.std.specs.Prelude.{◌≡◌, ℕ, ◌≤◌, Bool, true, false, ◌&&◌, not, ◌==◌, nat_le, List, length}
 use Rattle.httparse.specs.Grammar.{ResponseHead, ReadsResponse, print_response, status_code}
+use Rattle.persistence.specs.Limits.{most_head_bytes, most_interims, most_fields}
 use Rattle.persistence.specs.Sequence.{ReadsEach}
-
--- the most fields of a head
-abbrev pub most_fields : ℕ
-most_fields = 100
-
--- the most bytes of a head, with the blank lines before it and its empty line
-abbrev pub most_head_bytes : ℕ
-most_head_bytes = 16384
-
--- the most interim heads before a final one
-abbrev pub most_interims : ℕ
-most_interims = 8
 
 -- the text is a head within the limits, and then the rest
 pub record ReadsHead (head : ResponseHead) (text rest : List ℕ) : Type 0 where

@@ -1,3 +1,4 @@
+pub mod Limits
 pub mod Persistent
 pub mod Sequence
 pub mod Heads
@@ -7,11 +8,8 @@ pub mod Chunks
 pub mod Split
 pub mod Told
 pub mod Faults
-pub mod Reading
+pub mod Reader
+pub mod ReadingHeads
 pub mod ReadingChunks
 pub mod ReadingBody
-pub mod ReadingPieces
-pub mod BodyPieces
-pub mod Response
 pub mod ReadingPlaces
-pub mod Reader

@@ -1,6 +1,6 @@
 -- A reader of a response, and what it tells of the bytes fed so far.
-use Rattle.std.specs.Prelude.{ℕ, Bool, false, List, [], Option, None}
-use Rattle.persistence.specs.declared.fault.ReadFault.{ReadFault}
+use Rattle.std.specs.Prelude.{◌≡◌, ℕ, Bool, true, false, List, [], Option, None}
+use Rattle.persistence.specs.declared.answer.ReadFault.{ReadFault}
 use Rattle.persistence.specs.declared.method.Method.{Method}
 use Rattle.persistence.specs.declared.answer.Fed.{Fed}
 use Rattle.persistence.specs.declared.answer.Fed.TheVariants.{More, Whole}
@@ -32,3 +32,8 @@ unread method request_close = record {
 abbrev pub TellsFed : Method → List ℕ → Fed → Type 0
 TellsFed method bytes More = IsNotWhole method bytes false
 TellsFed method bytes Whole = (parts : Parts) × IsSplit method bytes false parts
+
+-- whether there is a split
+pub record TellsWhole (method : Method) (bytes : List ℕ) (ended whole : Bool) : Type 0 where
+  pub yes : whole ≡ true → (parts : Parts) × IsSplit method bytes ended parts
+  pub no : whole ≡ false → IsNotWhole method bytes ended

@@ -1,14 +1,18 @@
--- What the parts of the plain reader answer of a body in chunks. No public contract needs these words.
-use Rattle.std.specs.Prelude.{◌≡◌, ℕ, ◌+◌, ◌≤◌, sum, MatchOption, Bool, true, false, ◌&&◌, ◌==◌, if◌then◌else◌, List, [], ◌∷◌, ◌++◌, length, drop, Option, None, Some}
-use Rattle.persistence.specs.declared.fault.ReadFault.{ReadFault}
-use Rattle.persistence.specs.declared.fault.ReadFault.TheVariants.{BadChunk}
-use Rattle.persistence.specs.declared.size_line.SizeLine.{SizeLine}
-use Rattle.persistence.specs.declared.chunks.NextChunk.{NextChunk}
-use Rattle.persistence.specs.declared.chunks.NextChunk.TheVariants.{Begun, Whole, Last}
-use Rattle.persistence.specs.declared.chunks.ChunkedData.{ChunkedData}
-use Rattle.persistence.specs.Chunks.{ReadsSizeLine, ReadsChunk, ReadsChunks, room_after, ReachesTrailer}
-use Rattle.persistence.specs.Told.{HasNoChunk, TellsBegun}
-use Rattle.persistence.specs.Faults.{NeverHasChunk, ShowsBadChunk}
+-- What the parts answer where a body in chunks is read. No public contract needs these words.
+use Rattle.std.specs.Char.{is_ascii_hexdigit}
+use Rattle.std.specs.Prelude.{◌≡◌, ℕ, ◌<◌, ◌≤◌, Bool, true, false, ◌==◌, if◌then◌else◌, List, [], ◌∷◌, ◌++◌, length, drop, Option, Some, ◌+◌, sum, ◌&&◌, None, ◌-◌}
+use Rattle.std.specs.Str.Parse.{digits_value}
+use Rattle.httparse.specs.Grammar.{print_extension, AllPass, is_ows, IsExtension}
+use Rattle.persistence.specs.declared.answer.ReadFault.{ReadFault}
+use Rattle.persistence.specs.declared.answer.ReadFault.TheVariants.{BadChunk}
+use Rattle.persistence.specs.declared.body.state.BodyPlace.{BodyPlace}
+use Rattle.persistence.specs.declared.body.state.BodyPlace.TheVariants as place
+use Rattle.persistence.specs.declared.body.state.BodyState.{BodyState}
+use Rattle.persistence.specs.declared.chunks.size_line.SizeLine.{SizeLine}
+use Rattle.persistence.specs.Chunks.{ReadsTrailer, ReadsSizeLine, ReadsChunks, room_after, ReachesTrailer, ReadsChunked}
+use Rattle.persistence.specs.Faults.{TrailerShows, NeverHasChunk, ShowsBadChunk}
+use Rattle.persistence.specs.Limits.{most_bytes, most_line_bytes, most_trailer_bytes}
+use Rattle.persistence.specs.Told.{HasNoChunk, TellsBegun, TellsChunkData, is_some_text}
 
 -- whether CR LF begins the text; nothing where the text ends before that is told
 abbrev pub begins_crlf : List ℕ → Option Bool
@@ -20,6 +24,18 @@ begins_crlf (b ∷ c ∷ text) = Some (b == 13 && c == 10)
 abbrev pub begins_extension : List ℕ → Bool
 begins_extension [] = true
 begins_extension (b ∷ text) = b == 59
+
+-- the words before a line's end write that size: digits, spaces and tabs, and perhaps a semicolon and a text
+pub record IsWrittenSize (words : List ℕ) (size : ℕ) : Type 0 where
+  pub digits : List ℕ
+  pub pad : List ℕ
+  pub extension : Option (List ℕ)
+  pub some : 0 < length digits
+  pub valid : AllPass is_ascii_hexdigit digits
+  pub blank : AllPass is_ows pad
+  pub rest : IsExtension extension
+  pub is : words ≡ digits ++ (pad ++ print_extension extension)
+  pub gives : digits_value 16 digits ≡ size
 
 -- no line before a chunk is there yet, and one of a size that fits the room can come
 pub record AwaitsLine (room : ℕ) (text : List ℕ) : Type 0 where
@@ -40,6 +56,18 @@ pub record RefusesLine (room : ℕ) (text : List ℕ) (fault : ReadFault) : Type
   pub is : fault ≡ BadChunk
   pub never : (size : ℕ) (more rest : List ℕ) → size ≤ room → ¬ (ReadsSizeLine size (text ++ more) rest)
 
+-- the text is kept: the line before a chunk still comes, of a size that fits the room
+pub record KeepsLine (room : ℕ) (text kept : List ℕ) : Type 0 where
+  pub is : kept ≡ text
+  pub awaits : AwaitsLine room text
+  pub short : length text < most_line_bytes
+
+-- the text is the line before a chunk of that size, which fits the room; nothing is kept
+pub record EndsLine (room : ℕ) (text kept : List ℕ) (size : ℕ) : Type 0 where
+  pub is : kept ≡ []
+  pub fits : size ≤ room
+  pub reads : ReadsSizeLine size text []
+
 -- no chunk and no last line is there yet, one that fits the room can come, and so many bytes of its data came
 pub record AwaitsChunk (room : ℕ) (text : List ℕ) (begun : ℕ) : Type 0 where
   pub none : HasNoChunk room text
@@ -47,35 +75,6 @@ pub record AwaitsChunk (room : ℕ) (text : List ℕ) (begun : ℕ) : Type 0 whe
   pub can : ¬ (NeverHasChunk room text)
   pub tells : TellsBegun room text begun
   pub fits : begun ≤ room
-
--- a whole chunk of that size and length begins the text
-pub record FindsChunk (room : ℕ) (text : List ℕ) (size len : ℕ) : Type 0 where
-  pub within : len ≤ length text
-  pub fits : size ≤ room
-  pub reads : ReadsChunk size text (drop len text)
-
--- the line that ends the chunks begins the text
-pub record FindsLast (text : List ℕ) (len : ℕ) : Type 0 where
-  pub within : len ≤ length text
-  pub reads : ReadsSizeLine 0 text (drop len text)
-
--- what stands where a chunk is due
-abbrev pub FindsNext : ℕ → List ℕ → NextChunk → Type 0
-FindsNext room text (Begun begun) = AwaitsChunk room text begun
-FindsNext room text (Whole size len) = FindsChunk room text size len
-FindsNext room text (Last len) = FindsLast text len
-
--- neither a last line nor a chunk that fits the room can come
-pub record RefusesChunk (room : ℕ) (text : List ℕ) (fault : ReadFault) : Type 0 where
-  pub is : fault ≡ BadChunk
-  pub never : NeverHasChunk room text
-
--- chunks of so much data stand before that place
-pub record PassesChunks (text : List ℕ) (len at : ℕ) : Type 0 where
-  pub sizes : List ℕ
-  pub sums : sum sizes ≡ len
-  pub within : at ≤ length text
-  pub chunks : ReadsChunks sizes text (drop at text)
 
 -- the chunks have not ended, and so much data came
 pub record AwaitsChunks (text : List ℕ) (len : ℕ) : Type 0 where
@@ -86,18 +85,144 @@ pub record AwaitsChunks (text : List ℕ) (len : ℕ) : Type 0 where
   pub awaits : AwaitsChunk (room_after sizes) rest begun
   pub sums : len ≡ sum sizes + begun
 
--- the chunks have so much data, and the trailer section begins at that place
-pub record EndsChunks (text : List ℕ) (len at : ℕ) : Type 0 where
-  pub sizes : List ℕ
-  pub sums : len ≡ sum sizes
-  pub within : at ≤ length text
-  pub reaches : ReachesTrailer sizes text (drop at text)
-
--- the chunks that begin the text
-abbrev pub FindsChunks : List ℕ → ChunkedData → Type 0
-FindsChunks text found = MatchOption found.trailer (AwaitsChunks text found.len) (EndsChunks text found.len)
-
 -- the text after whole chunks never goes on with a chunk
 pub record IsFirstBadChunk (text : List ℕ) (fault : ReadFault) : Type 0 where
   pub is : fault ≡ BadChunk
   pub shows : ShowsBadChunk text
+
+-- the CR of a line end, where it came
+abbrev pub carriage : Bool → List ℕ
+carriage true = 13 ∷ []
+carriage false = []
+
+-- whole chunks of so much data, and the text that follows them
+pub record PassesTo (text : List ℕ) (len : ℕ) (rest : List ℕ) : Type 0 where
+  pub sizes : List ℕ
+  pub sums : sum sizes ≡ len
+  pub chunks : ReadsChunks sizes text rest
+
+-- whole chunks, and the line of a chunk whose data comes: so much data in all, and so much of the chunk's is left
+pub record IsInData (text : List ℕ) (len left : ℕ) : Type 0 where
+  pub before : ℕ
+  pub rest : List ℕ
+  pub passes : PassesTo text before rest
+  pub size : ℕ
+  pub fits : size ≤ most_bytes - before
+  pub content : List ℕ
+  pub line : ReadsSizeLine size rest content
+  pub came : length content + left ≡ size
+  pub some : 0 < left
+  pub sums : len ≡ before + length content
+
+-- the same where all the chunk's data came, and the CR after it or not
+pub record IsAfterData (text : List ℕ) (len : ℕ) (has_cr : Bool) : Type 0 where
+  pub before : ℕ
+  pub rest : List ℕ
+  pub passes : PassesTo text before rest
+  pub size : ℕ
+  pub fits : size ≤ most_bytes - before
+  pub some : 0 < size
+  pub content : List ℕ
+  pub sized : length content ≡ size
+  pub line : ReadsSizeLine size rest (content ++ carriage has_cr)
+  pub sums : len ≡ before + size
+
+-- the text has so much data in chunks, whatever follows it
+abbrev pub FixesData : List ℕ → ℕ → Type 0
+FixesData text len = (more : List ℕ) → TellsChunkData (text ++ more) len
+
+-- a trailer section still comes: there is none yet, and nothing is wrong so far
+pub record IsTrailerAwaited (text : List ℕ) : Type 0 where
+  pub none : (rest : List ℕ) → ¬ (ReadsTrailer text rest)
+  pub clean : (fault : ReadFault) → ¬ (TrailerShows text fault)
+
+-- a trailer section of that length begins the text
+pub record EndsTrailer (text : List ℕ) (len : ℕ) : Type 0 where
+  pub within : len ≤ length text
+  pub reads : ReadsTrailer text (drop len text)
+
+-- the text is kept: a trailer section still comes, and there is room for more of it
+pub record KeepsTrailer (text kept : List ℕ) : Type 0 where
+  pub is : kept ≡ text
+  pub awaited : IsTrailerAwaited text
+  pub short : length text < most_trailer_bytes
+
+-- the text is a trailer section; nothing is kept
+pub record EndsSection (text kept : List ℕ) : Type 0 where
+  pub is : kept ≡ []
+  pub reads : ReadsTrailer text []
+
+-- whether the text is a whole trailer section
+abbrev pub TellsSection : Bool → List ℕ → List ℕ → Type 0
+TellsSection true text kept = EndsSection text kept
+TellsSection false text kept = KeepsTrailer text kept
+
+-- whole chunks of so much data and the line of a chunk of size zero, and then the trailer section
+pub record ReachesSection (text : List ℕ) (len : ℕ) (kept : List ℕ) : Type 0 where
+  pub sizes : List ℕ
+  pub sums : sum sizes ≡ len
+  pub reaches : ReachesTrailer sizes text kept
+
+-- what a whole line of that size begins: the trailer section, or a chunk's data
+pub record BeginsPart (text : List ℕ) (len size : ℕ) : Type 0 where
+  pub last : size ≡ 0 → ReachesSection text len []
+  pub next : 0 < size → IsInData text len size
+
+-- the text is a body in chunks of so much data
+pub record EndsChunked (text : List ℕ) (len : ℕ) : Type 0 where
+  pub sizes : List ℕ
+  pub sums : sum sizes ≡ len
+  pub reads : ReadsChunked sizes text []
+
+-- whole chunks of so much data came, and of the line after them the bytes that are kept
+pub record IsLineDue (text : List ℕ) (len : ℕ) (kept : List ℕ) : Type 0 where
+  pub passes : PassesTo text len kept
+  pub awaits : AwaitsLine (most_bytes - len) kept
+  pub short : length kept < most_line_bytes
+
+-- a chunk's data is due; nothing is kept
+pub record IsDataDue (left : ℕ) (text : List ℕ) (len : ℕ) (kept : List ℕ) : Type 0 where
+  pub is : kept ≡ []
+  pub within : IsInData text len left
+
+-- the CR LF after a chunk's data is due; nothing is kept
+pub record IsLineEndDue (has_cr : Bool) (text : List ℕ) (len : ℕ) (kept : List ℕ) : Type 0 where
+  pub is : kept ≡ []
+  pub after : IsAfterData text len has_cr
+
+-- the chunks ended, with so much data, and of the trailer section the bytes came that are kept
+pub record IsTrailerDue (text : List ℕ) (len : ℕ) (kept : List ℕ) : Type 0 where
+  pub reaches : ReachesSection text len kept
+  pub awaited : IsTrailerAwaited kept
+  pub short : length kept < most_trailer_bytes
+
+-- that part of a body in chunks is due, after so much data
+abbrev pub IsDue : BodyPlace → List ℕ → ℕ → List ℕ → Type 0
+IsDue place.Line text len kept = IsLineDue text len kept
+IsDue (place.Data left) text len kept = IsDataDue left text len kept
+IsDue (place.AfterData has_cr) text len kept = IsLineEndDue has_cr text len kept
+IsDue place.Trailer text len kept = IsTrailerDue text len kept
+IsDue _ text len kept = ⊥
+
+-- a body in chunks still comes
+pub record IsUnended (text : List ℕ) (state : BodyState) (kept : List ℕ) : Type 0 where
+  pub due : IsDue state.place text state.len kept
+  pub none_after : state.surplus ≡ false
+
+-- a body in chunks has ended, and more may have come
+pub record IsEnded (text : List ℕ) (state : BodyState) : Type 0 where
+  pub place : state.place ≡ place.End
+  pub front : List ℕ
+  pub rest : List ℕ
+  pub is : text ≡ front ++ rest
+  pub ends : EndsChunked front state.len
+  pub after : state.surplus ≡ is_some_text rest
+
+-- whether it has ended
+abbrev pub EndsBy : Bool → List ℕ → BodyState → List ℕ → Type 0
+EndsBy true text state kept = IsEnded text state
+EndsBy false text state kept = IsUnended text state kept
+
+-- so much came of a body in chunks
+abbrev pub IsInChunks : List ℕ → BodyState → List ℕ → Type 0
+IsInChunks text state kept = EndsBy state.whole text state kept

@@ -1,19 +1,18 @@
 -- What is known where a response is read. No public contract needs these words.
 use Rattle.std.specs.Prelude.{ℕ, List, ◌++◌, Option, None, Some}
 use Rattle.httparse.specs.Grammar.{ResponseHead}
-use Rattle.persistence.specs.declared.fault.ReadFault.{ReadFault}
+use Rattle.persistence.specs.declared.answer.ReadFault.{ReadFault}
 use Rattle.persistence.specs.declared.method.Method.{Method}
 use Rattle.persistence.specs.declared.head.Head.{Head}
-use Rattle.persistence.specs.declared.body_state.BodyState.{BodyState}
-use Rattle.persistence.specs.declared.place.Place.{Place}
-use Rattle.persistence.specs.declared.place.Place.TheVariants.{Heads, Body, Fault}
+use Rattle.persistence.specs.declared.body.state.BodyState.{BodyState}
+use Rattle.persistence.specs.declared.reader.place.Place.{Place}
+use Rattle.persistence.specs.declared.reader.place.Place.TheVariants.{Heads, Body, Fault}
 use Rattle.persistence.specs.Heads.{HasFinalHead}
 use Rattle.persistence.specs.Framing.{body_kind}
 use Rattle.persistence.specs.Told.{TellsLength}
 use Rattle.persistence.specs.Faults.{IsFirstFault}
-use Rattle.persistence.specs.Reading.{TellsHead}
-use Rattle.persistence.specs.ReadingPieces.{AwaitsHeads, NeverHasFinalHead}
-use Rattle.persistence.specs.BodyPieces.{BodyAt}
+use Rattle.persistence.specs.ReadingHeads.{TellsHead, AwaitsHeads, NeverHasFinalHead}
+use Rattle.persistence.specs.ReadingBody.{BodyAt}
 
 -- the final head came, which says this, and so did this text after it
 pub record PassesHead (bytes : List ℕ) (told : Head) (text : List ℕ) : Type 0 where

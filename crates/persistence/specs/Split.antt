@@ -6,7 +6,8 @@ use Rattle.persistence.specs.declared.facts.Framing.{Framing}
 use Rattle.persistence.specs.declared.facts.Framing.TheVariants.{NoBody, Counted, Chunked, UntilClose, Faulty}
 use Rattle.persistence.specs.declared.method.Method.{Method}
 use Rattle.persistence.specs.Heads.{ReadsHeads}
-use Rattle.persistence.specs.Fields.{fields_of, counted_length, most_bytes}
+use Rattle.persistence.specs.Fields.{fields_of, counted_length}
+use Rattle.persistence.specs.Limits.{most_bytes}
 use Rattle.persistence.specs.Framing.{body_kind}
 use Rattle.persistence.specs.Chunks.{ReadsChunked}
 

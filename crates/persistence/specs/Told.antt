@@ -10,7 +10,8 @@ use Rattle.persistence.specs.declared.facts.Version.TheVariants.{V10, V11}
 use Rattle.persistence.specs.declared.method.Method.{Method}
 use Rattle.std.specs.Prelude.{codes}
 use Rattle.persistence.specs.Heads.{HasFinalHead}
-use Rattle.persistence.specs.Fields.{fields_of, has_option, has_both_lengths, counted_length, most_bytes}
+use Rattle.persistence.specs.Fields.{fields_of, has_option, has_both_lengths, counted_length}
+use Rattle.persistence.specs.Limits.{most_bytes}
 use Rattle.persistence.specs.Framing.{body_kind, framing_of}
 use Rattle.persistence.specs.Chunks.{ReadsSizeLine, ReadsChunk, ReadsChunks, room_after}
 use Rattle.persistence.specs.Split.{Parts, IsSplit}

@@ -1,117 +1,111 @@
-//! The body of a response (RFC 9112, section 6.3).
-ghost use Rattle.std.specs.Prelude.{◌≡◌, ◌≢◌, ℕ, Bool, Option, is_some, IfOk, IfErr};
-ghost use Rattle.persistence.specs.declared.facts.Framing.TheVariants.{Counted, Chunked, UntilClose, Faulty};
+//! A body that comes in pieces (RFC 9112, section 6.3).
+ghost use Rattle.std.specs.Prelude.{◌≡◌, ◌≢◌, ◌<◌, ◌≤◌, ℕ, false, List, [], Option, ◌++◌, length, IfOk, IfErr};
+ghost use Rattle.persistence.specs.declared.facts.Framing.{Framing};
+ghost use Rattle.persistence.specs.declared.facts.Framing.TheVariants.{Faulty};
+ghost use Rattle.persistence.specs.declared.answer.ReadFault.TheVariants.{BadLength};
+ghost use Rattle.persistence.specs.Limits.{most_bytes};
 ghost use Rattle.persistence.specs.Faults.{BodyShows, HasLongTrailerBy, IsFirst};
-ghost use Rattle.persistence.specs.ReadingBody.{TellsBody, ends_before};
+ghost use Rattle.persistence.specs.ReadingBody.{CountsBody, came_of, LastsFor, BodyAt, FixesBody};
 
-use crate::chunks::chunked_data;
-use crate::trailer::trailer_len;
+mod count;
+pub(crate) mod state;
+
+use crate::chunks::feed_chunks;
+use crate::reader::buffer::Buffer;
 use crate::{Framing, ReadFault};
+use count::{Came, count_piece};
+use state::{BodyPlace, BodyState};
 
-/// A body, so far as it has come.
-#[derive(Clone, Copy, Debug)]
-pub(crate) struct Body {
-    /// How many of its bytes have come, of chunks the data alone.
-    pub len: u64,
-    /// Where it ends, once it is whole.
-    pub end: Option<usize>,
-}
-
-impl Body {
-    /// Whether it is whole.
-    pub fn is_whole(&self) -> bool
-        ensures { result ≡ is_some self.now.end }
-    {
-        self.end.is_some()
-    }
-
-    /// Whether bytes follow it, where so many came after the head.
-    pub fn has_surplus(&self, came: usize) -> bool
-        ensures { result ≡ ends_before came self.now.end }
-    {
-        match self.end {
-            None => false,
-            Some(end) => end < came,
-        }
-    }
-}
-
-/// The body of that kind in the text after the head, where the Content-Length fields give that number.
-pub(crate) fn read_body(
-    kind: Framing,
-    counted: Option<u64>,
-    ended: bool,
-    text: &[u8],
-) -> Result<Body, ReadFault>
+/// A body of that kind of which nothing came yet, where the Content-Length fields give that number;
+/// `BadLength` where it is counted and there is no one number.
+pub(crate) fn begin_body(kind: Framing, counted: Option<u64>) -> Result<BodyState, ReadFault>
     requires { kind ≢ Faulty }
-    ensures found { IfOk result (TellsBody kind counted ended text.now) }
-    ensures fault { IfErr result (IsFirst (BodyShows kind counted) (HasLongTrailerBy kind) text.now) }
+    ensures begun { IfOk result (λ state. BodyAt kind counted [] state []) }
+    ensures fault { IfErr result (IsFirst (BodyShows kind counted) (HasLongTrailerBy kind) []) }
+    ensures fixes { IfErr result (λ _. FixesBody kind counted [] 0) }
 {
     match kind {
-        Framing::NoBody => Ok(Body {
-            len: 0,
-            end: Some(0),
-        }),
-        Framing::Counted => counted_body(counted, text),
-        Framing::Chunked => chunked_body(text),
-        Framing::UntilClose => Ok(body_until_close(ended, text)),
+        Framing::NoBody => Ok(first_of(BodyPlace::Counted { count: 0 }, true)),
+        Framing::Counted => match counted {
+            Some(count) => Ok(first_of(BodyPlace::Counted { count }, count == 0)),
+            None => Err(ReadFault::BadLength),
+        },
+        Framing::Chunked => Ok(first_of(BodyPlace::Line, false)),
+        Framing::UntilClose => Ok(first_of(BodyPlace::UntilClose, false)),
         Framing::Faulty => unreachable!(),
     }
 }
 
-// The body of so many bytes; `BadLength` where there is no one number.
-fn counted_body(counted: Option<u64>, text: &[u8]) -> Result<Body, ReadFault>
-    ensures found { (ended : Bool) → IfOk result (TellsBody Counted counted ended text.now) }
-    ensures fault { IfErr result (IsFirst (BodyShows Counted counted) (HasLongTrailerBy Counted) text.now) }
+// The state of a body whose first part is that one.
+fn first_of(place: BodyPlace, whole: bool) -> BodyState
+    ensures { result ≡ record { place = place; len = 0; whole = whole; surplus = false } }
 {
-    let Some(count) = counted else {
+    BodyState {
+        place,
+        len: 0,
+        whole,
+        surplus: false,
+    }
+}
+
+/// Adds the piece to a body; what comes after its end is surplus. `BadLength` where a body that lasts until
+/// the connection ends has more bytes than a `u64` counts, `BadChunk` where no chunk or trailer section can
+/// come any more, `TrailerTooLong` past 8,192 bytes or 100 fields of a trailer section.
+pub(crate) fn feed_body(
+    state: &mut BodyState,
+    buffer: &mut Buffer,
+    piece: &[u8],
+) -> Result<(), ReadFault>
+    requires stands { (kind : Framing) × (counted : Option ℕ) × (text : List ℕ) × BodyAt kind counted text state.old buffer.old }
+    ensures told { (kind : Framing) (counted : Option ℕ) (text : List ℕ) → BodyAt kind counted text state.old buffer.old
+        → IfOk result (λ _. BodyAt kind counted (text ++ piece.now) state.new buffer.new) }
+    ensures fault { (kind : Framing) (counted : Option ℕ) (text : List ℕ) → BodyAt kind counted text state.old buffer.old
+        → IfErr result (IsFirst (BodyShows kind counted) (HasLongTrailerBy kind) (text ++ piece.now)) }
+    ensures fixes { (kind : Framing) (counted : Option ℕ) (text : List ℕ) → BodyAt kind counted text state.old buffer.old
+        → IfErr result (λ _. FixesBody kind counted (text ++ piece.now) state.new.len) }
+{
+    match state.place {
+        BodyPlace::Counted { count } => {
+            feed_counted(state, count, piece);
+            Ok(())
+        }
+        BodyPlace::UntilClose => feed_until_close(state, piece),
+        BodyPlace::Line
+        | BodyPlace::Data { .. }
+        | BodyPlace::AfterData { .. }
+        | BodyPlace::Trailer
+        | BodyPlace::End => feed_chunks(state, buffer, piece),
+    }
+}
+
+// Adds the piece to a body of so many bytes.
+fn feed_counted(state: &mut BodyState, count: u64, piece: &[u8])
+    requires few { state.old.len ≤ count }
+    ensures place { state.new.place ≡ state.old.place }
+    ensures counts { (text : List ℕ) → CountsBody count text (came_of state.old) → CountsBody count (text ++ piece.now) (came_of state.new) }
+{
+    let before = Came {
+        len: state.len,
+        whole: state.whole,
+        surplus: state.surplus,
+    };
+    let came = count_piece(count, before, piece);
+    state.len = came.len;
+    state.whole = came.whole;
+    state.surplus = came.surplus;
+}
+
+// Adds the piece to a body that lasts until the connection ends.
+fn feed_until_close(state: &mut BodyState, piece: &[u8]) -> Result<(), ReadFault>
+    ensures place { state.new.place ≡ state.old.place }
+    ensures told { (text : List ℕ) → LastsFor text state.old → IfOk result (λ _. LastsFor (text ++ piece.now) state.new) }
+    ensures fault { (text : List ℕ) → LastsFor text state.old
+        → IfErr result (λ fault. (fault ≡ BadLength) × (most_bytes < length (text ++ piece.now)) × (state.new.len ≡ most_bytes)) }
+{
+    let Some(len) = state.len.checked_add(piece.len() as u64) else {
+        state.len = u64::MAX;
         return Err(ReadFault::BadLength);
     };
-    let came = text.len() as u64;
-    if came < count {
-        return Ok(Body {
-            len: came,
-            end: None,
-        });
-    }
-    Ok(Body {
-        len: count,
-        end: Some(count as usize),
-    })
-}
-
-// The body in chunks.
-fn chunked_body(text: &[u8]) -> Result<Body, ReadFault>
-    ensures found { (counted : Option ℕ) (ended : Bool) → IfOk result (TellsBody Chunked counted ended text.now) }
-    ensures fault { (counted : Option ℕ) → IfErr result (IsFirst (BodyShows Chunked counted) (HasLongTrailerBy Chunked) text.now) }
-{
-    let data = chunked_data(text)?;
-    let Some(trailer) = data.trailer else {
-        return Ok(Body {
-            len: data.len,
-            end: None,
-        });
-    };
-    match trailer_len(&text[trailer..]) {
-        Ok(None) => Ok(Body {
-            len: data.len,
-            end: None,
-        }),
-        Ok(Some(len)) => Ok(Body {
-            len: data.len,
-            end: Some(trailer + len),
-        }),
-        Err(fault) => Err(fault),
-    }
-}
-
-// The body that lasts until the connection ends.
-fn body_until_close(ended: bool, text: &[u8]) -> Body
-    ensures { (counted : Option ℕ) → TellsBody UntilClose counted ended text.now result }
-{
-    let end = if ended { Some(text.len()) } else { None };
-    Body {
-        len: text.len() as u64,
-        end,
-    }
+    state.len = len;
+    Ok(())
 }

@@ -4,10 +4,16 @@ ghost use Rattle.httparse.specs.Grammar.{ResponseHead, status_code};
 ghost use Rattle.persistence.specs.Fields.{fields_of};
 ghost use Rattle.persistence.specs.Framing.{body_kind as kind_of};
 ghost use Rattle.persistence.specs.Told.{facts_of};
-ghost use Rattle.persistence.specs.Reading.{AreWithin, fields_at, TellsHead};
+ghost use Rattle.persistence.specs.ReadingHeads.{AreWithin, fields_at, TellsHead};
 
-use crate::fields::{counted_length, has_field, has_option, is_chunked_last};
+pub(crate) mod elements;
+mod fields;
+pub(crate) mod head_step;
+pub(crate) mod heads_step;
+pub(crate) mod lines;
+
 use crate::{Facts, Framing, Method, Version};
+use fields::{counted_length, has_field, has_option, is_chunked_last};
 use httparse::spans::{HeaderSpan, ResponseSpans};
 
 /// What a head says of its response.

@@ -1,9 +1,10 @@
 //! Numbers as a response writes them.
-ghost use Rattle.std.specs.Prelude.{◌≡◌, ℕ, ◌<◌, ◌≤◌, true, false, length, MatchOption, IfNone, IfSome};
+ghost use Rattle.std.specs.Prelude.{◌≡◌, ℕ, ◌<◌, ◌≤◌, true, false, MatchOption, IfNone, IfSome};
 ghost use Rattle.std.specs.List.{list_all};
 ghost use Rattle.std.specs.Char.{is_ascii_digit};
 ghost use Rattle.std.specs.Str.Parse.{AllDigits, digits_value};
-ghost use Rattle.persistence.specs.Fields.{is_number, most_bytes};
+ghost use Rattle.persistence.specs.Fields.{is_number};
+ghost use Rattle.persistence.specs.Limits.{most_bytes};
 
 use httparse::parse_hex_digit;
 

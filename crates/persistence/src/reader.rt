@@ -1,26 +1,27 @@
 //! A response that is read in whatever pieces its bytes come.
 ghost use Rattle.std.specs.Prelude.{◌≡◌, ◌≢◌, ℕ, false, true, List, ◌++◌, Err, None, Some, MatchOption, IfOk, IfErr};
-ghost use Rattle.persistence.specs.declared.fault.ReadFault.{ReadFault};
-ghost use Rattle.persistence.specs.declared.fault.ReadFault.TheVariants.{Memory};
+ghost use Rattle.persistence.specs.declared.answer.ReadFault.{ReadFault};
+ghost use Rattle.persistence.specs.declared.answer.ReadFault.TheVariants.{Memory};
 ghost use Rattle.persistence.specs.declared.method.Method.{Method};
-ghost use Rattle.persistence.specs.Told.{is_some_text, TellsFacts, TellsFactsAfterFault, TellsStatus, TellsLength};
+ghost use Rattle.persistence.specs.Told.{facts_before, is_some_text, TellsFacts, TellsFactsAfterFault, TellsStatus, TellsLength};
 ghost use Rattle.persistence.specs.Faults.{IsFaultless, IsFirstFault};
-ghost use Rattle.persistence.specs.Response.{TellsWhole};
-ghost use Rattle.persistence.specs.Reader.{unread, TellsFed};
+ghost use Rattle.persistence.specs.Reader.{unread, TellsFed, TellsWhole};
 ghost use Rattle.persistence.specs.ReadingPlaces.{IsPlaced, fault_at};
 
-use crate::buffer::Buffer;
-use crate::bytes_fed::BytesFed;
-use crate::place::{Place, place_after};
-use crate::response::facts_before_head;
-use crate::{Facts, Fed, Framing, Method, ReadFault};
+pub(crate) mod buffer;
+mod bytes_fed;
+mod place;
+
+use crate::{Facts, Fed, Framing, Method, ReadFault, Version};
+use buffer::Buffer;
+use bytes_fed::BytesFed;
+use place::{Place, place_after};
 use std::alloc::Global;
 use std::marker::Model;
 
 /// A reader of the response to one request: it is fed the bytes in whatever pieces they come, and tells the
-/// status, the facts and the body's length of all bytes so far; while they show no fault, those that
-/// `read_response` tells (RFC 9112, sections 2.1, 6.3 and 7.1). It keeps 16,384 bytes of memory, taken when
-/// it is made.
+/// status, the facts and the body's length of all bytes so far (RFC 9112, sections 2.1, 6.3 and 7.1). It
+/// keeps 16,384 bytes of memory, taken when it is made.
 #[derive(Drop)]
 pub struct ResponseReader {
     method: Method,
@@ -213,5 +214,22 @@ fn facts_at(method: Method, request_close: bool, place: &Place, ended: bool) -> 
                 ..head.facts(method, request_close, false, false)
             },
         },
+    }
+}
+
+// The facts before a final head.
+fn facts_before_head(request_close: bool) -> Facts
+    ensures { result ≡ facts_before request_close }
+{
+    Facts {
+        version: Version::V10,
+        close: false,
+        keep_alive: false,
+        request_close,
+        framing: Framing::Faulty,
+        both_lengths: false,
+        upgraded: false,
+        whole: false,
+        surplus: false,
     }
 }

@@ -1,3 +1,9 @@
+//! Whether a connection persists, by the facts; below, what a reader tells of responses.
+mod cost;
+mod drawn;
+mod pieces;
+mod rows;
+
 use crate::{Facts, Framing, Method, ReadFault, ResponseReader, Version, persists};
 
 /// The facts of a counted HTTP/1.1 response that was read whole, where nothing else is said.

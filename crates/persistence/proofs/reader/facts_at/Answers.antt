@@ -2,7 +2,7 @@ use Rattle.std.proofs.Common.{sym, subst, Option}
 use Rattle.persistence.specs.declared.head.Head.{Head}
 use Rattle.persistence.specs.declared.facts.Facts.{Facts}
 use Rattle.persistence.specs.Told.{TellsFacts, TellsFactsAfterFault}
-use Rattle.persistence.specs.Response.{TellsWhole}
+use Rattle.persistence.specs.Reader.{TellsWhole}
 use Rattle.persistence.specs.ReadingPlaces.{TellsFinalHead}
 use Rattle.persistence.proofs.PlaceLemmas.{heads_tell, placed_at, body_facts, body_facts_whole, never_facts, faulty_facts}
 use Rattle.persistence.proofs.reader.facts_at.Goals as goal

@@ -1,0 +1,95 @@
+//! The elements of a field's value: what stands between its commas (RFC 9110, section 5.6.1).
+ghost use Rattle.std.specs.Prelude.{◌≡◌, codes, reverse, option_map};
+ghost use Rattle.std.specs.List.{list_any, list_all, position_or_len};
+ghost use Rattle.httparse.specs.Grammar.{skip_ows, trim_ows};
+ghost use Rattle.persistence.specs.Fields.{elements, is_comma, is_word, is_number, last_coding};
+ghost use Rattle.persistence.specs.ReadingHeads.{chunked_after, FirstIs};
+
+use crate::number::decimal;
+use httparse::is_space_or_tab;
+
+/// Whether an element of the value is that word, without case.
+pub(crate) fn has_word(value: &[u8], word: &[u8]) -> bool
+    ensures { result ≡ list_any (is_word word.now) (elements value.now) }
+{
+    value
+        .split(|b| *b == b',')
+        .any(|element| trim(element).eq_ignore_ascii_case(word))
+}
+
+/// Whether each element of the value is that number.
+pub(crate) fn are_all(value: &[u8], number: u64) -> bool
+    ensures { result ≡ list_all (is_number number) (elements value.now) }
+{
+    value
+        .split(|b| *b == b',')
+        .all(|element| decimal(trim(element)) == Some(number))
+}
+
+/// Whether the last element that is not empty is `chunked`; nothing where all are empty.
+pub(crate) fn is_chunked(value: &[u8]) -> Option<bool>
+    ensures { result ≡ option_map (is_word (codes "chunked")) (last_coding (elements value.now)) }
+{
+    value.split(|b| *b == b',').fold(
+        None,
+        |chunked, element| later_coding(chunked, trim(element)),
+    )
+}
+
+// Whether the coding is chunked, and what was known before where it is empty.
+fn later_coding(before: Option<bool>, coding: &[u8]) -> Option<bool>
+    ensures { result ≡ chunked_after before coding.now }
+{
+    if coding.is_empty() {
+        before
+    } else {
+        Some(coding.eq_ignore_ascii_case(b"chunked"))
+    }
+}
+
+/// The bytes without the spaces and tabs at both ends.
+pub(crate) fn trim(bytes: &[u8]) -> &[u8]
+    ensures { result.now ≡ trim_ows bytes.now }
+{
+    trim_end(trim_start(bytes))
+}
+
+/// The bytes from the first that is no space or tab.
+pub(crate) fn trim_start(bytes: &[u8]) -> &[u8]
+    ensures { result.now ≡ skip_ows bytes.now }
+{
+    let mut rest = bytes;
+    while let [first, others @ ..] = rest
+        && is_space_or_tab(*first)
+    {
+        rest = others;
+    }
+    rest
+}
+
+// The bytes up to the last that is no space or tab.
+fn trim_end(bytes: &[u8]) -> &[u8]
+    ensures { result.now ≡ reverse (skip_ows (reverse bytes.now)) }
+{
+    let mut rest = bytes;
+    while let [others @ .., last] = rest
+        && is_space_or_tab(*last)
+    {
+        rest = others;
+    }
+    rest
+}
+
+/// The first element of the value.
+pub(crate) fn first_element(value: &[u8]) -> &[u8]
+    ensures { FirstIs (elements value.now) result.now }
+{
+    trim(&value[..comma_place(value)])
+}
+
+// The place of the first comma, or else the length.
+fn comma_place(value: &[u8]) -> usize
+    ensures { result ≡ position_or_len is_comma value.now }
+{
+    value.iter().position(|b| *b == b',').unwrap_or(value.len())
+}

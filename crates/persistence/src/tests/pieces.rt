@@ -1,0 +1,563 @@
+//! What a reader tells of responses written out, of faulty ones and at each limit: fed all at once, byte by byte, and
+//! cut into two pieces at each place.
+use crate::tests::KEEP;
+use crate::tests::rows::{FAULTS, LIMITS, NO_HEAD, ROWS, repeated};
+use crate::{Facts, Fed, Framing, Method, ReadFault, ResponseReader, persists};
+use std::alloc::Global;
+use std::process::Abort;
+use std::test::Fail;
+
+/// What a reader tells of a response.
+#[derive(Clone, Copy, Debug, PartialEq, Eq)]
+pub(crate) struct Response {
+    pub status: Option<u16>,
+    pub facts: Facts,
+    pub body_len: u64,
+}
+
+/// What a reader says of a response, or why it is none.
+pub(crate) type Told = Result<Response, ReadFault>;
+
+/// The most bytes of a text that is cut at every place.
+const SHORT: usize = 400;
+
+/// What was asked, the bytes of the response, and whether the connection ends behind them.
+#[derive(Clone, Copy)]
+pub(crate) struct Sent<'a> {
+    pub method: Method,
+    pub request_close: bool,
+    pub text: &'a [u8],
+    pub ended: bool,
+}
+
+/// The facts after a fault that came behind the head of an HTTP/1.1 response.
+const FAULTY: Facts = Facts {
+    framing: Framing::Faulty,
+    whole: false,
+    ..KEEP
+};
+
+/// Sections with a 101st field and then a bad byte: both faults may be told where all comes at once.
+const LONG_SECTIONS: [(&str, &str, &str, ReadFault, ReadFault); 2] = [
+    (
+        "a head",
+        "HTTP/1.1 204 No Content\r\n",
+        "A: b\r\n",
+        ReadFault::HeadTooLong,
+        ReadFault::BadHead,
+    ),
+    (
+        "a trailer section",
+        "HTTP/1.1 200 OK\r\nTransfer-Encoding: chunked\r\n\r\n0\r\n",
+        "T: v\r\n",
+        ReadFault::TrailerTooLong,
+        ReadFault::BadChunk,
+    ),
+];
+
+/// Whole responses, their body length and framing; bytes that come after them are surplus, and change nothing else.
+const WHOLE: [(&str, u64, Framing); 4] = [
+    (
+        "HTTP/1.1 200 OK\r\nContent-Length: 2\r\n\r\nok",
+        2,
+        Framing::Counted,
+    ),
+    (
+        "HTTP/1.1 200 OK\r\nContent-Length: 0\r\n\r\n",
+        0,
+        Framing::Counted,
+    ),
+    (
+        "HTTP/1.1 200 OK\r\nTransfer-Encoding: chunked\r\n\r\n2\r\nok\r\n0\r\nT: v\r\n\r\n",
+        2,
+        Framing::Chunked,
+    ),
+    (
+        "HTTP/1.1 200 OK\r\nTransfer-Encoding: chunked\r\n\r\n0\r\n\r\n",
+        0,
+        Framing::Chunked,
+    ),
+];
+
+/// Texts, and whether the response is whole before and after the connection's end.
+const ENDS: [(&str, &str, bool, bool); 12] = [
+    ("no byte", "", false, false),
+    (
+        "a part of a head",
+        "HTTP/1.1 200 OK\r\nA: b\r",
+        false,
+        false,
+    ),
+    (
+        "an interim head alone",
+        "HTTP/1.1 100 Continue\r\n\r\n",
+        false,
+        false,
+    ),
+    (
+        "no body byte of two",
+        "HTTP/1.1 200 OK\r\nContent-Length: 2\r\n\r\n",
+        false,
+        false,
+    ),
+    (
+        "one body byte of two",
+        "HTTP/1.1 200 OK\r\nContent-Length: 2\r\n\r\no",
+        false,
+        false,
+    ),
+    (
+        "a counted body",
+        "HTTP/1.1 200 OK\r\nContent-Length: 2\r\n\r\nok",
+        true,
+        true,
+    ),
+    (
+        "a body of no byte, until the connection's end",
+        "HTTP/1.1 200 OK\r\n\r\n",
+        false,
+        true,
+    ),
+    (
+        "a body of two bytes, until the connection's end",
+        "HTTP/1.1 200 OK\r\n\r\nok",
+        false,
+        true,
+    ),
+    (
+        "chunks without their last line",
+        "HTTP/1.1 200 OK\r\nTransfer-Encoding: chunked\r\n\r\n2\r\nok\r\n",
+        false,
+        false,
+    ),
+    (
+        "chunks without the trailer section's last CR LF",
+        "HTTP/1.1 200 OK\r\nTransfer-Encoding: chunked\r\n\r\n2;a=b\r\nok\r\n0\r\nT: v\r\n",
+        false,
+        false,
+    ),
+    (
+        "chunks without the trailer section's last LF",
+        "HTTP/1.1 200 OK\r\nTransfer-Encoding: chunked\r\n\r\n2;a=b\r\nok\r\n0\r\nT: v\r\n\r",
+        false,
+        false,
+    ),
+    (
+        "chunks with an extension and a trailer section",
+        "HTTP/1.1 200 OK\r\nTransfer-Encoding: chunked\r\n\r\n2;a=b\r\nok\r\n0\r\nT: v\r\n\r\n",
+        true,
+        true,
+    ),
+];
+
+/// What the reader tells of what it was fed.
+fn response_of(reader: &ResponseReader) -> Response {
+    Response {
+        status: reader.status(),
+        facts: reader.facts(),
+        body_len: reader.body_len(),
+    }
+}
+
+/// What the reader tells after the piece; `feed` answers `Whole` exactly where the facts say so, and after a
+/// fault there is no framing.
+pub(crate) fn fed(rt: &impl Abort, reader: &mut ResponseReader, piece: &[u8]) -> Told {
+    assert!(rt; !reader.ended());
+    match reader.feed(piece) {
+        Ok(found) => {
+            assert_eq!(rt; matches!(found, Fed::Whole), reader.facts().whole);
+            Ok(response_of(reader))
+        }
+        Err(fault) => {
+            assert_eq!(rt; reader.facts().framing, Framing::Faulty);
+            assert!(rt; !reader.facts().whole);
+            Err(fault)
+        }
+    }
+}
+
+/// What the reader tells after the connection's end; nothing changes after a fault.
+pub(crate) fn at_end(rt: &impl Abort, reader: &mut ResponseReader, told: Told) -> Told {
+    let before = response_of(reader);
+    reader.end();
+    assert!(rt; reader.ended());
+    match told {
+        Ok(_) => Ok(response_of(reader)),
+        Err(fault) => {
+            assert_eq!(rt; response_of(reader), before);
+            Err(fault)
+        }
+    }
+}
+
+/// A reader that was fed the text, in a first piece of so many bytes and pieces of `each` bytes behind it, and what it
+/// told last; once it told a fault it tells no other.
+fn reader_fed(
+    rt: &impl Abort,
+    alloc: Global,
+    sent: Sent,
+    first: usize,
+    each: usize,
+) -> Result<(ResponseReader, Told), ReadFault> {
+    let mut reader = ResponseReader::new(alloc, sent.method, sent.request_close)?;
+    let first = first.min(sent.text.len());
+    let mut told = fed(rt, &mut reader, &sent.text[..first]);
+    for piece in sent.text[first..].chunks(each.max(1)) {
+        let next = fed(rt, &mut reader, piece);
+        assert!(rt; told.is_ok() || next == told, "another fault");
+        told = next;
+    }
+    if sent.ended {
+        told = at_end(rt, &mut reader, told);
+    }
+    Ok((reader, told))
+}
+
+/// What a reader tells of the text in such pieces.
+pub(crate) fn told_in_pieces(
+    rt: &impl Abort,
+    alloc: Global,
+    sent: Sent,
+    first: usize,
+    each: usize,
+) -> Told {
+    match reader_fed(rt, alloc, sent, first, each) {
+        Ok((_, told)) => told,
+        Err(fault) => Err(fault),
+    }
+}
+
+/// Cuts the text at every place, and checks what is told of each two pieces.
+fn check_cuts(rt: &impl Abort, alloc: Global, case: &str, sent: Sent, told: Told) {
+    for first in 0..sent.text.len() {
+        let found = told_in_pieces(rt, alloc, sent, first, SHORT);
+        assert_eq!(rt; found, told, "{case}, cut at {first}");
+    }
+}
+
+/// Feeds the bytes from a place on one by one; after each it is told what a reader tells that is fed all bytes so far
+/// at once.
+fn check_fronts(
+    rt: &impl Abort,
+    alloc: Global,
+    case: &str,
+    sent: Sent,
+    from: usize,
+) -> Result<(), ReadFault> {
+    let from = from.min(sent.text.len());
+    let mut reader = ResponseReader::new(alloc, sent.method, sent.request_close)?;
+    let start = fed(rt, &mut reader, &sent.text[..from]);
+    assert_eq!(rt; start, told_of_front(rt, alloc, sent, from), "{case}");
+    for place in from..sent.text.len() {
+        let found = fed(rt, &mut reader, &sent.text[place..place + 1]);
+        let at_once = told_of_front(rt, alloc, sent, place + 1);
+        assert_eq!(rt; found, at_once, "{case}, byte {place}");
+    }
+    Ok(())
+}
+
+/// What a reader tells of so many of the bytes, fed at once, while the connection lasts.
+fn told_of_front(rt: &impl Abort, alloc: Global, sent: Sent, len: usize) -> Told {
+    let front = Sent {
+        text: &sent.text[..len.min(sent.text.len())],
+        ended: false,
+        ..sent
+    };
+    told_in_pieces(rt, alloc, front, len, 1)
+}
+
+/// Checks what is told of the text: at once, byte by byte, and cut in two at every place.
+fn check_short(
+    rt: &impl Abort,
+    alloc: Global,
+    case: &str,
+    sent: Sent,
+    told: Told,
+) -> Result<(), ReadFault> {
+    let at_once = told_in_pieces(rt, alloc, sent, sent.text.len(), 1);
+    assert_eq!(rt; at_once, told, "{case}, at once");
+    let by_byte = told_in_pieces(rt, alloc, sent, 0, 1);
+    assert_eq!(rt; by_byte, told, "{case}, byte by byte");
+    check_cuts(rt, alloc, case, sent, told);
+    check_fronts(rt, alloc, case, sent, 0)
+}
+
+/// Checks what is told of the text: at once, in pieces of 1,000 bytes, and with its last 50 bytes one by one. What is
+/// told of it byte by byte has a test of its own, since a head is parsed again at each byte.
+fn check_long(
+    rt: &impl Abort,
+    alloc: Global,
+    case: &str,
+    sent: Sent,
+    told: Told,
+) -> Result<(), ReadFault> {
+    let last = sent.text.len().saturating_sub(50);
+    let at_once = told_in_pieces(rt, alloc, sent, sent.text.len(), 1);
+    assert_eq!(rt; at_once, told, "{case}, at once");
+    let by_thousands = told_in_pieces(rt, alloc, sent, 0, 1_000);
+    assert_eq!(rt; by_thousands, told, "{case}, by thousands");
+    let by_byte = told_in_pieces(rt, alloc, sent, last, 1);
+    assert_eq!(rt; by_byte, told, "{case}, the last 50 bytes one by one");
+    check_fronts(rt, alloc, case, sent, last)
+}
+
+#[test]
+fn responses_come_in_pieces(rt: HostRuntime) -> Result<(), Fail> {
+    for (case, method, text, ended, status, body_len, facts, persisting) in ROWS {
+        assert_eq!(rt; persists(&facts), persisting, "{case}");
+        let told = Ok(Response {
+            status,
+            facts,
+            body_len,
+        });
+        let text = text.as_bytes();
+        assert!(rt; text.len() <= SHORT, "{case}");
+        let sent = Sent {
+            method,
+            request_close: false,
+            text,
+            ended,
+        };
+        check_short(&rt, rt.alloc(), case, sent, told)?;
+    }
+    Ok(())
+}
+
+#[test]
+fn faults_come_in_pieces(rt: HostRuntime) -> Result<(), Fail> {
+    for (case, text, fault, _) in FAULTS {
+        let text = text.as_bytes();
+        assert!(rt; text.len() <= SHORT, "{case}");
+        let sent = Sent {
+            method: Method::Get,
+            request_close: false,
+            text,
+            ended: false,
+        };
+        check_short(&rt, rt.alloc(), case, sent, Err(fault))?;
+    }
+    Ok(())
+}
+
+/// The status, the number of body bytes and whether it is whole.
+fn columns_of(told: Told) -> Result<(Option<u16>, u64, bool), ReadFault> {
+    let response = told?;
+    Ok((response.status, response.body_len, response.facts.whole))
+}
+
+#[test]
+fn limits_are_kept_in_pieces(rt: HostRuntime) -> Result<(), Fail> {
+    for (case, start, piece, count, end, expected) in LIMITS {
+        let text = repeated(rt.alloc(), start, piece, count, end)?;
+        let sent = Sent {
+            method: Method::Get,
+            request_close: false,
+            text: &text,
+            ended: false,
+        };
+        let told = told_in_pieces(&rt, rt.alloc(), sent, text.len(), 1);
+        assert_eq!(rt; columns_of(told), expected, "{case}");
+        if text.len() <= SHORT {
+            check_short(&rt, rt.alloc(), case, sent, told)?;
+        } else {
+            check_long(&rt, rt.alloc(), case, sent, told)?;
+        }
+    }
+    Ok(())
+}
+
+/// Built without optimization this takes longer than a test may.
+#[test]
+fn limits_are_kept_byte_by_byte(rt: HostRuntime) -> Result<(), Fail> {
+    for (case, start, piece, count, end, expected) in LIMITS {
+        let text = repeated(rt.alloc(), start, piece, count, end)?;
+        let sent = Sent {
+            method: Method::Get,
+            request_close: false,
+            text: &text,
+            ended: false,
+        };
+        let by_byte = told_in_pieces(&rt, rt.alloc(), sent, 0, 1);
+        assert_eq!(rt; columns_of(by_byte), expected, "{case}");
+    }
+    Ok(())
+}
+
+#[test]
+fn a_long_section_shows_one_of_two_faults(rt: HostRuntime) -> Result<(), Fail> {
+    for (case, start, field, long, bad) in LONG_SECTIONS {
+        let text = repeated(rt.alloc(), start, field, 101, "\u{1}")?;
+        let sent = Sent {
+            method: Method::Get,
+            request_close: false,
+            text: &text,
+            ended: false,
+        };
+        let at_once = told_in_pieces(&rt, rt.alloc(), sent, text.len(), 1);
+        assert!(rt; at_once == Err(long) || at_once == Err(bad), "{case}");
+        let by_byte = told_in_pieces(&rt, rt.alloc(), sent, 0, 1);
+        assert_eq!(rt; by_byte, Err(long), "{case}, byte by byte");
+    }
+    Ok(())
+}
+
+/// Feeds more to a reader that told a fault; it tells the same fault, and nothing else of it changes.
+fn check_fault_stays(
+    rt: &impl Abort,
+    reader: &mut ResponseReader,
+    case: &str,
+    fault: ReadFault,
+    after: Response,
+) {
+    assert_eq!(rt; response_of(reader), after, "{case}");
+    for more in ["", "x", "\r\n", "HTTP/1.1 204 No Content\r\n\r\n"] {
+        assert_eq!(rt; fed(rt, reader, more.as_bytes()), Err(fault), "{case}");
+        assert_eq!(rt; response_of(reader), after, "{case}");
+    }
+    assert_eq!(rt; at_end(rt, reader, Err(fault)), Err(fault), "{case}");
+    assert!(rt; reader.any_byte(), "{case}");
+}
+
+#[test]
+fn a_fault_stays(rt: HostRuntime) -> Result<(), Fail> {
+    for (case, text, fault, came) in FAULTS {
+        let after = match came {
+            Some(body_len) => Response {
+                status: Some(200),
+                facts: FAULTY,
+                body_len,
+            },
+            None => Response {
+                status: None,
+                facts: NO_HEAD,
+                body_len: 0,
+            },
+        };
+        let sent = Sent {
+            method: Method::Get,
+            request_close: false,
+            text: text.as_bytes(),
+            ended: false,
+        };
+        let (mut at_once, told) = reader_fed(&rt, rt.alloc(), sent, SHORT, SHORT)?;
+        assert_eq!(rt; told, Err(fault), "{case}");
+        check_fault_stays(&rt, &mut at_once, case, fault, after);
+        let (mut by_byte, told) = reader_fed(&rt, rt.alloc(), sent, 0, 1)?;
+        assert_eq!(rt; told, Err(fault), "{case}, byte by byte");
+        check_fault_stays(&rt, &mut by_byte, case, fault, after);
+    }
+    Ok(())
+}
+
+#[test]
+fn bytes_after_a_whole_response_are_surplus(rt: HostRuntime) -> Result<(), Fail> {
+    for (text, body_len, framing) in WHOLE {
+        let mut reader = ResponseReader::new(rt.alloc(), Method::Get, false)?;
+        let whole = Response {
+            status: Some(200),
+            facts: Facts { framing, ..KEEP },
+            body_len,
+        };
+        let with_surplus = Response {
+            facts: Facts {
+                surplus: true,
+                ..whole.facts
+            },
+            ..whole
+        };
+        assert_eq!(rt; fed(&rt, &mut reader, text.as_bytes()), Ok(whole), "{text}");
+        assert_eq!(rt; fed(&rt, &mut reader, b""), Ok(whole), "{text}");
+        assert_eq!(rt; fed(&rt, &mut reader, b"\x01"), Ok(with_surplus), "{text}");
+        assert_eq!(rt; fed(&rt, &mut reader, b""), Ok(with_surplus), "{text}");
+        assert_eq!(rt;
+            fed(&rt, &mut reader, text.as_bytes()),
+            Ok(with_surplus),
+            "{text}"
+        );
+        let told = at_end(&rt, &mut reader, Ok(with_surplus));
+        assert_eq!(rt; told, Ok(with_surplus), "{text}");
+    }
+    Ok(())
+}
+
+#[test]
+fn the_end_makes_whole_what_lasts_until_it(rt: HostRuntime) -> Result<(), Fail> {
+    for (case, text, whole_before, whole_after) in ENDS {
+        let sent = Sent {
+            method: Method::Get,
+            request_close: false,
+            text: text.as_bytes(),
+            ended: false,
+        };
+        let (mut reader, told) = reader_fed(&rt, rt.alloc(), sent, 0, 1)?;
+        let before = response_of(&reader);
+        assert_eq!(rt; told, Ok(before), "{case}");
+        assert_eq!(rt; before.facts.whole, whole_before, "{case}");
+        let after = Response {
+            facts: Facts {
+                whole: whole_after,
+                ..before.facts
+            },
+            ..before
+        };
+        assert_eq!(rt; at_end(&rt, &mut reader, told), Ok(after), "{case}");
+        reader.end();
+        assert_eq!(rt; response_of(&reader), after, "{case}");
+        assert_eq!(rt; reader.any_byte(), !text.is_empty(), "{case}");
+    }
+    Ok(())
+}
+
+#[test]
+fn what_the_request_asked_is_told(rt: HostRuntime) -> Result<(), Fail> {
+    let mut reader = ResponseReader::new(rt.alloc(), Method::Head, true)?;
+    let before = Facts {
+        request_close: true,
+        ..NO_HEAD
+    };
+    assert!(rt; !reader.ended());
+    assert_eq!(rt; reader.facts(), before);
+    assert_eq!(rt; (reader.status(), reader.body_len()), (None, 0));
+    let text = b"HTTP/1.1 200 OK\r\nContent-Length: 2\r\n\r\n";
+    let facts = Facts {
+        request_close: true,
+        framing: Framing::NoBody,
+        ..KEEP
+    };
+    let told = Response {
+        status: Some(200),
+        facts,
+        body_len: 0,
+    };
+    assert_eq!(rt; fed(&rt, &mut reader, text), Ok(told));
+    Ok(())
+}
+
+#[test]
+fn any_byte_tells_of_the_first(rt: HostRuntime) -> Result<(), Fail> {
+    let mut reader = ResponseReader::new(rt.alloc(), Method::Get, false)?;
+    assert!(rt; !reader.any_byte());
+    assert!(rt; fed(&rt, &mut reader, b"").is_ok());
+    assert!(rt; !reader.any_byte());
+    assert!(rt; fed(&rt, &mut reader, b"\n").is_ok());
+    assert!(rt; reader.any_byte());
+    assert!(rt; fed(&rt, &mut reader, b"").is_ok());
+    assert!(rt; reader.any_byte());
+    Ok(())
+}
+
+/// Passes whichever allocation fails: `new` says so, and what follows asks for none.
+#[test]
+fn want_of_memory_refuses_a_reader(rt: HostRuntime) {
+    let (text, body_len, _) = WHOLE[2];
+    match ResponseReader::new(rt.alloc(), Method::Get, false) {
+        Ok(mut reader) => {
+            for piece in text.as_bytes().chunks(1) {
+                assert!(rt; fed(&rt, &mut reader, piece).is_ok());
+            }
+            assert!(rt; reader.facts().whole);
+            assert_eq!(rt; reader.body_len(), body_len);
+        }
+        Err(fault) => assert_eq!(rt; fault, ReadFault::Memory),
+    }
+}
