@@ -1,21 +1,23 @@
 -- A body that comes in pieces: what its state tells of the text so far.
-use Rattle.std.proofs.Common.{◌≡◌, ℕ, ◌+◌, ◌-◌, ◌<◌, ◌≤◌, ◌⊎◌, Bool, true, false, nat_le, List, [], ◌++◌, length, take, drop, min, Option, None, Some, unwrap_or, refl, sym, ap, subst, ◌∙◌, inl, inr, arith, length-append, length-take, length-drop}
+use Rattle.std.proofs.Common.{◌≡◌, ℕ, ◌+◌, ◌-◌, ◌<◌, ◌≤◌, Bool, true, false, nat_le, List, [], ◌++◌, length, take, drop, min, Option, None, Some, unwrap_or, is_none, refl, sym, ap, subst, ◌∙◌, inl, inr, arith, length-append, length-take, length-drop}
+use Rattle.std.specs.Option.{MatchOption}
 use Rattle.std.proofs.lemmas.Bool.{cases_lt}
 use Rattle.std.proofs.lemmas.Bool.Decides.{nat_tests}
 use Rattle.std.proofs.lemmas.List.{append-nil, take-append-drop, drop_at}
-use Rattle.persistence.specs.declared.facts.Framing.{Framing}
-use Rattle.persistence.specs.declared.facts.Framing.TheVariants.{NoBody, Counted, Chunked, UntilClose, Faulty}
-use Rattle.persistence.specs.declared.answer.ReadFault.{ReadFault}
+use Rattle.persistence.specs.declared.body.kind.BodyKind.{BodyKind}
+use Rattle.persistence.specs.declared.body.kind.BodyKind.TheVariants.{NoBody, Counted, Chunked, UntilClose}
 use Rattle.persistence.specs.declared.answer.ReadFault.TheVariants.{BadLength}
+use Rattle.persistence.specs.declared.body.count.Came.{Came}
 use Rattle.persistence.specs.declared.body.state.BodyState.{BodyState}
-use Rattle.persistence.specs.declared.body.state.BodyPlace.{BodyPlace}
-use Rattle.persistence.specs.declared.body.state.BodyPlace.TheVariants as place
+use Rattle.persistence.specs.declared.body.state.BodyState.TheVariants as state
+use Rattle.persistence.specs.declared.body.state.ChunkPart.{ChunkPart}
+use Rattle.persistence.specs.declared.body.state.ChunkPart.TheVariants.{Line, Data, LineEnd, Trailer}
+use Rattle.persistence.specs.declared.body.state.ChunkedBody.{ChunkedBody}
 use Rattle.persistence.specs.Limits.{most_bytes}
 use Rattle.persistence.specs.Chunks.{ReadsSizeLine, ReadsTrailer, ReachesTrailer}
 use Rattle.persistence.specs.Told.{is_some_text}
-use Rattle.persistence.specs.Faults.{BodyShows, HasLongTrailerBy, IsFirst}
-use Rattle.persistence.specs.ReadingChunks.{begins_crlf, FindsLine, AwaitsChunk, AwaitsChunks, carriage, PassesTo, IsInData, IsAfterData, ReachesSection, IsDue, IsEnded, EndsBy, IsInChunks}
-use Rattle.persistence.specs.ReadingBody.{CountsBody, whole_at, whole_of, HasCount, came_of, LastsFor, PlaceAt, BodyAt, FixesBody, TellsPieces}
+use Rattle.persistence.specs.ReadingChunks.{begins_crlf, FindsLine, AwaitsChunk, AwaitsChunks, carriage, PassesTo, IsInData, IsAfterData, ReachesSection, IsDue, IsUnended, IsEnded, IsInChunks}
+use Rattle.persistence.specs.ReadingBody.{CountsBody, len_of, whole_of, surplus_of, HasCount, LastsFor, BodyAt, FixesBody, IsFirstInBody, TellsBody}
 use Rattle.persistence.proofs.SequenceLemmas.{Reads-append}
 use Rattle.persistence.proofs.ChunkLemmas.{size_line_printed}
 use Rattle.persistence.proofs.NextChunk.{awaits_line, awaits_rest, awaits_end}
@@ -24,65 +26,64 @@ use Rattle.persistence.proofs.PieceLemmas.{section_printed}
 
 -- ---- a body that is counted
 
-module _ (count : ℕ) (text : List ℕ) (state : BodyState) (counts : CountsBody count text (came_of state)) where
-  count_came : state.len ≡ min count (length text)
+module _ (count : ℕ) (text : List ℕ) (came : Came) (counts : CountsBody count text came) where
+  count_came : came.len ≡ min count (length text)
   count_came = elim (cases_lt (length text) count) [
     | inl short ↦ counts.open_end short ∙ omega (arith, short)
     | inr long ↦ counts.full long ∙ omega (arith, long)
   ]
 
-  count_reached : state.whole ≡ true → count ≤ length text
+  count_reached : came.whole ≡ true → count ≤ length text
   count_reached ended = let e : nat_le count (length text) ≡ true = sym counts.whole ∙ ended in grind (arith, nat_tests, e)
 
-  count_missed : state.whole ≡ false → length text < count
+  count_missed : came.whole ≡ false → length text < count
   count_missed open_end = let e : nat_le count (length text) ≡ false = sym counts.whole ∙ open_end in grind (arith, nat_tests, e)
 
-  count_passed : (rest : List ℕ) → length rest ≡ length text - count → state.surplus ≡ is_some_text rest
+  count_passed : (rest : List ℕ) → length rest ≡ length text - count → came.surplus ≡ is_some_text rest
   count_passed rest sized = counts.surplus ∙ grind (arith, nat_tests, sized)
 
-  count_not_passed : state.whole ≡ false → state.surplus ≡ false
+  count_not_passed : came.whole ≡ false → came.surplus ≡ false
   count_not_passed open_end = let short = count_missed open_end in counts.surplus ∙ grind (arith, nat_tests, short)
 
-tells_counted : (kind : Framing) (counted : Option ℕ) (count : ℕ) → HasCount kind counted count → (ended : Bool) (text : List ℕ) (state : BodyState) → CountsBody count text (came_of state)
-    → TellsPieces kind counted ended text state.len state.whole state.surplus
-tells_counted NoBody counted count none ended text state counts = record {
+tells_counted : (kind : BodyKind) (counted : Option ℕ) (count : ℕ) → HasCount kind counted count → (ended : Bool) (text : List ℕ) (came : Came) → CountsBody count text came
+    → TellsBody kind counted ended text came.len came.whole came.surplus
+tells_counted NoBody counted count none ended text came counts = record {
   clean = λ fault shown. shown;
-  came = omega (arith, count_came count text state counts, none);
-  yes = λ whole. ([], text, refl, refl, count_passed count text state counts text (omega (arith, none)));
-  no = λ open_end. (λ front rest e ends. omega (arith, count_missed count text state counts open_end, none), count_not_passed count text state counts open_end);
+  came = omega (arith, count_came count text came counts, none);
+  yes = λ whole. ([], text, refl, refl, count_passed count text came counts text (omega (arith, none)));
+  no = λ open_end. (λ front rest e ends. omega (arith, count_missed count text came counts open_end, none), count_not_passed count text came counts open_end);
 }
-tells_counted Counted counted count is ended text state counts = record {
+tells_counted Counted counted count is ended text came counts = record {
   clean = λ fault shown. (let e : None ≡ Some count = sym shown.1 ∙ is in absurd (cc));
-  came = count_came count text state counts ∙ ap (λ (c : Option ℕ). min (unwrap_or c 0) (length text)) (sym is);
+  came = count_came count text came counts ∙ ap (λ (c : Option ℕ). min (unwrap_or c 0) (length text)) (sym is);
   yes = λ whole. (
-      let long = count_reached count text state counts whole in (
+      let long = count_reached count text came counts whole in (
         take count text,
         drop count text,
         sym (take-append-drop count text),
         is ∙ ap Some {x = count} {y = length (take count text)} (omega (arith, length-take count text, long)),
-        count_passed count text state counts (drop count text) (omega (arith, length-drop count text)),
+        count_passed count text came counts (drop count text) (omega (arith, length-drop count text)),
       )
       );
-  no = λ open_end. (no_end open_end, count_not_passed count text state counts open_end);
+  no = λ open_end. (no_end open_end, count_not_passed count text came counts open_end);
 }
   where
-    no_end : state.whole ≡ false → (front rest : List ℕ) → text ≡ front ++ rest → counted ≡ Some (length front) → ⊥
+    no_end : came.whole ≡ false → (front rest : List ℕ) → text ≡ front ++ rest → counted ≡ Some (length front) → ⊥
     no_end open_end front rest e ends =
         let f : Some count ≡ Some (length front) = sym is ∙ ends in
         let g : count ≡ length front = cc in
-        omega (arith, count_missed count text state counts open_end, g, ap length e, length-append front rest)
-tells_counted Chunked counted count is ended text state counts = absurd is
-tells_counted UntilClose counted count is ended text state counts = absurd is
-tells_counted Faulty counted count is ended text state counts = absurd is
+        omega (arith, count_missed count text came counts open_end, g, ap length e, length-append front rest)
+tells_counted Chunked counted count is ended text came counts = absurd is
+tells_counted UntilClose counted count is ended text came counts = absurd is
 
 -- ---- a body that lasts until the connection ends
 
-tells_lasting : (counted : Option ℕ) (ended : Bool) (text : List ℕ) (state : BodyState) → LastsFor text state → TellsPieces UntilClose counted ended text state.len ended state.surplus
-tells_lasting counted ended text state lasts = record {
+tells_lasting : (counted : Option ℕ) (ended : Bool) (text : List ℕ) (len : ℕ) → LastsFor text len → TellsBody UntilClose counted ended text len ended false
+tells_lasting counted ended text len lasts = record {
   clean = λ fault shown. omega (arith, shown.1, lasts.few);
-  came = omega (arith, lasts.len, lasts.few);
-  yes = λ e. (text, [], sym (append-nil text), (e, refl, lasts.few), lasts.none_after);
-  no = λ e. (λ front rest is ends. (let f = sym e ∙ ends.0 in absurd (cc)), lasts.none_after);
+  came = omega (arith, lasts.all, lasts.few);
+  yes = λ e. (text, [], sym (append-nil text), (e, refl, lasts.few), refl);
+  no = λ e. (λ front rest is ends. (let f = sym e ∙ ends.0 in absurd (cc)), refl);
 }
 
 -- ---- a body in chunks
@@ -138,116 +139,62 @@ data_ended text len has_cr at =
     (ap begins_crlf (ap (drop at.size) line.2 ∙ drop_at at.content (carriage has_cr) at.size at.sized) ∙ no_line_end_yet has_cr))
     at.sums
 
-tells_due : (place : BodyPlace) (counted : Option ℕ) (ended : Bool) (text : List ℕ) (len : ℕ) (kept : List ℕ) → IsDue place text len kept
-    → TellsPieces Chunked counted ended text len false false
-tells_due place.Line counted ended text len kept due =
+tells_due : (part : ChunkPart) (counted : Option ℕ) (ended : Bool) (text : List ℕ) (len : ℕ) (kept : List ℕ) → IsDue part text len kept
+    → TellsBody Chunked counted ended text len false false
+tells_due Line counted ended text len kept due =
     tells_awaited text len (chunks_awaited text len kept 0 len due.passes (awaits_line (most_bytes - len) kept due.awaits) (omega arith)) counted ended
-tells_due (place.Data left) counted ended text len kept due = tells_awaited text len (data_awaited text len left due.within) counted ended
-tells_due (place.AfterData has_cr) counted ended text len kept due = tells_awaited text len (data_ended text len has_cr due.after) counted ended
-tells_due place.Trailer counted ended text len kept due =
-    tells_open_trailer text len kept due.reaches counted ended due.awaited
-tells_due (place.Counted count) counted ended text len kept due = absurd due
-tells_due place.UntilClose counted ended text len kept due = absurd due
-tells_due place.End counted ended text len kept due = absurd due
+tells_due (Data left) counted ended text len kept due = tells_awaited text len (data_awaited text len left due.within) counted ended
+tells_due (LineEnd has_cr) counted ended text len kept due = tells_awaited text len (data_ended text len has_cr due.after) counted ended
+tells_due Trailer counted ended text len kept due = tells_open_trailer text len kept due.reaches counted ended due.awaited
 
-tells_ended : (counted : Option ℕ) (ended : Bool) (text : List ℕ) (state : BodyState) → IsEnded text state → TellsPieces Chunked counted ended text state.len true state.surplus
-tells_ended counted ended text state at =
+tells_ended : (counted : Option ℕ) (ended : Bool) (text : List ℕ) (chunks : ChunkedBody) → IsEnded text chunks → TellsBody Chunked counted ended text chunks.len true chunks.surplus
+tells_ended counted ended text chunks at =
     let trailer = at.ends.reads.trailer in
     let reaches : ReachesTrailer at.ends.sizes (at.front ++ at.rest) (trailer ++ at.rest) = ReachesTrailer-append at.ends.sizes at.front trailer at.rest at.ends.reads.chunks in
     let section : ReadsTrailer (trailer ++ at.rest) at.rest = Reads-append section_printed tt trailer [] at.rest at.ends.reads.reads in
-    let ends : ReachesSection text state.len (trailer ++ at.rest) = record {
+    let ends : ReachesSection text chunks.len (trailer ++ at.rest) = record {
       sizes = at.ends.sizes;
       sums = at.ends.sums;
       reaches = subst (λ (t : List ℕ). ReachesTrailer at.ends.sizes t (trailer ++ at.rest)) (sym at.is) reaches;
     } in
     record {
-      clean = clean_at_end text state.len (trailer ++ at.rest) ends at.rest section;
-      came = data_before text state.len (trailer ++ at.rest) ends;
+      clean = clean_at_end text chunks.len (trailer ++ at.rest) ends at.rest section;
+      came = data_before text chunks.len (trailer ++ at.rest) ends;
       yes = λ e. (at.front, at.rest, at.is, (at.ends.sizes, record { trailer = trailer ++ at.rest; chunks = reaches; reads = section }), at.after);
       no = λ e. absurd (cc);
     }
 
-tells_chunks : (counted : Option ℕ) (ended : Bool) (text : List ℕ) (state : BodyState) (kept : List ℕ) (whole : Bool) → EndsBy whole text state kept
-    → TellsPieces Chunked counted ended text state.len whole state.surplus
-tells_chunks counted ended text state kept true at = tells_ended counted ended text state at
-tells_chunks counted ended text state kept false at =
-    subst (λ b. TellsPieces Chunked counted ended text state.len false b) (sym at.none_after) (tells_due state.place counted ended text state.len kept at.due)
-
 -- what is told of a body in chunks, whole or not
-tells_in_chunks : (counted : Option ℕ) (ended : Bool) (text : List ℕ) (state : BodyState) (kept : List ℕ) → IsInChunks text state kept
-    → TellsPieces Chunked counted ended text state.len state.whole state.surplus
-tells_in_chunks counted ended text state kept at = tells_chunks counted ended text state kept state.whole at
+tells_chunks : (counted : Option ℕ) (ended : Bool) (text : List ℕ) (chunks : ChunkedBody) (kept : List ℕ) → IsInChunks text chunks kept
+    → TellsBody Chunked counted ended text chunks.len (is_none chunks.part) chunks.surplus
+tells_chunks counted ended text chunks kept at = go chunks.part at
+  where
+    go : (part : Option ChunkPart) → MatchOption part (IsEnded text chunks) (IsUnended text chunks kept) → TellsBody Chunked counted ended text chunks.len (is_none part) chunks.surplus
+    go None ended_there = tells_ended counted ended text chunks ended_there
+    go (Some part) unended =
+        subst (λ b. TellsBody Chunked counted ended text chunks.len false b) (sym unended.none_after) (tells_due part counted ended text chunks.len kept unended.due)
 
 -- ---- any body
 
-of_chunks : (kind : Framing) (counted : Option ℕ) (ended : Bool) (text : List ℕ) (state : BodyState) (kept : List ℕ) → (kind ≡ Chunked) × IsInChunks text state kept
-    → TellsPieces kind counted ended text state.len state.whole state.surplus
-of_chunks kind counted ended text state kept (is, at) =
-    subst (λ (k : Framing). TellsPieces k counted ended text state.len state.whole state.surplus) (sym is) (tells_in_chunks counted ended text state kept at)
-
-tells_at : (at : BodyPlace) (kind : Framing) (counted : Option ℕ) (ended : Bool) (text : List ℕ) (state : BodyState) (kept : List ℕ) → PlaceAt at kind counted text state kept
-    → TellsPieces kind counted ended text state.len (whole_at at state.whole ended) state.surplus
-tells_at (place.Counted count) kind counted ended text state kept (is, counts) = tells_counted kind counted count is ended text state counts
-tells_at place.UntilClose kind counted ended text state kept (is, lasts) =
-    subst (λ (k : Framing). TellsPieces k counted ended text state.len ended state.surplus) (sym is) (tells_lasting counted ended text state lasts)
-tells_at place.Line kind counted ended text state kept at = of_chunks kind counted ended text state kept at
-tells_at (place.Data left) kind counted ended text state kept at = of_chunks kind counted ended text state kept at
-tells_at (place.AfterData has_cr) kind counted ended text state kept at = of_chunks kind counted ended text state kept at
-tells_at place.Trailer kind counted ended text state kept at = of_chunks kind counted ended text state kept at
-tells_at place.End kind counted ended text state kept at = of_chunks kind counted ended text state kept at
-
 -- what is told of a body so far
-pub tells_pieces : (kind : Framing) (counted : Option ℕ) (ended : Bool) (text : List ℕ) (state : BodyState) (kept : List ℕ) → BodyAt kind counted text state kept
-    → TellsPieces kind counted ended text state.len (whole_of state ended) state.surplus
-tells_pieces kind counted ended text state kept at = tells_at state.place kind counted ended text state kept at
+pub tells_body : (kind : BodyKind) (counted : Option ℕ) (ended : Bool) (text : List ℕ) (at : BodyState) (kept : List ℕ) → BodyAt kind counted text at kept
+    → TellsBody kind counted ended text (len_of at) (whole_of ended at) (surplus_of at)
+tells_body kind counted ended text (state.Counted count came) kept (is, counts) = tells_counted kind counted count is ended text came counts
+tells_body kind counted ended text (state.Chunked chunks) kept (is, at) =
+    subst (λ (k : BodyKind). TellsBody k counted ended text chunks.len (is_none chunks.part) chunks.surplus) (sym is) (tells_chunks counted ended text chunks kept at)
+tells_body kind counted ended text (state.UntilClose len) kept (is, lasts) =
+    subst (λ (k : BodyKind). TellsBody k counted ended text len ended false) (sym is) (tells_lasting counted ended text len lasts)
 
 -- ---- a piece more
 
--- a body that lasts until the connection ends, by the part that is due
-pub lasts_at : (kind : Framing) (counted : Option ℕ) (text : List ℕ) (state : BodyState) (kept : List ℕ) → state.place ≡ place.UntilClose → BodyAt kind counted text state kept
-    → (kind ≡ UntilClose) × LastsFor text state
-lasts_at kind counted text state kept is at = subst (λ (p : BodyPlace). PlaceAt p kind counted text state kept) is at
-
--- more bytes of such a body than can be counted
-pub too_many_bytes : (kind : Framing) (counted : Option ℕ) (text : List ℕ) (fault : ReadFault) → kind ≡ UntilClose → fault ≡ BadLength → most_bytes < length text
-    → IsFirst (BodyShows kind counted) (HasLongTrailerBy kind) text fault
-too_many_bytes kind counted text fault is bad over = subst (λ (k : Framing). IsFirst (BodyShows k counted) (HasLongTrailerBy k) text fault) (sym is) first
+-- more bytes than can be counted, of a body that lasts until the connection ends
+pub too_many_bytes : (kind : BodyKind) (counted : Option ℕ) (text : List ℕ) → kind ≡ UntilClose → most_bytes < length text → IsFirstInBody kind counted text BadLength
+too_many_bytes kind counted text is over = subst (λ (k : BodyKind). IsFirstInBody k counted text BadLength) (sym is) first
   where
-    first : IsFirst (BodyShows UntilClose counted) (HasLongTrailerBy UntilClose) text fault
-    first = record { front = text; later = []; is = sym (append-nil text); shown = (bad, over); first = λ shorter next more other e shown. inl (shown.0 ∙ sym bad) }
+    first : IsFirstInBody UntilClose counted text BadLength
+    first = record { front = text; later = []; is = sym (append-nil text); shown = (refl, over); first = λ shorter next more other e shown. inl shown.0 }
 
 -- as many of its bytes as can be counted
-pub greatest_fixes : (kind : Framing) (counted : Option ℕ) (text : List ℕ) (len : ℕ) → kind ≡ UntilClose → most_bytes < length text → len ≡ most_bytes → FixesBody kind counted text len
-greatest_fixes kind counted text len is over greatest =
-    subst (λ (k : Framing). FixesBody k counted text len) (sym is) (λ more. omega (arith, length-append text more, over, greatest))
-
--- the part that is due is one of a body in chunks
-abbrev pub IsChunkPlace : BodyPlace → Type 0
-IsChunkPlace at = (at ≡ place.Line) ⊎ (((left : ℕ) × (at ≡ place.Data left)) ⊎ (((has_cr : Bool) × (at ≡ place.AfterData has_cr)) ⊎ ((at ≡ place.Trailer) ⊎ (at ≡ place.End))))
-
--- a body in chunks, by the part that is due
-pub chunks_at : (kind : Framing) (counted : Option ℕ) (text : List ℕ) (state : BodyState) (kept : List ℕ) → IsChunkPlace state.place → BodyAt kind counted text state kept
-    → (kind ≡ Chunked) × IsInChunks text state kept
-chunks_at kind counted text state kept (inl is) at = subst (λ (p : BodyPlace). PlaceAt p kind counted text state kept) is at
-chunks_at kind counted text state kept (inr (inl (left, is))) at = subst (λ (p : BodyPlace). PlaceAt p kind counted text state kept) is at
-chunks_at kind counted text state kept (inr (inr (inl (has_cr, is)))) at = subst (λ (p : BodyPlace). PlaceAt p kind counted text state kept) is at
-chunks_at kind counted text state kept (inr (inr (inr (inl is)))) at = subst (λ (p : BodyPlace). PlaceAt p kind counted text state kept) is at
-chunks_at kind counted text state kept (inr (inr (inr (inr is)))) at = subst (λ (p : BodyPlace). PlaceAt p kind counted text state kept) is at
-
--- where a part is due of a body in chunks, it stands there
-due_at : (at : BodyPlace) (kind : Framing) (counted : Option ℕ) (text : List ℕ) (state : BodyState) (len : ℕ) (kept : List ℕ) → IsDue at text len kept → (kind ≡ Chunked) × IsInChunks text state kept
-    → PlaceAt at kind counted text state kept
-due_at place.Line kind counted text state len kept due is = is
-due_at (place.Data left) kind counted text state len kept due is = is
-due_at (place.AfterData has_cr) kind counted text state len kept due is = is
-due_at place.Trailer kind counted text state len kept due is = is
-due_at (place.Counted count) kind counted text state len kept due is = absurd due
-due_at place.UntilClose kind counted text state len kept due is = absurd due
-due_at place.End kind counted text state len kept due is = absurd due
-
-pub body_in_chunks : (kind : Framing) (counted : Option ℕ) (text : List ℕ) (state : BodyState) (kept : List ℕ) → kind ≡ Chunked → IsInChunks text state kept → BodyAt kind counted text state kept
-body_in_chunks kind counted text state kept is at = go state.whole at
-  where
-    go : (whole : Bool) → EndsBy whole text state kept → PlaceAt state.place kind counted text state kept
-    go true ended = subst (λ (p : BodyPlace). PlaceAt p kind counted text state kept) (sym ended.place) (is, at)
-    go false unended = due_at state.place kind counted text state state.len kept unended.due (is, at)
+pub greatest_fixes : (kind : BodyKind) (counted : Option ℕ) (text : List ℕ) → kind ≡ UntilClose → most_bytes < length text → FixesBody kind counted text most_bytes
+greatest_fixes kind counted text is over =
+    subst (λ (k : BodyKind). FixesBody k counted text most_bytes) (sym is) (λ more. omega (arith, length-append text more, over))

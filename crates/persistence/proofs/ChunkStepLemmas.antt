@@ -1,20 +1,20 @@
 -- A body in chunks that comes in pieces: what a piece more makes of the part that is due.
-use Rattle.std.proofs.Common.{◌≡◌, ℕ, ◌+◌, ◌-◌, ◌<◌, ◌≤◌, Bool, true, false, List, [], ◌++◌, length, take, drop, Option, refl, sym, ap, subst, ◌∙◌, arith, append_assoc, length-append, length-take, length-drop}
+use Rattle.std.proofs.Common.{◌≡◌, ℕ, ◌+◌, ◌-◌, ◌<◌, ◌≤◌, true, false, List, [], ◌++◌, length, take, drop, Option, None, Some, refl, sym, ap, subst, ◌∙◌, arith, append_assoc, length-append, length-take, length-drop}
+use Rattle.std.specs.Option.{MatchOption}
 use Rattle.std.proofs.lemmas.Bool.Decides.{nat_tests}
 use Rattle.std.proofs.lemmas.List.{append-nil, take_all, take_rest}
 use Rattle.std.proofs.Math.Seq.{take-add}
 use Rattle.std.proofs.lemmas.List.Elements.{All-nil}
 use Rattle.httparse.specs.Grammar.{IsField, lf, print_section, HasNoSection, MayBecomeSection}
 use Rattle.httparse.specs.Spans.{SectionExceeds}
-use Rattle.persistence.specs.declared.facts.Framing.TheVariants.{Chunked}
 use Rattle.persistence.specs.declared.answer.ReadFault.{ReadFault}
-use Rattle.persistence.specs.declared.body.state.BodyState.{BodyState}
-use Rattle.persistence.specs.declared.body.state.BodyPlace.{BodyPlace}
+use Rattle.persistence.specs.declared.body.state.ChunkedBody.{ChunkedBody}
+use Rattle.persistence.specs.declared.body.state.ChunkPart.{ChunkPart}
 use Rattle.persistence.specs.Limits.{most_fields, most_bytes, most_trailer_bytes}
 use Rattle.persistence.specs.Chunks.{ReadsSizeLine}
 use Rattle.persistence.specs.Told.{TellsChunkData}
-use Rattle.persistence.specs.Faults.{TrailerShows, BodyShows, HasLongTrailerBy, IsFirst}
-use Rattle.persistence.specs.ReadingChunks.{IsTrailerAwaited, AwaitsLine, RefusesLine, PassesTo, IsInData, FixesData, KeepsLine, EndsLine, KeepsTrailer, EndsSection, ReachesSection, BeginsPart, EndsChunked, IsLineDue, IsTrailerDue, IsDue, IsUnended, IsEnded, EndsBy, IsInChunks}
+use Rattle.persistence.specs.Faults.{TrailerShows, IsFirst}
+use Rattle.persistence.specs.ReadingChunks.{IsTrailerAwaited, AwaitsLine, RefusesLine, PassesTo, IsInData, FixesData, KeepsLine, EndsLine, KeepsTrailer, EndsSection, ReachesSection, BeginsPart, EndsChunked, IsLineDue, IsTrailerDue, IsDue, IsUnended, IsEnded, IsInChunks, IsFirstInChunks}
 use Rattle.persistence.specs.ReadingHeads.{line_ends}
 use Rattle.persistence.proofs.LineLemmas.{line_ends-append, line_ends-section}
 use Rattle.persistence.proofs.StepLemmas.{taken_and_rest}
@@ -24,13 +24,15 @@ use Rattle.persistence.proofs.ChunkedLemmas.{ReachesTrailer-append, all_data, re
 use Rattle.persistence.proofs.DataLemmas.{chunks_further, passes_further}
 
 -- where that part is due the body has not ended
-pub still_due : (place : BodyPlace) (text : List ℕ) (len : ℕ) (kept : List ℕ) (state : BodyState) → state ≡ record { place = place; len = len; whole = false; surplus = false }
-    → IsDue place text len kept → IsInChunks text state kept
-still_due place text len kept state is due = subst (λ (s : BodyState). IsInChunks text s kept) (sym is) (record { due = due; none_after = refl })
+pub still_due : (part : ChunkPart) (text : List ℕ) (len : ℕ) (kept : List ℕ) (chunks : ChunkedBody) → chunks ≡ record { part = Some part; len = len; surplus = false }
+    → IsDue part text len kept → IsInChunks text chunks kept
+still_due part text len kept chunks is due = subst (λ (b : ChunkedBody). IsInChunks text b kept) (sym is) (record { due = due; none_after = refl })
 
--- where it has not ended a part is due
-pub due_now : (text : List ℕ) (state : BodyState) (kept : List ℕ) → IsInChunks text state kept → state.whole ≡ false → IsDue state.place text state.len kept
-due_now text state kept at open_end = let unended : IsUnended text state kept = subst (λ (w : Bool). EndsBy w text state kept) open_end at in unended.due
+-- where a part is due the bytes are there
+pub due_now : (text : List ℕ) (chunks : ChunkedBody) (kept : List ℕ) (part : ChunkPart) → IsInChunks text chunks kept → chunks.part ≡ Some part → IsDue part text chunks.len kept
+due_now text chunks kept part at is =
+    let unended : IsUnended text chunks kept part = subst (λ (p : Option ChunkPart). MatchOption p (IsEnded text chunks) (IsUnended text chunks kept)) is at in
+    unended.due
 
 -- ---- a piece taken in parts
 
@@ -46,16 +48,17 @@ taken_all_rest text piece taken =
     ap (λ (t : List ℕ). (text ++ take taken piece) ++ t) (take_rest piece taken) ∙ taken_and_rest text piece (text ++ take taken piece) taken refl
 
 -- what follows a body in chunks that has ended
-pub surplus_after : (text piece : List ℕ) (taken : ℕ) (state : BodyState) (kept : List ℕ) → IsInChunks (text ++ take taken piece) state kept → state.whole ≡ true → taken < length piece
-    → IsInChunks (text ++ piece) (record { place = state.place; len = state.len; whole = state.whole; surplus = true }) kept
-surplus_after text piece taken state kept at whole more =
-    let ended : IsEnded (text ++ take taken piece) state = subst (λ (w : Bool). EndsBy w (text ++ take taken piece) state kept) whole at in
-    subst (λ (w : Bool). EndsBy w (text ++ piece) (record { place = state.place; len = state.len; whole = state.whole; surplus = true }) kept) (sym whole)
+pub surplus_after : (text piece : List ℕ) (taken : ℕ) (chunks : ChunkedBody) (kept : List ℕ) → IsInChunks (text ++ take taken piece) chunks kept → chunks.part ≡ None → taken < length piece
+    → IsInChunks (text ++ piece) (record { part = chunks.part; len = chunks.len; surplus = true }) kept
+surplus_after text piece taken chunks kept at none more =
+    let before = text ++ take taken piece in
+    let ended : IsEnded before chunks = subst (λ (p : Option ChunkPart). MatchOption p (IsEnded before chunks) (IsUnended before chunks kept)) none at in
+    let after : ChunkedBody = record { part = chunks.part; len = chunks.len; surplus = true } in
+    subst (λ (p : Option ChunkPart). MatchOption p (IsEnded (text ++ piece) after) (IsUnended (text ++ piece) after kept)) (sym none)
     (record {
-      place = ended.place;
       front = ended.front;
       rest = ended.rest ++ drop taken piece;
-      is = sym (taken_and_rest text piece (text ++ take taken piece) taken refl) ∙ ap (λ (t : List ℕ). t ++ drop taken piece) ended.is ∙ append_assoc ended.front ended.rest (drop taken piece);
+      is = sym (taken_and_rest text piece before taken refl) ∙ ap (λ (t : List ℕ). t ++ drop taken piece) ended.is ∙ append_assoc ended.front ended.rest (drop taken piece);
       ends = ended.ends;
       after = (let a = length-append ended.rest (drop taken piece) in let d = length-drop taken piece in grind (arith, nat_tests, a, d, more));
     })
@@ -118,11 +121,10 @@ module _ (text : List ℕ) (len : ℕ) (kept : List ℕ) (due : IsLineDue text l
     };
   }
 
-  pub line_refused : (piece : List ℕ) (fault : ReadFault) → RefusesLine (most_bytes - len) (kept ++ piece) fault → (counted : Option ℕ)
-      → IsFirst (BodyShows Chunked counted) (HasLongTrailerBy Chunked) (text ++ piece) fault
-  line_refused piece fault refuses counted =
+  pub line_refused : (piece : List ℕ) (fault : ReadFault) → RefusesLine (most_bytes - len) (kept ++ piece) fault → IsFirstInChunks (text ++ piece) fault
+  line_refused piece fault refuses =
       let sums = due.passes.sums in
-      first_bad_chunk (text ++ piece) counted fault (record {
+      first_bad_chunk (text ++ piece) fault (record {
         is = refuses.is;
         shows = record {
           sizes = due.passes.sizes;
@@ -189,10 +191,10 @@ module _ (text : List ℕ) (len : ℕ) (kept : List ℕ) (due : IsTrailerDue tex
       let reaches = section_further text len kept more due.reaches in
       record { sizes = reaches.sizes; sums = reaches.sums; reads = record { trailer = kept ++ more; chunks = reaches.reaches; reads = ends.reads } }
 
-  pub trailer_fault : (piece : List ℕ) (fault : ReadFault) → IsFirst TrailerShows (SectionExceeds most_fields) (kept ++ piece) fault → (counted : Option ℕ)
-      → IsFirst (BodyShows Chunked counted) (HasLongTrailerBy Chunked) (text ++ piece) fault
-  trailer_fault piece fault found counted =
-      first_in_trailer (text ++ piece) len (kept ++ piece) (section_further text len kept piece due.reaches) counted fault found
+  pub trailer_fault : (piece : List ℕ) (fault : ReadFault) → IsFirst TrailerShows (SectionExceeds most_fields) (kept ++ piece) fault
+      → IsFirstInChunks (text ++ piece) fault
+  trailer_fault piece fault found =
+      first_in_trailer (text ++ piece) len (kept ++ piece) (section_further text len kept piece due.reaches) fault found
 
   -- no chunk follows the last line, so the data of the chunks is all
   pub trailer_fixes : (piece : List ℕ) → FixesData (text ++ piece) len

@@ -3,15 +3,15 @@ use Rattle.std.proofs.Common.{◌≡◌, ℕ, ◌+◌, ◌-◌, ◌≤◌, ◌�
 use Rattle.std.proofs.lemmas.List.{append-nil}
 use Rattle.std.proofs.lemmas.List.Sums.{sum_by-cons, sum_by-append}
 use Rattle.httparse.specs.Spans.{SectionExceeds}
-use Rattle.persistence.specs.declared.facts.Framing.TheVariants.{Chunked}
+use Rattle.persistence.specs.declared.body.kind.BodyKind.TheVariants.{Chunked}
 use Rattle.persistence.specs.declared.answer.ReadFault.{ReadFault}
 use Rattle.persistence.specs.Sequence.{ReadsEach}
 use Rattle.persistence.specs.Limits.{most_fields, most_bytes}
 use Rattle.persistence.specs.Chunks.{ReadsSizeLine, ReadsChunk, ReadsChunks, room_after, ReadsTrailer, ReachesTrailer, ReadsChunked}
 use Rattle.persistence.specs.Told.{HasNoChunk, TellsBegun, TellsChunkData}
-use Rattle.persistence.specs.Faults.{NeverHasChunk, TrailerShows, ShowsBadChunk, ChunkedShows, BodyShows, IsFirst, HasLongTrailer, HasLongTrailerBy}
-use Rattle.persistence.specs.ReadingChunks.{IsTrailerAwaited, AwaitsChunks, IsFirstBadChunk, ReachesSection}
-use Rattle.persistence.specs.ReadingBody.{TellsPieces}
+use Rattle.persistence.specs.Faults.{NeverHasChunk, TrailerShows, ShowsBadChunk, ChunkedShows, IsFirst, HasLongTrailer}
+use Rattle.persistence.specs.ReadingChunks.{IsTrailerAwaited, AwaitsChunks, IsFirstBadChunk, ReachesSection, IsFirstInChunks}
+use Rattle.persistence.specs.ReadingBody.{TellsBody}
 use Rattle.persistence.proofs.SequenceLemmas.{print_each, each-append, Compared, same, longer, shorter, compared}
 use Rattle.persistence.proofs.ChunkLemmas.{chunk_printed, size_line_printed, size_line_unique, no_last, reaches_unique}
 use Rattle.persistence.proofs.TrailerLemmas.{trailer_shows_nothing}
@@ -114,7 +114,7 @@ module _ (text : List ℕ) (len : ℕ) (awaits : AwaitsChunks text len) where
   awaits_data : TellsChunkData text len
   awaits_data = all_data awaits.sizes text awaits.rest awaits.begun len awaits.chunks awaits.awaits.none awaits.awaits.tells awaits.sums
 
-  pub tells_awaited : (counted : Option ℕ) (ended : Bool) → TellsPieces Chunked counted ended text len false false
+  pub tells_awaited : (counted : Option ℕ) (ended : Bool) → TellsBody Chunked counted ended text len false false
   tells_awaited counted ended = record {
     clean = clean;
     came = awaits_data;
@@ -140,7 +140,7 @@ module _ (text : List ℕ) (len : ℕ) (kept : List ℕ) (ends : ReachesSection 
   pub data_before : TellsChunkData text len
   data_before = subst (TellsChunkData text) ends.sums (reaches_data ends.sizes text kept ends.reaches)
 
-  pub tells_open_trailer : (counted : Option ℕ) (ended : Bool) → IsTrailerAwaited kept → TellsPieces Chunked counted ended text len false false
+  pub tells_open_trailer : (counted : Option ℕ) (ended : Bool) → IsTrailerAwaited kept → TellsBody Chunked counted ended text len false false
   tells_open_trailer counted ended awaited = record {
     clean = clean_after awaited.clean;
     came = data_before;
@@ -158,9 +158,8 @@ module _ (text : List ℕ) (len : ℕ) (kept : List ℕ) (ends : ReachesSection 
   clean_at_end rest reads = clean_after (λ fault shown. trailer_shows_nothing kept rest fault reads shown)
 
   -- the fault that the trailer section shows first
-  pub first_in_trailer : (counted : Option ℕ) (fault : ReadFault) → IsFirst TrailerShows (SectionExceeds most_fields) kept fault
-      → IsFirst (BodyShows Chunked counted) (HasLongTrailerBy Chunked) text fault
-  first_in_trailer counted fault found =
+  pub first_in_trailer : (fault : ReadFault) → IsFirst TrailerShows (SectionExceeds most_fields) kept fault → IsFirstInChunks text fault
+  first_in_trailer fault found =
       let p = print_reaches ends.sizes text kept ends.reaches in
       record {
         front = p.0 ++ found.front;
@@ -184,9 +183,8 @@ module _ (text : List ℕ) (len : ℕ) (kept : List ℕ) (ends : ReachesSection 
 
 -- ---- a chunk that is missing
 
-pub first_bad_chunk : (text : List ℕ) (counted : Option ℕ) (fault : ReadFault) → IsFirstBadChunk text fault
-    → IsFirst (BodyShows Chunked counted) (HasLongTrailerBy Chunked) text fault
-first_bad_chunk text counted fault bad = record {
+pub first_bad_chunk : (text : List ℕ) (fault : ReadFault) → IsFirstBadChunk text fault → IsFirstInChunks text fault
+first_bad_chunk text fault bad = record {
   front = text;
   later = [];
   is = sym (append-nil text);

@@ -21,4 +21,4 @@ pub mod DataLemmas
 pub mod ChunkStepLemmas
 pub mod BodyLemmas
 pub mod InterimLemmas
-pub mod PlaceLemmas
+pub mod StageLemmas

@@ -9,7 +9,7 @@ use Rattle.persistence.specs.Heads.{ReadsInterim, ReadsHeads, HasFinalHead}
 use Rattle.persistence.specs.Fields.{fields_of, counted_length}
 use Rattle.persistence.specs.Framing.{body_kind}
 use Rattle.persistence.specs.Split.{EndsBody, Parts, IsSplit}
-use Rattle.persistence.specs.Told.{facts_of, facts_before, IsNotWhole, is_some_text, HasNoFinalHead, TellsFacts, TellsStatus, TellsBodyLength, TellsLength}
+use Rattle.persistence.specs.Told.{facts_of_head, facts_before, IsNotWhole, is_some_text, HasNoFinalHead, TellsFacts, TellsStatus, TellsBodyLength, TellsLength}
 use Rattle.persistence.specs.Faults.{HeadShows, BodyShows, Shows, IsFaultless, IsFirst, HasLongTrailerBy, HasLongSection, IsFirstFault}
 use Rattle.persistence.specs.Reader.{TellsWhole}
 use Rattle.persistence.specs.ReadingBody.{HasNoEnd}
@@ -149,19 +149,19 @@ module _ (method : Method) (head : ResponseHead) where
 
       module _ (request_close : Bool) where
         pub facts_open : HasNoEnd (body_kind method head) (counted_length (fields_of head)) ended text
-            → TellsFacts method request_close bytes ended (facts_of method request_close head false false)
+            → TellsFacts method request_close bytes ended (facts_of_head method request_close head false false)
         facts_open none = record {
           before = λ no_head. absurd (no_head head text has);
-          after = λ other rest further open_end. ap (λ (h : ResponseHead). facts_of method request_close h false false) (final_unique bytes head other text rest has further).0;
+          after = λ other rest further open_end. ap (λ (h : ResponseHead). facts_of_head method request_close h false false) (final_unique bytes head other text rest has further).0;
           whole = λ parts split. absurd (no_split none parts split);
         }
 
         pub facts_whole : (front rest : List ℕ) → text ≡ front ++ rest → EndsBody (body_kind method head) (counted_length (fields_of head)) ended front rest
-            → TellsFacts method request_close bytes ended (facts_of method request_close head true (is_some_text rest))
+            → TellsFacts method request_close bytes ended (facts_of_head method request_close head true (is_some_text rest))
         facts_whole front rest is ends = record {
           before = λ no_head. absurd (no_head head text has);
           after = λ other more further open_end. absurd (open_end (parts_of front rest) (split_of front rest is ends));
-          whole = λ parts split. ap (λ (p : Parts). facts_of method request_close p.head true (is_some_text p.rest))
+          whole = λ parts split. ap (λ (p : Parts). facts_of_head method request_close p.head true (is_some_text p.rest))
               (split_unique method bytes ended (parts_of front rest) parts (split_of front rest is ends) split);
         }
 

@@ -2,8 +2,8 @@
 use Rattle.std.proofs.Common.{◌≡◌, ℕ, Bool, List, ◌++◌, length, Option, Some, sym, ap, subst, ◌∙◌}
 use Rattle.std.proofs.lemmas.List.{append_cancel_right}
 use Rattle.httparse.specs.Grammar.{ResponseHead}
-use Rattle.persistence.specs.declared.facts.Framing.{Framing}
-use Rattle.persistence.specs.declared.facts.Framing.TheVariants.{NoBody, Counted, Chunked, UntilClose, Faulty}
+use Rattle.persistence.specs.declared.body.kind.BodyKind.{BodyKind}
+use Rattle.persistence.specs.declared.body.kind.BodyKind.TheVariants.{NoBody, Counted, Chunked, UntilClose}
 use Rattle.persistence.specs.declared.method.Method.{Method}
 use Rattle.persistence.specs.Fields.{fields_of, counted_length}
 use Rattle.persistence.specs.Framing.{body_kind}
@@ -13,7 +13,7 @@ use Rattle.persistence.proofs.HeadLemmas.{heads_unique}
 use Rattle.persistence.proofs.ChunkLemmas.{chunked_unique, same_fronts}
 
 -- a body of one kind ends in one place
-ends_unique : (kind : Framing) (counted : Option ℕ) (ended : Bool) (a r b q : List ℕ) → a ++ r ≡ b ++ q
+ends_unique : (kind : BodyKind) (counted : Option ℕ) (ended : Bool) (a r b q : List ℕ) → a ++ r ≡ b ++ q
     → EndsBody kind counted ended a r → EndsBody kind counted ended b q → (a ≡ b) × (r ≡ q)
 ends_unique NoBody counted ended a r b q e x y = (x ∙ sym y, sym (ap (λ (t : List ℕ). t ++ r) x) ∙ e ∙ ap (λ (t : List ℕ). t ++ q) y)
 ends_unique Counted counted ended a r b q e x y =
@@ -26,7 +26,6 @@ ends_unique Chunked counted ended a r b q e (xs, x) (ys, y) =
 ends_unique UntilClose counted ended a r b q e x y =
     let rest : r ≡ q = x.1 ∙ sym y.1 in
     (append_cancel_right a b q (ap (λ (t : List ℕ). a ++ t) (sym rest) ∙ e), rest)
-ends_unique Faulty counted ended a r b q e x y = absurd x
 
 pub split_unique : (method : Method) (bytes : List ℕ) (ended : Bool) (a b : Parts) → IsSplit method bytes ended a → IsSplit method bytes ended b → a ≡ b
 split_unique method bytes ended a b x y =

@@ -3,8 +3,8 @@
 use Rattle.std.specs.Prelude.{◌≡◌, ℕ, ◌<◌, ◌≤◌, ◌⊎◌, List, ◌∷◌, ◌++◌, length, take, Option, None}
 use Rattle.httparse.specs.Grammar.{ResponseHead, HasNoResponse, NeverHasResponse, HasNoSection, NeverHasSection}
 use Rattle.httparse.specs.Spans.{ResponseExceeds, SectionExceeds}
-use Rattle.persistence.specs.declared.facts.Framing.{Framing}
-use Rattle.persistence.specs.declared.facts.Framing.TheVariants.{NoBody, Counted, Chunked, UntilClose, Faulty}
+use Rattle.persistence.specs.declared.body.kind.BodyKind.{BodyKind}
+use Rattle.persistence.specs.declared.body.kind.BodyKind.TheVariants.{NoBody, Counted, Chunked, UntilClose}
 use Rattle.persistence.specs.declared.method.Method.{Method}
 use Rattle.persistence.specs.declared.answer.ReadFault.{ReadFault}
 use Rattle.persistence.specs.declared.answer.ReadFault.TheVariants.{BadHead, BadLength, BadChunk, HeadTooLong, TooManyInterims, TrailerTooLong}
@@ -60,12 +60,11 @@ abbrev pub ChunkedShows : List ℕ → ReadFault → Type 0
 ChunkedShows text fault = ((fault ≡ BadChunk) × ShowsBadChunk text) ⊎ ShowsInTrailer text fault
 
 -- what a body of that kind shows
-abbrev pub BodyShows : Framing → Option ℕ → List ℕ → ReadFault → Type 0
+abbrev pub BodyShows : BodyKind → Option ℕ → List ℕ → ReadFault → Type 0
 BodyShows NoBody counted text fault = ⊥
 BodyShows Counted counted text fault = (fault ≡ BadLength) × (counted ≡ None)
 BodyShows Chunked counted text fault = ChunkedShows text fault
 BodyShows UntilClose counted text fault = (fault ≡ BadLength) × (most_bytes < length text)
-BodyShows Faulty counted text fault = ⊥
 
 -- the bytes show the fault where a head begins
 pub record ShowsInHead (bytes : List ℕ) (fault : ReadFault) : Type 0 where
@@ -115,7 +114,7 @@ pub record HasLongTrailer (text : List ℕ) : Type 0 where
   pub exceeds : SectionExceeds most_fields trailer
 
 -- a body of that kind has a trailer section whose 101st field is complete
-abbrev pub HasLongTrailerBy : Framing → List ℕ → Type 0
+abbrev pub HasLongTrailerBy : BodyKind → List ℕ → Type 0
 HasLongTrailerBy Chunked text = HasLongTrailer text
 HasLongTrailerBy _ text = ⊥
 

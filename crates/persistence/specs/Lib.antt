@@ -12,4 +12,4 @@ pub mod Reader
 pub mod ReadingHeads
 pub mod ReadingChunks
 pub mod ReadingBody
-pub mod ReadingPlaces
+pub mod ReadingStages

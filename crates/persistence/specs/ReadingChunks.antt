@@ -1,16 +1,17 @@
 -- What the parts answer where a body in chunks is read. No public contract needs these words.
 use Rattle.std.specs.Char.{is_ascii_hexdigit}
-use Rattle.std.specs.Prelude.{◌≡◌, ℕ, ◌<◌, ◌≤◌, Bool, true, false, ◌==◌, if◌then◌else◌, List, [], ◌∷◌, ◌++◌, length, drop, Option, Some, ◌+◌, sum, ◌&&◌, None, ◌-◌}
+use Rattle.std.specs.Prelude.{◌≡◌, ℕ, ◌<◌, ◌≤◌, Bool, true, false, ◌==◌, if◌then◌else◌, List, [], ◌∷◌, ◌++◌, length, take, drop, MatchOption, Option, Some, ◌+◌, sum, ◌&&◌, None, ◌-◌}
 use Rattle.std.specs.Str.Parse.{digits_value}
 use Rattle.httparse.specs.Grammar.{print_extension, AllPass, is_ows, IsExtension}
 use Rattle.persistence.specs.declared.answer.ReadFault.{ReadFault}
 use Rattle.persistence.specs.declared.answer.ReadFault.TheVariants.{BadChunk}
-use Rattle.persistence.specs.declared.body.state.BodyPlace.{BodyPlace}
-use Rattle.persistence.specs.declared.body.state.BodyPlace.TheVariants as place
-use Rattle.persistence.specs.declared.body.state.BodyState.{BodyState}
+use Rattle.persistence.specs.declared.body.state.ChunkPart.{ChunkPart}
+use Rattle.persistence.specs.declared.body.state.ChunkPart.TheVariants.{Line, Data, LineEnd, Trailer}
+use Rattle.persistence.specs.declared.body.state.ChunkedBody.{ChunkedBody}
+use Rattle.persistence.specs.declared.chunks.ChunkStep.{ChunkStep}
 use Rattle.persistence.specs.declared.chunks.size_line.SizeLine.{SizeLine}
 use Rattle.persistence.specs.Chunks.{ReadsTrailer, ReadsSizeLine, ReadsChunks, room_after, ReachesTrailer, ReadsChunked}
-use Rattle.persistence.specs.Faults.{TrailerShows, NeverHasChunk, ShowsBadChunk}
+use Rattle.persistence.specs.Faults.{TrailerShows, NeverHasChunk, ShowsBadChunk, ChunkedShows, IsFirst, HasLongTrailer}
 use Rattle.persistence.specs.Limits.{most_bytes, most_line_bytes, most_trailer_bytes}
 use Rattle.persistence.specs.Told.{HasNoChunk, TellsBegun, TellsChunkData, is_some_text}
 
@@ -197,32 +198,33 @@ pub record IsTrailerDue (text : List ℕ) (len : ℕ) (kept : List ℕ) : Type 0
   pub short : length kept < most_trailer_bytes
 
 -- that part of a body in chunks is due, after so much data
-abbrev pub IsDue : BodyPlace → List ℕ → ℕ → List ℕ → Type 0
-IsDue place.Line text len kept = IsLineDue text len kept
-IsDue (place.Data left) text len kept = IsDataDue left text len kept
-IsDue (place.AfterData has_cr) text len kept = IsLineEndDue has_cr text len kept
-IsDue place.Trailer text len kept = IsTrailerDue text len kept
-IsDue _ text len kept = ⊥
+abbrev pub IsDue : ChunkPart → List ℕ → ℕ → List ℕ → Type 0
+IsDue Line text len kept = IsLineDue text len kept
+IsDue (Data left) text len kept = IsDataDue left text len kept
+IsDue (LineEnd has_cr) text len kept = IsLineEndDue has_cr text len kept
+IsDue Trailer text len kept = IsTrailerDue text len kept
 
 -- a body in chunks still comes
-pub record IsUnended (text : List ℕ) (state : BodyState) (kept : List ℕ) : Type 0 where
-  pub due : IsDue state.place text state.len kept
-  pub none_after : state.surplus ≡ false
+pub record IsUnended (text : List ℕ) (chunks : ChunkedBody) (kept : List ℕ) (part : ChunkPart) : Type 0 where
+  pub due : IsDue part text chunks.len kept
+  pub none_after : chunks.surplus ≡ false
 
 -- a body in chunks has ended, and more may have come
-pub record IsEnded (text : List ℕ) (state : BodyState) : Type 0 where
-  pub place : state.place ≡ place.End
+pub record IsEnded (text : List ℕ) (chunks : ChunkedBody) : Type 0 where
   pub front : List ℕ
   pub rest : List ℕ
   pub is : text ≡ front ++ rest
-  pub ends : EndsChunked front state.len
-  pub after : state.surplus ≡ is_some_text rest
-
--- whether it has ended
-abbrev pub EndsBy : Bool → List ℕ → BodyState → List ℕ → Type 0
-EndsBy true text state kept = IsEnded text state
-EndsBy false text state kept = IsUnended text state kept
+  pub ends : EndsChunked front chunks.len
+  pub after : chunks.surplus ≡ is_some_text rest
 
 -- so much came of a body in chunks
-abbrev pub IsInChunks : List ℕ → BodyState → List ℕ → Type 0
-IsInChunks text state kept = EndsBy state.whole text state kept
+abbrev pub IsInChunks : List ℕ → ChunkedBody → List ℕ → Type 0
+IsInChunks text chunks kept = MatchOption chunks.part (IsEnded text chunks) (IsUnended text chunks kept)
+
+-- the step took so much of the piece, and the body stands there
+abbrev pub TellsStep : List ℕ → List ℕ → List ℕ → ChunkStep → Type 0
+TellsStep text piece kept step = IsInChunks (text ++ take step.used piece) step.chunks kept
+
+-- the fault that a body in chunks shows first
+abbrev pub IsFirstInChunks : List ℕ → ReadFault → Type 0
+IsFirstInChunks = IsFirst ChunkedShows HasLongTrailer

@@ -2,8 +2,8 @@
 -- 2.1 and 6.3).
 use Rattle.std.specs.Prelude.{◌≡◌, ℕ, ◌≤◌, Bool, true, List, [], ◌++◌, length, Option, Some}
 use Rattle.httparse.specs.Grammar.{ResponseHead}
-use Rattle.persistence.specs.declared.facts.Framing.{Framing}
-use Rattle.persistence.specs.declared.facts.Framing.TheVariants.{NoBody, Counted, Chunked, UntilClose, Faulty}
+use Rattle.persistence.specs.declared.body.kind.BodyKind.{BodyKind}
+use Rattle.persistence.specs.declared.body.kind.BodyKind.TheVariants.{NoBody, Counted, Chunked, UntilClose}
 use Rattle.persistence.specs.declared.method.Method.{Method}
 use Rattle.persistence.specs.Heads.{ReadsHeads}
 use Rattle.persistence.specs.Fields.{fields_of, counted_length}
@@ -12,12 +12,11 @@ use Rattle.persistence.specs.Framing.{body_kind}
 use Rattle.persistence.specs.Chunks.{ReadsChunked}
 
 -- a body of that kind, where its Content-Length gives that number, ends where the rest begins
-abbrev pub EndsBody : Framing → Option ℕ → Bool → List ℕ → List ℕ → Type 0
+abbrev pub EndsBody : BodyKind → Option ℕ → Bool → List ℕ → List ℕ → Type 0
 EndsBody NoBody counted ended body rest = body ≡ []
 EndsBody Counted counted ended body rest = counted ≡ Some (length body)
 EndsBody Chunked counted ended body rest = (sizes : List ℕ) × ReadsChunked sizes (body ++ rest) rest
 EndsBody UntilClose counted ended body rest = (ended ≡ true) × (rest ≡ []) × (length body ≤ most_bytes)
-EndsBody Faulty counted ended body rest = ⊥
 
 -- the parts of a response, and the bytes that follow it
 pub record Parts : Type 0 where

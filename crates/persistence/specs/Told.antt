@@ -3,8 +3,9 @@
 use Rattle.std.specs.Prelude.{◌≡◌, ℕ, ◌+◌, ◌≤◌, min, Bool, true, false, ◌==◌, nat_lt, if◌then◌else◌, List, length, sum, Option, Some, None, unwrap_or}
 use Rattle.httparse.specs.Grammar.{ResponseHead, status_code}
 use Rattle.persistence.specs.declared.facts.Facts.{Facts}
-use Rattle.persistence.specs.declared.facts.Framing.{Framing}
-use Rattle.persistence.specs.declared.facts.Framing.TheVariants.{NoBody, Counted, Chunked, UntilClose, Faulty}
+use Rattle.persistence.specs.declared.facts.Framing.TheVariants.{Faulty}
+use Rattle.persistence.specs.declared.body.kind.BodyKind.{BodyKind}
+use Rattle.persistence.specs.declared.body.kind.BodyKind.TheVariants.{NoBody, Counted, Chunked, UntilClose}
 use Rattle.persistence.specs.declared.facts.Version.{Version}
 use Rattle.persistence.specs.declared.facts.Version.TheVariants.{V10, V11}
 use Rattle.persistence.specs.declared.method.Method.{Method}
@@ -21,8 +22,8 @@ abbrev pub version_of : ResponseHead → Version
 version_of head = if head.minor == 0 then V10 else V11
 
 -- the facts of a response with that final head
-abbrev pub facts_of : Method → Bool → ResponseHead → Bool → Bool → Facts
-facts_of method request_close head whole surplus = record {
+abbrev pub facts_of_head : Method → Bool → ResponseHead → Bool → Bool → Facts
+facts_of_head method request_close head whole surplus = record {
   version = version_of head;
   close = has_option (codes "close") (fields_of head);
   keep_alive = has_option (codes "keep-alive") (fields_of head);
@@ -65,9 +66,9 @@ is_some_text bytes = nat_lt 0 (length bytes)
 pub record TellsFacts (method : Method) (request_close : Bool) (bytes : List ℕ) (ended : Bool) (facts : Facts) : Type 0 where
   pub before : HasNoFinalHead bytes → facts ≡ facts_before request_close
   pub after : (head : ResponseHead) (text : List ℕ) → HasFinalHead bytes head text
-      → IsNotWhole method bytes ended → facts ≡ facts_of method request_close head false false
+      → IsNotWhole method bytes ended → facts ≡ facts_of_head method request_close head false false
   pub whole : (parts : Parts) → IsSplit method bytes ended parts
-      → facts ≡ facts_of method request_close parts.head true (is_some_text parts.rest)
+      → facts ≡ facts_of_head method request_close parts.head true (is_some_text parts.rest)
 
 -- the facts after a fault: no framing can be relied on, and the response is never whole
 abbrev pub facts_after_fault : Facts → Facts
@@ -77,7 +78,7 @@ facts_after_fault facts = record facts { framing = Faulty; whole = false }
 pub record TellsFactsAfterFault (method : Method) (request_close : Bool) (bytes : List ℕ) (facts : Facts) : Type 0 where
   pub before : HasNoFinalHead bytes → facts ≡ facts_before request_close
   pub after : (head : ResponseHead) (text : List ℕ) → HasFinalHead bytes head text
-      → facts ≡ facts_after_fault (facts_of method request_close head false false)
+      → facts ≡ facts_after_fault (facts_of_head method request_close head false false)
 
 -- the status that the bytes tell: that of the final head
 pub record TellsStatus (bytes : List ℕ) (status : Option ℕ) : Type 0 where
@@ -100,12 +101,11 @@ TellsChunkData text len = (sizes : List ℕ) (rest : List ℕ) → ReadsChunks s
     → (begun : ℕ) × TellsBegun (room_after sizes) rest begun × (len ≡ sum sizes + begun)
 
 -- the bytes of a body of that kind that stand in the text after the head, no more than can be counted
-abbrev pub TellsBodyLength : Framing → Option ℕ → List ℕ → ℕ → Type 0
+abbrev pub TellsBodyLength : BodyKind → Option ℕ → List ℕ → ℕ → Type 0
 TellsBodyLength NoBody counted text len = len ≡ 0
 TellsBodyLength Counted counted text len = len ≡ min (unwrap_or counted 0) (length text)
 TellsBodyLength Chunked counted text len = TellsChunkData text len
 TellsBodyLength UntilClose counted text len = len ≡ min most_bytes (length text)
-TellsBodyLength Faulty counted text len = ⊥
 
 -- the number of body bytes that the bytes tell
 pub record TellsLength (method : Method) (bytes : List ℕ) (len : ℕ) : Type 0 where

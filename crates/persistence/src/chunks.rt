@@ -1,16 +1,17 @@
 //! A body in chunks that comes in pieces (RFC 9112, section 7.1).
-ghost use Rattle.std.specs.Prelude.{◌≡◌, ◌<◌, ℕ, false, List, Option, [], ◌++◌, length, take, IfOk, IfErr};
-ghost use Rattle.persistence.specs.declared.facts.Framing.TheVariants.{Chunked};
-ghost use Rattle.persistence.specs.Faults.{BodyShows, HasLongTrailerBy, IsFirst};
+ghost use Rattle.std.specs.Prelude.{◌≡◌, ◌<◌, ℕ, false, List, Some, [], ◌++◌, length};
+ghost use Rattle.std.specs.Prelude.{IfOk, IfErr};
 ghost use Rattle.persistence.specs.ReadingHeads.{IsTaken};
-ghost use Rattle.persistence.specs.ReadingChunks.{FixesData, IsLineDue, IsDataDue, IsLineEndDue, IsTrailerDue, IsDue, IsInChunks};
+ghost use Rattle.persistence.specs.ReadingChunks.{IsLineDue, IsDataDue, IsLineEndDue, IsTrailerDue};
+ghost use Rattle.persistence.specs.ReadingChunks.{IsDue, IsInChunks, TellsStep};
+ghost use Rattle.persistence.specs.ReadingChunks.{IsFirstInChunks, FixesData};
 
 mod data;
 mod size_line;
 mod trailer;
 
 use crate::ReadFault;
-use crate::body::state::{BodyPlace, BodyState};
+use crate::body::state::{ChunkPart, ChunkedBody};
 use crate::reader::buffer::Buffer;
 use data::{chunk_end_step, data_step};
 use size_line::line_step;
@@ -22,30 +23,32 @@ pub(crate) struct ChunkStep {
     /// How many bytes of the piece belong to the part that was due.
     pub used: usize,
     /// Where the body stands after them.
-    pub state: BodyState,
+    pub chunks: ChunkedBody,
 }
 
 /// Adds the piece to a body in chunks.
 pub(crate) fn feed_chunks(
-    state: &mut BodyState,
+    chunks: &mut ChunkedBody,
     buffer: &mut Buffer,
     piece: &[u8],
 ) -> Result<(), ReadFault>
-    requires stands { (text : List ℕ) × IsInChunks text state.old buffer.old }
-    ensures told { (text : List ℕ) → IsInChunks text state.old buffer.old → IfOk result (λ _. IsInChunks (text ++ piece.now) state.new buffer.new) }
-    ensures fault { (counted : Option ℕ) (text : List ℕ) → IsInChunks text state.old buffer.old
-        → IfErr result (IsFirst (BodyShows Chunked counted) (HasLongTrailerBy Chunked) (text ++ piece.now)) }
-    ensures fixes { (text : List ℕ) → IsInChunks text state.old buffer.old → IfErr result (λ _. FixesData (text ++ piece.now) state.new.len) }
+    requires stands { (text : List ℕ) × IsInChunks text chunks.old buffer.old }
+    ensures told { (text : List ℕ) → IsInChunks text chunks.old buffer.old
+        → IfOk result (λ _. IsInChunks (text ++ piece.now) chunks.new buffer.new) }
+    ensures fault { (text : List ℕ) → IsInChunks text chunks.old buffer.old
+        → IfErr result (IsFirstInChunks (text ++ piece.now)) }
+    ensures fixes { (text : List ℕ) → IsInChunks text chunks.old buffer.old
+        → IfErr result (λ _. FixesData (text ++ piece.now) chunks.new.len) }
 {
     let mut at = 0;
     while at < piece.len() {
-        if state.whole {
-            state.surplus = true;
+        let Some(part) = chunks.part else {
+            chunks.surplus = true;
             return Ok(());
-        }
-        match chunk_step(state.place, state.len, buffer, &piece[at..]) {
+        };
+        match chunk_step(part, chunks.len, buffer, &piece[at..]) {
             Ok(step) => {
-                *state = step.state;
+                *chunks = step.chunks;
                 at += step.used;
             }
             Err(fault) => return Err(fault),
@@ -56,25 +59,26 @@ pub(crate) fn feed_chunks(
 
 // Adds the piece to the part that is due, as far as it belongs to it.
 fn chunk_step(
-    place: BodyPlace,
+    part: ChunkPart,
     len: u64,
     buffer: &mut Buffer,
     piece: &[u8],
 ) -> Result<ChunkStep, ReadFault>
     requires some { 0 < length piece.now }
-    requires stands { (text : List ℕ) × IsDue place text len buffer.old }
+    requires stands { (text : List ℕ) × IsDue part text len buffer.old }
     ensures taken { IfOk result (λ step. IsTaken piece.now step.used) }
-    ensures told { (text : List ℕ) → IsDue place text len buffer.old → IfOk result (λ step. IsInChunks (text ++ take step.used piece.now) step.state buffer.new) }
-    ensures fault { (counted : Option ℕ) (text : List ℕ) → IsDue place text len buffer.old
-        → IfErr result (IsFirst (BodyShows Chunked counted) (HasLongTrailerBy Chunked) (text ++ piece.now)) }
-    ensures fixes { (text : List ℕ) → IsDue place text len buffer.old → IfErr result (λ _. FixesData (text ++ piece.now) len) }
+    ensures told { (text : List ℕ) → IsDue part text len buffer.old
+        → IfOk result (TellsStep text piece.now buffer.new) }
+    ensures fault { (text : List ℕ) → IsDue part text len buffer.old
+        → IfErr result (IsFirstInChunks (text ++ piece.now)) }
+    ensures fixes { (text : List ℕ) → IsDue part text len buffer.old
+        → IfErr result (λ _. FixesData (text ++ piece.now) len) }
 {
-    match place {
-        BodyPlace::Line => step_in_line(len, buffer, piece),
-        BodyPlace::Data { left } => Ok(step_in_data(len, left, piece)),
-        BodyPlace::AfterData { has_cr } => step_after_data(len, has_cr, piece),
-        BodyPlace::Trailer => step_in_trailer(len, buffer, piece),
-        BodyPlace::Counted { .. } | BodyPlace::UntilClose | BodyPlace::End => unreachable!(),
+    match part {
+        ChunkPart::Line => step_in_line(len, buffer, piece),
+        ChunkPart::Data { left } => Ok(step_in_data(len, left, piece)),
+        ChunkPart::LineEnd { has_cr } => step_in_line_end(len, has_cr, piece),
+        ChunkPart::Trailer => step_in_trailer(len, buffer, piece),
     }
 }
 
@@ -82,10 +86,12 @@ fn chunk_step(
 fn step_in_line(len: u64, buffer: &mut Buffer, piece: &[u8]) -> Result<ChunkStep, ReadFault>
     requires stands { (text : List ℕ) × IsLineDue text len buffer.old }
     ensures taken { IfOk result (λ step. IsTaken piece.now step.used) }
-    ensures told { (text : List ℕ) → IsLineDue text len buffer.old → IfOk result (λ step. IsInChunks (text ++ take step.used piece.now) step.state buffer.new) }
-    ensures fault { (counted : Option ℕ) (text : List ℕ) → IsLineDue text len buffer.old
-        → IfErr result (IsFirst (BodyShows Chunked counted) (HasLongTrailerBy Chunked) (text ++ piece.now)) }
-    ensures fixes { (text : List ℕ) → IsLineDue text len buffer.old → IfErr result (λ _. FixesData (text ++ piece.now) len) }
+    ensures told { (text : List ℕ) → IsLineDue text len buffer.old
+        → IfOk result (TellsStep text piece.now buffer.new) }
+    ensures fault { (text : List ℕ) → IsLineDue text len buffer.old
+        → IfErr result (IsFirstInChunks (text ++ piece.now)) }
+    ensures fixes { (text : List ℕ) → IsLineDue text len buffer.old
+        → IfErr result (λ _. FixesData (text ++ piece.now) len) }
 {
     let step = match line_step(buffer, u64::MAX - len, piece) {
         Ok(step) => step,
@@ -94,18 +100,18 @@ fn step_in_line(len: u64, buffer: &mut Buffer, piece: &[u8]) -> Result<ChunkStep
     let Some(size) = step.size else {
         return Ok(ChunkStep {
             used: step.used,
-            state: still_comes(BodyPlace::Line, len),
+            chunks: still_comes(ChunkPart::Line, len),
         });
     };
     if size == 0 {
         return Ok(ChunkStep {
             used: step.used,
-            state: still_comes(BodyPlace::Trailer, len),
+            chunks: still_comes(ChunkPart::Trailer, len),
         });
     }
     Ok(ChunkStep {
         used: step.used,
-        state: still_comes(BodyPlace::Data { left: size }, len),
+        chunks: still_comes(ChunkPart::Data { left: size }, len),
     })
 }
 
@@ -113,39 +119,42 @@ fn step_in_line(len: u64, buffer: &mut Buffer, piece: &[u8]) -> Result<ChunkStep
 fn step_in_data(len: u64, left: u64, piece: &[u8]) -> ChunkStep
     requires stands { (text : List ℕ) × IsDataDue left text len [] }
     ensures taken { IsTaken piece.now result.used }
-    ensures told { (text : List ℕ) → IsDataDue left text len [] → IsInChunks (text ++ take result.used piece.now) result.state [] }
+    ensures told { (text : List ℕ) → IsDataDue left text len []
+        → TellsStep text piece.now [] result }
 {
     let used = data_step(left, piece);
     let came = used as u64;
     if came < left {
         return ChunkStep {
             used,
-            state: still_comes(BodyPlace::Data { left: left - came }, len + came),
+            chunks: still_comes(ChunkPart::Data { left: left - came }, len + came),
         };
     }
     ChunkStep {
         used,
-        state: still_comes(BodyPlace::AfterData { has_cr: false }, len + came),
+        chunks: still_comes(ChunkPart::LineEnd { has_cr: false }, len + came),
     }
 }
 
 // What the first byte of the piece adds to the CR LF after a chunk's data, of which the CR came or not.
-fn step_after_data(len: u64, has_cr: bool, piece: &[u8]) -> Result<ChunkStep, ReadFault>
+fn step_in_line_end(len: u64, has_cr: bool, piece: &[u8]) -> Result<ChunkStep, ReadFault>
     requires some { 0 < length piece.now }
     ensures taken { IfOk result (λ step. IsTaken piece.now step.used) }
-    ensures told { (text : List ℕ) → IsLineEndDue has_cr text len [] → IfOk result (λ step. IsInChunks (text ++ take step.used piece.now) step.state []) }
-    ensures fault { (counted : Option ℕ) (text : List ℕ) → IsLineEndDue has_cr text len []
-        → IfErr result (IsFirst (BodyShows Chunked counted) (HasLongTrailerBy Chunked) (text ++ piece.now)) }
-    ensures fixes { (text : List ℕ) → IsLineEndDue has_cr text len [] → IfErr result (λ _. FixesData (text ++ piece.now) len) }
+    ensures told { (text : List ℕ) → IsLineEndDue has_cr text len []
+        → IfOk result (TellsStep text piece.now []) }
+    ensures fault { (text : List ℕ) → IsLineEndDue has_cr text len []
+        → IfErr result (IsFirstInChunks (text ++ piece.now)) }
+    ensures fixes { (text : List ℕ) → IsLineEndDue has_cr text len []
+        → IfErr result (λ _. FixesData (text ++ piece.now) len) }
 {
     match chunk_end_step(has_cr, piece[0]) {
         None => Ok(ChunkStep {
             used: 1,
-            state: still_comes(BodyPlace::AfterData { has_cr: true }, len),
+            chunks: still_comes(ChunkPart::LineEnd { has_cr: true }, len),
         }),
         Some(true) => Ok(ChunkStep {
             used: 1,
-            state: still_comes(BodyPlace::Line, len),
+            chunks: still_comes(ChunkPart::Line, len),
         }),
         Some(false) => Err(ReadFault::BadChunk),
     }
@@ -155,10 +164,12 @@ fn step_after_data(len: u64, has_cr: bool, piece: &[u8]) -> Result<ChunkStep, Re
 fn step_in_trailer(len: u64, buffer: &mut Buffer, piece: &[u8]) -> Result<ChunkStep, ReadFault>
     requires stands { (text : List ℕ) × IsTrailerDue text len buffer.old }
     ensures taken { IfOk result (λ step. IsTaken piece.now step.used) }
-    ensures told { (text : List ℕ) → IsTrailerDue text len buffer.old → IfOk result (λ step. IsInChunks (text ++ take step.used piece.now) step.state buffer.new) }
-    ensures fault { (counted : Option ℕ) (text : List ℕ) → IsTrailerDue text len buffer.old
-        → IfErr result (IsFirst (BodyShows Chunked counted) (HasLongTrailerBy Chunked) (text ++ piece.now)) }
-    ensures fixes { (text : List ℕ) → IsTrailerDue text len buffer.old → IfErr result (λ _. FixesData (text ++ piece.now) len) }
+    ensures told { (text : List ℕ) → IsTrailerDue text len buffer.old
+        → IfOk result (TellsStep text piece.now buffer.new) }
+    ensures fault { (text : List ℕ) → IsTrailerDue text len buffer.old
+        → IfErr result (IsFirstInChunks (text ++ piece.now)) }
+    ensures fixes { (text : List ℕ) → IsTrailerDue text len buffer.old
+        → IfErr result (λ _. FixesData (text ++ piece.now) len) }
 {
     let step = match trailer_step(buffer, piece) {
         Ok(step) => step,
@@ -167,28 +178,26 @@ fn step_in_trailer(len: u64, buffer: &mut Buffer, piece: &[u8]) -> Result<ChunkS
     if step.whole {
         return Ok(ChunkStep {
             used: step.used,
-            state: BodyState {
-                place: BodyPlace::End,
+            chunks: ChunkedBody {
+                part: None,
                 len,
-                whole: true,
                 surplus: false,
             },
         });
     }
     Ok(ChunkStep {
         used: step.used,
-        state: still_comes(BodyPlace::Trailer, len),
+        chunks: still_comes(ChunkPart::Trailer, len),
     })
 }
 
-// The state of a body in chunks of which that part is due, after so much data.
-fn still_comes(place: BodyPlace, len: u64) -> BodyState
-    ensures { result ≡ record { place = place; len = len; whole = false; surplus = false } }
+// A body in chunks of which that part is due, after so much data.
+fn still_comes(part: ChunkPart, len: u64) -> ChunkedBody
+    ensures { result ≡ record { part = Some part; len = len; surplus = false } }
 {
-    BodyState {
-        place,
+    ChunkedBody {
+        part: Some(part),
         len,
-        whole: false,
         surplus: false,
     }
 }

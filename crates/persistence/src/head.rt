@@ -3,7 +3,7 @@ ghost use Rattle.std.specs.Prelude.{◌≡◌};
 ghost use Rattle.httparse.specs.Grammar.{ResponseHead, status_code};
 ghost use Rattle.persistence.specs.Fields.{fields_of};
 ghost use Rattle.persistence.specs.Framing.{body_kind as kind_of};
-ghost use Rattle.persistence.specs.Told.{facts_of};
+ghost use Rattle.persistence.specs.Told.{facts_of_head};
 ghost use Rattle.persistence.specs.ReadingHeads.{AreWithin, fields_at, TellsHead};
 
 pub(crate) mod elements;
@@ -12,6 +12,7 @@ pub(crate) mod head_step;
 pub(crate) mod heads_step;
 pub(crate) mod lines;
 
+use crate::body::kind::BodyKind;
 use crate::{Facts, Framing, Method, Version};
 use fields::{counted_length, has_field, has_option, is_chunked_last};
 use httparse::spans::{HeaderSpan, ResponseSpans};
@@ -59,34 +60,34 @@ impl Head {
         }
     }
 
-    /// How the response's body is read: never `Faulty`.
-    pub fn body_kind(&self, method: Method) -> Framing
+    /// How the response's body is read.
+    pub fn body_kind(&self, method: Method) -> BodyKind
         ensures { (head : ResponseHead) → TellsHead head self.now → result ≡ kind_of method head }
     {
         let is_head = matches!(method, Method::Head);
         if is_head || self.status == 101 || self.status == 204 || self.status == 304 {
-            Framing::NoBody
+            BodyKind::NoBody
         } else if self.transfer_encoding {
             if self.chunked {
-                Framing::Chunked
+                BodyKind::Chunked
             } else {
-                Framing::UntilClose
+                BodyKind::UntilClose
             }
         } else if self.content_length {
-            Framing::Counted
+            BodyKind::Counted
         } else {
-            Framing::UntilClose
+            BodyKind::UntilClose
         }
     }
 
     /// The facts of the response.
     pub fn facts(&self, method: Method, request_close: bool, whole: bool, surplus: bool) -> Facts
         ensures { (head : ResponseHead) → TellsHead head self.now
-            → result ≡ facts_of method request_close head whole surplus }
+            → result ≡ facts_of_head method request_close head whole surplus }
     {
         let framing = match self.version {
             Version::V10 if self.transfer_encoding => Framing::Faulty,
-            _ => self.body_kind(method),
+            _ => self.body_kind(method).framing(),
         };
         Facts {
             version: self.version,

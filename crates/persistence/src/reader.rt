@@ -6,16 +6,16 @@ ghost use Rattle.persistence.specs.declared.method.Method.{Method};
 ghost use Rattle.persistence.specs.Told.{facts_before, is_some_text, TellsFacts, TellsFactsAfterFault, TellsStatus, TellsLength};
 ghost use Rattle.persistence.specs.Faults.{IsFaultless, IsFirstFault};
 ghost use Rattle.persistence.specs.Reader.{unread, TellsFed, TellsWhole};
-ghost use Rattle.persistence.specs.ReadingPlaces.{IsPlaced, fault_at};
+ghost use Rattle.persistence.specs.ReadingStages.{IsAtStage, fault_at};
 
 pub(crate) mod buffer;
 mod bytes_fed;
-mod place;
+mod stage;
 
 use crate::{Facts, Fed, Framing, Method, ReadFault, Version};
 use buffer::Buffer;
 use bytes_fed::BytesFed;
-use place::{Place, place_after};
+use stage::{Stage, stage_after};
 use std::alloc::Global;
 use std::marker::Model;
 
@@ -27,7 +27,7 @@ pub struct ResponseReader {
     method: Method,
     request_close: bool,
     buffer: Buffer,
-    place: Place,
+    stage: Stage,
     ended: bool,
     any_byte: bool,
     fed: BytesFed,
@@ -41,19 +41,19 @@ impl Model for ResponseReader {
     ghost use Rattle.std.specs.Prelude.{◌≡◌};
     ghost use Rattle.persistence.specs.declared.method.Method.{Method};
     ghost use Rattle.persistence.specs.Told.{is_some_text};
-    ghost use Rattle.persistence.specs.ReadingPlaces.{IsPlaced, fault_at, len_at};
+    ghost use Rattle.persistence.specs.ReadingStages.{IsAtStage, fault_at, len_at};
 
     ghost view = { λ reader. record {
       method = reader.method;
       request_close = reader.request_close;
       bytes = reader.fed.bytes;
       ended = reader.ended;
-      fault = fault_at reader.place;
-      len = len_at reader.place;
+      fault = fault_at reader.stage;
+      len = len_at reader.stage;
     } };
 
     ghost invariant = { λ reader. record {
-      placed : IsPlaced reader.method reader.fed.bytes reader.place reader.buffer;
+      reached : IsAtStage reader.method reader.fed.bytes reader.stage reader.buffer;
       any : reader.any_byte ≡ is_some_text reader.fed.bytes;
     } };
 }
@@ -80,7 +80,7 @@ impl ResponseReader {
             method,
             request_close,
             buffer,
-            place: Place::Heads { skipped: 0 },
+            stage: Stage::Heads { skipped: 0 },
             ended: false,
             any_byte: false,
             fed: BytesFed::new(),
@@ -108,9 +108,9 @@ impl ResponseReader {
         ensures again { (fault : ReadFault) → self.old.fault ≡ Some fault → (result ≡ Err fault) × (self.new.len ≡ self.old.len) }
     {
         self.any_byte |= !piece.is_empty();
-        self.place = place_after(self.method, &mut self.buffer, self.place, piece);
+        self.stage = stage_after(self.method, &mut self.buffer, self.stage, piece);
         self.fed.append(piece);
-        answer_at(&self.place)
+        answer_at(&self.stage)
     }
 
     /// The connection has ended: where the final head came and no fault was answered, a body that lasts
@@ -139,10 +139,10 @@ impl ResponseReader {
     pub fn status(&self) -> Option<u16>
         ensures { TellsStatus self.now.bytes result }
     {
-        match self.place {
-            Place::Heads { .. } => None,
-            Place::Body { head, .. } => Some(head.status),
-            Place::Fault { head, .. } => match head {
+        match self.stage {
+            Stage::Heads { .. } => None,
+            Stage::Body { head, .. } => Some(head.status),
+            Stage::Fault { head, .. } => match head {
                 None => None,
                 Some(head) => Some(head.status),
             },
@@ -158,7 +158,7 @@ impl ResponseReader {
         ensures whole { self.now.fault ≡ None → TellsWhole self.now.method self.now.bytes self.now.ended result.whole }
         ensures after_fault { (fault : ReadFault) → self.now.fault ≡ Some fault → TellsFactsAfterFault self.now.method self.now.request_close self.now.bytes result }
     {
-        facts_at(self.method, self.request_close, &self.place, self.ended)
+        facts_at(self.method, self.request_close, &self.stage, self.ended)
     }
 
     /// How many bytes of the body have come, of chunks the data alone; after a fault, how many came before
@@ -167,47 +167,52 @@ impl ResponseReader {
         ensures len { result ≡ self.now.len }
         ensures told { TellsLength self.now.method self.now.bytes result }
     {
-        match self.place {
-            Place::Heads { .. } => 0,
-            Place::Body { body, .. } => body.len,
-            Place::Fault { len, .. } => len,
+        match self.stage {
+            Stage::Heads { .. } => 0,
+            Stage::Body { body, .. } => body.len(),
+            Stage::Fault { len, .. } => len,
         }
     }
 }
 
 // What the reader answers there, while the connection lasts.
-fn answer_at(place: &Place) -> Result<Fed, ReadFault>
-    ensures told { (method : Method) (bytes kept : List ℕ) → IsPlaced method bytes place.now kept → IfOk result (TellsFed method bytes) }
-    ensures faultless { (method : Method) (bytes kept : List ℕ) → IsPlaced method bytes place.now kept
-        → IfOk result (λ _. (fault_at place.now ≡ None) × IsFaultless method bytes) }
-    ensures fault { IfErr result (λ fault. fault_at place.now ≡ Some fault) }
+fn answer_at(stage: &Stage) -> Result<Fed, ReadFault>
+    ensures told { (method : Method) (bytes kept : List ℕ) → IsAtStage method bytes stage.now kept → IfOk result (TellsFed method bytes) }
+    ensures faultless { (method : Method) (bytes kept : List ℕ) → IsAtStage method bytes stage.now kept
+        → IfOk result (λ _. (fault_at stage.now ≡ None) × IsFaultless method bytes) }
+    ensures fault { IfErr result (λ fault. fault_at stage.now ≡ Some fault) }
 {
-    match place {
-        Place::Heads { .. } => Ok(Fed::More),
-        Place::Body { body, .. } => {
+    match stage {
+        Stage::Heads { .. } => Ok(Fed::More),
+        Stage::Body { body, .. } => {
             if body.is_whole(false) {
                 return Ok(Fed::Whole);
             }
             Ok(Fed::More)
         }
-        Place::Fault { fault, .. } => Err(*fault),
+        Stage::Fault { fault, .. } => Err(*fault),
     }
 }
 
 // The facts there.
-fn facts_at(method: Method, request_close: bool, place: &Place, ended: bool) -> Facts
-    ensures told { (bytes kept : List ℕ) → IsPlaced method bytes place.now kept → fault_at place.now ≡ None
+fn facts_at(method: Method, request_close: bool, stage: &Stage, ended: bool) -> Facts
+    ensures told { (bytes kept : List ℕ) → IsAtStage method bytes stage.now kept → fault_at stage.now ≡ None
         → TellsFacts method request_close bytes ended result }
-    ensures whole { (bytes kept : List ℕ) → IsPlaced method bytes place.now kept → fault_at place.now ≡ None → TellsWhole method bytes ended result.whole }
-    ensures after_fault { (bytes kept : List ℕ) → IsPlaced method bytes place.now kept → (fault : ReadFault) → fault_at place.now ≡ Some fault
+    ensures whole { (bytes kept : List ℕ) → IsAtStage method bytes stage.now kept → fault_at stage.now ≡ None → TellsWhole method bytes ended result.whole }
+    ensures after_fault { (bytes kept : List ℕ) → IsAtStage method bytes stage.now kept → (fault : ReadFault) → fault_at stage.now ≡ Some fault
         → TellsFactsAfterFault method request_close bytes result }
 {
-    match place {
-        Place::Heads { .. } => facts_before_head(request_close),
-        Place::Body { head, body } => {
-            head.facts(method, request_close, body.is_whole(ended), body.surplus)
+    match stage {
+        Stage::Heads { .. } => facts_before_head(request_close),
+        Stage::Body { head, body } => {
+            head.facts(
+                method,
+                request_close,
+                body.is_whole(ended),
+                body.has_surplus(),
+            )
         }
-        Place::Fault { head, .. } => match head {
+        Stage::Fault { head, .. } => match head {
             None => facts_before_head(request_close),
             Some(head) => Facts {
                 framing: Framing::Faulty,

@@ -1,22 +1,20 @@
 use Rattle.std.proofs.Common.{ℕ, ◌-◌, List, ◌++◌, length, take, drop, sym, subst, arith, length-take, length-drop}
 use Rattle.std.proofs.lemmas.List.{append-nil, take_all}
-use Rattle.persistence.specs.declared.facts.Framing.TheVariants.{Chunked}
-use Rattle.persistence.specs.Faults.{BodyShows, HasLongTrailerBy, IsFirst}
-use Rattle.persistence.specs.ReadingChunks.{FixesData, IsInChunks}
+use Rattle.persistence.specs.ReadingChunks.{FixesData, IsInChunks, IsFirstInChunks}
 use Rattle.persistence.proofs.ChunkStepLemmas.{due_now, taken_further, taken_all_rest, surplus_after}
 use Rattle.persistence.proofs.chunks.feed_chunks.Goals as goal
 
 pub loop-at-init : goal.loop-at-init
-loop-at-init c = (omega arith, λ text at. subst (λ (t : List ℕ). IsInChunks t c.args.state.now c.args.buffer.now) (sym (append-nil text)) at)
+loop-at-init c = (omega arith, λ text at. subst (λ (t : List ℕ). IsInChunks t c.args.chunks.now c.args.buffer.now) (sym (append-nil text)) at)
 
-pub returns-then-state-clause-told : goal.returns-then-state-clause-told
-returns-then-state-clause-told c = λ text at.
-    surplus_after text c.args.piece.now c.loop-at.at c.loop-at.state c.loop-at.buffer (c.loop-at.invariant.1 text at) c.if-state.true c.loop-at-test.true
+pub returns-in_default-clause-told : goal.returns-in_default-clause-told
+returns-in_default-clause-told c = λ text at.
+    surplus_after text c.args.piece.now c.loop-at.at c.loop-at.chunks c.loop-at.buffer (c.loop-at.invariant.1 text at) c.in_default.is c.loop-at-test.true
 
 pub chunk_step-requires-clause-stands : goal.chunk_step-requires-clause-stands
 chunk_step-requires-clause-stands c =
     let text = c.requires.stands.0 ++ take c.loop-at.at c.args.piece.now in
-    (text, due_now text c.loop-at.state c.loop-at.buffer (c.loop-at.invariant.1 c.requires.stands.0 c.requires.stands.1) c.if-state.false)
+    (text, due_now text c.loop-at.chunks c.loop-at.buffer c.in-Some.part (c.loop-at.invariant.1 c.requires.stands.0 c.requires.stands.1) c.in-Some.is)
 
 pub loop-at-preserved : goal.loop-at-preserved
 loop-at-preserved c =
@@ -24,24 +22,23 @@ loop-at-preserved c =
       omega (arith, taken.within, length-take (length c.args.piece.now - c.loop-at.at) (drop c.loop-at.at c.args.piece.now), length-drop c.loop-at.at c.args.piece.now, c.loop-at-test.true),
       λ text at. (
           let now = text ++ take c.loop-at.at c.args.piece.now in
-          let due = due_now now c.loop-at.state c.loop-at.buffer (c.loop-at.invariant.1 text at) c.if-state.false in
-          subst (λ (t : List ℕ). IsInChunks t c.in-Ok.step.state c.chunk_step.new.buffer) (taken_further text c.args.piece.now c.loop-at.at c.in-Ok.step.used) (c.in-Ok.ensures.told now due)
+          let due = due_now now c.loop-at.chunks c.loop-at.buffer c.in-Some.part (c.loop-at.invariant.1 text at) c.in-Some.is in
+          subst (λ (t : List ℕ). IsInChunks t c.in-Ok.step.chunks c.chunk_step.new.buffer) (taken_further text c.args.piece.now c.loop-at.at c.in-Ok.step.used) (c.in-Ok.ensures.told now due)
           ),
     )
 
 pub returns-in-Err-clause-fault : goal.returns-in-Err-clause-fault
-returns-in-Err-clause-fault c = λ counted text at.
+returns-in-Err-clause-fault c = λ text at.
     let now = text ++ take c.loop-at.at c.args.piece.now in
-    let due = due_now now c.loop-at.state c.loop-at.buffer (c.loop-at.invariant.1 text at) c.if-state.false in
-    subst (λ (t : List ℕ). IsFirst (BodyShows Chunked counted) (HasLongTrailerBy Chunked) t c.in-Err.fault) (taken_all_rest text c.args.piece.now c.loop-at.at)
-    (c.in-Err.ensures.fault counted now due)
+    let due = due_now now c.loop-at.chunks c.loop-at.buffer c.in-Some.part (c.loop-at.invariant.1 text at) c.in-Some.is in
+    subst (λ (t : List ℕ). IsFirstInChunks t c.in-Err.fault) (taken_all_rest text c.args.piece.now c.loop-at.at) (c.in-Err.ensures.fault now due)
 
 pub returns-in-Err-clause-fixes : goal.returns-in-Err-clause-fixes
 returns-in-Err-clause-fixes c = λ text at.
     let now = text ++ take c.loop-at.at c.args.piece.now in
-    let due = due_now now c.loop-at.state c.loop-at.buffer (c.loop-at.invariant.1 text at) c.if-state.false in
-    subst (λ (t : List ℕ). FixesData t c.loop-at.state.len) (taken_all_rest text c.args.piece.now c.loop-at.at) (c.in-Err.ensures.fixes now due)
+    let due = due_now now c.loop-at.chunks c.loop-at.buffer c.in-Some.part (c.loop-at.invariant.1 text at) c.in-Some.is in
+    subst (λ (t : List ℕ). FixesData t c.loop-at.chunks.len) (taken_all_rest text c.args.piece.now c.loop-at.at) (c.in-Err.ensures.fixes now due)
 
 pub returns-clause-told : goal.returns-clause-told
 returns-clause-told c = λ text at.
-    subst (λ (t : List ℕ). IsInChunks (text ++ t) c.loop-at.state c.loop-at.buffer) (take_all c.loop-at.at c.args.piece.now c.loop-at-test.false) (c.loop-at.invariant.1 text at)
+    subst (λ (t : List ℕ). IsInChunks (text ++ t) c.loop-at.chunks c.loop-at.buffer) (take_all c.loop-at.at c.args.piece.now c.loop-at-test.false) (c.loop-at.invariant.1 text at)

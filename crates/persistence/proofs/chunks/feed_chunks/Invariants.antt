@@ -6,7 +6,7 @@ use Rattle.persistence.proofs.chunks.feed_chunks.Given as goal
 abbrev pub invariant-loop-at : goal.invariant-loop-at
 invariant-loop-at l =
     (l.at ≤ length l.piece)
-    × ((text : List ℕ) → IsInChunks text l.initial.state l.initial.buffer → IsInChunks (text ++ take l.at l.piece) l.state l.buffer)
+    × ((text : List ℕ) → IsInChunks text l.initial.chunks l.initial.buffer → IsInChunks (text ++ take l.at l.piece) l.chunks l.buffer)
 
 abbrev pub decreases-loop-at : goal.decreases-loop-at
 decreases-loop-at l = length l.piece - l.at

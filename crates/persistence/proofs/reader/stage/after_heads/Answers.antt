@@ -2,9 +2,9 @@ use Rattle.std.proofs.Common.{ℕ, List, ◌++◌, length, take, ap, subst, arit
 use Rattle.std.proofs.lemmas.List.{take_rest}
 use Rattle.persistence.specs.Faults.{IsFirstFault}
 use Rattle.persistence.specs.ReadingHeads.{AwaitsHeads, NeverHasFinalHead}
-use Rattle.persistence.specs.ReadingPlaces.{IsPlaced}
-use Rattle.persistence.proofs.PlaceLemmas.{never_fixes, piece_whole, piece_further, piece_last}
-use Rattle.persistence.proofs.reader.place.after_heads.Goals as goal
+use Rattle.persistence.specs.ReadingStages.{IsAtStage}
+use Rattle.persistence.proofs.StageLemmas.{never_fixes, piece_whole, piece_further, piece_last}
+use Rattle.persistence.proofs.reader.stage.after_heads.Goals as goal
 
 pub heads_step-requires-clause-short : goal.heads_step-requires-clause-short
 heads_step-requires-clause-short c = (c.loop-at.invariant.1 c.requires.stands.0 c.requires.stands.1).short
@@ -14,7 +14,7 @@ heads_step-requires-clause-few c = (c.loop-at.invariant.1 c.requires.stands.0 c.
 
 pub returns-in-Err : goal.returns-in-Err
 returns-in-Err c = record {
-  placed = λ bytes before. (
+  reached = λ bytes before. (
       let here = c.loop-at.invariant.1 bytes before in
       let from = bytes ++ take c.loop-at.at c.args.piece.now in
       let is = piece_whole bytes c.args.piece.now _ c.loop-at.at (take_rest c.args.piece.now c.loop-at.at) in
@@ -33,11 +33,11 @@ after_head-requires c =
 
 pub returns-in-Some : goal.returns-in-Some
 returns-in-Some c = record {
-  placed = λ bytes before. (
+  reached = λ bytes before. (
       let ends = rw c.in-Some.is at c.in-Ok.ensures.found (bytes ++ take c.loop-at.at c.args.piece.now) (c.loop-at.invariant.1 bytes before) in
-      subst (λ (t : List ℕ). IsPlaced c.args.method t c.after_head.result c.after_head.new.buffer)
+      subst (λ (t : List ℕ). IsAtStage c.args.method t c.after_head.result c.after_head.new.buffer)
       (piece_last bytes c.args.piece.now _ c.loop-at.at (take_rest c.args.piece.now c.loop-at.at) c.in-Ok.step.used _ (take_rest _ c.in-Ok.step.used))
-      (c.after_head.ensures.placed _ ends));
+      (c.after_head.ensures.reached _ ends));
 }
 
 pub loop-at-preserved : goal.loop-at-preserved

@@ -1,11 +1,12 @@
-use Rattle.std.proofs.Common.{◌++◌}
+use Rattle.std.proofs.Common.{◌++◌, sym, subst}
 use Rattle.persistence.specs.Framing.{body_kind}
-use Rattle.persistence.proofs.PlaceLemmas.{passes_more, passes_fault, passes_fixes}
-use Rattle.persistence.proofs.reader.place.after_body.Goals as goal
+use Rattle.persistence.specs.ReadingBody.{FixesBody}
+use Rattle.persistence.proofs.StageLemmas.{passes_more, passes_fault, passes_fixes}
+use Rattle.persistence.proofs.reader.stage.after_body.Goals as goal
 
 pub returns-in-Ok : goal.returns-in-Ok
 returns-in-Ok c = record {
-  placed = λ method bytes at. (record {
+  reached = λ method bytes at. (record {
     text = at.text ++ c.args.piece.now;
     passes = passes_more bytes at.text c.args.piece.now c.args.head at.passes;
     at = c.in-Ok.ensures.told (body_kind method at.passes.head) c.args.head.counted at.text at.at;
@@ -14,13 +15,14 @@ returns-in-Ok c = record {
 
 pub returns-in-Err : goal.returns-in-Err
 returns-in-Err c = record {
-  placed = λ method bytes at. (
+  reached = λ method bytes at. (
       let more = passes_more bytes at.text c.args.piece.now c.args.head at.passes in
       record {
         first = passes_fault method (bytes ++ c.args.piece.now) c.args.head (at.text ++ c.args.piece.now) more c.in-Err.fault
             (c.in-Err.ensures.fault (body_kind method at.passes.head) c.args.head.counted at.text at.at);
         tells = (at.text ++ c.args.piece.now, more);
-        fixes = passes_fixes method (bytes ++ c.args.piece.now) c.args.head (at.text ++ c.args.piece.now) more c.feed_body.new.state.len
-            (c.in-Err.ensures.fixes (body_kind method at.passes.head) c.args.head.counted at.text at.at);
+        fixes = passes_fixes method (bytes ++ c.args.piece.now) c.args.head (at.text ++ c.args.piece.now) more c.len.result
+            (subst (FixesBody (body_kind method at.passes.head) c.args.head.counted (at.text ++ c.args.piece.now)) (sym c.len.ensures)
+            (c.in-Err.ensures.fixes (body_kind method at.passes.head) c.args.head.counted at.text at.at));
       });
 }

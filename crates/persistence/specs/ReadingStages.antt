@@ -5,14 +5,14 @@ use Rattle.persistence.specs.declared.answer.ReadFault.{ReadFault}
 use Rattle.persistence.specs.declared.method.Method.{Method}
 use Rattle.persistence.specs.declared.head.Head.{Head}
 use Rattle.persistence.specs.declared.body.state.BodyState.{BodyState}
-use Rattle.persistence.specs.declared.reader.place.Place.{Place}
-use Rattle.persistence.specs.declared.reader.place.Place.TheVariants.{Heads, Body, Fault}
+use Rattle.persistence.specs.declared.reader.stage.Stage.{Stage}
+use Rattle.persistence.specs.declared.reader.stage.Stage.TheVariants.{Heads, Body, Fault}
 use Rattle.persistence.specs.Heads.{HasFinalHead}
 use Rattle.persistence.specs.Framing.{body_kind}
 use Rattle.persistence.specs.Told.{TellsLength}
 use Rattle.persistence.specs.Faults.{IsFirstFault}
 use Rattle.persistence.specs.ReadingHeads.{TellsHead, AwaitsHeads, NeverHasFinalHead}
-use Rattle.persistence.specs.ReadingBody.{BodyAt}
+use Rattle.persistence.specs.ReadingBody.{BodyAt, len_of}
 
 -- the final head came, which says this, and so did this text after it
 pub record PassesHead (bytes : List ℕ) (told : Head) (text : List ℕ) : Type 0 where
@@ -41,20 +41,20 @@ pub record IsFaulty (method : Method) (bytes : List ℕ) (fault : ReadFault) (he
   pub tells : TellsFinalHead bytes head
   pub fixes : FixesLength method bytes len
 
--- what is known at that place, where the buffer keeps these bytes
-abbrev pub IsPlaced : Method → List ℕ → Place → List ℕ → Type 0
-IsPlaced method bytes (Heads skipped) kept = AwaitsHeads bytes skipped kept
-IsPlaced method bytes (Body head body) kept = IsInBody method bytes head body kept
-IsPlaced method bytes (Fault fault head len) kept = IsFaulty method bytes fault head len
+-- what is known at that stage, where the buffer keeps these bytes
+abbrev pub IsAtStage : Method → List ℕ → Stage → List ℕ → Type 0
+IsAtStage method bytes (Heads skipped) kept = AwaitsHeads bytes skipped kept
+IsAtStage method bytes (Body head body) kept = IsInBody method bytes head body kept
+IsAtStage method bytes (Fault fault head len) kept = IsFaulty method bytes fault head len
 
 -- the fault that was answered
-abbrev pub fault_at : Place → Option ReadFault
+abbrev pub fault_at : Stage → Option ReadFault
 fault_at (Heads skipped) = None
 fault_at (Body head body) = None
 fault_at (Fault fault head len) = Some fault
 
 -- the number of body bytes that is told there
-abbrev pub len_at : Place → ℕ
+abbrev pub len_at : Stage → ℕ
 len_at (Heads skipped) = 0
-len_at (Body head body) = body.len
+len_at (Body head body) = len_of body
 len_at (Fault fault head len) = len

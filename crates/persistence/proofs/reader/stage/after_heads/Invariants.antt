@@ -1,6 +1,6 @@
 use Rattle.std.proofs.Common.{ℕ, ◌-◌, ◌≤◌, List, ◌++◌, length, take}
 use Rattle.persistence.specs.ReadingHeads.{AwaitsHeads}
-use Rattle.persistence.proofs.reader.place.after_heads.Given as goal
+use Rattle.persistence.proofs.reader.stage.after_heads.Given as goal
 
 abbrev pub invariant-loop-at : goal.invariant-loop-at
 invariant-loop-at l = (l.at ≤ length l.piece)

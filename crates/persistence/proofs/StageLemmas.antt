@@ -5,28 +5,29 @@ use Rattle.std.proofs.Math.Seq.{take-add}
 use Rattle.std.proofs.lemmas.List.{append-nil}
 use Rattle.httparse.specs.Grammar.{ResponseHead}
 use Rattle.persistence.specs.declared.facts.Facts.{Facts}
-use Rattle.persistence.specs.declared.facts.Framing.{Framing}
-use Rattle.persistence.specs.declared.facts.Framing.TheVariants.{NoBody, Counted, Chunked, UntilClose, Faulty}
+use Rattle.persistence.specs.declared.body.kind.BodyKind.{BodyKind}
+use Rattle.persistence.specs.declared.body.kind.BodyKind.TheVariants.{NoBody, Counted, Chunked, UntilClose}
+use Rattle.persistence.specs.declared.facts.Framing.TheVariants.{Faulty}
 use Rattle.persistence.specs.declared.answer.ReadFault.{ReadFault}
 use Rattle.persistence.specs.declared.answer.ReadFault.TheVariants.{Memory, BadLength, BadChunk, TooManyInterims}
 use Rattle.persistence.specs.declared.method.Method.{Method}
 use Rattle.persistence.specs.declared.head.Head.{Head}
 use Rattle.persistence.specs.declared.body.state.BodyState.{BodyState}
-use Rattle.persistence.specs.declared.reader.place.Place.{Place}
-use Rattle.persistence.specs.declared.reader.place.Place.TheVariants.{Heads, Body, Fault}
+use Rattle.persistence.specs.declared.reader.stage.Stage.{Stage}
+use Rattle.persistence.specs.declared.reader.stage.Stage.TheVariants.{Heads, Body, Fault}
 use Rattle.persistence.specs.Fields.{fields_of, counted_length}
 use Rattle.persistence.specs.Framing.{body_kind}
 use Rattle.persistence.specs.Split.{EndsBody}
-use Rattle.persistence.specs.Told.{facts_of, facts_before, facts_after_fault, is_some_text, HasNoFinalHead, TellsFacts, TellsFactsAfterFault, TellsStatus, TellsBodyLength, TellsLength}
+use Rattle.persistence.specs.Told.{facts_of_head, facts_before, facts_after_fault, is_some_text, HasNoFinalHead, TellsFacts, TellsFactsAfterFault, TellsStatus, TellsBodyLength, TellsLength}
 use Rattle.persistence.specs.Faults.{BodyShows, Shows, HasLongTrailerBy, HasLongSection, IsFaultless, IsFirst, IsFirstFault}
 use Rattle.persistence.specs.Reader.{TellsWhole}
 use Rattle.persistence.specs.ReadingHeads.{TellsHead, AwaitsHeads, EndsHeadsIn, NeverHasFinalHead}
-use Rattle.persistence.specs.ReadingBody.{HasNoEnd, whole_of, BodyAt, FixesBody, TellsPieces}
-use Rattle.persistence.specs.ReadingPlaces.{PassesHead, IsInBody, TellsFinalHead, FixesLength, IsFaulty, IsPlaced, fault_at}
+use Rattle.persistence.specs.ReadingBody.{len_of, whole_of, surplus_of, HasNoEnd, BodyAt, FixesBody, TellsBody}
+use Rattle.persistence.specs.ReadingStages.{PassesHead, IsInBody, TellsFinalHead, FixesLength, IsFaulty, IsAtStage, fault_at}
 use Rattle.persistence.proofs.HeadLemmas.{no_final, nothing_shown, HasFinalHead-append}
 use Rattle.persistence.proofs.StepLemmas.{first_further, taken_and_rest}
 use Rattle.persistence.proofs.InterimLemmas.{nothing_awaited}
-use Rattle.persistence.proofs.BodyLemmas.{tells_pieces}
+use Rattle.persistence.proofs.BodyLemmas.{tells_body}
 use Rattle.persistence.proofs.ResponseLemmas.{faultless, first_in_body, final_unique, length_there, status_there, split_of, no_split, parts_of, facts_open, facts_whole, TellsNoHead, tells_before}
 
 -- ---- where a head is due
@@ -60,9 +61,9 @@ module _ (method : Method) (bytes : List ℕ) (told : Head) (text : List ℕ) (p
       first_in_body method passes.head bytes text passes.has fault
       (subst (λ (n : Option ℕ). IsFirst (BodyShows (body_kind method passes.head) n) (HasLongTrailerBy (body_kind method passes.head)) text fault) passes.says.counted found)
 
-  module _ (ended : Bool) (len : ℕ) (whole surplus : Bool) (tells : TellsPieces (body_kind method passes.head) told.counted ended text len whole surplus) where
-    here : TellsPieces (body_kind method passes.head) (counted_length (fields_of passes.head)) ended text len whole surplus
-    here = subst (λ (n : Option ℕ). TellsPieces (body_kind method passes.head) n ended text len whole surplus) passes.says.counted tells
+  module _ (ended : Bool) (len : ℕ) (whole surplus : Bool) (tells : TellsBody (body_kind method passes.head) told.counted ended text len whole surplus) where
+    here : TellsBody (body_kind method passes.head) (counted_length (fields_of passes.head)) ended text len whole surplus
+    here = subst (λ (n : Option ℕ). TellsBody (body_kind method passes.head) n ended text len whole surplus) passes.says.counted tells
 
     pub pieces_clean : IsFaultless method bytes
     pieces_clean = faultless method passes.head bytes text passes.has here.clean
@@ -78,17 +79,17 @@ module _ (method : Method) (bytes : List ℕ) (told : Head) (text : List ℕ) (p
     abbrev Lasts : Type 0
     Lasts = HasNoEnd (body_kind method passes.head) (counted_length (fields_of passes.head)) ended text × (surplus ≡ false)
 
-    pub pieces_facts : (request_close : Bool) → TellsFacts method request_close bytes ended (facts_of method request_close passes.head whole surplus)
+    pub pieces_facts : (request_close : Bool) → TellsFacts method request_close bytes ended (facts_of_head method request_close passes.head whole surplus)
     pieces_facts request_close = go whole here.yes here.no
       where
-        go : (whole : Bool) → (whole ≡ true → Ends) → (whole ≡ false → Lasts) → TellsFacts method request_close bytes ended (facts_of method request_close passes.head whole surplus)
+        go : (whole : Bool) → (whole ≡ true → Ends) → (whole ≡ false → Lasts) → TellsFacts method request_close bytes ended (facts_of_head method request_close passes.head whole surplus)
         go true ends lasts =
             let e = ends refl in
-            subst (λ b. TellsFacts method request_close bytes ended (facts_of method request_close passes.head true b)) (sym e.4)
+            subst (λ b. TellsFacts method request_close bytes ended (facts_of_head method request_close passes.head true b)) (sym e.4)
             (facts_whole method passes.head bytes text passes.has ended request_close e.0 e.1 e.2 e.3)
         go false ends lasts =
             let e = lasts refl in
-            subst (λ b. TellsFacts method request_close bytes ended (facts_of method request_close passes.head false b)) (sym e.1)
+            subst (λ b. TellsFacts method request_close bytes ended (facts_of_head method request_close passes.head false b)) (sym e.1)
             (facts_open method passes.head bytes text passes.has ended request_close e.0)
 
     pub pieces_whole : TellsWhole method bytes ended whole
@@ -98,10 +99,10 @@ module _ (method : Method) (bytes : List ℕ) (told : Head) (text : List ℕ) (p
     }
 
   -- after a fault
-  pub passes_facts : (request_close : Bool) → TellsFactsAfterFault method request_close bytes (facts_after_fault (facts_of method request_close passes.head false false))
+  pub passes_facts : (request_close : Bool) → TellsFactsAfterFault method request_close bytes (facts_after_fault (facts_of_head method request_close passes.head false false))
   passes_facts request_close = record {
     before = λ none. absurd (none passes.head text passes.has);
-    after = λ other rest has. ap (λ (h : ResponseHead). facts_after_fault (facts_of method request_close h false false)) (final_unique bytes passes.head other text rest passes.has has).0;
+    after = λ other rest has. ap (λ (h : ResponseHead). facts_after_fault (facts_of_head method request_close h false false)) (final_unique bytes passes.head other text rest passes.has has).0;
   }
 
 -- one piece more after the final head
@@ -151,13 +152,12 @@ faulty_more method bytes piece fault head len faulty = record {
 pub memory_never : (method : Method) (bytes : List ℕ) (fault : ReadFault) → IsFirstFault method bytes fault → fault ≢ Memory
 memory_never method bytes fault first is = never_shown method first.front (subst (Shows method first.front) is first.shown)
   where
-    in_body : (kind : Framing) (counted : Option ℕ) (text : List ℕ) → BodyShows kind counted text Memory → ⊥
+    in_body : (kind : BodyKind) (counted : Option ℕ) (text : List ℕ) → BodyShows kind counted text Memory → ⊥
     in_body NoBody counted text shown = shown
     in_body Counted counted text shown = (let e : Memory ≡ BadLength = shown.0 in cc)
     in_body Chunked counted text (inl shown) = (let e : Memory ≡ BadChunk = shown.0 in cc)
     in_body Chunked counted text (inr shown) = shown.shows
     in_body UntilClose counted text shown = (let e : Memory ≡ BadLength = shown.0 in cc)
-    in_body Faulty counted text shown = shown
 
     never_shown : (method : Method) (front : List ℕ) → Shows method front Memory → ⊥
     never_shown method front (inl shown) = shown.shows
@@ -166,12 +166,12 @@ memory_never method bytes fault first is = never_shown method first.front (subst
 
 -- ---- where the final head has just come
 
-module _ (method : Method) (bytes kept : List ℕ) (told : Head) (ends : EndsHeadsIn bytes kept told) (kind : Framing) (is : kind ≡ body_kind method ends.head) where
+module _ (method : Method) (bytes kept : List ℕ) (told : Head) (ends : EndsHeadsIn bytes kept told) (kind : BodyKind) (is : kind ≡ body_kind method ends.head) where
   pub body_now : (state : BodyState) → BodyAt kind told.counted [] state [] → IsInBody method bytes told state kept
   body_now state at = record {
     text = [];
     passes = passes_now bytes kept told ends;
-    at = subst (λ (t : List ℕ). BodyAt (body_kind method ends.head) told.counted [] state t) (sym ends.is) (subst (λ (k : Framing). BodyAt k told.counted [] state []) is at);
+    at = subst (λ (t : List ℕ). BodyAt (body_kind method ends.head) told.counted [] state t) (sym ends.is) (subst (λ (k : BodyKind). BodyAt k told.counted [] state []) is at);
   }
 
   pub fault_now : (piece : List ℕ) (fault : ReadFault) → IsFirst (BodyShows kind told.counted) (HasLongTrailerBy kind) [] fault → FixesBody kind told.counted [] 0
@@ -180,12 +180,12 @@ module _ (method : Method) (bytes kept : List ℕ) (told : Head) (ends : EndsHea
       faulty_more method bytes piece fault (Some told) 0
       (record {
         first = passes_fault method bytes told [] (passes_now bytes kept told ends) fault
-            (subst (λ (k : Framing). IsFirst (BodyShows k told.counted) (HasLongTrailerBy k) [] fault) is found);
+            (subst (λ (k : BodyKind). IsFirst (BodyShows k told.counted) (HasLongTrailerBy k) [] fault) is found);
         tells = ([], passes_now bytes kept told ends);
-        fixes = passes_fixes method bytes told [] (passes_now bytes kept told ends) 0 (subst (λ (k : Framing). FixesBody k told.counted [] 0) is fixes);
+        fixes = passes_fixes method bytes told [] (passes_now bytes kept told ends) 0 (subst (λ (k : BodyKind). FixesBody k told.counted [] 0) is fixes);
       })
 
--- ---- a piece that is read from a place on
+-- ---- a piece that is read from a stage on
 
 module _ (bytes piece rest : List ℕ) (at : ℕ) (is : rest ≡ drop at piece) where
   pub piece_whole : (bytes ++ take at piece) ++ rest ≡ bytes ++ piece
@@ -196,64 +196,64 @@ module _ (bytes piece rest : List ℕ) (at : ℕ) (is : rest ≡ drop at piece) 
       ap (λ (t : List ℕ). (bytes ++ take at piece) ++ take used t) is ∙ append_assoc bytes (take at piece) (take used (drop at piece))
       ∙ ap (λ (t : List ℕ). bytes ++ t) (sym (take-add at used piece))
 
-  -- and from a place further on
+  -- and from a stage further on
   module _ (used : ℕ) (last : List ℕ) (after : last ≡ drop used rest) where
     pub piece_last : ((bytes ++ take at piece) ++ take used rest) ++ last ≡ bytes ++ piece
     piece_last = ap (λ (t : List ℕ). ((bytes ++ take at piece) ++ take used rest) ++ t) after
         ∙ taken_and_rest (bytes ++ take at piece) rest ((bytes ++ take at piece) ++ take used rest) used refl ∙ piece_whole
 
--- ---- any place
+-- ---- any stage
 
 -- nothing came yet
-pub nothing_placed : (bytes kept : List ℕ) → bytes ≡ [] → kept ≡ [] → AwaitsHeads bytes 0 kept
-nothing_placed bytes kept no_bytes none_kept =
+pub nothing_fed : (bytes kept : List ℕ) → bytes ≡ [] → kept ≡ [] → AwaitsHeads bytes 0 kept
+nothing_fed bytes kept no_bytes none_kept =
     subst (λ (t : List ℕ). AwaitsHeads t 0 kept) (sym no_bytes)
     (subst (AwaitsHeads [] 0) (sym none_kept)
     (record { interims = []; many = refl; few = omega arith; each = refl; awaited = nothing_awaited; short = omega arith }))
 
 module _ (method : Method) (bytes kept : List ℕ) where
-  pub placed_at : (one other : Place) → one ≡ other → IsPlaced method bytes one kept → IsPlaced method bytes other kept
-  placed_at one other is placed = subst (λ (place : Place). IsPlaced method bytes place kept) is placed
+  pub at_stage : (one other : Stage) → one ≡ other → IsAtStage method bytes one kept → IsAtStage method bytes other kept
+  at_stage one other is reached = subst (λ (stage : Stage). IsAtStage method bytes stage kept) is reached
 
   module _ (told : Head) (state : BodyState) (at : IsInBody method bytes told state kept) where
-    body_pieces : (ended : Bool) → TellsPieces (body_kind method at.passes.head) told.counted ended at.text state.len (whole_of state ended) state.surplus
-    body_pieces ended = tells_pieces (body_kind method at.passes.head) told.counted ended at.text state kept at.at
+    body_pieces : (ended : Bool) → TellsBody (body_kind method at.passes.head) told.counted ended at.text (len_of state) (whole_of ended state) (surplus_of state)
+    body_pieces ended = tells_body (body_kind method at.passes.head) told.counted ended at.text state kept at.at
 
     pub body_status : TellsStatus bytes (Some told.status)
     body_status = passes_status method bytes told at.text at.passes
 
-    pub body_length : TellsLength method bytes state.len
-    body_length = pieces_length method bytes told at.text at.passes false state.len (whole_of state false) state.surplus (body_pieces false)
+    pub body_length : TellsLength method bytes (len_of state)
+    body_length = pieces_length method bytes told at.text at.passes false (len_of state) (whole_of false state) (surplus_of state) (body_pieces false)
 
     pub body_clean : IsFaultless method bytes
-    body_clean = pieces_clean method bytes told at.text at.passes false state.len (whole_of state false) state.surplus (body_pieces false)
+    body_clean = pieces_clean method bytes told at.text at.passes false (len_of state) (whole_of false state) (surplus_of state) (body_pieces false)
 
-    pub body_whole : (ended : Bool) → TellsWhole method bytes ended (whole_of state ended)
-    body_whole ended = pieces_whole method bytes told at.text at.passes ended state.len (whole_of state ended) state.surplus (body_pieces ended)
+    pub body_whole : (ended : Bool) → TellsWhole method bytes ended (whole_of ended state)
+    body_whole ended = pieces_whole method bytes told at.text at.passes ended (len_of state) (whole_of ended state) (surplus_of state) (body_pieces ended)
 
-    pub body_facts : (request_close ended whole : Bool) (facts : Facts) → whole ≡ whole_of state ended
-        → ((head : ResponseHead) → TellsHead head told → facts ≡ facts_of method request_close head whole state.surplus) → TellsFacts method request_close bytes ended facts
+    pub body_facts : (request_close ended whole : Bool) (facts : Facts) → whole ≡ whole_of ended state
+        → ((head : ResponseHead) → TellsHead head told → facts ≡ facts_of_head method request_close head whole (surplus_of state)) → TellsFacts method request_close bytes ended facts
     body_facts request_close ended whole facts is given =
         subst (TellsFacts method request_close bytes ended)
-        (sym (given at.passes.head at.passes.says ∙ ap (λ b. facts_of method request_close at.passes.head b state.surplus) is))
-        (pieces_facts method bytes told at.text at.passes ended state.len (whole_of state ended) state.surplus (body_pieces ended) request_close)
+        (sym (given at.passes.head at.passes.says ∙ ap (λ b. facts_of_head method request_close at.passes.head b (surplus_of state)) is))
+        (pieces_facts method bytes told at.text at.passes ended (len_of state) (whole_of ended state) (surplus_of state) (body_pieces ended) request_close)
 
-    pub body_facts_whole : (request_close ended whole : Bool) (facts : Facts) → whole ≡ whole_of state ended
-        → ((head : ResponseHead) → TellsHead head told → facts ≡ facts_of method request_close head whole state.surplus) → TellsWhole method bytes ended facts.whole
+    pub body_facts_whole : (request_close ended whole : Bool) (facts : Facts) → whole ≡ whole_of ended state
+        → ((head : ResponseHead) → TellsHead head told → facts ≡ facts_of_head method request_close head whole (surplus_of state)) → TellsWhole method bytes ended facts.whole
     body_facts_whole request_close ended whole facts is given =
         subst (TellsWhole method bytes ended) (sym (ap (λ (f : Facts). f.whole) (given at.passes.head at.passes.says) ∙ is)) (body_whole ended)
 
   -- the bytes show the fault that is there, and none where there is none
-  pub placed_shown : (place : Place) → IsPlaced method bytes place kept → MatchOption (fault_at place) (IsFaultless method bytes) (IsFirstFault method bytes)
-  placed_shown (Heads count) at = heads_clean method bytes count kept at
-  placed_shown (Body told state) at = body_clean told state at
-  placed_shown (Fault fault head len) at = at.first
+  pub stage_shown : (stage : Stage) → IsAtStage method bytes stage kept → MatchOption (fault_at stage) (IsFaultless method bytes) (IsFirstFault method bytes)
+  stage_shown (Heads count) at = heads_clean method bytes count kept at
+  stage_shown (Body told state) at = body_clean told state at
+  stage_shown (Fault fault head len) at = at.first
 
   -- a fault that is there is the first that the bytes show, and never want of memory
-  pub placed_fault : (place : Place) → IsPlaced method bytes place kept → (fault : ReadFault) → fault_at place ≡ Some fault
-      → (fault_at place ≡ Some fault) × IsFirstFault method bytes fault × (fault ≢ Memory)
-  placed_fault place placed fault is =
-      let first = subst (λ (f : Option ReadFault). MatchOption f (IsFaultless method bytes) (IsFirstFault method bytes)) is (placed_shown place placed) in
+  pub stage_fault : (stage : Stage) → IsAtStage method bytes stage kept → (fault : ReadFault) → fault_at stage ≡ Some fault
+      → (fault_at stage ≡ Some fault) × IsFirstFault method bytes fault × (fault ≢ Memory)
+  stage_fault stage reached fault is =
+      let first = subst (λ (f : Option ReadFault). MatchOption f (IsFaultless method bytes) (IsFirstFault method bytes)) is (stage_shown stage reached) in
       (is, first, memory_never method bytes fault first)
 
 -- the status, after a fault
@@ -262,7 +262,7 @@ faulty_status method bytes told (text, passes) = passes_status method bytes told
 
 -- and the facts
 pub faulty_facts : (method : Method) (request_close : Bool) (bytes : List ℕ) (told : Head) (facts : Facts) → TellsFinalHead bytes (Some told)
-    → ((head : ResponseHead) → TellsHead head told → facts ≡ facts_of method request_close head false false)
+    → ((head : ResponseHead) → TellsHead head told → facts ≡ facts_of_head method request_close head false false)
     → TellsFactsAfterFault method request_close bytes (record facts { framing = Faulty })
 faulty_facts method request_close bytes told facts (text, passes) given =
     subst (TellsFactsAfterFault method request_close bytes) (sym (ap (λ (f : Facts). record f { framing = Faulty }) (given passes.head passes.says)))

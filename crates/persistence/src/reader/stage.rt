@@ -3,7 +3,7 @@ ghost use Rattle.std.specs.Prelude.{◌≡◌, ℕ, List, ◌++◌, Some};
 ghost use Rattle.persistence.specs.declared.answer.ReadFault.{ReadFault};
 ghost use Rattle.persistence.specs.declared.method.Method.{Method};
 ghost use Rattle.persistence.specs.ReadingHeads.{AwaitsHeads, EndsHeadsIn};
-ghost use Rattle.persistence.specs.ReadingPlaces.{IsInBody, IsPlaced, fault_at};
+ghost use Rattle.persistence.specs.ReadingStages.{IsInBody, IsAtStage, fault_at};
 
 use crate::body::state::BodyState;
 use crate::body::{begin_body, feed_body};
@@ -14,7 +14,7 @@ use crate::{Method, ReadFault};
 
 /// How far the reading of a response has come.
 #[derive(Clone, Copy, Debug)]
-pub(crate) enum Place {
+pub(crate) enum Stage {
     /// In a head; so many interim heads came before it.
     Heads {
         skipped: usize,
@@ -33,22 +33,22 @@ pub(crate) enum Place {
 }
 
 /// How far the reading has come after one piece more.
-pub(crate) fn place_after(method: Method, buffer: &mut Buffer, place: Place, piece: &[u8]) -> Place
-    requires stands { (bytes : List ℕ) × IsPlaced method bytes place buffer.old }
-    ensures placed { (bytes : List ℕ) → IsPlaced method bytes place buffer.old → IsPlaced method (bytes ++ piece.now) result buffer.new }
-    ensures again { (fault : ReadFault) → fault_at place ≡ Some fault → result ≡ place }
+pub(crate) fn stage_after(method: Method, buffer: &mut Buffer, stage: Stage, piece: &[u8]) -> Stage
+    requires stands { (bytes : List ℕ) × IsAtStage method bytes stage buffer.old }
+    ensures reached { (bytes : List ℕ) → IsAtStage method bytes stage buffer.old → IsAtStage method (bytes ++ piece.now) result buffer.new }
+    ensures again { (fault : ReadFault) → fault_at stage ≡ Some fault → result ≡ stage }
 {
-    match place {
-        Place::Heads { skipped } => after_heads(method, buffer, skipped, piece),
-        Place::Body { head, body } => after_body(head, body, buffer, piece),
-        Place::Fault { fault, head, len } => Place::Fault { fault, head, len },
+    match stage {
+        Stage::Heads { skipped } => after_heads(method, buffer, skipped, piece),
+        Stage::Body { head, body } => after_body(head, body, buffer, piece),
+        Stage::Fault { fault, head, len } => Stage::Fault { fault, head, len },
     }
 }
 
 // How far it has come where a head was due before the piece.
-fn after_heads(method: Method, buffer: &mut Buffer, skipped: usize, piece: &[u8]) -> Place
+fn after_heads(method: Method, buffer: &mut Buffer, skipped: usize, piece: &[u8]) -> Stage
     requires stands { (bytes : List ℕ) × AwaitsHeads bytes skipped buffer.old }
-    ensures placed { (bytes : List ℕ) → AwaitsHeads bytes skipped buffer.old → IsPlaced method (bytes ++ piece.now) result buffer.new }
+    ensures reached { (bytes : List ℕ) → AwaitsHeads bytes skipped buffer.old → IsAtStage method (bytes ++ piece.now) result buffer.new }
 {
     let mut at = 0;
     let mut count = skipped;
@@ -57,7 +57,7 @@ fn after_heads(method: Method, buffer: &mut Buffer, skipped: usize, piece: &[u8]
         let step = match heads_step(buffer, count, rest) {
             Ok(step) => step,
             Err(fault) => {
-                return Place::Fault {
+                return Stage::Fault {
                     fault,
                     head: None,
                     len: 0,
@@ -70,17 +70,17 @@ fn after_heads(method: Method, buffer: &mut Buffer, skipped: usize, piece: &[u8]
         at += step.used;
         count = step.skipped;
     }
-    Place::Heads { skipped: count }
+    Stage::Heads { skipped: count }
 }
 
 // How far it has come where the final head ended just before the piece.
-fn after_head(method: Method, head: Head, buffer: &mut Buffer, piece: &[u8]) -> Place
+fn after_head(method: Method, head: Head, buffer: &mut Buffer, piece: &[u8]) -> Stage
     requires stands { (bytes : List ℕ) × EndsHeadsIn bytes buffer.old head }
-    ensures placed { (bytes : List ℕ) → EndsHeadsIn bytes buffer.old head → IsPlaced method (bytes ++ piece.now) result buffer.new }
+    ensures reached { (bytes : List ℕ) → EndsHeadsIn bytes buffer.old head → IsAtStage method (bytes ++ piece.now) result buffer.new }
 {
     match begin_body(head.body_kind(method), head.counted) {
         Ok(body) => after_body(head, body, buffer, piece),
-        Err(fault) => Place::Fault {
+        Err(fault) => Stage::Fault {
             fault,
             head: Some(head),
             len: 0,
@@ -89,17 +89,17 @@ fn after_head(method: Method, head: Head, buffer: &mut Buffer, piece: &[u8]) -> 
 }
 
 // How far it has come where the body was due before the piece.
-fn after_body(head: Head, body: BodyState, buffer: &mut Buffer, piece: &[u8]) -> Place
+fn after_body(head: Head, body: BodyState, buffer: &mut Buffer, piece: &[u8]) -> Stage
     requires stands { (method : Method) × (bytes : List ℕ) × IsInBody method bytes head body buffer.old }
-    ensures placed { (method : Method) (bytes : List ℕ) → IsInBody method bytes head body buffer.old → IsPlaced method (bytes ++ piece.now) result buffer.new }
+    ensures reached { (method : Method) (bytes : List ℕ) → IsInBody method bytes head body buffer.old → IsAtStage method (bytes ++ piece.now) result buffer.new }
 {
     let mut body = body;
     match feed_body(&mut body, buffer, piece) {
-        Ok(()) => Place::Body { head, body },
-        Err(fault) => Place::Fault {
+        Ok(()) => Stage::Body { head, body },
+        Err(fault) => Stage::Fault {
             fault,
             head: Some(head),
-            len: body.len,
+            len: body.len(),
         },
     }
 }
