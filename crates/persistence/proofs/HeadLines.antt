@@ -1,11 +1,12 @@
 -- How many lines end in a head: one for the status line, one for each field, one for the empty line.
-use Rattle.std.proofs.Common.{◌≡◌, ℕ, ◌+◌, ◌<◌, ◌≤◌, ◌⊎◌, List, [], ◌∷◌, ◌++◌, length, take, Option, None, Some, refl, sym, ap, ◌∙◌, inl, inr, arith, append_assoc, length-append}
+use Rattle.std.proofs.Common.{◌≡◌, ℕ, ◌+◌, ◌<◌, ◌≤◌, ◌⊎◌, Bool, true, false, cond, List, [], ◌∷◌, ◌++◌, length, take, Option, None, Some, refl, sym, ap, ◌∙◌, inl, inr, arith, append_assoc, length-append}
 use Rattle.std.specs.List.{flat_map}
 use Rattle.std.specs.Char.{is_ascii_digit}
 use Rattle.std.proofs.lemmas.Bool.Decides.{nat_tests}
-use Rattle.std.proofs.lemmas.List.{append-nil, length-take-le}
+use Rattle.std.proofs.lemmas.List.{append-nil, length-take-le, take_at}
 use Rattle.std.proofs.lemmas.List.Elements.{All-take}
 use Rattle.httparse.specs.Grammar.{is_value_byte, AllPass, LineEnd, crlf, lf, print_end, print_blank, print_version, print_field, IsField, print_section, ResponseHead, print_reason, reason_phrase, print_response, IsResponseHead, ReadsResponse, HasNoResponse, MayBecomeResponse}
+use Rattle.httparse.specs.Pieces.{is_newline}
 use Rattle.httparse.specs.Spans.{ResponseExceeds}
 use Rattle.httparse.proofs.GrammarLemmas.{cons-append, response_unique}
 use Rattle.persistence.specs.ReadingHeads.{skip_newlines, line_ends}
@@ -55,6 +56,30 @@ line_ends-head_lines h valid =
     omega (arith, line_ends-append (start_line h) (print_section h.fields h.last), line_ends-start_line h valid, line_ends-section h.fields h.last valid.fields)
 
 -- ---- blank lines
+
+-- what is left after the blank lines ends the text
+skip_newlines_ends : (text : List ℕ) → (front : List ℕ) × (text ≡ front ++ skip_newlines text)
+skip_newlines_ends [] = ([], refl)
+skip_newlines_ends (b ∷ text) = by_cases (is_newline b) (skip_newlines_ends text)
+  where
+    by_cases : (c : Bool) → (front : List ℕ) × (text ≡ front ++ skip_newlines text)
+        → (front : List ℕ) × (b ∷ text ≡ front ++ cond c (skip_newlines text) (b ∷ text))
+    by_cases true (front, is) = (b ∷ front, ap (λ (t : List ℕ). b ∷ t) is)
+    by_cases false found = ([], refl)
+
+pub skip_newlines_within : (text : List ℕ) → length (skip_newlines text) ≤ length text
+skip_newlines_within text =
+    let found = skip_newlines_ends text in
+    omega (arith, ap length found.1, length-append found.0 (skip_newlines text))
+
+-- the lines that end before it and after it are all
+pub line_ends-blank : (text : List ℕ) (blank : ℕ) → blank + length (skip_newlines text) ≡ length text
+    → line_ends (take blank text) + line_ends (skip_newlines text) ≡ line_ends text
+line_ends-blank text blank sized =
+    let found = skip_newlines_ends text in
+    let len : length found.0 ≡ blank = omega (arith, ap length found.1, length-append found.0 (skip_newlines text), sized) in
+    let front : take blank text ≡ found.0 = ap (take blank) found.1 ∙ take_at found.0 (skip_newlines text) blank len in
+    omega (arith, ap line_ends front, ap line_ends found.1, line_ends-append found.0 (skip_newlines text))
 
 skip_blank : (es : List LineEnd) (x : List ℕ) → skip_newlines (print_blank es ++ 72 ∷ x) ≡ 72 ∷ x
 skip_blank [] x = refl

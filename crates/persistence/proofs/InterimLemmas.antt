@@ -1,7 +1,7 @@
 -- Heads that come in pieces, one after another.
 use Rattle.std.proofs.Common.{◌≡◌, ℕ, ◌+◌, ◌<◌, true, false, List, [], ◌∷◌, ◌++◌, length, take, drop, None, refl, sym, ap, subst, ◌∙◌, arith, append_assoc, length-append}
 use Rattle.std.specs.Char.{is_ascii_digit}
-use Rattle.std.proofs.lemmas.List.{append-nil, take_all}
+use Rattle.std.proofs.lemmas.List.{append-nil}
 use Rattle.std.proofs.lemmas.List.Elements.{All-nil, All-cons}
 use Rattle.httparse.specs.Grammar.{ResponseHead, IsField, lf, is_value_byte, print_response, HasNoResponse, MayBecomeResponse}
 use Rattle.httparse.specs.Spans.{ResponseExceeds}
@@ -10,7 +10,7 @@ use Rattle.persistence.specs.declared.answer.ReadFault.TheVariants.{TooManyInter
 use Rattle.persistence.specs.declared.method.Method.{Method}
 use Rattle.persistence.specs.declared.head.Head.{Head}
 use Rattle.persistence.specs.Sequence.{ReadsEach}
-use Rattle.persistence.specs.Limits.{most_fields, most_head_bytes, most_interims}
+use Rattle.persistence.specs.Limits.{most_fields, most_interims}
 use Rattle.persistence.specs.Heads.{is_interim_status, ReadsInterim}
 use Rattle.persistence.specs.Faults.{HeadShows, Shows, HasLongSection, IsFirst, IsFirstFault}
 use Rattle.persistence.specs.ReadingHeads.{IsAwaited, KeepsHead, EndsHead, AwaitsHeads, EndsHeadsIn, NeverHasFinalHead}
@@ -46,9 +46,7 @@ nothing_yet : HasNoResponse []
 nothing_yet h rest reads = omega (arith, ap length reads.1, length-append (print_response h) rest, print_response-some h)
 
 pub nothing_awaited : IsAwaited []
-nothing_awaited =
-    let e : [] ≡ take most_head_bytes [] = sym (take_all most_head_bytes [] (omega arith)) in
-    head_awaited [] (subst HasNoResponse e nothing_yet) (subst MayBecomeResponse e nothing_may) (λ f. omega (arith, f)) (omega arith)
+nothing_awaited = head_awaited [] (record { none = nothing_yet; more = nothing_may; short = omega arith }) (omega arith)
 
 -- ---- a piece more
 

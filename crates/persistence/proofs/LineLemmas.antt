@@ -5,7 +5,7 @@ use Rattle.std.specs.List.{flat_map}
 use Rattle.std.proofs.lemmas.Grind.{flat_map-append}
 use Rattle.std.proofs.lemmas.Bool.Decides.{nat_tests}
 use Rattle.std.proofs.lemmas.List.{append-nil, take-append-drop, length-take-le}
-use Rattle.std.proofs.lemmas.List.Sums.{sum_by-append}
+use Rattle.std.proofs.lemmas.List.Sums.{sum_by-append, count_by-le-length}
 use Rattle.std.proofs.lemmas.List.Elements.{All-head, All-tail, All-take}
 use Rattle.httparse.specs.Grammar.{is_token_byte, is_value_byte, AllPass, LineEnd, crlf, lf, print_end, Field, print_field, IsField, print_section, ReadsSection, HasNoSection, MayBecomeSection}
 use Rattle.httparse.specs.Spans.{SectionExceeds}
@@ -31,6 +31,13 @@ cut_twice (x ∷ a) b (y ∷ c) d e =
 
 pub line_ends-append : (a b : List ℕ) → line_ends (a ++ b) ≡ line_ends a + line_ends b
 line_ends-append a b = sum_by-append (λ b. cond (b == 10) 1 0) a b
+
+-- the lines that end up to a place and after it are all
+pub line_ends-cut : (n : ℕ) (text : List ℕ) → line_ends (take n text) + line_ends (drop n text) ≡ line_ends text
+line_ends-cut n text = sym (line_ends-append (take n text) (drop n text)) ∙ ap line_ends (take-append-drop n text)
+
+pub line_ends-within : (text : List ℕ) → line_ends text ≤ length text
+line_ends-within text = count_by-le-length (λ b. b == 10) text
 
 -- the text's last byte is LF
 pub record EndsLine (text : List ℕ) : Type 0 where

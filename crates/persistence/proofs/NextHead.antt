@@ -1,5 +1,5 @@
 -- What the parser's answer says of the text where a head begins.
-use Rattle.std.proofs.Common.{◌≡◌, ◌≢◌, ℕ, ◌+◌, ◌<◌, ◌≤◌, ◌⊎◌, List, [], ◌∷◌, ◌++◌, ◌-◌, Ok, length, take, drop, refl, sym, ap, subst, ◌∙◌, inl, inr, arith, append_assoc, length-append, length-take, true, false}
+use Rattle.std.proofs.Common.{◌≡◌, ℕ, ◌+◌, ◌<◌, ◌≤◌, ◌⊎◌, List, [], ◌∷◌, ◌++◌, Ok, length, take, drop, refl, sym, ap, subst, ◌∙◌, inl, inr, arith, append_assoc, length-append, length-take, true, false}
 use Rattle.std.proofs.lemmas.List.{append-nil, take-append-drop, take_all, drop_at, length-map}
 use Rattle.std.proofs.lemmas.List.Elements.{All-weaker}
 use Rattle.httparse.specs.Grammar.{ResponseHead, ReadsResponse, print_response, HasNoResponse, NeverHasResponse, MayBecomeResponse}
@@ -15,7 +15,7 @@ use Rattle.persistence.specs.declared.answer.ReadFault.{ReadFault}
 use Rattle.persistence.specs.declared.answer.ReadFault.TheVariants.{Memory, BadHead, BadLength, BadChunk, HeadTooLong, TooManyInterims, TrailerTooLong}
 use Rattle.persistence.specs.Limits.{most_fields, most_head_bytes}
 use Rattle.persistence.specs.Faults.{HeadShows, IsFirst}
-use Rattle.persistence.specs.ReadingHeads.{IsAwaited, FindsHead, is_too_many, skip_newlines, line_ends}
+use Rattle.persistence.specs.ReadingHeads.{IsAwaited, IsUnfinished, FindsHead, is_too_many, skip_newlines, line_ends}
 use Rattle.persistence.proofs.HeadLines.{response_exceeds_lines, response_exceeds_cut}
 
 -- the text is its front and the rest
@@ -58,27 +58,19 @@ may_not_be_bad : (front start : List ℕ) (next : ℕ) (more : List ℕ) → May
 may_not_be_bad front start next more (further, h, reads) e never =
     never (next ∷ more ++ further) h [] (subst (λ (t : List ℕ). ReadsResponse t h []) (ap (λ (t : List ℕ). t ++ further) e ∙ append_assoc start (next ∷ more) further) reads)
 
--- no head yet, and room for more
-pub head_awaited : (text : List ℕ) → HasNoResponse (take most_head_bytes text) → MayBecomeResponse (take most_head_bytes text)
-    → length (take most_head_bytes text) ≢ most_head_bytes → line_ends (skip_newlines (take most_head_bytes text)) ≤ most_fields + 1 → IsAwaited text
-head_awaited text none may unfull few =
-    let short : length text < most_head_bytes = omega (arith, length-take most_head_bytes text, unfull) in
-    let whole : take most_head_bytes text ≡ text = take_all most_head_bytes text (omega arith) in
-    waits short (subst HasNoResponse whole none) (subst MayBecomeResponse whole may)
-    (let P : List ℕ → Type 0 = λ t. line_ends (skip_newlines t) ≤ most_fields + 1 in subst P whole few)
+-- no head yet, and no more fields than a head may have
+pub head_awaited : (text : List ℕ) → IsUnfinished text → line_ends (skip_newlines text) ≤ most_fields + 1 → IsAwaited text
+head_awaited text so_far few = record { none = λ head rest reads. so_far.none head rest reads.reads; clean = clean }
   where
-    waits : length text < most_head_bytes → HasNoResponse text → MayBecomeResponse text → line_ends (skip_newlines text) ≤ most_fields + 1 → IsAwaited text
-    waits short none may few = record { none = λ head rest reads. none head rest reads.reads; clean = clean }
-      where
-        clean : (fault : ReadFault) → HeadShows text fault → ⊥
-        clean BadHead never = never may.0 may.1 [] may.2
-        clean HeadTooLong (inl past) = omega (arith, past.0, short)
-        clean HeadTooLong (inr exceeds) = omega (arith, response_exceeds_lines most_fields text exceeds, few)
-        clean Memory shown = shown
-        clean BadLength shown = shown
-        clean BadChunk shown = shown
-        clean TooManyInterims shown = shown
-        clean TrailerTooLong shown = shown
+    clean : (fault : ReadFault) → HeadShows text fault → ⊥
+    clean BadHead never = never so_far.more.0 so_far.more.1 [] so_far.more.2
+    clean HeadTooLong (inl past) = omega (arith, past.0, so_far.short)
+    clean HeadTooLong (inr exceeds) = omega (arith, response_exceeds_lines most_fields text exceeds, few)
+    clean Memory shown = shown
+    clean BadLength shown = shown
+    clean BadChunk shown = shown
+    clean TooManyInterims shown = shown
+    clean TrailerTooLong shown = shown
 
 -- where a head may still come, a shorter front shows at most that it is too long
 only_too_long : (front : List ℕ) → MayBecomeResponse front → (start : List ℕ) (next : ℕ) (more : List ℕ) (other : ReadFault)
@@ -113,9 +105,11 @@ too_many_fields text (front, rest, is, h, reads, many) = record {
 }
 
 -- the same where the lines tell it
-pub too_many_lines : (text : List ℕ) → HasNoResponse (take most_head_bytes text) → MayBecomeResponse (take most_head_bytes text)
-    → most_fields + 1 < line_ends (skip_newlines (take most_head_bytes text)) → IsFirst HeadShows (ResponseExceeds most_fields) text HeadTooLong
-too_many_lines text none may over = too_many_fields text (response_exceeds_cut most_fields (take most_head_bytes text) none may over)
+pub too_many_lines : (text : List ℕ) → IsUnfinished text → most_fields + 1 < line_ends (skip_newlines text)
+    → IsFirst HeadShows (ResponseExceeds most_fields) text HeadTooLong
+too_many_lines text so_far over =
+    too_many_fields text (subst (ResponseExceeds most_fields) (sym (take_all most_head_bytes text (omega (arith, so_far.short))))
+    (response_exceeds_cut most_fields text so_far.none so_far.more over))
 
 -- bytes that never become a head
 pub bad_head : (text : List ℕ) → NeverHasResponse (take most_head_bytes text) → IsFirst HeadShows (ResponseExceeds most_fields) text BadHead

@@ -10,6 +10,7 @@ pub mod Told
 pub mod Faults
 pub mod Reader
 pub mod ReadingHeads
+pub mod ReadingFields
 pub mod ReadingChunks
 pub mod ReadingBody
 pub mod ReadingStages

@@ -1,7 +1,7 @@
 -- What the parts answer where a head is read. No public contract needs these words.
 use Rattle.std.specs.List.{count_by}
 use Rattle.std.specs.Prelude.{◌≡◌, ℕ, ◌<◌, ◌≤◌, Bool, true, false, ◌==◌, if◌then◌else◌, List, [], ◌∷◌, ◌++◌, length, take, drop, map, codes, All, Option, Some}
-use Rattle.httparse.specs.Grammar.{ResponseHead, status_code}
+use Rattle.httparse.specs.Grammar.{ResponseHead, status_code, HasNoResponse, MayBecomeResponse}
 use Rattle.httparse.specs.Pieces.{is_newline}
 use Rattle.httparse.specs.Spans.{header_bytes, IsHeaderWithin}
 use Rattle.httparse.specs.declared.Error.{Error}
@@ -63,6 +63,12 @@ is_too_many _ = false
 pub record IsTaken (piece : List ℕ) (used : ℕ) : Type 0 where
   pub within : used ≤ length piece
   pub some : 0 < length piece → 0 < used
+
+-- no head is whole yet, one may still come, however many fields there are, and there is room for a byte more
+pub record IsUnfinished (text : List ℕ) : Type 0 where
+  pub none : HasNoResponse text
+  pub more : MayBecomeResponse text
+  pub short : length text < most_head_bytes
 
 -- a head still comes: there is none yet, and nothing is wrong so far
 pub record IsAwaited (text : List ℕ) : Type 0 where

@@ -14,7 +14,7 @@ pub(crate) mod lines;
 
 use crate::body::kind::BodyKind;
 use crate::{Facts, Framing, Method, Version};
-use fields::{counted_length, has_field, has_option, is_chunked_last};
+use fields::control_fields;
 use httparse::spans::{HeaderSpan, ResponseSpans};
 
 /// What a head says of its response.
@@ -48,15 +48,16 @@ impl Head {
         } else {
             Version::V11
         };
+        let told = control_fields(text, fields);
         Head {
             status: spans.code,
             version,
-            close: has_option(text, fields, b"close"),
-            keep_alive: has_option(text, fields, b"keep-alive"),
-            transfer_encoding: has_field(text, fields, b"transfer-encoding"),
-            chunked: is_chunked_last(text, fields),
-            content_length: has_field(text, fields, b"content-length"),
-            counted: counted_length(text, fields),
+            close: told.close,
+            keep_alive: told.keep_alive,
+            transfer_encoding: told.transfer_encoding,
+            chunked: told.chunked,
+            content_length: told.content_length,
+            counted: told.counted,
         }
     }
 

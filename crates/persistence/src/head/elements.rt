@@ -2,8 +2,9 @@
 ghost use Rattle.std.specs.Prelude.{◌≡◌, codes, reverse, option_map};
 ghost use Rattle.std.specs.List.{list_any, list_all, position_or_len};
 ghost use Rattle.httparse.specs.Grammar.{skip_ows, trim_ows};
-ghost use Rattle.persistence.specs.Fields.{elements, is_comma, is_word, is_number, last_coding};
+ghost use Rattle.persistence.specs.Fields.{elements, is_comma, is_word, is_number, last_coding, one_number as one_number_of};
 ghost use Rattle.persistence.specs.ReadingHeads.{chunked_after, FirstIs};
+ghost use Rattle.persistence.specs.ReadingFields.{number_with};
 
 use crate::number::decimal;
 use httparse::is_space_or_tab;
@@ -17,8 +18,39 @@ pub(crate) fn has_word(value: &[u8], word: &[u8]) -> bool
         .any(|element| trim(element).eq_ignore_ascii_case(word))
 }
 
-/// Whether each element of the value is that number.
-pub(crate) fn are_all(value: &[u8], number: u64) -> bool
+/// The one number that all elements of the value are, if any.
+pub(crate) fn one_number(value: &[u8]) -> Option<u64>
+    ensures { result ≡ one_number_of (elements value.now) }
+{
+    let Some(first) = decimal(first_element(value)) else {
+        return None;
+    };
+    if are_all(value, first) {
+        Some(first)
+    } else {
+        None
+    }
+}
+
+/// The same of a list that the value ends, where that of the elements before is known, if any came.
+pub(crate) fn one_number_with(came: bool, before: Option<u64>, value: &[u8]) -> Option<u64>
+    ensures { result ≡ number_with came before (elements value.now) }
+{
+    if !came {
+        return one_number(value);
+    }
+    let Some(number) = before else {
+        return None;
+    };
+    if are_all(value, number) {
+        Some(number)
+    } else {
+        None
+    }
+}
+
+// Whether each element of the value is that number.
+fn are_all(value: &[u8], number: u64) -> bool
     ensures { result ≡ list_all (is_number number) (elements value.now) }
 {
     value
@@ -80,8 +112,8 @@ fn trim_end(bytes: &[u8]) -> &[u8]
     rest
 }
 
-/// The first element of the value.
-pub(crate) fn first_element(value: &[u8]) -> &[u8]
+// The first element of the value.
+fn first_element(value: &[u8]) -> &[u8]
     ensures { FirstIs (elements value.now) result.now }
 {
     trim(&value[..comma_place(value)])

@@ -1,103 +1,135 @@
-//! What the fields of a head say, read off the places of their names and values in its text.
-ghost use Rattle.std.specs.Prelude.{◌≡◌, [], length, codes, MatchOption};
-ghost use Rattle.std.specs.List.{list_all};
-ghost use Rattle.httparse.specs.Spans.{header_bytes, IsHeaderWithin};
-ghost use Rattle.persistence.specs.Fields.{is_named as is_named_field, has_field as has_named, has_option as has_connection_option, is_number, is_chunked_last as ends_chunked, elements_of, counted_length as counted_by};
-ghost use Rattle.persistence.specs.ReadingHeads.{AreWithin, fields_at, FirstIs};
+//! What the fields of a head say of its body and its connection, in one pass over the places of their names and values.
+ghost use Rattle.std.specs.Prelude.{◌≡◌, [], length};
+ghost use Rattle.std.specs.Str.{str_eq_ignore_ascii_case};
+ghost use Rattle.persistence.specs.ReadingHeads.{AreWithin, fields_at};
+ghost use Rattle.persistence.specs.ReadingFields.{TellsFields, AddsField};
 
-use crate::head::elements::{are_all, first_element, has_word, is_chunked};
-use crate::number::decimal;
+use crate::head::elements::{has_word, is_chunked, one_number_with};
 use httparse::spans::HeaderSpan;
 
-/// Whether there is a field of that name.
-pub(crate) fn has_field(text: &[u8], spans: &[HeaderSpan], name: &[u8]) -> bool
+/// The length of the name `Connection`.
+const CONNECTION_LEN: usize = 10;
+
+/// The length of the name `Content-Length`.
+const CONTENT_LENGTH_LEN: usize = 14;
+
+/// The length of the name `Transfer-Encoding`.
+const TRANSFER_ENCODING_LEN: usize = 17;
+
+/// What fields say of a response's body and of its connection.
+#[derive(Clone, Copy, Debug)]
+pub(crate) struct ControlFields {
+    /// There is the connection option `close`.
+    pub close: bool,
+    /// There is the connection option `keep-alive`.
+    pub keep_alive: bool,
+    /// There is a Transfer-Encoding field.
+    pub transfer_encoding: bool,
+    /// The final transfer coding is chunked.
+    pub chunked: bool,
+    /// There is a Content-Length field.
+    pub content_length: bool,
+    /// The one number that the Content-Length fields give.
+    pub counted: Option<u64>,
+}
+
+/// What the fields at these places of the text say.
+pub(crate) fn control_fields(text: &[u8], spans: &[HeaderSpan]) -> ControlFields
     requires { AreWithin text.now spans.now }
-    ensures { result ≡ has_named name.now (fields_at text.now spans.now) }
+    ensures { TellsFields (fields_at text.now spans.now) result }
 {
+    let mut told = ControlFields::none();
     for span in spans {
-        if is_named(text, span, name) {
-            return true;
+        told = told.with(span.name.of(text), span.value.of(text));
+    }
+    told
+}
+
+impl ControlFields {
+    // What no fields say.
+    fn none() -> ControlFields
+        ensures { TellsFields [] result }
+    {
+        ControlFields {
+            close: false,
+            keep_alive: false,
+            transfer_encoding: false,
+            chunked: false,
+            content_length: false,
+            counted: None,
         }
     }
-    false
-}
 
-/// Whether the connection option is there.
-pub(crate) fn has_option(text: &[u8], spans: &[HeaderSpan], option: &[u8]) -> bool
-    requires { AreWithin text.now spans.now }
-    ensures { result ≡ has_connection_option option.now (fields_at text.now spans.now) }
-{
-    for span in spans {
-        if is_named(text, span, b"connection") && has_word(span.value.of(text), option) {
-            return true;
+    // What the fields say with one more. Names are told apart by their lengths first.
+    #[inline(always)]
+    fn with(self, name: &[u8], value: &[u8]) -> ControlFields
+        ensures { AddsField self (name.now, value.now) result }
+    {
+        let len = name.len();
+        if len == CONNECTION_LEN {
+            return self.with_connection(name, value);
+        }
+        if len == CONTENT_LENGTH_LEN {
+            return self.with_content_length(name, value);
+        }
+        if len == TRANSFER_ENCODING_LEN {
+            return self.with_transfer_encoding(name, value);
+        }
+        self
+    }
+
+    // The same for a field whose name may be `Connection` (RFC 9110, section 7.6.1).
+    fn with_connection(self, name: &[u8], value: &[u8]) -> ControlFields
+        requires { length name.now ≡ 10 }
+        ensures { AddsField self (name.now, value.now) result }
+    {
+        if !is_name(name, b"connection") {
+            return self;
+        }
+        ControlFields {
+            close: self.close | has_word(value, b"close"),
+            keep_alive: self.keep_alive | has_word(value, b"keep-alive"),
+            ..self
         }
     }
-    false
-}
 
-/// Whether the final transfer coding is chunked.
-pub(crate) fn is_chunked_last(text: &[u8], spans: &[HeaderSpan]) -> bool
-    requires { AreWithin text.now spans.now }
-    ensures { result ≡ ends_chunked (fields_at text.now spans.now) }
-{
-    let mut chunked = false;
-    for span in spans {
-        if is_named(text, span, b"transfer-encoding") {
-            chunked = is_chunked(span.value.of(text)).unwrap_or(chunked);
+    // The same for a field whose name may be `Content-Length` (RFC 9112, section 6.3, item 5).
+    fn with_content_length(self, name: &[u8], value: &[u8]) -> ControlFields
+        requires { length name.now ≡ 14 }
+        ensures { AddsField self (name.now, value.now) result }
+    {
+        if !is_name(name, b"content-length") {
+            return self;
+        }
+        let counted = one_number_with(self.content_length, self.counted, value);
+        ControlFields {
+            content_length: true,
+            counted,
+            ..self
         }
     }
-    chunked
-}
 
-/// The one number that all elements of the Content-Length fields are, if any.
-pub(crate) fn counted_length(text: &[u8], spans: &[HeaderSpan]) -> Option<u64>
-    requires { AreWithin text.now spans.now }
-    ensures { result ≡ counted_by (fields_at text.now spans.now) }
-{
-    let Some(first) = first_length(text, spans) else {
-        return None;
-    };
-    let Some(number) = decimal(first) else {
-        return None;
-    };
-    if are_all_lengths(text, spans, number) {
-        Some(number)
-    } else {
-        None
-    }
-}
-
-// The first element of the Content-Length fields.
-fn first_length<'t>(text: &'t [u8], spans: &[HeaderSpan]) -> Option<&'t [u8]>
-    requires { AreWithin text.now spans.now }
-    ensures { let lengths = elements_of (codes "content-length") (fields_at text.now spans.now) in
-        MatchOption result (lengths ≡ []) (λ first. FirstIs lengths first.now) }
-{
-    for span in spans {
-        if is_named(text, span, b"content-length") {
-            return Some(first_element(span.value.of(text)));
+    // The same for a field whose name may be `Transfer-Encoding` (RFC 9112, section 6.1).
+    fn with_transfer_encoding(self, name: &[u8], value: &[u8]) -> ControlFields
+        requires { length name.now ≡ 17 }
+        ensures { AddsField self (name.now, value.now) result }
+    {
+        if !is_name(name, b"transfer-encoding") {
+            return self;
+        }
+        let chunked = is_chunked(value).unwrap_or(self.chunked);
+        ControlFields {
+            transfer_encoding: true,
+            chunked,
+            ..self
         }
     }
-    None
 }
 
-// Whether each element of the Content-Length fields is that number.
-fn are_all_lengths(text: &[u8], spans: &[HeaderSpan], number: u64) -> bool
-    requires { AreWithin text.now spans.now }
-    ensures { result ≡ list_all (is_number number) (elements_of (codes "content-length") (fields_at text.now spans.now)) }
+// Whether it is that name, without case (RFC 9110, section 5.1).
+#[inline(always)]
+fn is_name(name: &[u8], expected: &[u8]) -> bool
+    ensures { result ≡ str_eq_ignore_ascii_case name.now expected.now }
 {
-    for span in spans {
-        if is_named(text, span, b"content-length") && !are_all(span.value.of(text), number) {
-            return false;
-        }
-    }
-    true
-}
-
-// Whether the field is of that name.
-fn is_named(text: &[u8], span: &HeaderSpan, name: &[u8]) -> bool
-    requires { IsHeaderWithin (length text.now) span.now }
-    ensures { result ≡ is_named_field name.now (header_bytes text.now span.now) }
-{
-    span.name.of(text).eq_ignore_ascii_case(name)
+    name.eq_ignore_ascii_case(expected)
 }

@@ -3,11 +3,11 @@ ghost use Rattle.std.specs.Prelude.{◌≡◌, ◌<◌, ◌≤◌, ◌++◌, len
 ghost use Rattle.httparse.specs.Spans.{ResponseExceeds};
 ghost use Rattle.persistence.specs.Limits.{most_fields, most_head_bytes};
 ghost use Rattle.persistence.specs.Faults.{HeadShows, IsFirst};
-ghost use Rattle.persistence.specs.ReadingHeads.{IsAwaited, FindsHead, IsTaken, KeepsHead, EndsHead};
+ghost use Rattle.persistence.specs.ReadingHeads.{IsAwaited, IsUnfinished, FindsHead, IsTaken, KeepsHead, EndsHead};
 
 use crate::ReadFault;
 use crate::head::Head;
-use crate::head::lines::{head_line_ends, is_too_many_fields};
+use crate::head::lines::is_too_many_fields;
 use crate::limits::{MOST_FIELDS, MOST_HEAD_BYTES};
 use crate::reader::buffer::Buffer;
 use httparse::Status;
@@ -35,10 +35,15 @@ pub(crate) fn head_step(buffer: &mut Buffer, piece: &[u8]) -> Result<HeadStep, R
     let before = buffer.len();
     let taken = buffer.fill(piece, MOST_HEAD_BYTES);
     match buffered_head(buffer.bytes(), &mut fields) {
-        Ok(None) => Ok(HeadStep {
-            used: taken,
-            head: None,
-        }),
+        Ok(None) => {
+            if buffer.head_line_ends() > MOST_FIELDS + 1 {
+                return Err(ReadFault::HeadTooLong);
+            }
+            Ok(HeadStep {
+                used: taken,
+                head: None,
+            })
+        }
         Ok(Some(spans)) => {
             let head = Head::at(buffer.bytes(), &spans, &fields[..spans.headers]);
             buffer.clear();
@@ -51,23 +56,21 @@ pub(crate) fn head_step(buffer: &mut Buffer, piece: &[u8]) -> Result<HeadStep, R
     }
 }
 
-// Where the head's parts are, if a head begins the bytes; nothing where it has not come whole yet.
+// Where the head's parts are, if a head begins the bytes; nothing where it has not come whole yet, whatever
+// the number of its fields.
 fn buffered_head(
     front: &[u8],
     fields: &mut [HeaderSpan],
 ) -> Result<Option<ResponseSpans>, ReadFault>
     requires count { length fields.old ≡ most_fields }
     requires short { length front.now ≤ most_head_bytes }
-    ensures found { IfOk result (λ found. MatchOption found (IsAwaited front.now × (length front.now < most_head_bytes)) (FindsHead front.now fields.new)) }
+    ensures found { IfOk result (λ found. MatchOption found (IsUnfinished front.now) (FindsHead front.now fields.new)) }
     ensures fault { IfErr result (IsFirst HeadShows (ResponseExceeds most_fields) front.now) }
 {
     match parse_response(front, fields) {
         Ok(Status::Complete(spans)) => Ok(Some(spans)),
         Ok(Status::Partial) => {
             if front.len() == MOST_HEAD_BYTES {
-                return Err(ReadFault::HeadTooLong);
-            }
-            if head_line_ends(front) > MOST_FIELDS + 1 {
                 return Err(ReadFault::HeadTooLong);
             }
             Ok(None)

@@ -2,26 +2,38 @@
 //! chunk's data, or a trailer section.
 ghost use Rattle.std.specs.Prelude.{◌≡◌, ℕ, ◌+◌, ◌-◌, ◌≤◌, List, [], ◌++◌, length, take, min, IfOk};
 ghost use Rattle.persistence.specs.Limits.{most_head_bytes};
+ghost use Rattle.persistence.specs.ReadingHeads.{skip_newlines, line_ends as line_ends_of};
 
+use crate::head::lines::{blank_line_ends, line_ends};
 use crate::limits::MOST_HEAD_BYTES;
 use std::alloc::{AllocError, Global};
 use std::marker::Model;
 
-/// The bytes of a part, in room that was made beforehand: that of a head, the longest part.
+/// The bytes of a part, in room that was made beforehand: that of a head, the longest part. No byte's line
+/// end is counted twice.
 #[derive(Debug, Drop)]
 pub(crate) struct Buffer {
     bytes: Vec<u8>,
+    /// How many bytes, from the first, had their line ends counted.
+    counted: usize,
+    /// How many lines end in these.
+    ends: usize,
 }
 
 impl Model for Buffer {
-    ghost use Rattle.std.specs.Prelude.{ℕ, List, ◌≤◌, vec_capacity};
+    ghost use Rattle.std.specs.Prelude.{ℕ, List, ◌≡◌, ◌≤◌, length, take, vec_capacity};
     ghost use Rattle.persistence.specs.Limits.{most_head_bytes};
+    ghost use Rattle.persistence.specs.ReadingHeads.{line_ends};
 
     ghost Value = { List ℕ };
 
     ghost view = { λ buffer. buffer.bytes.items };
 
-    ghost invariant = { λ buffer. most_head_bytes ≤ vec_capacity buffer.bytes };
+    ghost invariant = { λ buffer. record {
+      room : most_head_bytes ≤ vec_capacity buffer.bytes;
+      within : buffer.counted ≤ length buffer.bytes.items;
+      told : buffer.ends ≡ line_ends (take buffer.counted buffer.bytes.items);
+    } };
 }
 
 impl Buffer {
@@ -31,6 +43,8 @@ impl Buffer {
     {
         Ok(Buffer {
             bytes: Vec::with_capacity(alloc, MOST_HEAD_BYTES)?,
+            counted: 0,
+            ends: 0,
         })
     }
 
@@ -53,6 +67,30 @@ impl Buffer {
         ensures { self.new ≡ [] }
     {
         self.bytes.clear();
+        self.counted = 0;
+        self.ends = 0;
+    }
+
+    /// How many lines end in them. It looks at those alone that came since it was asked before.
+    pub fn line_ends(&mut self) -> usize
+        ensures same { self.new ≡ self.old }
+        ensures ends { result ≡ line_ends_of self.old }
+    {
+        let len = self.bytes.len();
+        let more = line_ends(&self.bytes[self.counted..]);
+        self.ends += more;
+        self.counted = len;
+        self.ends
+    }
+
+    /// The same without the blank lines that they begin with.
+    pub fn head_line_ends(&mut self) -> usize
+        ensures same { self.new ≡ self.old }
+        ensures ends { result ≡ line_ends_of (skip_newlines self.old) }
+    {
+        let ends = self.line_ends();
+        let blank = blank_line_ends(self.bytes());
+        ends - blank
     }
 
     /// Adds the front of the piece, up to `most` bytes in all; answers how many bytes it took.

@@ -3,8 +3,7 @@ use Rattle.std.proofs.lemmas.List.{take_all}
 use Rattle.httparse.specs.Grammar.{HasNoResponse, NeverHasResponse, MayBecomeResponse}
 use Rattle.httparse.specs.Spans.{IsResponseWithin, IsResponseOf, ResponseExceeds}
 use Rattle.persistence.specs.Limits.{most_fields, most_head_bytes}
-use Rattle.persistence.specs.ReadingHeads.{skip_newlines, line_ends}
-use Rattle.persistence.proofs.NextHead.{finds_head, head_awaited, past_limit, too_many_fields, too_many_lines, bad_head, at_complete, at_partial, too_many_is, not_too_many}
+use Rattle.persistence.proofs.NextHead.{finds_head, past_limit, too_many_fields, bad_head, at_complete, at_partial, too_many_is, not_too_many}
 use Rattle.persistence.proofs.head.head_step.buffered_head.Goals as goal
 
 -- all bytes are those in which a head has to end
@@ -24,20 +23,12 @@ returns-then-front-eq-MOST_HEAD_BYTES-clause-fault c =
     past_limit c.args.front.now (subst HasNoResponse front (at_partial (HasNoResponse c.args.front.now) _ c.in-Ok-Partial.field-0-is c.in-Ok-Partial.ensures.partial)) (subst MayBecomeResponse front (at_partial (MayBecomeResponse c.args.front.now) _ c.in-Ok-Partial.field-0-is c.in-Ok-Partial.ensures.unfinished))
     (sym (ap length front) ∙ c.if-front-eq-MOST_HEAD_BYTES.true)
 
-pub returns-then-head_line_ends-clause-fault : goal.returns-then-head_line_ends-clause-fault
-returns-then-head_line_ends-clause-fault c =
-    let front = all c.args.front.now c.requires.short in
-    too_many_lines c.args.front.now (subst HasNoResponse front (at_partial (HasNoResponse c.args.front.now) _ c.in-Ok-Partial.field-0-is c.in-Ok-Partial.ensures.partial)) (subst MayBecomeResponse front (at_partial (MayBecomeResponse c.args.front.now) _ c.in-Ok-Partial.field-0-is c.in-Ok-Partial.ensures.unfinished))
-    (omega (arith, ap (λ (t : List ℕ). line_ends (skip_newlines t)) front, c.head_line_ends.ensures, c.if-head_line_ends.true))
-
-pub returns-else-head_line_ends-clause-found : goal.returns-else-head_line_ends-clause-found
-returns-else-head_line_ends-clause-found c =
-    let front = all c.args.front.now c.requires.short in (
-      head_awaited c.args.front.now (subst HasNoResponse front (at_partial (HasNoResponse c.args.front.now) _ c.in-Ok-Partial.field-0-is c.in-Ok-Partial.ensures.partial)) (subst MayBecomeResponse front (at_partial (MayBecomeResponse c.args.front.now) _ c.in-Ok-Partial.field-0-is c.in-Ok-Partial.ensures.unfinished))
-          (λ e. c.if-front-eq-MOST_HEAD_BYTES.false (ap length front ∙ e))
-          (omega (arith, ap (λ (t : List ℕ). line_ends (skip_newlines t)) front, c.head_line_ends.ensures, c.if-head_line_ends.false)),
-      omega (arith, c.requires.short, c.if-front-eq-MOST_HEAD_BYTES.false),
-    )
+pub returns-else-front-eq-MOST_HEAD_BYTES-clause-found : goal.returns-else-front-eq-MOST_HEAD_BYTES-clause-found
+returns-else-front-eq-MOST_HEAD_BYTES-clause-found c = record {
+  none = at_partial (HasNoResponse c.args.front.now) _ c.in-Ok-Partial.field-0-is c.in-Ok-Partial.ensures.partial;
+  more = at_partial (MayBecomeResponse c.args.front.now) _ c.in-Ok-Partial.field-0-is c.in-Ok-Partial.ensures.unfinished;
+  short = omega (arith, c.requires.short, c.if-front-eq-MOST_HEAD_BYTES.false);
+}
 
 pub returns-then-is_too_many_fields-clause-fault : goal.returns-then-is_too_many_fields-clause-fault
 returns-then-is_too_many_fields-clause-fault c =

@@ -1,8 +1,10 @@
 use Rattle.std.proofs.Common.{ℕ, ◌-◌, List, ◌++◌, length, take, subst, sym, ap, ◌∙◌, arith}
 use Rattle.httparse.specs.Spans.{ResponseExceeds}
+use Rattle.persistence.specs.declared.answer.ReadFault.TheVariants.{HeadTooLong}
 use Rattle.persistence.specs.Limits.{most_fields}
 use Rattle.persistence.specs.Faults.{HeadShows}
-use Rattle.persistence.specs.ReadingHeads.{AreWithin, fields_at, IsTaken, EndsHead}
+use Rattle.persistence.specs.ReadingHeads.{AreWithin, fields_at, IsAwaited, IsUnfinished, IsTaken, EndsHead, skip_newlines, line_ends}
+use Rattle.persistence.proofs.NextHead.{head_awaited, too_many_lines}
 use Rattle.persistence.proofs.StepLemmas.{first_taken}
 use Rattle.persistence.proofs.PieceLemmas.{filled_most, head_after, head_taken, head_whole, fields_within, fields_told}
 use Rattle.persistence.proofs.head.head_step.head_step.Goals as goal
@@ -40,6 +42,25 @@ returns-in-Ok-Some-clause-found c =
     subst (λ (n : ℕ). EndsHead (c.args.buffer.now ++ take (c.in-Ok-Some.spans.len - n) c.args.piece.now) c.clear.new.self c.at-head.result) (sym c.len-before.ensures)
     (subst (λ (t : List ℕ). EndsHead (c.args.buffer.now ++ take (c.in-Ok-Some.spans.len - length c.args.buffer.now) c.args.piece.now) t c.at-head.result) (sym c.clear.ensures)
     (head_whole c.args.buffer.now c.args.piece.now c.bytes.result.now c.buffered_head.new.fields c.in-Ok-Some.spans c.fill-taken.result is c.requires.awaited found c.at-head.result says))
+
+pub returns-then-head_line_ends-clause-fault : goal.returns-then-head_line_ends-clause-fault
+returns-then-head_line_ends-clause-fault c =
+    let is = c.bytes.ensures ∙ c.fill-taken.ensures.bytes in
+    let so_far : IsUnfinished c.bytes.result.now = rw c.in-Ok-None.field-0-is at c.in-Ok-None.ensures.found in
+    let counted = c.head_line_ends.ensures.ends ∙ ap (λ (t : List ℕ). line_ends (skip_newlines t)) (sym c.bytes.ensures) in
+    first_taken HeadShows (ResponseExceeds most_fields) c.args.buffer.now c.args.piece.now c.bytes.result.now c.fill-taken.result HeadTooLong is
+    (too_many_lines c.bytes.result.now so_far (omega (arith, counted, c.if-head_line_ends.true)))
+
+pub returns-else-head_line_ends-clause-found : goal.returns-else-head_line_ends-clause-found
+returns-else-head_line_ends-clause-found c =
+    let is = c.bytes.ensures ∙ c.fill-taken.ensures.bytes in
+    let so_far : IsUnfinished c.bytes.result.now = rw c.in-Ok-None.field-0-is at c.in-Ok-None.ensures.found in
+    let counted = c.head_line_ends.ensures.ends ∙ ap (λ (t : List ℕ). line_ends (skip_newlines t)) (sym c.bytes.ensures) in
+    record {
+      is = c.head_line_ends.ensures.same ∙ c.fill-taken.ensures.bytes;
+      awaited = subst IsAwaited is (head_awaited c.bytes.result.now so_far (omega (arith, counted, c.if-head_line_ends.false)));
+      short = omega (arith, ap length is, so_far.short);
+    }
 
 pub returns-in-Err-clause-fault : goal.returns-in-Err-clause-fault
 returns-in-Err-clause-fault c =

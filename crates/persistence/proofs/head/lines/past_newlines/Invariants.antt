@@ -1,6 +1,6 @@
 use Rattle.std.proofs.Common.{◌≡◌, length}
 use Rattle.persistence.specs.ReadingHeads.{skip_newlines}
-use Rattle.persistence.proofs.head.lines.head_line_ends.Given as goal
+use Rattle.persistence.proofs.head.lines.past_newlines.Given as goal
 
 abbrev pub invariant-loop-rest : goal.invariant-loop-rest
 invariant-loop-rest l = skip_newlines l.rest ≡ skip_newlines l.text
