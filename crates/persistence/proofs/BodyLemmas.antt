@@ -193,8 +193,3 @@ too_many_bytes kind counted text is over = subst (λ (k : BodyKind). IsFirstInBo
   where
     first : IsFirstInBody UntilClose counted text BadLength
     first = record { front = text; later = []; is = sym (append-nil text); shown = (refl, over); first = λ shorter next more other e shown. inl shown.0 }
-
--- as many of its bytes as can be counted
-pub greatest_fixes : (kind : BodyKind) (counted : Option ℕ) (text : List ℕ) → kind ≡ UntilClose → most_bytes < length text → FixesBody kind counted text most_bytes
-greatest_fixes kind counted text is over =
-    subst (λ (k : BodyKind). FixesBody k counted text most_bytes) (sym is) (λ more. omega (arith, length-append text more, over))

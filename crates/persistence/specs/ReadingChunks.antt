@@ -3,6 +3,7 @@ use Rattle.std.specs.Char.{is_ascii_hexdigit}
 use Rattle.std.specs.Prelude.{◌≡◌, ℕ, ◌<◌, ◌≤◌, Bool, true, false, ◌==◌, if◌then◌else◌, List, [], ◌∷◌, ◌++◌, length, take, drop, MatchOption, Option, Some, ◌+◌, sum, ◌&&◌, None, ◌-◌}
 use Rattle.std.specs.Str.Parse.{digits_value}
 use Rattle.httparse.specs.Grammar.{print_extension, AllPass, is_ows, IsExtension}
+use Rattle.httparse.specs.Spans.{SectionExceeds}
 use Rattle.persistence.specs.declared.answer.ReadFault.{ReadFault}
 use Rattle.persistence.specs.declared.answer.ReadFault.TheVariants.{BadChunk}
 use Rattle.persistence.specs.declared.body.state.ChunkPart.{ChunkPart}
@@ -10,9 +11,11 @@ use Rattle.persistence.specs.declared.body.state.ChunkPart.TheVariants.{Line, Da
 use Rattle.persistence.specs.declared.body.state.ChunkedBody.{ChunkedBody}
 use Rattle.persistence.specs.declared.chunks.ChunkStep.{ChunkStep}
 use Rattle.persistence.specs.declared.chunks.size_line.SizeLine.{SizeLine}
+use Rattle.persistence.specs.declared.chunks.size_line.LineStep.{LineStep}
+use Rattle.persistence.specs.declared.chunks.trailer.TrailerStep.{TrailerStep}
 use Rattle.persistence.specs.Chunks.{ReadsTrailer, ReadsSizeLine, ReadsChunks, room_after, ReachesTrailer, ReadsChunked}
 use Rattle.persistence.specs.Faults.{TrailerShows, NeverHasChunk, ShowsBadChunk, ChunkedShows, IsFirst, HasLongTrailer}
-use Rattle.persistence.specs.Limits.{most_bytes, most_line_bytes, most_trailer_bytes}
+use Rattle.persistence.specs.Limits.{most_fields, most_bytes, most_line_bytes, most_trailer_bytes}
 use Rattle.persistence.specs.Told.{HasNoChunk, TellsBegun, TellsChunkData, is_some_text}
 
 -- whether CR LF begins the text; nothing where the text ends before that is told
@@ -68,6 +71,12 @@ pub record EndsLine (room : ℕ) (text kept : List ℕ) (size : ℕ) : Type 0 wh
   pub is : kept ≡ []
   pub fits : size ≤ room
   pub reads : ReadsSizeLine size text []
+
+-- the step took so much of the piece: the line is whole, or still comes
+abbrev pub TellsLineStep : ℕ → List ℕ → List ℕ → List ℕ → LineStep → Type 0
+TellsLineStep room before piece kept step =
+    let text = before ++ take step.used piece in
+    MatchOption step.size (KeepsLine room text kept) (EndsLine room text kept)
 
 -- no chunk and no last line is there yet, one that fits the room can come, and so many bytes of its data came
 pub record AwaitsChunk (room : ℕ) (text : List ℕ) (begun : ℕ) : Type 0 where
@@ -157,6 +166,18 @@ pub record EndsSection (text kept : List ℕ) : Type 0 where
 abbrev pub TellsSection : Bool → List ℕ → List ℕ → Type 0
 TellsSection true text kept = EndsSection text kept
 TellsSection false text kept = KeepsTrailer text kept
+
+-- the step took so much of the piece, and the section is whole or still comes
+abbrev pub TellsTrailerStep : List ℕ → List ℕ → List ℕ → TrailerStep → Type 0
+TellsTrailerStep before piece kept step = TellsSection step.whole (before ++ take step.used piece) kept
+
+-- a section still comes, and there is room for more of it
+abbrev pub HasRoomForSection : List ℕ → Type 0
+HasRoomForSection text = IsTrailerAwaited text × (length text < most_trailer_bytes)
+
+-- the fault that a trailer section shows first
+abbrev pub IsFirstInTrailer : List ℕ → ReadFault → Type 0
+IsFirstInTrailer = IsFirst TrailerShows (SectionExceeds most_fields)
 
 -- whole chunks of so much data and the line of a chunk of size zero, and then the trailer section
 pub record ReachesSection (text : List ℕ) (len : ℕ) (kept : List ℕ) : Type 0 where

@@ -1,7 +1,7 @@
 -- What the parts answer where a head is read. No public contract needs these words.
 use Rattle.std.specs.List.{count_by}
-use Rattle.std.specs.Prelude.{◌≡◌, ℕ, ◌<◌, ◌≤◌, Bool, true, false, ◌==◌, if◌then◌else◌, List, [], ◌∷◌, ◌++◌, length, take, drop, map, codes, All, Option, Some}
-use Rattle.httparse.specs.Grammar.{ResponseHead, status_code, HasNoResponse, MayBecomeResponse}
+use Rattle.std.specs.Prelude.{◌≡◌, ℕ, ◌<◌, ◌≤◌, Bool, true, false, ◌==◌, if◌then◌else◌, List, [], ◌∷◌, ◌++◌, length, take, drop, map, codes, All, Option, Some, MatchOption}
+use Rattle.httparse.specs.Grammar.{ResponseHead, status_code}
 use Rattle.httparse.specs.Pieces.{is_newline}
 use Rattle.httparse.specs.Spans.{header_bytes, IsHeaderWithin}
 use Rattle.httparse.specs.declared.Error.{Error}
@@ -10,6 +10,7 @@ use Rattle.httparse.specs.declared.spans.HeaderSpan.{HeaderSpan}
 use Rattle.httparse.specs.declared.spans.ResponseSpans.{ResponseSpans}
 use Rattle.persistence.specs.declared.answer.ReadFault.{ReadFault}
 use Rattle.persistence.specs.declared.head.Head.{Head}
+use Rattle.persistence.specs.declared.head.heads_step.HeadsStep.{HeadsStep}
 use Rattle.persistence.specs.Faults.{HeadShows}
 use Rattle.persistence.specs.Fields.{NameAndValue, fields_of, has_option, has_transfer_encoding, is_chunked_last, has_content_length, counted_length, is_word}
 use Rattle.persistence.specs.Heads.{ReadsHead, ReadsInterim, ReadsHeads}
@@ -119,3 +120,9 @@ pub record EndsHeadsIn (bytes kept : List ℕ) (told : Head) : Type 0 where
 -- no final head comes, whatever follows the bytes
 abbrev pub NeverHasFinalHead : List ℕ → Type 0
 NeverHasFinalHead bytes = (more : List ℕ) → HasNoFinalHead (bytes ++ more)
+
+-- the step took so much of the piece: the final head has come, or a head still comes after so many interim ones
+abbrev pub TellsHeadsStep : List ℕ → List ℕ → List ℕ → HeadsStep → Type 0
+TellsHeadsStep bytes piece kept step =
+    let text = bytes ++ take step.used piece in
+    MatchOption step.head (AwaitsHeads text step.skipped kept) (EndsHeadsIn text kept)

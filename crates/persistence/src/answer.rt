@@ -10,12 +10,12 @@ pub enum Fed {
     Whole,
 }
 
-/// Why bytes are no response that can be read: there is no memory for a reader (`Memory`); what should be
-/// a head is none (`BadHead`); the Content-Length fields give no one number, or a body that lasts until the
-/// connection ends has more bytes than a `u64` counts (`BadLength`); what should be a chunk or a trailer
-/// section is none (`BadChunk`); a head has more than 16,384 bytes or 100 fields (`HeadTooLong`); a ninth
-/// interim head came (`TooManyInterims`); a trailer section has more than 8,192 bytes or 100 fields
-/// (`TrailerTooLong`).
+/// Why bytes are no response that can be read: there is no memory for a reader (`Memory`); what
+/// should be a head is none (`BadHead`); the Content-Length fields give no one number, or a body
+/// that lasts until the connection ends has more bytes than a `u64` counts (`BadLength`); what
+/// should be a chunk or a trailer section is none (`BadChunk`); a head has more than 16,384 bytes
+/// or 100 fields (`HeadTooLong`); a ninth interim head came (`TooManyInterims`); a trailer section
+/// has more than 8,192 bytes or 100 fields (`TrailerTooLong`).
 #[derive(Clone, Copy, Debug, PartialEq, Eq, Error)]
 pub enum ReadFault {
     #[error("out of memory")]

@@ -55,15 +55,16 @@ fn begin_counted(count: u64) -> BodyState
     }
 }
 
-/// Adds the piece to a body; what comes after its end is surplus. `BadLength` where a body that lasts
-/// until the connection ends has more bytes than a `u64` counts, `BadChunk` where no chunk or trailer
-/// section can come any more, `TrailerTooLong` past 8,192 bytes or 100 fields of a trailer section.
+/// Adds the piece to a body; what comes after its end is surplus. `BadLength` where a body that
+/// lasts until the connection ends has more bytes than a `u64` counts, `BadChunk` where no chunk or
+/// trailer section can come any more, `TrailerTooLong` past 8,192 bytes or 100 fields of a trailer
+/// section.
 pub(crate) fn feed_body(
     state: &mut BodyState,
     buffer: &mut Buffer,
     piece: &[u8],
 ) -> Result<(), ReadFault>
-    requires stands { (kind : BodyKind) × (counted : Option ℕ) × (text : List ℕ)
+    requires known { (kind : BodyKind) × (counted : Option ℕ) × (text : List ℕ)
         × BodyAt kind counted text state.old buffer.old }
     ensures told { (kind : BodyKind) (counted : Option ℕ) (text : List ℕ)
         → BodyAt kind counted text state.old buffer.old
@@ -104,7 +105,8 @@ pub(crate) fn feed_body(
 // where a `u64` does not count them.
 fn lasting_len(len: u64, piece: &[u8]) -> Option<u64>
     ensures { (text : List ℕ) → LastsFor text len
-        → MatchOption result (most_bytes < length (text ++ piece.now)) (LastsFor (text ++ piece.now)) }
+        → MatchOption result (most_bytes < length (text ++ piece.now))
+        (LastsFor (text ++ piece.now)) }
 {
     len.checked_add(piece.len() as u64)
 }

@@ -32,7 +32,7 @@ pub(crate) fn feed_chunks(
     buffer: &mut Buffer,
     piece: &[u8],
 ) -> Result<(), ReadFault>
-    requires stands { (text : List ℕ) × IsInChunks text chunks.old buffer.old }
+    requires known { (text : List ℕ) × IsInChunks text chunks.old buffer.old }
     ensures told { (text : List ℕ) → IsInChunks text chunks.old buffer.old
         → IfOk result (λ _. IsInChunks (text ++ piece.now) chunks.new buffer.new) }
     ensures fault { (text : List ℕ) → IsInChunks text chunks.old buffer.old
@@ -65,7 +65,7 @@ fn chunk_step(
     piece: &[u8],
 ) -> Result<ChunkStep, ReadFault>
     requires some { 0 < length piece.now }
-    requires stands { (text : List ℕ) × IsDue part text len buffer.old }
+    requires known { (text : List ℕ) × IsDue part text len buffer.old }
     ensures taken { IfOk result (λ step. IsTaken piece.now step.used) }
     ensures told { (text : List ℕ) → IsDue part text len buffer.old
         → IfOk result (TellsStep text piece.now buffer.new) }
@@ -84,7 +84,7 @@ fn chunk_step(
 
 // What the piece adds to the line before a chunk.
 fn step_in_line(len: u64, buffer: &mut Buffer, piece: &[u8]) -> Result<ChunkStep, ReadFault>
-    requires stands { (text : List ℕ) × IsLineDue text len buffer.old }
+    requires known { (text : List ℕ) × IsLineDue text len buffer.old }
     ensures taken { IfOk result (λ step. IsTaken piece.now step.used) }
     ensures told { (text : List ℕ) → IsLineDue text len buffer.old
         → IfOk result (TellsStep text piece.now buffer.new) }
@@ -117,7 +117,7 @@ fn step_in_line(len: u64, buffer: &mut Buffer, piece: &[u8]) -> Result<ChunkStep
 
 // What the piece adds to a chunk's data of which so much is left.
 fn step_in_data(len: u64, left: u64, piece: &[u8]) -> ChunkStep
-    requires stands { (text : List ℕ) × IsDataDue left text len [] }
+    requires known { (text : List ℕ) × IsDataDue left text len [] }
     ensures taken { IsTaken piece.now result.used }
     ensures told { (text : List ℕ) → IsDataDue left text len []
         → TellsStep text piece.now [] result }
@@ -136,7 +136,8 @@ fn step_in_data(len: u64, left: u64, piece: &[u8]) -> ChunkStep
     }
 }
 
-// What the first byte of the piece adds to the CR LF after a chunk's data, of which the CR came or not.
+// What the first byte of the piece adds to the CR LF after a chunk's data, of which the CR came or
+// not.
 fn step_in_line_end(len: u64, has_cr: bool, piece: &[u8]) -> Result<ChunkStep, ReadFault>
     requires some { 0 < length piece.now }
     ensures taken { IfOk result (λ step. IsTaken piece.now step.used) }
@@ -162,7 +163,7 @@ fn step_in_line_end(len: u64, has_cr: bool, piece: &[u8]) -> Result<ChunkStep, R
 
 // What the piece adds to the trailer section.
 fn step_in_trailer(len: u64, buffer: &mut Buffer, piece: &[u8]) -> Result<ChunkStep, ReadFault>
-    requires stands { (text : List ℕ) × IsTrailerDue text len buffer.old }
+    requires known { (text : List ℕ) × IsTrailerDue text len buffer.old }
     ensures taken { IfOk result (λ step. IsTaken piece.now step.used) }
     ensures told { (text : List ℕ) → IsTrailerDue text len buffer.old
         → IfOk result (TellsStep text piece.now buffer.new) }

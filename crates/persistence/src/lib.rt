@@ -1,5 +1,5 @@
-//! What the bytes of a response say (RFC 9112), and whether an HTTP/1.1 connection persists after it
-//! (RFC 9112, sections 9.3 and 9.6).
+//! What the bytes of a response say (RFC 9112), and whether an HTTP/1.1 connection persists after
+//! it (RFC 9112, sections 9.3 and 9.6).
 #![tactic(auto)]
 
 mod answer;

@@ -1,4 +1,5 @@
-/// The method of the request that a response answers, so far as it decides how the response is read.
+/// The method of the request that a response answers, so far as it decides how the response is
+/// read.
 #[derive(Clone, Copy, Debug, PartialEq, Eq)]
 pub enum Method {
     /// GET.

@@ -1,11 +1,14 @@
 //! A response that is read in whatever pieces its bytes come.
-ghost use Rattle.std.specs.Prelude.{◌≡◌, ◌≢◌, ℕ, false, true, List, ◌++◌, Err, None, Some, MatchOption, IfOk, IfErr};
+ghost use Rattle.std.specs.Prelude.{◌≡◌, ℕ, false, true, List, ◌++◌, Err, None, Some, IfOk, IfErr};
 ghost use Rattle.persistence.specs.declared.answer.ReadFault.{ReadFault};
 ghost use Rattle.persistence.specs.declared.answer.ReadFault.TheVariants.{Memory};
 ghost use Rattle.persistence.specs.declared.method.Method.{Method};
-ghost use Rattle.persistence.specs.Told.{facts_before, is_some_text, TellsFacts, TellsFactsAfterFault, TellsStatus, TellsLength};
-ghost use Rattle.persistence.specs.Faults.{IsFaultless, IsFirstFault};
-ghost use Rattle.persistence.specs.Reader.{unread, TellsFed, TellsWhole};
+ghost use Rattle.persistence.specs.Told.{facts_before, is_some_text, TellsFacts};
+ghost use Rattle.persistence.specs.Told.{TellsFactsAfterFault, TellsStatus, TellsLength};
+ghost use Rattle.persistence.specs.Faults.{IsFaultless};
+ghost use Rattle.persistence.specs.Reader.{unread, IsSameResponse, HasNoFault, HasFault};
+ghost use Rattle.persistence.specs.Reader.{TellsFed, TellsWhole, ShowsItsFault, TellsFactsOf};
+ghost use Rattle.persistence.specs.Reader.{TellsWholeOf, TellsFactsOfFaulty};
 ghost use Rattle.persistence.specs.ReadingStages.{IsAtStage, fault_at};
 
 pub(crate) mod buffer;
@@ -19,9 +22,9 @@ use stage::{Stage, stage_after};
 use std::alloc::Global;
 use std::marker::Model;
 
-/// A reader of the response to one request: it is fed the bytes in whatever pieces they come, and tells the
-/// status, the facts and the body's length of all bytes so far (RFC 9112, sections 2.1, 6.3 and 7.1). It
-/// keeps 16,384 bytes of memory, taken when it is made.
+/// A reader of the response to one request: it is fed the bytes in whatever pieces they come, and
+/// tells the status, the facts and the body's length of all bytes so far (RFC 9112, sections 2.1,
+/// 6.3 and 7.1). It keeps 16,384 bytes of memory, taken when it is made.
 #[derive(Drop)]
 pub struct ResponseReader {
     method: Method,
@@ -59,8 +62,8 @@ impl Model for ResponseReader {
 }
 
 impl ResponseReader {
-    /// A reader that was fed nothing, for the response to a request of that method, which had the connection
-    /// option `close` or not. All memory is taken here.
+    /// A reader that was fed nothing, for the response to a request of that method, which had the
+    /// connection option `close` or not. All memory is taken here.
     ///
     /// # Errors
     ///
@@ -87,25 +90,30 @@ impl ResponseReader {
         })
     }
 
-    /// Reads one piece more, of any length; the connection must not have ended. `Whole` from the piece on by
-    /// which the response is whole, `More` before, and always `More` for a body that lasts until the
-    /// connection ends. Bytes after the response's end make its facts say `surplus` and are otherwise
-    /// dropped. It takes no memory.
+    /// Reads one piece more, of any length; the connection must not have ended. `Whole` from the
+    /// piece on by which the response is whole, `More` before, and always `More` for a body that
+    /// lasts until the connection ends. Bytes after the response's end make its facts say `surplus`
+    /// and are otherwise dropped. It takes no memory.
     ///
     /// # Errors
     ///
-    /// The fault that the shortest front of the bytes shows that shows any; past a 101st field it may be one
-    /// that the section shows further on. It is answered from the piece on by which it shows, and by each
-    /// later call: `BadHead`, `HeadTooLong`, `TooManyInterims`, `BadLength`, `BadChunk` or
-    /// `TrailerTooLong`. `Memory` never comes.
+    /// The fault that the shortest front of the bytes shows that shows any; past a 101st field it
+    /// may be one that the section shows further on. It is answered from the piece on by which it
+    /// shows, and by each later call: `BadHead` where no head can come any more, `HeadTooLong` past
+    /// 16,384 bytes or 100 fields of a head, `TooManyInterims` at the end of a ninth interim head,
+    /// `BadLength` where the body is counted and the Content-Length fields give no one number, or
+    /// where a body that lasts until the connection ends has more bytes than a `u64` counts,
+    /// `BadChunk` where no chunk or trailer section can come any more, `TrailerTooLong` past 8,192
+    /// bytes or 100 fields of a trailer section. `Memory` never comes.
     pub fn feed(&mut self, piece: &[u8]) -> Result<Fed, ReadFault>
         requires { self.old.ended ≡ false }
         ensures bytes { self.new.bytes ≡ self.old.bytes ++ piece.now }
-        ensures same { (self.new.method ≡ self.old.method) × (self.new.request_close ≡ self.old.request_close) × (self.new.ended ≡ self.old.ended) }
-        ensures told { IfOk result (TellsFed self.old.method self.new.bytes) }
-        ensures faultless { IfOk result (λ _. (self.new.fault ≡ None) × IsFaultless self.old.method self.new.bytes) }
-        ensures fault { IfErr result (λ fault. (self.new.fault ≡ Some fault) × IsFirstFault self.old.method self.new.bytes fault × (fault ≢ Memory)) }
-        ensures again { (fault : ReadFault) → self.old.fault ≡ Some fault → (result ≡ Err fault) × (self.new.len ≡ self.old.len) }
+        ensures same { IsSameResponse self.old self.new }
+        ensures told { IfOk result (TellsFed self.new.method self.new.bytes) }
+        ensures faultless { IfOk result (λ _. HasNoFault self.new) }
+        ensures fault { IfErr result (HasFault self.new) }
+        ensures again { (fault : ReadFault) → self.old.fault ≡ Some fault
+            → (result ≡ Err fault) × (self.new.len ≡ self.old.len) }
     {
         self.any_byte |= !piece.is_empty();
         self.stage = stage_after(self.method, &mut self.buffer, self.stage, piece);
@@ -113,8 +121,8 @@ impl ResponseReader {
         answer_at(&self.stage)
     }
 
-    /// The connection has ended: where the final head came and no fault was answered, a body that lasts
-    /// until then is whole. Nothing else changes; it may be called again.
+    /// The connection has ended: where the final head came and no fault was answered, a body that
+    /// lasts until then is whole. Nothing else changes; it may be called again.
     pub fn end(&mut self)
         ensures { self.new ≡ record self.old { ended = true } }
     {
@@ -149,20 +157,21 @@ impl ResponseReader {
         }
     }
 
-    /// What decides whether the response's connection persists, and whether the response is whole. After a
-    /// fault the framing is `Faulty`, `whole` and `surplus` are false, and the rest is what the final head
-    /// says, if it came.
+    /// What decides whether the response's connection persists, and whether the response is whole.
+    /// After a fault the framing is `Faulty`, `whole` and `surplus` are false, and the rest is what
+    /// the final head says, if it came.
     pub fn facts(&self) -> Facts
-        ensures shown { MatchOption self.now.fault (IsFaultless self.now.method self.now.bytes) (IsFirstFault self.now.method self.now.bytes) }
-        ensures told { self.now.fault ≡ None → TellsFacts self.now.method self.now.request_close self.now.bytes self.now.ended result }
-        ensures whole { self.now.fault ≡ None → TellsWhole self.now.method self.now.bytes self.now.ended result.whole }
-        ensures after_fault { (fault : ReadFault) → self.now.fault ≡ Some fault → TellsFactsAfterFault self.now.method self.now.request_close self.now.bytes result }
+        ensures shown { ShowsItsFault self.now }
+        ensures told { self.now.fault ≡ None → TellsFactsOf self.now result }
+        ensures whole { self.now.fault ≡ None → TellsWholeOf self.now result.whole }
+        ensures after_fault { (fault : ReadFault) → self.now.fault ≡ Some fault
+            → TellsFactsOfFaulty self.now result }
     {
         facts_at(self.method, self.request_close, &self.stage, self.ended)
     }
 
-    /// How many bytes of the body have come, of chunks the data alone; after a fault, how many came before
-    /// it.
+    /// How many bytes of the body have come, of chunks the data alone; after a fault, how many came
+    /// before it.
     pub fn body_len(&self) -> u64
         ensures len { result ≡ self.now.len }
         ensures told { TellsLength self.now.method self.now.bytes result }
@@ -177,8 +186,10 @@ impl ResponseReader {
 
 // What the reader answers there, while the connection lasts.
 fn answer_at(stage: &Stage) -> Result<Fed, ReadFault>
-    ensures told { (method : Method) (bytes kept : List ℕ) → IsAtStage method bytes stage.now kept → IfOk result (TellsFed method bytes) }
-    ensures faultless { (method : Method) (bytes kept : List ℕ) → IsAtStage method bytes stage.now kept
+    ensures told { (method : Method) (bytes kept : List ℕ) → IsAtStage method bytes stage.now kept
+        → IfOk result (TellsFed method bytes) }
+    ensures faultless { (method : Method) (bytes kept : List ℕ)
+        → IsAtStage method bytes stage.now kept
         → IfOk result (λ _. (fault_at stage.now ≡ None) × IsFaultless method bytes) }
     ensures fault { IfErr result (λ fault. fault_at stage.now ≡ Some fault) }
 {
@@ -196,10 +207,14 @@ fn answer_at(stage: &Stage) -> Result<Fed, ReadFault>
 
 // The facts there.
 fn facts_at(method: Method, request_close: bool, stage: &Stage, ended: bool) -> Facts
-    ensures told { (bytes kept : List ℕ) → IsAtStage method bytes stage.now kept → fault_at stage.now ≡ None
+    ensures told { (bytes kept : List ℕ) → IsAtStage method bytes stage.now kept
+        → fault_at stage.now ≡ None
         → TellsFacts method request_close bytes ended result }
-    ensures whole { (bytes kept : List ℕ) → IsAtStage method bytes stage.now kept → fault_at stage.now ≡ None → TellsWhole method bytes ended result.whole }
-    ensures after_fault { (bytes kept : List ℕ) → IsAtStage method bytes stage.now kept → (fault : ReadFault) → fault_at stage.now ≡ Some fault
+    ensures whole { (bytes kept : List ℕ) → IsAtStage method bytes stage.now kept
+        → fault_at stage.now ≡ None
+        → TellsWhole method bytes ended result.whole }
+    ensures after_fault { (bytes kept : List ℕ) → IsAtStage method bytes stage.now kept
+        → (fault : ReadFault) → fault_at stage.now ≡ Some fault
         → TellsFactsAfterFault method request_close bytes result }
 {
     match stage {

@@ -16,7 +16,8 @@ pub(crate) struct Came {
 /// What came of a body of so many bytes, after one piece more.
 pub(crate) fn count_piece(count: u64, came: Came, piece: &[u8]) -> Came
     requires { came.len ≤ count }
-    ensures { (text : List ℕ) → CountsBody count text came → CountsBody count (text ++ piece.now) result }
+    ensures { (text : List ℕ) → CountsBody count text came
+        → CountsBody count (text ++ piece.now) result }
 {
     let left = count - came.len;
     let more = piece.len() as u64;

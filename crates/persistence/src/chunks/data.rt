@@ -1,7 +1,9 @@
 //! A chunk's data, which is counted and not looked at, and the CR LF after it.
-ghost use Rattle.std.specs.Prelude.{◌≡◌, ℕ, ◌+◌, ◌-◌, ◌<◌, ◌≤◌, true, false, List, [], ◌∷◌, ◌++◌, length, take, min, None, Some};
+ghost use Rattle.std.specs.Prelude.{◌≡◌, ℕ, ◌+◌, ◌-◌, ◌<◌, ◌≤◌, true, false, List, [], ◌∷◌, ◌++◌};
+ghost use Rattle.std.specs.Prelude.{length, take, min, None, Some};
 ghost use Rattle.persistence.specs.Faults.{ShowsBadChunk};
-ghost use Rattle.persistence.specs.ReadingChunks.{begins_crlf, PassesTo, IsInData, IsAfterData, carriage, FixesData};
+ghost use Rattle.persistence.specs.ReadingChunks.{begins_crlf, carriage, PassesTo, IsInData};
+ghost use Rattle.persistence.specs.ReadingChunks.{IsAfterData, FixesData};
 ghost use Rattle.persistence.specs.ReadingHeads.{IsTaken};
 
 /// How many bytes of the piece are data of a chunk of which so much is left, which is not nothing.
@@ -29,8 +31,8 @@ fn part_of(left: u64, piece: &[u8]) -> usize
     }
 }
 
-/// Whether the byte after the data ends the chunk, where the CR came before it or not; nothing where that
-/// is not told yet.
+/// Whether the byte after the data ends the chunk, where the CR came before it or not; nothing
+/// where that is not told yet.
 pub(crate) fn chunk_end_step(has_cr: bool, byte: u8) -> Option<bool>
     ensures open { result ≡ None → (text : List ℕ) (len : ℕ) → IsAfterData text len has_cr
         → IsAfterData (text ++ byte ∷ []) len true }
@@ -44,8 +46,8 @@ pub(crate) fn chunk_end_step(has_cr: bool, byte: u8) -> Option<bool>
     line_end_after(has_cr, byte)
 }
 
-// Whether the byte ends the line after a chunk's data, of which the CR came or not; nothing where that is
-// not told yet.
+// Whether the byte ends the line after a chunk's data, of which the CR came or not; nothing where
+// that is not told yet.
 fn line_end_after(has_cr: bool, byte: u8) -> Option<bool>
     ensures { result ≡ begins_crlf (carriage has_cr ++ byte ∷ []) }
 {

@@ -1,11 +1,14 @@
 //! The line before a chunk (RFC 9112, section 7.1).
-ghost use Rattle.std.specs.Prelude.{◌≡◌, ℕ, ◌<◌, ◌≤◌, ◌++◌, length, take, not, IfOk, IfErr, IfSome, IfNone, MatchOption};
+ghost use Rattle.std.specs.Prelude.{◌≡◌, ℕ, ◌<◌, ◌≤◌, ◌++◌, length, not, MatchOption};
+ghost use Rattle.std.specs.Prelude.{IfOk, IfErr, IfSome, IfNone};
 ghost use Rattle.std.specs.List.{position_or_len};
 ghost use Rattle.std.specs.Char.{is_ascii_hexdigit};
 ghost use Rattle.httparse.specs.Grammar.{AllPass, is_extension_byte};
 ghost use Rattle.persistence.specs.Limits.{most_line_bytes};
-ghost use Rattle.persistence.specs.ReadingChunks.{IsWrittenSize, begins_crlf as crlf_begins, begins_extension as extension_begins, AwaitsLine, FindsLine, RefusesLine, KeepsLine, EndsLine};
 ghost use Rattle.persistence.specs.ReadingHeads.{IsTaken};
+ghost use Rattle.persistence.specs.ReadingChunks.{begins_crlf as crlf_begins, AwaitsLine};
+ghost use Rattle.persistence.specs.ReadingChunks.{begins_extension as extension_begins, FindsLine};
+ghost use Rattle.persistence.specs.ReadingChunks.{IsWrittenSize, RefusesLine, TellsLineStep};
 
 use crate::ReadFault;
 use crate::head::elements::trim_start;
@@ -36,8 +39,7 @@ pub(crate) fn line_step(buffer: &mut Buffer, room: u64, piece: &[u8]) -> Result<
     requires awaits { AwaitsLine room buffer.old }
     requires short { length buffer.old < most_line_bytes }
     ensures taken { IfOk result (λ step. IsTaken piece.now step.used) }
-    ensures found { IfOk result (λ step. MatchOption step.size (KeepsLine room (buffer.old ++ take step.used piece.now) buffer.new)
-        (EndsLine room (buffer.old ++ take step.used piece.now) buffer.new)) }
+    ensures found { IfOk result (TellsLineStep room buffer.old piece.now buffer.new) }
     ensures fault { IfErr result (RefusesLine room (buffer.old ++ piece.now)) }
 {
     let before = buffer.len();
@@ -69,10 +71,11 @@ fn line_front(piece: &[u8]) -> usize
     }
 }
 
-// The line that begins the text; nothing where it has not come whole yet, and `BadChunk` where no line of
-// a size up to `room` can come.
+// The line that begins the text; nothing where it has not come whole yet, and `BadChunk` where no
+// line of a size up to `room` can come.
 fn size_line(text: &[u8], room: u64) -> Result<Option<SizeLine>, ReadFault>
-    ensures found { IfOk result (λ found. MatchOption found (AwaitsLine room text.now) (FindsLine room text.now)) }
+    ensures found { IfOk result
+        (λ found. MatchOption found (AwaitsLine room text.now) (FindsLine room text.now)) }
     ensures fault { IfErr result (RefusesLine room text.now) }
 {
     if text.is_empty() {
@@ -123,8 +126,8 @@ fn digits_end(text: &[u8]) -> usize
         .unwrap_or(text.len())
 }
 
-// The size, up to `room`, that the words of a line write: digits, spaces and tabs, and perhaps a semicolon
-// and a text.
+// The size, up to `room`, that the words of a line write: digits, spaces and tabs, and perhaps a
+// semicolon and a text.
 fn written_size(words: &[u8], room: u64) -> Option<u64>
     requires { AllPass is_extension_byte words.now }
     ensures found { IfSome result (λ size. IsWrittenSize words.now size × (size ≤ room)) }

@@ -1,10 +1,9 @@
 //! The trailer section of a body in chunks, which comes in pieces (RFC 9112, section 7.1.2).
-ghost use Rattle.std.specs.Prelude.{◌<◌, ◌≤◌, ◌++◌, length, take, IfOk, IfErr, MatchOption};
-ghost use Rattle.httparse.specs.Spans.{SectionExceeds};
-ghost use Rattle.persistence.specs.Limits.{most_fields, most_trailer_bytes};
-ghost use Rattle.persistence.specs.Faults.{TrailerShows, IsFirst};
-ghost use Rattle.persistence.specs.ReadingChunks.{IsTrailerAwaited, EndsTrailer, TellsSection};
+ghost use Rattle.std.specs.Prelude.{◌<◌, ◌≤◌, ◌++◌, length, IfOk, IfErr, MatchOption};
+ghost use Rattle.persistence.specs.Limits.{most_trailer_bytes};
 ghost use Rattle.persistence.specs.ReadingHeads.{IsTaken};
+ghost use Rattle.persistence.specs.ReadingChunks.{IsTrailerAwaited, EndsTrailer, TellsTrailerStep};
+ghost use Rattle.persistence.specs.ReadingChunks.{HasRoomForSection, IsFirstInTrailer};
 
 use crate::ReadFault;
 use crate::head::lines::{is_too_many_fields, line_ends};
@@ -22,13 +21,14 @@ pub(crate) struct TrailerStep {
     pub whole: bool,
 }
 
-/// Adds the piece to the bytes of a trailer section, as far as they belong to it; forgets them once it is whole.
+/// Adds the piece to the bytes of a trailer section, as far as they belong to it; forgets them once
+/// it is whole.
 pub(crate) fn trailer_step(buffer: &mut Buffer, piece: &[u8]) -> Result<TrailerStep, ReadFault>
     requires awaited { IsTrailerAwaited buffer.old }
     requires short { length buffer.old < most_trailer_bytes }
     ensures taken { IfOk result (λ step. IsTaken piece.now step.used) }
-    ensures found { IfOk result (λ step. TellsSection step.whole (buffer.old ++ take step.used piece.now) buffer.new) }
-    ensures fault { IfErr result (IsFirst TrailerShows (SectionExceeds most_fields) (buffer.old ++ piece.now)) }
+    ensures found { IfOk result (TellsTrailerStep buffer.old piece.now buffer.new) }
+    ensures fault { IfErr result (IsFirstInTrailer (buffer.old ++ piece.now)) }
 {
     let before = buffer.len();
     let taken = buffer.fill(piece, MOST_TRAILER_BYTES);
@@ -51,8 +51,9 @@ pub(crate) fn trailer_step(buffer: &mut Buffer, piece: &[u8]) -> Result<TrailerS
 // The length of the trailer section that begins the bytes; nothing where it has not come whole yet.
 fn buffered_section(front: &[u8]) -> Result<Option<usize>, ReadFault>
     requires { length front.now ≤ most_trailer_bytes }
-    ensures found { IfOk result (λ found. MatchOption found (IsTrailerAwaited front.now × (length front.now < most_trailer_bytes)) (EndsTrailer front.now)) }
-    ensures fault { IfErr result (IsFirst TrailerShows (SectionExceeds most_fields) front.now) }
+    ensures found { IfOk result
+        (λ found. MatchOption found (HasRoomForSection front.now) (EndsTrailer front.now)) }
+    ensures fault { IfErr result (IsFirstInTrailer front.now) }
 {
     let mut fields = [EMPTY_HEADER_SPAN; MOST_FIELDS];
     match parse_headers(front, &mut fields) {

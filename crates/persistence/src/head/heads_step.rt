@@ -1,10 +1,12 @@
 //! The heads of a response that come in pieces: interim ones, and the final one.
-ghost use Rattle.std.specs.Prelude.{◌≡◌, ◌<◌, ◌≤◌, List, ℕ, ◌++◌, length, take, IfOk, IfErr, MatchOption};
+ghost use Rattle.std.specs.Prelude.{◌≡◌, ◌<◌, ◌≤◌, List, ℕ, ◌++◌, length};
+ghost use Rattle.std.specs.Prelude.{IfOk, IfErr};
 ghost use Rattle.persistence.specs.declared.method.Method.{Method};
 ghost use Rattle.persistence.specs.Limits.{most_head_bytes, most_interims};
 ghost use Rattle.persistence.specs.Heads.{is_interim_status};
 ghost use Rattle.persistence.specs.Faults.{IsFirstFault};
-ghost use Rattle.persistence.specs.ReadingHeads.{IsAwaited, IsTaken, AwaitsHeads, EndsHeadsIn, NeverHasFinalHead};
+ghost use Rattle.persistence.specs.ReadingHeads.{IsTaken, IsAwaited, AwaitsHeads};
+ghost use Rattle.persistence.specs.ReadingHeads.{NeverHasFinalHead, TellsHeadsStep};
 
 use crate::ReadFault;
 use crate::head::Head;
@@ -23,8 +25,8 @@ pub(crate) struct HeadsStep {
     pub head: Option<Head>,
 }
 
-/// Adds the piece to the bytes of the head that is due, as far as they belong to it, where so many interim
-/// heads came before it.
+/// Adds the piece to the bytes of the head that is due, as far as they belong to it, where so many
+/// interim heads came before it.
 pub(crate) fn heads_step(
     buffer: &mut Buffer,
     skipped: usize,
@@ -34,11 +36,13 @@ pub(crate) fn heads_step(
     requires short { length buffer.old < most_head_bytes }
     requires few { skipped ≤ most_interims }
     ensures taken { IfOk result (λ step. IsTaken piece.now step.used) }
-    ensures found { (bytes : List ℕ) → AwaitsHeads bytes skipped buffer.old → IfOk result (λ step.
-        MatchOption step.head (AwaitsHeads (bytes ++ take step.used piece.now) step.skipped buffer.new) (EndsHeadsIn (bytes ++ take step.used piece.now) buffer.new)) }
-    ensures fault { (bytes : List ℕ) → AwaitsHeads bytes skipped buffer.old → IfErr result (λ fault. (method : Method)
-        → IsFirstFault method (bytes ++ piece.now) fault) }
-    ensures none { (bytes : List ℕ) → AwaitsHeads bytes skipped buffer.old → IfErr result (λ _. NeverHasFinalHead (bytes ++ piece.now)) }
+    ensures found { (bytes : List ℕ) → AwaitsHeads bytes skipped buffer.old
+        → IfOk result (TellsHeadsStep bytes piece.now buffer.new) }
+    ensures fault { (bytes : List ℕ) → AwaitsHeads bytes skipped buffer.old
+        → IfErr result
+        (λ fault. (method : Method) → IsFirstFault method (bytes ++ piece.now) fault) }
+    ensures none { (bytes : List ℕ) → AwaitsHeads bytes skipped buffer.old
+        → IfErr result (λ _. NeverHasFinalHead (bytes ++ piece.now)) }
 {
     let step = match head_step(buffer, piece) {
         Ok(step) => step,

@@ -24,7 +24,8 @@ pub(crate) enum Stage {
         head: Head,
         body: BodyState,
     },
-    /// A fault was found; the final head, if it came before, and the number of body bytes before the fault.
+    /// A fault was found; the final head, if it came before, and the number of body bytes before
+    /// the fault.
     Fault {
         fault: ReadFault,
         head: Option<Head>,
@@ -34,8 +35,9 @@ pub(crate) enum Stage {
 
 /// How far the reading has come after one piece more.
 pub(crate) fn stage_after(method: Method, buffer: &mut Buffer, stage: Stage, piece: &[u8]) -> Stage
-    requires stands { (bytes : List ℕ) × IsAtStage method bytes stage buffer.old }
-    ensures reached { (bytes : List ℕ) → IsAtStage method bytes stage buffer.old → IsAtStage method (bytes ++ piece.now) result buffer.new }
+    requires known { (bytes : List ℕ) × IsAtStage method bytes stage buffer.old }
+    ensures reached { (bytes : List ℕ) → IsAtStage method bytes stage buffer.old
+        → IsAtStage method (bytes ++ piece.now) result buffer.new }
     ensures again { (fault : ReadFault) → fault_at stage ≡ Some fault → result ≡ stage }
 {
     match stage {
@@ -47,8 +49,9 @@ pub(crate) fn stage_after(method: Method, buffer: &mut Buffer, stage: Stage, pie
 
 // How far it has come where a head was due before the piece.
 fn after_heads(method: Method, buffer: &mut Buffer, skipped: usize, piece: &[u8]) -> Stage
-    requires stands { (bytes : List ℕ) × AwaitsHeads bytes skipped buffer.old }
-    ensures reached { (bytes : List ℕ) → AwaitsHeads bytes skipped buffer.old → IsAtStage method (bytes ++ piece.now) result buffer.new }
+    requires known { (bytes : List ℕ) × AwaitsHeads bytes skipped buffer.old }
+    ensures reached { (bytes : List ℕ) → AwaitsHeads bytes skipped buffer.old
+        → IsAtStage method (bytes ++ piece.now) result buffer.new }
 {
     let mut at = 0;
     let mut count = skipped;
@@ -75,8 +78,9 @@ fn after_heads(method: Method, buffer: &mut Buffer, skipped: usize, piece: &[u8]
 
 // How far it has come where the final head ended just before the piece.
 fn after_head(method: Method, head: Head, buffer: &mut Buffer, piece: &[u8]) -> Stage
-    requires stands { (bytes : List ℕ) × EndsHeadsIn bytes buffer.old head }
-    ensures reached { (bytes : List ℕ) → EndsHeadsIn bytes buffer.old head → IsAtStage method (bytes ++ piece.now) result buffer.new }
+    requires known { (bytes : List ℕ) × EndsHeadsIn bytes buffer.old head }
+    ensures reached { (bytes : List ℕ) → EndsHeadsIn bytes buffer.old head
+        → IsAtStage method (bytes ++ piece.now) result buffer.new }
 {
     match begin_body(head.body_kind(method), head.counted) {
         Ok(body) => after_body(head, body, buffer, piece),
@@ -90,8 +94,11 @@ fn after_head(method: Method, head: Head, buffer: &mut Buffer, piece: &[u8]) -> 
 
 // How far it has come where the body was due before the piece.
 fn after_body(head: Head, body: BodyState, buffer: &mut Buffer, piece: &[u8]) -> Stage
-    requires stands { (method : Method) × (bytes : List ℕ) × IsInBody method bytes head body buffer.old }
-    ensures reached { (method : Method) (bytes : List ℕ) → IsInBody method bytes head body buffer.old → IsAtStage method (bytes ++ piece.now) result buffer.new }
+    requires known { (method : Method) × (bytes : List ℕ)
+        × IsInBody method bytes head body buffer.old }
+    ensures reached { (method : Method) (bytes : List ℕ)
+        → IsInBody method bytes head body buffer.old
+        → IsAtStage method (bytes ++ piece.now) result buffer.new }
 {
     let mut body = body;
     match feed_body(&mut body, buffer, piece) {

@@ -1,5 +1,5 @@
-//! Responses that are drawn and come cut at drawn places: of each a reader tells what a reader tells that is fed all its
-//! bytes at once, and of an undamaged one what it was drawn to be.
+//! Responses that are drawn and come cut at drawn places: of each a reader tells what a reader
+//! tells that is fed all its bytes at once, and of an undamaged one what it was drawn to be.
 use crate::tests::pieces::{Sent, Told, at_end, fed, told_in_pieces};
 use crate::{Method, ReadFault, ResponseReader};
 use std::alloc::{AllocError, Global};
@@ -39,7 +39,8 @@ enum Damage {
     Longer,
 }
 
-/// Each kind of damage. Of the 10 * 7 * 100 = 7,000 responses that are drawn, 1,000 have each of them.
+/// Each kind of damage. Of the 10 * 7 * 100 = 7,000 responses that are drawn, 1,000 have each of
+/// them.
 const DAMAGES: [Damage; 7] = [
     Damage::Nothing,
     Damage::Lengths,
@@ -50,8 +51,8 @@ const DAMAGES: [Damage; 7] = [
     Damage::Longer,
 ];
 
-/// Each kind of response, of which 700 are drawn: the request's method, the bytes before the drawn fields, the status,
-/// and the body.
+/// Each kind of response, of which 700 are drawn: the request's method, the bytes before the drawn
+/// fields, the status, and the body.
 const KINDS: [(Method, &str, u16, Body); 10] = [
     (Method::Get, "HTTP/1.1 200 OK\r\n", 200, Body::Counted),
     (Method::Get, "HTTP/1.1 200 OK\r\n", 200, Body::Chunked),
@@ -71,7 +72,8 @@ const KINDS: [(Method, &str, u16, Body); 10] = [
     ),
     (
         Method::Get,
-        "HTTP/1.1 103 Early Hints\r\nLink: a\r\n\r\nHTTP/1.1 100 Continue\r\n\r\nHTTP/1.1 200 OK\r\n",
+        "HTTP/1.1 103 Early Hints\r\nLink: a\r\n\r\nHTTP/1.1 100 Continue\r\n\r\n\
+         HTTP/1.1 200 OK\r\n",
         200,
         Body::Chunked,
     ),
@@ -116,7 +118,8 @@ const EXTENSIONS: [&str; 6] = ["", "", " \t", ";", ";a=b", "\t;a=\"b\" "];
 /// Bytes that may stand in another's place.
 const BYTES: [u8; 10] = *b"\r\n 0:;fx\x00\xff";
 
-/// Numbers by a xorshift generator (George Marsaglia, Xorshift RNGs, 2003), the same ones in each run.
+/// Numbers by a xorshift generator (George Marsaglia, Xorshift RNGs, 2003), the same ones in each
+/// run.
 #[derive(Drop)]
 struct Draws {
     state: u64,
@@ -163,7 +166,8 @@ fn told_length(draws: &mut Draws, len: usize, damage: Damage) -> usize {
     }
 }
 
-/// Adds chunks, the line of the last one, and a trailer section; answers how many bytes of data they have.
+/// Adds chunks, the line of the last one, and a trailer section; answers how many bytes of data
+/// they have.
 fn add_chunks(
     alloc: Global,
     text: &mut Vec<u8>,
@@ -194,7 +198,8 @@ fn add_chunks(
     Ok(len)
 }
 
-/// A response of that kind, before any damage but to its lengths; and how many bytes of content it has.
+/// A response of that kind, before any damage but to its lengths; and how many bytes of content it
+/// has.
 fn draw_response(
     alloc: Global,
     draws: &mut Draws,
@@ -246,8 +251,8 @@ fn damage_bytes(text: &mut Vec<u8>, draws: &mut Draws, damage: Damage) -> Result
     Ok(())
 }
 
-/// What a reader tells of the text, which comes in drawn pieces of less than `width` bytes, some of them empty; once it
-/// told a fault it tells no other.
+/// What a reader tells of the text, which comes in drawn pieces of less than `width` bytes, some of
+/// them empty; once it told a fault it tells no other.
 fn told_in_drawn_pieces(
     rt: &impl Abort,
     draws: &mut Draws,
@@ -279,7 +284,8 @@ fn told_in_drawn_pieces(
     next
 }
 
-/// Draws the response of that number, and checks what is told of it; of an undamaged one also what it was drawn to be.
+/// Draws the response of that number, and checks what is told of it; of an undamaged one also what
+/// it was drawn to be.
 fn check_drawn(
     rt: &impl Abort,
     alloc: Global,

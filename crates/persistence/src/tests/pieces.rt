@@ -1,5 +1,5 @@
-//! What a reader tells of responses written out, of faulty ones and at each limit: fed all at once, byte by byte, and
-//! cut into two pieces at each place.
+//! What a reader tells of responses written out, of faulty ones and at each limit: fed all at once,
+//! byte by byte, and cut into two pieces at each place.
 use crate::tests::KEEP;
 use crate::tests::rows::{FAULTS, LIMITS, NO_HEAD, ROWS, repeated};
 use crate::{Facts, Fed, Framing, Method, ReadFault, ResponseReader, persists};
@@ -37,7 +37,8 @@ const FAULTY: Facts = Facts {
     ..KEEP
 };
 
-/// Sections with a 101st field and then a bad byte: both faults may be told where all comes at once.
+/// Sections with a 101st field and then a bad byte: both faults may be told where all comes at
+/// once.
 const LONG_SECTIONS: [(&str, &str, &str, ReadFault, ReadFault); 2] = [
     (
         "a head",
@@ -55,7 +56,8 @@ const LONG_SECTIONS: [(&str, &str, &str, ReadFault, ReadFault); 2] = [
     ),
 ];
 
-/// Whole responses, their body length and framing; bytes that come after them are surplus, and change nothing else.
+/// Whole responses, their body length and framing; bytes that come after them are surplus, and
+/// change nothing else.
 const WHOLE: [(&str, u64, Framing); 4] = [
     (
         "HTTP/1.1 200 OK\r\nContent-Length: 2\r\n\r\nok",
@@ -159,8 +161,8 @@ fn response_of(reader: &ResponseReader) -> Response {
     }
 }
 
-/// What the reader tells after the piece; `feed` answers `Whole` exactly where the facts say so, and after a
-/// fault there is no framing.
+/// What the reader tells after the piece; `feed` answers `Whole` exactly where the facts say so,
+/// and after a fault there is no framing.
 pub(crate) fn fed(rt: &impl Abort, reader: &mut ResponseReader, piece: &[u8]) -> Told {
     assert!(rt; !reader.ended());
     match reader.feed(piece) {
@@ -190,8 +192,8 @@ pub(crate) fn at_end(rt: &impl Abort, reader: &mut ResponseReader, told: Told) -
     }
 }
 
-/// A reader that was fed the text, in a first piece of so many bytes and pieces of `each` bytes behind it, and what it
-/// told last; once it told a fault it tells no other.
+/// A reader that was fed the text, in a first piece of so many bytes and pieces of `each` bytes
+/// behind it, and what it told last; once it told a fault it tells no other.
 fn reader_fed(
     rt: &impl Abort,
     alloc: Global,
@@ -235,8 +237,8 @@ fn check_cuts(rt: &impl Abort, alloc: Global, case: &str, sent: Sent, told: Told
     }
 }
 
-/// Feeds the bytes from a place on one by one; after each it is told what a reader tells that is fed all bytes so far
-/// at once.
+/// Feeds the bytes from a place on one by one; after each it is told what a reader tells that is
+/// fed all bytes so far at once.
 fn check_fronts(
     rt: &impl Abort,
     alloc: Global,
@@ -282,8 +284,9 @@ fn check_short(
     check_fronts(rt, alloc, case, sent, 0)
 }
 
-/// Checks what is told of the text: at once, in pieces of 1,000 bytes, and with its last 50 bytes one by one. What is
-/// told of it byte by byte has a test of its own, since a head is parsed again at each byte.
+/// Checks what is told of the text: at once, in pieces of 1,000 bytes, and with its last 50 bytes
+/// one by one. What is told of it byte by byte has a test of its own, since a head is parsed again
+/// at each byte.
 fn check_long(
     rt: &impl Abort,
     alloc: Global,
@@ -401,7 +404,8 @@ fn a_long_section_shows_one_of_two_faults(rt: HostRuntime) -> Result<(), Fail> {
     Ok(())
 }
 
-/// Feeds more to a reader that told a fault; it tells the same fault, and nothing else of it changes.
+/// Feeds more to a reader that told a fault; it tells the same fault, and nothing else of it
+/// changes.
 fn check_fault_stays(
     rt: &impl Abort,
     reader: &mut ResponseReader,

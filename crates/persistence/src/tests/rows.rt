@@ -259,7 +259,8 @@ pub(crate) const ROWS: [(&str, Method, &str, bool, Option<u16>, u64, Facts, bool
     (
         "HTTP/1.0 in chunks",
         Method::Get,
-        "HTTP/1.0 200 OK\r\nConnection: keep-alive\r\nTransfer-Encoding: chunked\r\n\r\n2\r\nok\r\n0\r\n\r\n",
+        "HTTP/1.0 200 OK\r\nConnection: keep-alive\r\nTransfer-Encoding: chunked\r\n\r\n\
+         2\r\nok\r\n0\r\n\r\n",
         false,
         Some(200),
         2,
@@ -357,8 +358,8 @@ pub(crate) const ROWS: [(&str, Method, &str, bool, Option<u16>, u64, Facts, bool
     ),
 ];
 
-/// Bytes that show a fault, and that fault; and where a final head of status 200 came, how many bytes of its
-/// body came before the fault.
+/// Bytes that show a fault, and that fault; and where a final head of status 200 came, how many
+/// bytes of its body came before the fault.
 pub(crate) const FAULTS: [(&str, &str, ReadFault, Option<u64>); 16] = [
     (
         "two lengths",
@@ -458,8 +459,8 @@ pub(crate) const FAULTS: [(&str, &str, ReadFault, Option<u64>); 16] = [
     ),
 ];
 
-/// Bytes as a start, a piece so many times, and an end; status, body length and whether the response is
-/// whole, or the fault.
+/// Bytes as a start, a piece so many times, and an end; status, body length and whether the
+/// response is whole, or the fault.
 pub(crate) const LIMITS: [(
     &str,
     &str,

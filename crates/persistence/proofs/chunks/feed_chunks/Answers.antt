@@ -11,10 +11,10 @@ pub returns-in_default-clause-told : goal.returns-in_default-clause-told
 returns-in_default-clause-told c = λ text at.
     surplus_after text c.args.piece.now c.loop-at.at c.loop-at.chunks c.loop-at.buffer (c.loop-at.invariant.1 text at) c.in_default.is c.loop-at-test.true
 
-pub chunk_step-requires-clause-stands : goal.chunk_step-requires-clause-stands
-chunk_step-requires-clause-stands c =
-    let text = c.requires.stands.0 ++ take c.loop-at.at c.args.piece.now in
-    (text, due_now text c.loop-at.chunks c.loop-at.buffer c.in-Some.part (c.loop-at.invariant.1 c.requires.stands.0 c.requires.stands.1) c.in-Some.is)
+pub chunk_step-requires-clause-known : goal.chunk_step-requires-clause-known
+chunk_step-requires-clause-known c =
+    let text = c.requires.known.0 ++ take c.loop-at.at c.args.piece.now in
+    (text, due_now text c.loop-at.chunks c.loop-at.buffer c.in-Some.part (c.loop-at.invariant.1 c.requires.known.0 c.requires.known.1) c.in-Some.is)
 
 pub loop-at-preserved : goal.loop-at-preserved
 loop-at-preserved c =

@@ -5,7 +5,7 @@ use Rattle.persistence.proofs.chunks.step_in_data.Goals as goal
 
 pub overflow_add-len-2 : goal.overflow_add-len-2
 overflow_add-len-2 c =
-    let fits = data_fits c.requires.stands.0 c.args.len c.args.left c.requires.stands.1.within in
+    let fits = data_fits c.requires.known.0 c.args.len c.args.left c.requires.known.1.within in
     omega (arith, fits, c.data_step-used.ensures.bound)
 
 pub returns-clause-told : goal.returns-clause-told

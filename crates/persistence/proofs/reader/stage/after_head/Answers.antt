@@ -3,8 +3,8 @@ use Rattle.persistence.proofs.reader.stage.after_head.Goals as goal
 
 pub after_body-requires : goal.after_body-requires
 after_body-requires c =
-    let ends = c.requires.stands.1 in
-    record { stands = (c.args.method, c.requires.stands.0, body_now c.args.method c.requires.stands.0 c.args.buffer.now c.args.head ends c.body_kind.result (c.body_kind.ensures ends.head ends.says) c.in-Ok.body c.in-Ok.ensures.begun) }
+    let ends = c.requires.known.1 in
+    record { known = (c.args.method, c.requires.known.0, body_now c.args.method c.requires.known.0 c.args.buffer.now c.args.head ends c.body_kind.result (c.body_kind.ensures ends.head ends.says) c.in-Ok.body c.in-Ok.ensures.begun) }
 
 pub returns-in-Ok : goal.returns-in-Ok
 returns-in-Ok c = record {

@@ -7,10 +7,10 @@ use Rattle.persistence.proofs.StageLemmas.{never_fixes, piece_whole, piece_furth
 use Rattle.persistence.proofs.reader.stage.after_heads.Goals as goal
 
 pub heads_step-requires-clause-short : goal.heads_step-requires-clause-short
-heads_step-requires-clause-short c = (c.loop-at.invariant.1 c.requires.stands.0 c.requires.stands.1).short
+heads_step-requires-clause-short c = (c.loop-at.invariant.1 c.requires.known.0 c.requires.known.1).short
 
 pub heads_step-requires-clause-few : goal.heads_step-requires-clause-few
-heads_step-requires-clause-few c = (c.loop-at.invariant.1 c.requires.stands.0 c.requires.stands.1).few
+heads_step-requires-clause-few c = (c.loop-at.invariant.1 c.requires.known.0 c.requires.known.1).few
 
 pub returns-in-Err : goal.returns-in-Err
 returns-in-Err c = record {
@@ -28,8 +28,8 @@ returns-in-Err c = record {
 
 pub after_head-requires : goal.after_head-requires
 after_head-requires c =
-    let bytes = c.requires.stands.0 in
-    record { stands = (_, rw c.in-Some.is at c.in-Ok.ensures.found (bytes ++ take c.loop-at.at c.args.piece.now) (c.loop-at.invariant.1 bytes c.requires.stands.1)) }
+    let bytes = c.requires.known.0 in
+    record { known = (_, rw c.in-Some.is at c.in-Ok.ensures.found (bytes ++ take c.loop-at.at c.args.piece.now) (c.loop-at.invariant.1 bytes c.requires.known.1)) }
 
 pub returns-in-Some : goal.returns-in-Some
 returns-in-Some c = record {
