@@ -45,6 +45,13 @@ unwrap_or-position p xs place is = elim (cases_lt (position_or_len p xs) (length
   | inr past ↦ grind (arith, nat_tests, past, is, prefix_len-le-length (λ x. not (p x)) xs)
 ]
 
+-- a value without a comma is one element
+pub elements_alone : (value : List ℕ) (place : ℕ) → place ≡ position_or_len is_comma value → place ≡ length value
+    → elements value ≡ trim_ows (take place value) ∷ []
+elements_alone value place is past =
+    ap (map trim_ows) (slice_split_none is_comma value (λ k d h. fails_before_first is_comma value k d (omega (arith, is, past, h))))
+    ∙ ap (λ v. trim_ows v ∷ []) (sym (take_all place value (omega (arith, past))))
+
 -- what stands before the first comma is the first element
 pub FirstIs-elements : (value : List ℕ) → FirstIs (elements value) (trim_ows (take (position_or_len is_comma value) value))
 FirstIs-elements value = elim (cases_lt (position_or_len is_comma value) (length value)) [

@@ -1,10 +1,12 @@
 -- What fields say, and what they say with one field more.
-use Rattle.std.proofs.Common.{◌≡◌, ◌≢◌, ℕ, Bool, true, false, ◌&&◌, ◌||◌, cond, nat_le, List, [], ◌∷◌, ◌++◌, length, codes, Option, None, Some, option_map, unwrap_or, refl, sym, ap, ◌∙◌}
+use Rattle.std.proofs.Common.{◌≡◌, ◌≢◌, ℕ, ◌≤◌, arith, inl, inr, Bool, true, false, ◌&&◌, ◌||◌, cond, nat_le, List, [], ◌∷◌, ◌++◌, length, codes, Option, None, Some, option_map, unwrap_or, refl, sym, ap, ◌∙◌}
 use Rattle.std.specs.Option.{option_or}
 use Rattle.std.specs.List.{filter, flat_map, list_all, list_any}
 use Rattle.std.specs.Char.{to_ascii_lowercase}
 use Rattle.std.specs.Str.{str_to_ascii_lowercase}
 use Rattle.std.specs.Str.Parse.{digits_value}
+use Rattle.std.proofs.lemmas.Bool.{cases_lt}
+use Rattle.std.proofs.lemmas.Bool.Decides.{nat_tests}
 use Rattle.std.proofs.lemmas.List.{append-nil, length-map}
 use Rattle.std.proofs.lemmas.List.Elements.{filter-append}
 use Rattle.std.proofs.lemmas.List.Folds.{list_any-append, list_all-append}
@@ -97,6 +99,35 @@ chunked-append xs ys = ap is_chunked_coding (last_coding-append xs ys) ∙ by_ca
     by_cases (Some coding) = refl
 
 -- ---- lengths
+
+-- the number of a list whose first element is that number
+pub one_number-first : (list : List (List ℕ)) (first : List ℕ) (n : ℕ) → FirstIs list first → is_number n first ≡ true → n ≤ most_bytes
+    → one_number list ≡ cond (list_all (is_number n) list) (Some n) None
+one_number-first list first n (others, begins) number fits =
+    let value : digits_value 10 first ≡ n = grind (arith, nat_tests, number) in
+    ap one_number begins
+    ∙ ap (λ v. cond (nat_le v most_bytes && list_all (is_number v) (first ∷ others)) (Some v) None) value
+    ∙ ap (λ b. cond (b && list_all (is_number n) (first ∷ others)) (Some n) None) {y = true} (grind (arith, nat_tests, fits))
+    ∙ sym (ap (λ (l : List (List ℕ)). cond (list_all (is_number n) l) (Some n) None) begins)
+
+-- a list of one number alone
+pub one_number-alone : (list : List (List ℕ)) (only : List ℕ) (n : ℕ) → list ≡ only ∷ [] → is_number n only ≡ true → n ≤ most_bytes
+    → one_number list ≡ Some n
+one_number-alone list only n is number fits =
+    one_number-first list only n ([], is) number fits
+    ∙ ap (λ (l : List (List ℕ)). cond (list_all (is_number n) l) (Some n) None) is
+    ∙ ap (λ b. cond (b && true) (Some n) None) number
+
+-- a list whose first element is no number has none
+pub one_number-none : (list : List (List ℕ)) (first : List ℕ) → FirstIs list first → ((n : ℕ) → n ≤ most_bytes → is_number n first ≡ false)
+    → one_number list ≡ None
+one_number-none list first (others, begins) none = ap one_number begins ∙ by_cases (digits_value 10 first)
+  where
+    by_cases : (n : ℕ) → cond (nat_le n most_bytes && list_all (is_number n) (first ∷ others)) (Some n) None ≡ None
+    by_cases n = elim (cases_lt most_bytes n) [
+      | inl over ↦ grind (arith, nat_tests, over)
+      | inr fits ↦ ap (λ b. cond (nat_le n most_bytes && (b && list_all (is_number n) others)) (Some n) None) (none n fits) ∙ grind (arith, nat_tests, fits)
+    ]
 
 -- a list that has elements, where more follow it
 one_number-append : (list more : List (List ℕ)) (first : List ℕ) → FirstIs list first → one_number (list ++ more) ≡ number_with true (one_number list) more

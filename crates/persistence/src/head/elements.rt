@@ -22,9 +22,13 @@ pub(crate) fn has_word(value: &[u8], word: &[u8]) -> bool
 pub(crate) fn one_number(value: &[u8]) -> Option<u64>
     ensures { result ≡ one_number_of (elements value.now) }
 {
-    let Some(first) = decimal(first_element(value)) else {
+    let place = comma_place(value);
+    let Some(first) = decimal(trim(&value[..place])) else {
         return None;
     };
+    if place == value.len() {
+        return Some(first);
+    }
     if are_all(value, first) {
         Some(first)
     } else {
@@ -110,13 +114,6 @@ fn trim_end(bytes: &[u8]) -> &[u8]
         rest = others;
     }
     rest
-}
-
-// The first element of the value.
-fn first_element(value: &[u8]) -> &[u8]
-    ensures { FirstIs (elements value.now) result.now }
-{
-    trim(&value[..comma_place(value)])
 }
 
 // The place of the first comma, or else the length.
