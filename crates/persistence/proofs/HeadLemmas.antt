@@ -10,7 +10,7 @@ use Rattle.persistence.specs.declared.method.Method.{Method}
 use Rattle.persistence.specs.Sequence.{ReadsEach}
 use Rattle.persistence.specs.Limits.{most_fields, most_head_bytes, most_interims}
 use Rattle.persistence.specs.Heads.{is_interim, ReadsHead, ReadsInterim, ReadsFinal, ReadsHeads, HasFinalHead}
-use Rattle.persistence.specs.Faults.{HeadShows, ShowsTooManyInterims, Shows, IsFaultless, IsFirst, IsFirstFault, HasLongSection}
+use Rattle.persistence.specs.Faults.{HeadShows, ShowsTooManyInterims, ShowsFault, IsFaultless, IsFirst, IsFirstFault, HasLongSection}
 use Rattle.persistence.proofs.SequenceLemmas.{IsPrinted, Reads-append, print_each, each-append, Compared, same, longer, shorter, compared}
 use Rattle.persistence.proofs.LineLemmas.{cut_twice}
 use Rattle.persistence.proofs.HeadLines.{response_exceeds_none, print_response-some}
@@ -162,7 +162,7 @@ first_in_head interims bytes text each few fault found method =
     no_head h rest reads = head_shows_nothing h found.front rest fault reads found.shown
 
     earlier : (front : List ℕ) → ReadsEach ReadsInterim interims (front ++ found.front) found.front → (start : List ℕ) (next : ℕ) (more : List ℕ) (other : ReadFault)
-        → start ++ next ∷ more ≡ front ++ found.front → Shows method start other → (other ≡ fault) ⊎ HasLongSection method start
+        → start ++ next ∷ more ≡ front ++ found.front → ShowsFault method start other → (other ≡ fault) ⊎ HasLongSection method start
     earlier front all start next more other e (inl shown) =
         let further = subst (λ (t : List ℕ). ReadsEach ReadsInterim shown.interims t (shown.text ++ next ∷ more)) e (each-append interim_printed shown.interims start shown.text (next ∷ more) shown.before.each) in
         let there = shown_there interims (front ++ found.front) found.front all no_head shown.interims (shown.text ++ next ∷ more) other further (HeadShows-append shown.text (next ∷ more) other shown.shows) in
@@ -219,7 +219,7 @@ first_many interims bytes text each many method =
                 empty_head (x ∷ front) m some e = cc
 
     earlier : (front : List ℕ) → ReadsEach ReadsInterim interims front [] → (start : List ℕ) (next : ℕ) (more : List ℕ) (other : ReadFault)
-        → start ++ next ∷ more ≡ front → Shows method start other → ⊥
+        → start ++ next ∷ more ≡ front → ShowsFault method start other → ⊥
     earlier front all start next more other e (inl shown) =
         let further = subst (λ (t : List ℕ). ReadsEach ReadsInterim shown.interims t (shown.text ++ next ∷ more)) e (each-append interim_printed shown.interims start shown.text (next ∷ more) shown.before.each) in
         let f = fewer front all shown.interims shown.text next more further in

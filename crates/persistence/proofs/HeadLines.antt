@@ -10,7 +10,7 @@ use Rattle.httparse.specs.Pieces.{is_newline}
 use Rattle.httparse.specs.Spans.{ResponseExceeds}
 use Rattle.httparse.proofs.GrammarLemmas.{cons-append, response_unique}
 use Rattle.persistence.specs.ReadingHeads.{skip_newlines, line_ends}
-use Rattle.persistence.proofs.LineLemmas.{cut_twice, line_ends-append, none_in, line_ends-print_end, line_ends-section, EndsLine-section, EndsLine-append, last_line, lines_cut, fields_before}
+use Rattle.persistence.proofs.LineLemmas.{cut_twice, line_ends-append, none_in, line_ends-print_end, line_ends-section, EndsInLf-section, EndsInLf-append, last_line, lines_cut, fields_before}
 
 -- the status line without the blank lines before it
 abbrev pub start_line : ResponseHead → List ℕ
@@ -155,7 +155,7 @@ response_exceeds_none n text more (front, after, is, h, (valid, reads), many) c 
         → (u : List ℕ) × (front ≡ print_blank h.blank ++ 72 ∷ u) × (line_ends (72 ∷ u) ≡ length h.fields + 1) → n < length c.fields
     part z w p (u, begins, counted) =
         let line = last_line front z w (print_blank c.blank ++ head_lines c)
-        (EndsLine-append (print_blank c.blank) (head_lines c) (EndsLine-append (start_line c) _ (EndsLine-section c.fields c.last))) (sym p ∙ response_parts c) in
+        (EndsInLf-append (print_blank c.blank) (head_lines c) (EndsInLf-append (start_line c) _ (EndsInLf-section c.fields c.last))) (sym p ∙ response_parts c) in
         let left : skip_newlines (print_response c) ≡ head_lines c = ap skip_newlines (response_parts c) ∙ skip_blank c.blank _ in
         let right : skip_newlines (print_response c) ≡ 72 ∷ (u ++ z ∷ w) =
         ap skip_newlines (p ∙ ap (λ (t : List ℕ). t ++ z ∷ w) begins ∙ append_assoc (print_blank h.blank) (72 ∷ u) (z ∷ w)) ∙ skip_blank h.blank (u ++ z ∷ w) in

@@ -12,7 +12,7 @@ use Rattle.persistence.specs.declared.head.Head.{Head}
 use Rattle.persistence.specs.Sequence.{ReadsEach}
 use Rattle.persistence.specs.Limits.{most_fields, most_interims}
 use Rattle.persistence.specs.Heads.{is_interim_status, ReadsInterim}
-use Rattle.persistence.specs.Faults.{HeadShows, Shows, HasLongSection, IsFirst, IsFirstFault}
+use Rattle.persistence.specs.Faults.{HeadShows, ShowsFault, HasLongSection, IsFirst, IsFirstFault}
 use Rattle.persistence.specs.ReadingHeads.{IsAwaited, KeepsHead, EndsHead, AwaitsHeads, EndsHeadsIn, NeverHasFinalHead}
 use Rattle.persistence.proofs.SequenceLemmas.{each-append, each-more}
 use Rattle.persistence.proofs.HeadLines.{print_response-some}
@@ -101,7 +101,7 @@ module _ (bytes : List ℕ) (count : ℕ) (kept : List ℕ) (at : AwaitsHeads by
   pub heads_many : (piece : List ℕ) (used : ℕ) (after : List ℕ) (told : Head) → EndsHead (kept ++ take used piece) after told → is_interim_status told.status ≡ true
       → count ≡ most_interims → (method : Method) → IsFirstFault method (bytes ++ piece) TooManyInterims
   heads_many piece used after told ends interim full method =
-      first_taken (Shows method) (HasLongSection method) bytes piece (bytes ++ take used piece) used TooManyInterims refl
+      first_taken (ShowsFault method) (HasLongSection method) bytes piece (bytes ++ take used piece) used TooManyInterims refl
       (first_many (at.interims ++ ends.head ∷ []) (bytes ++ take used piece) [] (one_more (take used piece) after told ends interim)
       (let many = at.many in omega (arith, length-append at.interims (ends.head ∷ []), many, full)) method)
 

@@ -5,7 +5,7 @@ use Rattle.std.specs.List.{flat_map}
 use Rattle.std.proofs.lemmas.Grind.{flat_map-append}
 use Rattle.std.proofs.lemmas.Bool.Decides.{nat_tests}
 use Rattle.std.proofs.lemmas.List.{append-nil, take-append-drop, length-take-le}
-use Rattle.std.proofs.lemmas.List.Sums.{sum_by-append, count_by-le-length}
+use Rattle.std.proofs.lemmas.List.Sums.{sum_by-append}
 use Rattle.std.proofs.lemmas.List.Elements.{All-head, All-tail, All-take}
 use Rattle.httparse.specs.Grammar.{is_token_byte, is_value_byte, AllPass, LineEnd, crlf, lf, print_end, Field, print_field, IsField, print_section, ReadsSection, HasNoSection, MayBecomeSection}
 use Rattle.httparse.specs.Spans.{SectionExceeds}
@@ -36,17 +36,14 @@ line_ends-append a b = sum_by-append (λ b. cond (b == 10) 1 0) a b
 pub line_ends-cut : (n : ℕ) (text : List ℕ) → line_ends (take n text) + line_ends (drop n text) ≡ line_ends text
 line_ends-cut n text = sym (line_ends-append (take n text) (drop n text)) ∙ ap line_ends (take-append-drop n text)
 
-pub line_ends-within : (text : List ℕ) → line_ends text ≤ length text
-line_ends-within text = count_by-le-length (λ b. b == 10) text
-
 -- the text's last byte is LF
-pub record EndsLine (text : List ℕ) : Type 0 where
+pub record EndsInLf (text : List ℕ) : Type 0 where
   pub front : List ℕ
   pub is : text ≡ front ++ 10 ∷ []
 
 -- what is left of such a text ends a line
-pub line_ends-EndsLine : (a : List ℕ) (x : ℕ) (b : List ℕ) → EndsLine (a ++ x ∷ b) → 1 ≤ line_ends (x ∷ b)
-line_ends-EndsLine a x b ends = elim (cut_twice a (x ∷ b) ends.front (10 ∷ []) ends.is) [
+pub line_ends-EndsInLf : (a : List ℕ) (x : ℕ) (b : List ℕ) → EndsInLf (a ++ x ∷ b) → 1 ≤ line_ends (x ∷ b)
+line_ends-EndsInLf a x b ends = elim (cut_twice a (x ∷ b) ends.front (10 ∷ []) ends.is) [
   | inl (z, p, q) ↦ omega (arith, ap line_ends q, line_ends-append z (10 ∷ []))
   | inr (z, w, p, q) ↦ absurd (too_short z w q)
 ]
@@ -55,8 +52,8 @@ line_ends-EndsLine a x b ends = elim (cut_twice a (x ∷ b) ends.front (10 ∷ [
     too_short z [] e = cc
     too_short z (v ∷ w) e = cc
 
-pub EndsLine-append : (a b : List ℕ) → EndsLine b → EndsLine (a ++ b)
-EndsLine-append a b ends = record { front = a ++ ends.front; is = ap (λ (t : List ℕ). a ++ t) ends.is ∙ sym (append_assoc a ends.front (10 ∷ [])) }
+pub EndsInLf-append : (a b : List ℕ) → EndsInLf b → EndsInLf (a ++ b)
+EndsInLf-append a b ends = record { front = a ++ ends.front; is = ap (λ (t : List ℕ). a ++ t) ends.is ∙ sym (append_assoc a ends.front (10 ∷ [])) }
 
 -- bytes of a class without LF end no line
 pub none_in : (test : ℕ → Bool) → test 10 ≡ false → (bytes : List ℕ) → AllPass test bytes → line_ends bytes ≡ 0
@@ -87,29 +84,29 @@ pub line_ends-section : (fs : List Field) (last : LineEnd) → All IsField fs �
 line_ends-section fs last valid =
     omega (arith, line_ends-append (flat_map print_field fs) (print_end last), line_ends-fields fs valid, line_ends-print_end last)
 
-EndsLine-print_end : (e : LineEnd) → EndsLine (print_end e)
-EndsLine-print_end crlf = record { front = 13 ∷ []; is = refl }
-EndsLine-print_end lf = record { front = []; is = refl }
+EndsInLf-print_end : (e : LineEnd) → EndsInLf (print_end e)
+EndsInLf-print_end crlf = record { front = 13 ∷ []; is = refl }
+EndsInLf-print_end lf = record { front = []; is = refl }
 
-pub EndsLine-section : (fs : List Field) (last : LineEnd) → EndsLine (print_section fs last)
-EndsLine-section fs last = EndsLine-append (flat_map print_field fs) (print_end last) (EndsLine-print_end last)
+pub EndsInLf-section : (fs : List Field) (last : LineEnd) → EndsInLf (print_section fs last)
+EndsInLf-section fs last = EndsInLf-append (flat_map print_field fs) (print_end last) (EndsInLf-print_end last)
 
 -- a text with one field line or more ends a line
-EndsLine-fields : (f : Field) (fs : List Field) → EndsLine (flat_map print_field (f ∷ fs))
-EndsLine-fields f [] = subst EndsLine (sym (append-nil (print_field f))) (EndsLine-append (f.name ++ 58 ∷ f.raw) (print_end f.end) (EndsLine-print_end f.end))
-EndsLine-fields f (g ∷ fs) = EndsLine-append (print_field f) (flat_map print_field (g ∷ fs)) (EndsLine-fields g fs)
+EndsInLf-fields : (f : Field) (fs : List Field) → EndsInLf (flat_map print_field (f ∷ fs))
+EndsInLf-fields f [] = subst EndsInLf (sym (append-nil (print_field f))) (EndsInLf-append (f.name ++ 58 ∷ f.raw) (print_end f.end) (EndsInLf-print_end f.end))
+EndsInLf-fields f (g ∷ fs) = EndsInLf-append (print_field f) (flat_map print_field (g ∷ fs)) (EndsInLf-fields g fs)
 
 -- ---- sections after some bytes
 
 -- what the rest of the text still ends
-pub last_line : (text : List ℕ) (x : ℕ) (y all : List ℕ) → EndsLine all → text ++ x ∷ y ≡ all → 1 ≤ line_ends (x ∷ y)
-last_line text x y all ends e = line_ends-EndsLine text x y (subst EndsLine (sym e) ends)
+pub last_line : (text : List ℕ) (x : ℕ) (y all : List ℕ) → EndsInLf all → text ++ x ∷ y ≡ all → 1 ≤ line_ends (x ∷ y)
+last_line text x y all ends e = line_ends-EndsInLf text x y (subst EndsInLf (sym e) ends)
 
 -- a text that is cut off in such a section has fewer lines
 pub lines_cut : (pre : List ℕ) (fs : List Field) (last : LineEnd) → All IsField fs → (text : List ℕ) (x : ℕ) (y : List ℕ)
     → text ++ x ∷ y ≡ pre ++ print_section fs last → line_ends text ≤ line_ends pre + length fs
 lines_cut pre fs last valid text x y e =
-    let whole = last_line text x y (pre ++ print_section fs last) (EndsLine-append pre (print_section fs last) (EndsLine-section fs last)) e in
+    let whole = last_line text x y (pre ++ print_section fs last) (EndsInLf-append pre (print_section fs last) (EndsInLf-section fs last)) e in
     omega (arith, whole, ap line_ends e, line_ends-append text (x ∷ y), line_ends-append pre (print_section fs last), line_ends-section fs last valid)
 
 -- a text that is cut off after so many lines has the fields that these are
@@ -143,9 +140,9 @@ fields_before n pre fs last valid text x y e more =
         let line = last_line text z w _ (ends_some fs many) (sym p) in
         absurd (omega (arith, line, ap line_ends p, line_ends-append text (z ∷ w), counted many, more))
       where
-        ends_some : (gs : List Field) → n < length gs → EndsLine (pre ++ flat_map print_field (take (n + 1) gs))
+        ends_some : (gs : List Field) → n < length gs → EndsInLf (pre ++ flat_map print_field (take (n + 1) gs))
         ends_some [] many = absurd (omega arith)
-        ends_some (g ∷ gs) many = EndsLine-append pre _ (rw add-one (EndsLine-fields g (take n gs)))
+        ends_some (g ∷ gs) many = EndsInLf-append pre _ (rw add-one (EndsInLf-fields g (take n gs)))
 
 -- ---- sections
 
@@ -177,7 +174,7 @@ section_exceeds_none n text more (front, after, is, fields, (valid, reads), many
     -- the section goes on after the front
     part : (z : ℕ) (w : List ℕ) → print_section fs last ≡ front ++ z ∷ w → n < length fs
     part z w p =
-        let line = last_line front z w _ (EndsLine-section fs last) (sym p) in
+        let line = last_line front z w _ (EndsInLf-section fs last) (sym p) in
         omega (arith, line, ap line_ends p, line_ends-append front (z ∷ w), line_ends-section fs last fine, ap line_ends (reads ∙ append-nil _), line_ends-append front (10 ∷ []), line_ends-section fields lf valid, many)
 
 -- where a section may still come, and more than n lines have ended, one field more than n is complete

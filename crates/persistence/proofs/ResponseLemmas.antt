@@ -10,7 +10,7 @@ use Rattle.persistence.specs.Fields.{fields_of, counted_length}
 use Rattle.persistence.specs.Framing.{body_kind}
 use Rattle.persistence.specs.Split.{EndsBody, Parts, IsSplit}
 use Rattle.persistence.specs.Told.{facts_of_head, facts_before, IsNotWhole, is_some_text, HasNoFinalHead, TellsFacts, TellsStatus, TellsBodyLength, TellsLength}
-use Rattle.persistence.specs.Faults.{HeadShows, BodyShows, Shows, IsFaultless, IsFirst, HasLongTrailerBy, HasLongSection, IsFirstFault}
+use Rattle.persistence.specs.Faults.{HeadShows, BodyShows, ShowsFault, IsFaultless, IsFirst, HasLongTrailerBy, HasLongSection, IsFirstFault}
 use Rattle.persistence.specs.Reader.{TellsWhole}
 use Rattle.persistence.specs.ReadingBody.{HasNoEnd}
 use Rattle.persistence.proofs.SequenceLemmas.{print_each, each-append, Compared, same, longer, shorter, compared}
@@ -66,7 +66,7 @@ module _ (method : Method) (head : ResponseHead) where
   ShowsThere text fault = BodyShows (body_kind method head) (counted_length (fields_of head)) text fault
 
   -- what bytes with that final head show is shown in the body
-  shown_there : (bytes text : List ℕ) → HasFinalHead bytes head text → (fault : ReadFault) → Shows method bytes fault → ShowsThere text fault
+  shown_there : (bytes text : List ℕ) → HasFinalHead bytes head text → (fault : ReadFault) → ShowsFault method bytes fault → ShowsThere text fault
   shown_there bytes text has fault (inl shown) = absurd (nothing_in_head bytes head text has shown.interims shown.text fault shown.before.each shown.shows)
   shown_there bytes text has fault (inr (inl shown)) =
       absurd (omega (arith, few_interims bytes head text has shown.1.interims shown.1.rest shown.1.each, shown.1.many))
@@ -94,7 +94,7 @@ module _ (method : Method) (head : ResponseHead) where
       }
     where
       earlier : (front : List ℕ) → HasFinalHead front head found.front → (start : List ℕ) (next : ℕ) (more : List ℕ) (other : ReadFault)
-          → start ++ next ∷ more ≡ front → Shows method start other → (other ≡ fault) ⊎ HasLongSection method start
+          → start ++ next ∷ more ≡ front → ShowsFault method start other → (other ≡ fault) ⊎ HasLongSection method start
       earlier front final start next more other e (inl shown) =
           absurd (nothing_in_head front head found.front final shown.interims (shown.text ++ next ∷ more) other
           (subst (λ (t : List ℕ). ReadsEach ReadsInterim shown.interims t (shown.text ++ next ∷ more)) e (each-append interim_printed shown.interims start shown.text (next ∷ more) shown.before.each))

@@ -19,7 +19,7 @@ use Rattle.persistence.specs.Fields.{fields_of, counted_length}
 use Rattle.persistence.specs.Framing.{body_kind}
 use Rattle.persistence.specs.Split.{EndsBody}
 use Rattle.persistence.specs.Told.{facts_of_head, facts_before, facts_after_fault, is_some_text, HasNoFinalHead, TellsFacts, TellsFactsAfterFault, TellsStatus, TellsBodyLength, TellsLength}
-use Rattle.persistence.specs.Faults.{BodyShows, Shows, HasLongTrailerBy, HasLongSection, IsFaultless, IsFirst, IsFirstFault}
+use Rattle.persistence.specs.Faults.{BodyShows, ShowsFault, HasLongTrailerBy, HasLongSection, IsFaultless, IsFirst, IsFirstFault}
 use Rattle.persistence.specs.Reader.{TellsWhole}
 use Rattle.persistence.specs.ReadingHeads.{TellsHead, AwaitsHeads, EndsHeadsIn, NeverHasFinalHead}
 use Rattle.persistence.specs.ReadingBody.{len_of, whole_of, surplus_of, HasNoEnd, BodyAt, FixesBody, TellsBody}
@@ -139,7 +139,7 @@ fixed_length method bytes len fixes = subst (λ (t : List ℕ). TellsLength meth
 -- one piece more changes nothing
 pub faulty_more : (method : Method) (bytes piece : List ℕ) (fault : ReadFault) (head : Option Head) (len : ℕ) → IsFaulty method bytes fault head len → IsFaulty method (bytes ++ piece) fault head len
 faulty_more method bytes piece fault head len faulty = record {
-  first = first_further (Shows method) (HasLongSection method) bytes piece fault faulty.first;
+  first = first_further (ShowsFault method) (HasLongSection method) bytes piece fault faulty.first;
   tells = go head faulty.tells;
   fixes = λ more. subst (λ (t : List ℕ). TellsLength method t len) (sym (append_assoc bytes piece more)) (faulty.fixes (piece ++ more));
 }
@@ -150,7 +150,7 @@ faulty_more method bytes piece fault head len faulty = record {
 
 -- want of memory is never shown
 pub memory_never : (method : Method) (bytes : List ℕ) (fault : ReadFault) → IsFirstFault method bytes fault → fault ≢ Memory
-memory_never method bytes fault first is = never_shown method first.front (subst (Shows method first.front) is first.shown)
+memory_never method bytes fault first is = never_shown method first.front (subst (ShowsFault method first.front) is first.shown)
   where
     in_body : (kind : BodyKind) (counted : Option ℕ) (text : List ℕ) → BodyShows kind counted text Memory → ⊥
     in_body NoBody counted text shown = shown
@@ -159,7 +159,7 @@ memory_never method bytes fault first is = never_shown method first.front (subst
     in_body Chunked counted text (inr shown) = shown.shows
     in_body UntilClose counted text shown = (let e : Memory ≡ BadLength = shown.0 in cc)
 
-    never_shown : (method : Method) (front : List ℕ) → Shows method front Memory → ⊥
+    never_shown : (method : Method) (front : List ℕ) → ShowsFault method front Memory → ⊥
     never_shown method front (inl shown) = shown.shows
     never_shown method front (inr (inl shown)) = (let e : Memory ≡ TooManyInterims = shown.0 in cc)
     never_shown method front (inr (inr shown)) = in_body (body_kind method shown.head) (counted_length (fields_of shown.head)) shown.text shown.shows

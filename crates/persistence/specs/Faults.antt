@@ -88,13 +88,13 @@ pub record ShowsTooManyInterims (bytes : List ℕ) : Type 0 where
   pub many : most_interims < length interims
 
 -- the bytes show the fault
-abbrev pub Shows : Method → List ℕ → ReadFault → Type 0
-Shows method bytes fault =
+abbrev pub ShowsFault : Method → List ℕ → ReadFault → Type 0
+ShowsFault method bytes fault =
     ShowsInHead bytes fault ⊎ (((fault ≡ TooManyInterims) × ShowsTooManyInterims bytes) ⊎ ShowsInBody method bytes fault)
 
 -- the bytes show no fault
 abbrev pub IsFaultless : Method → List ℕ → Type 0
-IsFaultless method bytes = (fault : ReadFault) → ¬ (Shows method bytes fault)
+IsFaultless method bytes = (fault : ReadFault) → ¬ (ShowsFault method bytes fault)
 
 -- the fault is the first one: a front of the bytes shows it, and no shorter front shows another, but for
 -- what a section is excused that has more fields than it may
@@ -133,4 +133,4 @@ HasLongSection method bytes =
 
 -- the fault may be told of the bytes
 abbrev pub IsFirstFault : Method → List ℕ → ReadFault → Type 0
-IsFirstFault method = IsFirst (Shows method) (HasLongSection method)
+IsFirstFault method = IsFirst (ShowsFault method) (HasLongSection method)

@@ -21,8 +21,8 @@ pub record Reading : Type 0 where
   pub len : ℕ
 
 -- the reader of a new response
-abbrev pub unread : Method → Bool → Reading
-unread method request_close = record {
+abbrev pub new_reader : Method → Bool → Reading
+new_reader method request_close = record {
   method = method;
   request_close = request_close;
   bytes = [];

@@ -6,7 +6,7 @@ ghost use Rattle.persistence.specs.declared.method.Method.{Method};
 ghost use Rattle.persistence.specs.Told.{facts_before, is_some_text, TellsFacts};
 ghost use Rattle.persistence.specs.Told.{TellsFactsAfterFault, TellsStatus, TellsLength};
 ghost use Rattle.persistence.specs.Faults.{IsFaultless};
-ghost use Rattle.persistence.specs.Reader.{unread, IsSameResponse, HasNoFault, HasFault};
+ghost use Rattle.persistence.specs.Reader.{new_reader, IsSameResponse, HasNoFault, HasFault};
 ghost use Rattle.persistence.specs.Reader.{TellsFed, TellsWhole, ShowsItsFault, TellsFactsOf};
 ghost use Rattle.persistence.specs.Reader.{TellsWholeOf, TellsFactsOfFaulty};
 ghost use Rattle.persistence.specs.ReadingStages.{IsAtStage, fault_at};
@@ -73,7 +73,7 @@ impl ResponseReader {
         method: Method,
         request_close: bool,
     ) -> Result<ResponseReader, ReadFault>
-        ensures unread { IfOk result (λ reader. reader ≡ unread method request_close) }
+        ensures unread { IfOk result (λ reader. reader ≡ new_reader method request_close) }
         ensures memory { IfErr result (λ fault. fault ≡ Memory) }
     {
         let Ok(buffer) = Buffer::new(alloc) else {
