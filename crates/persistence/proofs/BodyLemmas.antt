@@ -17,7 +17,7 @@ use Rattle.persistence.specs.Limits.{most_bytes}
 use Rattle.persistence.specs.Chunks.{ReadsSizeLine, ReadsTrailer, ReachesTrailer}
 use Rattle.persistence.specs.Told.{is_some_text}
 use Rattle.persistence.specs.ReadingChunks.{begins_crlf, FindsLine, AwaitsChunk, AwaitsChunks, carriage, PassesTo, IsInData, IsAfterData, ReachesSection, IsDue, IsUnended, IsEnded, IsInChunks}
-use Rattle.persistence.specs.ReadingBody.{CountsBody, len_of, whole_of, surplus_of, HasCount, LastsFor, BodyAt, FixesBody, IsFirstInBody, TellsBody}
+use Rattle.persistence.specs.ReadingBody.{CountsBody, len_of, whole_of, surplus_of, HasCount, LastsFor, BodyAt, IsFirstInBody, TellsBody}
 use Rattle.persistence.proofs.SequenceLemmas.{Reads-append}
 use Rattle.persistence.proofs.ChunkLemmas.{size_line_printed}
 use Rattle.persistence.proofs.NextChunk.{awaits_line, awaits_rest, awaits_end}

@@ -1,20 +1,21 @@
 -- What the parts answer where a head is read. No public contract needs these words.
 use Rattle.std.specs.List.{count_by}
 use Rattle.std.specs.Prelude.{◌≡◌, ℕ, ◌<◌, ◌≤◌, Bool, true, false, ◌==◌, if◌then◌else◌, List, [], ◌∷◌, ◌++◌, length, take, drop, map, codes, All, Option, Some, MatchOption}
-use Rattle.httparse.specs.Grammar.{ResponseHead, status_code}
+use Rattle.httparse.specs.Grammar.{ResponseHead, status_code, HasNoResponse, MayBecomeResponse}
 use Rattle.httparse.specs.Pieces.{is_newline}
-use Rattle.httparse.specs.Spans.{header_bytes, IsHeaderWithin}
+use Rattle.httparse.specs.Spans.{header_bytes, IsHeaderWithin, ResponseExceeds}
 use Rattle.httparse.specs.declared.Error.{Error}
 use Rattle.httparse.specs.declared.Error.TheVariants.{TooManyHeaders}
 use Rattle.httparse.specs.declared.spans.HeaderSpan.{HeaderSpan}
 use Rattle.httparse.specs.declared.spans.ResponseSpans.{ResponseSpans}
 use Rattle.persistence.specs.declared.answer.ReadFault.{ReadFault}
 use Rattle.persistence.specs.declared.head.Head.{Head}
+use Rattle.persistence.specs.declared.head.head_step.HeadStep.{HeadStep}
 use Rattle.persistence.specs.declared.head.heads_step.HeadsStep.{HeadsStep}
-use Rattle.persistence.specs.Faults.{HeadShows}
+use Rattle.persistence.specs.Faults.{HeadShows, IsFirst}
 use Rattle.persistence.specs.Fields.{NameAndValue, fields_of, has_option, has_transfer_encoding, is_chunked_last, has_content_length, counted_length, is_word}
 use Rattle.persistence.specs.Heads.{ReadsHead, ReadsInterim, ReadsHeads}
-use Rattle.persistence.specs.Limits.{most_head_bytes, most_interims}
+use Rattle.persistence.specs.Limits.{most_fields, most_head_bytes, most_interims}
 use Rattle.persistence.specs.Sequence.{ReadsEach}
 use Rattle.persistence.specs.Told.{version_of, HasNoFinalHead}
 
@@ -120,6 +121,16 @@ pub record EndsHeadsIn (bytes kept : List ℕ) (told : Head) : Type 0 where
 -- no final head comes, whatever follows the bytes
 abbrev pub NeverHasFinalHead : List ℕ → Type 0
 NeverHasFinalHead bytes = (more : List ℕ) → HasNoFinalHead (bytes ++ more)
+
+-- the step took so much of the piece: a head is whole, or still comes
+abbrev pub TellsHeadStep : List ℕ → List ℕ → List ℕ → HeadStep → Type 0
+TellsHeadStep before piece kept step =
+    let text = before ++ take step.used piece in
+    MatchOption step.head (KeepsHead text kept) (EndsHead text kept)
+
+-- the fault that a head shows first
+abbrev pub IsFirstInHead : List ℕ → ReadFault → Type 0
+IsFirstInHead = IsFirst HeadShows (ResponseExceeds most_fields)
 
 -- the step took so much of the piece: the final head has come, or a head still comes after so many interim ones
 abbrev pub TellsHeadsStep : List ℕ → List ℕ → List ℕ → HeadsStep → Type 0

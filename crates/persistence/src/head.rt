@@ -40,7 +40,8 @@ impl Head {
     /// What the head says that stands at these places of the text.
     pub fn at(text: &[u8], spans: &ResponseSpans, fields: &[HeaderSpan]) -> Head
         requires { AreWithin text.now fields.now }
-        ensures { (head : ResponseHead) → spans.now.version ≡ head.minor → spans.now.code ≡ status_code head
+        ensures { (head : ResponseHead) → spans.now.version ≡ head.minor
+            → spans.now.code ≡ status_code head
             → fields_at text.now fields.now ≡ fields_of head → TellsHead head result }
     {
         let version = if spans.version == 0 {

@@ -2,8 +2,9 @@
 ghost use Rattle.std.specs.Prelude.{◌≡◌, codes, reverse, option_map};
 ghost use Rattle.std.specs.List.{list_any, list_all, position_or_len};
 ghost use Rattle.httparse.specs.Grammar.{skip_ows, trim_ows};
-ghost use Rattle.persistence.specs.Fields.{elements, is_comma, is_word, is_number, last_coding, one_number as one_number_of};
-ghost use Rattle.persistence.specs.ReadingHeads.{chunked_after, FirstIs};
+ghost use Rattle.persistence.specs.Fields.{elements, is_comma, is_word, is_number, last_coding};
+ghost use Rattle.persistence.specs.Fields.{one_number as one_number_of};
+ghost use Rattle.persistence.specs.ReadingHeads.{chunked_after};
 ghost use Rattle.persistence.specs.ReadingFields.{number_with};
 
 use crate::number::decimal;

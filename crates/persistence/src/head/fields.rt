@@ -1,4 +1,5 @@
-//! What the fields of a head say of its body and its connection, in one pass over the places of their names and values.
+//! What the fields of a head say of its body and its connection, in one pass over the places of
+//! their names and values.
 ghost use Rattle.std.specs.Prelude.{◌≡◌, [], length};
 ghost use Rattle.std.specs.Str.{str_eq_ignore_ascii_case};
 ghost use Rattle.persistence.specs.ReadingHeads.{AreWithin, fields_at};

@@ -1,9 +1,8 @@
 //! A head that comes in pieces.
-ghost use Rattle.std.specs.Prelude.{◌≡◌, ◌<◌, ◌≤◌, ◌++◌, length, take, IfOk, IfErr, MatchOption};
-ghost use Rattle.httparse.specs.Spans.{ResponseExceeds};
+ghost use Rattle.std.specs.Prelude.{◌≡◌, ◌<◌, ◌≤◌, ◌++◌, length, IfOk, IfErr, MatchOption};
 ghost use Rattle.persistence.specs.Limits.{most_fields, most_head_bytes};
-ghost use Rattle.persistence.specs.Faults.{HeadShows, IsFirst};
-ghost use Rattle.persistence.specs.ReadingHeads.{IsAwaited, IsUnfinished, FindsHead, IsTaken, KeepsHead, EndsHead};
+ghost use Rattle.persistence.specs.ReadingHeads.{IsTaken, IsAwaited, IsUnfinished, FindsHead};
+ghost use Rattle.persistence.specs.ReadingHeads.{TellsHeadStep, IsFirstInHead};
 
 use crate::ReadFault;
 use crate::head::Head;
@@ -22,14 +21,14 @@ pub(crate) struct HeadStep {
     pub head: Option<Head>,
 }
 
-/// Adds the piece to the bytes of a head, as far as they belong to it; forgets them once the head is whole.
+/// Adds the piece to the bytes of a head, as far as they belong to it; forgets them once the head
+/// is whole.
 pub(crate) fn head_step(buffer: &mut Buffer, piece: &[u8]) -> Result<HeadStep, ReadFault>
     requires awaited { IsAwaited buffer.old }
     requires short { length buffer.old < most_head_bytes }
     ensures taken { IfOk result (λ step. IsTaken piece.now step.used) }
-    ensures found { IfOk result (λ step. MatchOption step.head (KeepsHead (buffer.old ++ take step.used piece.now) buffer.new)
-        (EndsHead (buffer.old ++ take step.used piece.now) buffer.new)) }
-    ensures fault { IfErr result (IsFirst HeadShows (ResponseExceeds most_fields) (buffer.old ++ piece.now)) }
+    ensures found { IfOk result (TellsHeadStep buffer.old piece.now buffer.new) }
+    ensures fault { IfErr result (IsFirstInHead (buffer.old ++ piece.now)) }
 {
     let mut fields = [EMPTY_HEADER_SPAN; MOST_FIELDS];
     let before = buffer.len();
@@ -56,16 +55,17 @@ pub(crate) fn head_step(buffer: &mut Buffer, piece: &[u8]) -> Result<HeadStep, R
     }
 }
 
-// Where the head's parts are, if a head begins the bytes; nothing where it has not come whole yet, whatever
-// the number of its fields.
+// Where the head's parts are, if a head begins the bytes; nothing where it has not come whole yet,
+// whatever the number of its fields.
 fn buffered_head(
     front: &[u8],
     fields: &mut [HeaderSpan],
 ) -> Result<Option<ResponseSpans>, ReadFault>
     requires count { length fields.old ≡ most_fields }
     requires short { length front.now ≤ most_head_bytes }
-    ensures found { IfOk result (λ found. MatchOption found (IsUnfinished front.now) (FindsHead front.now fields.new)) }
-    ensures fault { IfErr result (IsFirst HeadShows (ResponseExceeds most_fields) front.now) }
+    ensures found { IfOk result
+        (λ found. MatchOption found (IsUnfinished front.now) (FindsHead front.now fields.new)) }
+    ensures fault { IfErr result (IsFirstInHead front.now) }
 {
     match parse_response(front, fields) {
         Ok(Status::Complete(spans)) => Ok(Some(spans)),

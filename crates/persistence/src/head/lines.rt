@@ -1,6 +1,7 @@
 //! Lines of a head or a trailer section, counted by their ends.
 ghost use Rattle.std.specs.Prelude.{◌≡◌, ◌+◌};
-ghost use Rattle.persistence.specs.ReadingHeads.{is_too_many, skip_newlines, line_ends as line_ends_of};
+ghost use Rattle.persistence.specs.ReadingHeads.{is_too_many, skip_newlines};
+ghost use Rattle.persistence.specs.ReadingHeads.{line_ends as line_ends_of};
 
 use httparse::Error;
 use memchr::memchr_iter;

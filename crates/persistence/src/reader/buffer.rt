@@ -1,5 +1,5 @@
-//! Room for the bytes of a part that has not come whole: a head, the line before a chunk, the CR LF after a
-//! chunk's data, or a trailer section.
+//! Room for the bytes of a part that has not come whole: a head, the line before a chunk, the CR LF
+//! after a chunk's data, or a trailer section.
 ghost use Rattle.std.specs.Prelude.{◌≡◌, ℕ, ◌+◌, ◌-◌, ◌≤◌, List, [], ◌++◌, length, take, min, IfOk};
 ghost use Rattle.persistence.specs.Limits.{most_head_bytes};
 ghost use Rattle.persistence.specs.ReadingHeads.{skip_newlines, line_ends as line_ends_of};
@@ -9,8 +9,8 @@ use crate::limits::MOST_HEAD_BYTES;
 use std::alloc::{AllocError, Global};
 use std::marker::Model;
 
-/// The bytes of a part, in room that was made beforehand: that of a head, the longest part. No byte's line
-/// end is counted twice.
+/// The bytes of a part, in room that was made beforehand: that of a head, the longest part. No
+/// byte's line end is counted twice.
 #[derive(Debug, Drop)]
 pub(crate) struct Buffer {
     bytes: Vec<u8>,

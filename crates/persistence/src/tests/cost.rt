@@ -28,15 +28,22 @@ const PIECES: [(&str, &str, usize, &str, u64); 10] = [
     (CHUNKED, "0", 1, "3e8\r\n", 0),
 ];
 
+/// A head of 197 bytes with six fields, and a body of 12 bytes.
+const TYPICAL: &str =
+    "HTTP/1.1 200 OK\r\nDate: Sun, 22 Nov 2026 10:15:30 GMT\r\nServer: nginx/1.24.0 (Ubuntu)\r\n\
+    Content-Type: text/plain; charset=utf-8\r\nContent-Length: 12\r\nConnection: keep-alive\r\n\
+    Cache-Control: no-cache\r\n\r\nhello, world";
+
 /// How many fields a head has, how many bytes the value of each, how many bytes that makes in all,
-/// and in how many pieces they come.
-const HEADS: [(usize, usize, usize, usize); 6] = [
-    (6, 19, 200, 1),
-    (6, 19, 200, 10),
-    (42, 37, 2_000, 1),
-    (42, 37, 2_000, 10),
-    (98, 153, 16_000, 1),
-    (98, 153, 16_000, 10),
+/// and in pieces of how many bytes they come.
+const HEADS: [(usize, usize, usize, usize); 7] = [
+    (6, 19, 200, 200),
+    (6, 19, 200, 20),
+    (42, 37, 2_000, 2_000),
+    (42, 37, 2_000, 200),
+    (98, 153, 16_000, 16_000),
+    (98, 153, 16_000, 1_600),
+    (48, 160, 8_186, 1_460),
 ];
 
 /// Feeds the text in pieces of so many bytes; whether all went well.
