@@ -9,14 +9,15 @@ use Rattle.conn_log.specs.declared.entry.Entry.{Entry}
 use Rattle.conn_log.specs.Connections.{idle_connections, is_idle, holds, holder_want, held_number}
 use Rattle.conn_log.specs.Waiting.{waiting, waits, without}
 use Rattle.conn_log.specs.Fit.{suits, is_earlier, first_by, newest_fit, is_too_old_in_lane, oldest_too_old, oldest}
-use Rattle.conn_log.specs.Legal.{Terms}
+use Rattle.conn_log.specs.Legal.{LimitAndFirst}
 use Rattle.conn_log.specs.Sound.{IsOrderly, IsSound}
 use Rattle.conn_log.proofs.Numbers.{is_among-filter}
 use Rattle.conn_log.proofs.Queues.{length_last}
 use Rattle.conn_log.proofs.Steps.{idle_open_unheld}
 use Rattle.conn_log.proofs.Firsts.{first_among}
 use Rattle.conn_log.proofs.Soundness.{and_left, sound_close}
-use Rattle.bundle.specs.Calls.{Start, newest_start, newest_wait, moment_at, add, close_before, close_too_old, without_too_old, with_start, is_full, is_busy, is_exhausted, close_for_room, start_new, start_or_wait, start_on, start_unless, after_acquire, refusal, next_number}
+use Rattle.host_state.specs.Steps.{moment_at, add, close_before, close_too_old, without_too_old, is_full, is_exhausted, close_for_room, next_number}
+use Rattle.bundle.specs.Calls.{Start, newest_start, newest_wait, with_start, is_busy, start_new, start_or_wait, start_on, start_unless, after_acquire, refusal}
 use Rattle.bundle.proofs.KeptSound.{later, neither, not_refused, free_of, newest_is_fit, AfterClosing, closing_keeps, none_waits}
 use Rattle.bundle.proofs.Told.{told, IsStarted, freed_closed, started_open, started_lease, told_unheld, told_others, told_started, told_waited_others, awaited_last, none_awaited}
 use Rattle.bundle.proofs.Served.{new_unheld}
@@ -46,29 +47,29 @@ pub unheld_idle : (log : List Entry) (c : ℕ) → is_idle log c ≡ true → ho
 unheld_idle log c idle = let open_unheld = idle_open_unheld log c idle in nobody (holder_want log c) open_unheld.1
 
 -- what closing the too old ones tells: nothing new
-closing_tells : (terms : Terms) (want : Want) (moment transfer : ℕ) (n : ℕ) (log : List Entry) → AfterClosing terms moment transfer log → (u : ℕ) → told (close_too_old n want moment log) u ≡ told log u
-closing_tells terms want moment transfer zero log before u = refl
-closing_tells terms want moment transfer (suc n) log before u = by_first (oldest_too_old log want moment) refl (λ c closed. closing_tells terms want moment transfer n (add moment (Closed c TooOld) log) closed u)
+closing_tells : (settings : LimitAndFirst) (want : Want) (moment transfer : ℕ) (n : ℕ) (log : List Entry) → AfterClosing settings moment transfer log → (u : ℕ) → told (close_too_old n want moment log) u ≡ told log u
+closing_tells settings want moment transfer zero log before u = refl
+closing_tells settings want moment transfer (suc n) log before u = by_first (oldest_too_old log want moment) refl (λ c closed. closing_tells settings want moment transfer n (add moment (Closed c TooOld) log) closed u)
   where
     among_idle : (goes_before : ℕ → ℕ → Bool) (test : ℕ → Bool) (c : ℕ) → first_by goes_before (filter test (idle_connections log)) ≡ Some c → is_idle log c ≡ true
     among_idle goes_before test c is = and_left (is_idle log c) (test c) (sym (is_among-filter test c (idle_connections log)) ∙ first_among goes_before (filter test (idle_connections log)) c is)
 
-    by_first : (first : Option ℕ) → oldest_too_old log want moment ≡ first → ((c : ℕ) → AfterClosing terms moment transfer (add moment (Closed c TooOld) log) → told (close_too_old n want moment (add moment (Closed c TooOld) log)) u ≡ told (add moment (Closed c TooOld) log) u) → told (close_before moment log first (close_too_old n want moment)) u ≡ told log u
+    by_first : (first : Option ℕ) → oldest_too_old log want moment ≡ first → ((c : ℕ) → AfterClosing settings moment transfer (add moment (Closed c TooOld) log) → told (close_too_old n want moment (add moment (Closed c TooOld) log)) u ≡ told (add moment (Closed c TooOld) log) u) → told (close_before moment log first (close_too_old n want moment)) u ≡ told log u
     by_first None is rest = refl
     by_first (Some c) is rest =
         let idle = among_idle (is_earlier log) (is_too_old_in_lane log want moment) c is in
         let none = unheld_idle log c idle in
-        let same = told_unheld terms log before.sound.orderly c none (add moment (Closed c TooOld) log) (freed_closed moment c TooOld log) u in
-        let closed : AfterClosing terms moment transfer (add moment (Closed c TooOld) log) = record { sound = sound_close terms log before.sound moment before.later c TooOld (before.sound.settled, idle) idle; later = omega arith; free = rw before.free refl; nobody = before.nobody } in
+        let same = told_unheld settings log before.sound.orderly c none (add moment (Closed c TooOld) log) (freed_closed moment c TooOld log) u in
+        let closed : AfterClosing settings moment transfer (add moment (Closed c TooOld) log) = record { sound = sound_close settings log before.sound moment before.later c TooOld (before.sound.settled, idle) idle; later = omega arith; free = rw before.free refl; nobody = before.nobody } in
         rest c closed ∙ same
 
 -- a start after some closings
-starts_after : (terms : Terms) (log young : List Entry) → ((u : ℕ) → told young u ≡ told log u) → IsOrderly terms young → waiting young ≡ [] → (start : Start) → holder_want young start.number ≡ None → (after : List Entry) → IsStarted start young after → newest_start after ≡ Some start → newest_wait after ≡ None → Starts start.want log after
-starts_after terms log young same orderly nobody' start none after started answer no_wait = record {
+starts_after : (settings : LimitAndFirst) (log young : List Entry) → ((u : ℕ) → told young u ≡ told log u) → IsOrderly settings young → waiting young ≡ [] → (start : Start) → holder_want young start.number ≡ None → (after : List Entry) → IsStarted start young after → newest_start after ≡ Some start → newest_wait after ≡ None → Starts start.want log after
+starts_after settings log young same orderly nobody' start none after started answer no_wait = record {
   start = start;
   answer = answer;
   no_wait = no_wait;
-  others = λ u other. told_others terms young orderly start none after started u other ∙ same u;
+  others = λ u other. told_others settings young orderly start none after started u other ∙ same u;
   mine = told_started start young after started;
   queue = omega (arith, ap length started.waiting, ap (λ wants. length (without start.want.transfer wants)) nobody');
 }
@@ -83,52 +84,52 @@ waits_after log young same no_more m want free new = record {
 }
 
 -- a start where nobody waits
-begun_start : (terms : Terms) (log : List Entry) (want : Want) (m : ℕ) (young : List Entry) → ((u : ℕ) → told young u ≡ told log u) → AfterClosing terms m want.transfer young → Starts want log (with_start terms want m young) ⊎ Waits want log (with_start terms want m young)
-begun_start terms log want m young same before = by_fit (newest_fit young want m) refl
+begun_start : (settings : LimitAndFirst) (log : List Entry) (want : Want) (m : ℕ) (young : List Entry) → ((u : ℕ) → told young u ≡ told log u) → AfterClosing settings m want.transfer young → Starts want log (with_start settings want m young) ⊎ Waits want log (with_start settings want m young)
+begun_start settings log want m young same before = by_fit (newest_fit young want m) refl
   where
-    starts_new : (roomy : List Entry) → ((u : ℕ) → told roomy u ≡ told log u) → IsSound terms roomy → waiting roomy ≡ [] → held_number roomy want.transfer ≡ None → (full : Bool) → Starts want log (if full then add m (Waited want) roomy else start_new terms want m roomy) ⊎ Waits want log (if full then add m (Waited want) roomy else start_new terms want m roomy)
+    starts_new : (roomy : List Entry) → ((u : ℕ) → told roomy u ≡ told log u) → IsSound settings roomy → waiting roomy ≡ [] → held_number roomy want.transfer ≡ None → (full : Bool) → Starts want log (if full then add m (Waited want) roomy else start_new settings want m roomy) ⊎ Waits want log (if full then add m (Waited want) roomy else start_new settings want m roomy)
     starts_new roomy same' sound nobody' free true = inr (waits_after log roomy same' (omega (arith, ap length nobody')) m want free (none_waits roomy want.transfer nobody'))
     starts_new roomy same' sound nobody' free false =
-        let start : Start = record { number = next_number terms roomy; want = want; moment = m; reused = false } in
-        inl (starts_after terms log roomy same' sound.orderly nobody' start (new_unheld terms roomy sound) (start_new terms want m roomy) (started_open m (next_number terms roomy) want roomy) refl refl)
+        let start : Start = record { number = next_number settings roomy; want = want; moment = m; reused = false } in
+        inl (starts_after settings log roomy same' sound.orderly nobody' start (new_unheld settings roomy sound) (start_new settings want m roomy) (started_open m (next_number settings roomy) want roomy) refl refl)
 
-    with_room : (full : Bool) (first : Option ℕ) → oldest young ≡ first → Starts want log (start_or_wait terms want m (if full then close_for_room m young first else young)) ⊎ Waits want log (start_or_wait terms want m (if full then close_for_room m young first else young))
-    with_room false first first_is = starts_new young same before.sound before.nobody before.free (is_full terms young)
-    with_room true None first_is = starts_new young same before.sound before.nobody before.free (is_full terms young)
+    with_room : (full : Bool) (first : Option ℕ) → oldest young ≡ first → Starts want log (start_or_wait settings want m (if full then close_for_room m young first else young)) ⊎ Waits want log (start_or_wait settings want m (if full then close_for_room m young first else young))
+    with_room false first first_is = starts_new young same before.sound before.nobody before.free (is_full settings young)
+    with_room true None first_is = starts_new young same before.sound before.nobody before.free (is_full settings young)
     with_room true (Some c) first_is =
         let idle = first_among (is_earlier young) (idle_connections young) c first_is in
         let roomy = add m (Closed c HostRoom) young in
-        let sound = sound_close terms young before.sound m before.later c HostRoom (before.sound.settled, idle) idle in
-        let same' = λ (u : ℕ). told_unheld terms young before.sound.orderly c (unheld_idle young c idle) roomy (freed_closed m c HostRoom young) u ∙ same u in
-        starts_new roomy same' sound before.nobody (rw before.free refl) (is_full terms roomy)
+        let sound = sound_close settings young before.sound m before.later c HostRoom (before.sound.settled, idle) idle in
+        let same' = λ (u : ℕ). told_unheld settings young before.sound.orderly c (unheld_idle young c idle) roomy (freed_closed m c HostRoom young) u ∙ same u in
+        starts_new roomy same' sound before.nobody (rw before.free refl) (is_full settings roomy)
 
-    by_fit : (fit : Option ℕ) → newest_fit young want m ≡ fit → Starts want log (start_on terms want m young fit) ⊎ Waits want log (start_on terms want m young fit)
+    by_fit : (fit : Option ℕ) → newest_fit young want m ≡ fit → Starts want log (start_on settings want m young fit) ⊎ Waits want log (start_on settings want m young fit)
     by_fit (Some c) is =
         let start : Start = record { number = c; want = want; moment = m; reused = true } in
-        let idle = and_left (is_idle young c) (suits young want m c) (newest_is_fit terms young before.sound want m c is) in
-        inl (starts_after terms log young same before.sound.orderly before.nobody start (unheld_idle young c idle) (add m (Leased c want) young) (started_lease m c want young) refl refl)
-    by_fit None is = with_room (is_full terms young) (oldest young) refl
+        let idle = and_left (is_idle young c) (suits young want m c) (newest_is_fit settings young before.sound want m c is) in
+        inl (starts_after settings log young same before.sound.orderly before.nobody start (unheld_idle young c idle) (add m (Leased c want) young) (started_lease m c want young) refl refl)
+    by_fit None is = with_room (is_full settings young) (oldest young) refl
 
 -- what no refusal says of the transfer
-pub record IsAllowed (terms : Terms) (log : List Entry) (want : Want) : Type 0 where
+pub record IsAllowed (settings : LimitAndFirst) (log : List Entry) (want : Want) : Type 0 where
   pub free : held_number log want.transfer ≡ None
   pub waits_not : waits log want.transfer ≡ false
 
-pub allowed_by : (terms : Terms) (log : List Entry) (want : Want) → IsSound terms log → refusal terms log want ≡ None → IsAllowed terms log want
-allowed_by terms log want sound allowed =
-    let both = neither (holds log want.transfer) (waits log want.transfer) (not_refused (is_busy log want.transfer) (is_exhausted terms log) allowed) in
-    record { free = free_of terms log sound want.transfer both.0; waits_not = both.1 }
+pub allowed_by : (settings : LimitAndFirst) (log : List Entry) (want : Want) → IsSound settings log → refusal settings log want ≡ None → IsAllowed settings log want
+allowed_by settings log want sound allowed =
+    let both = neither (holds log want.transfer) (waits log want.transfer) (not_refused (is_busy log want.transfer) (is_exhausted settings log) allowed) in
+    record { free = free_of settings log sound want.transfer both.0; waits_not = both.1 }
 
-pub begun : (terms : Terms) (log : List Entry) (want : Want) (now : ℕ) → IsSound terms log → refusal terms log want ≡ None → Starts want log (after_acquire terms log want now) ⊎ Waits want log (after_acquire terms log want now)
-begun terms log want now sound allowed = by_queue (waiting log) refl
+pub begun : (settings : LimitAndFirst) (log : List Entry) (want : Want) (now : ℕ) → IsSound settings log → refusal settings log want ≡ None → Starts want log (after_acquire settings log want now) ⊎ Waits want log (after_acquire settings log want now)
+begun settings log want now sound allowed = by_queue (waiting log) refl
   where
-    by_queue : (wants : List Want) → waiting log ≡ wants → Starts want log (start_unless wants terms want (moment_at log now) log) ⊎ Waits want log (start_unless wants terms want (moment_at log now) log)
+    by_queue : (wants : List Want) → waiting log ≡ wants → Starts want log (start_unless wants settings want (moment_at log now) log) ⊎ Waits want log (start_unless wants settings want (moment_at log now) log)
     by_queue [] is =
         let m = moment_at log now in
-        let may = allowed_by terms log want sound allowed in
-        let before : AfterClosing terms m want.transfer log = record { sound = sound; later = later log now; free = may.free; nobody = is } in
+        let may = allowed_by settings log want sound allowed in
+        let before : AfterClosing settings m want.transfer log = record { sound = sound; later = later log now; free = may.free; nobody = is } in
         let n = length (idle_connections log) in
-        begun_start terms log want m (without_too_old want m log) (closing_tells terms want m want.transfer n log before) (closing_keeps terms want m want.transfer n log before)
+        begun_start settings log want m (without_too_old want m log) (closing_tells settings want m want.transfer n log before) (closing_keeps settings want m want.transfer n log before)
     by_queue (head ∷ others) is =
-        let may = allowed_by terms log want sound allowed in
+        let may = allowed_by settings log want sound allowed in
         inr (waits_after log log (λ u. refl) (omega arith) (moment_at log now) want may.free may.waits_not)

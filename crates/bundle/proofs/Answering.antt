@@ -13,29 +13,31 @@ use Rattle.conn_log.specs.declared.entry.Entry.{Entry}
 use Rattle.conn_log.specs.Connections.{is_among, is_open, held_number, lane, born}
 use Rattle.conn_log.specs.Waiting.{waiting, waits}
 use Rattle.conn_log.specs.Fit.{is_fit}
-use Rattle.conn_log.specs.Legal.{Terms, IsAnyone}
+use Rattle.conn_log.specs.Legal.{LimitAndFirst, IsAnyone}
 use Rattle.conn_log.specs.Sound.{IsOrderly, HeldFacts, facts_if_held, held_facts}
 use Rattle.conn_log.proofs.Steps.{is_open_is}
 use Rattle.bundle.specs.declared.grant.Grant.{Grant}
-use Rattle.bundle.specs.declared.held.Held.{Held}
+use Rattle.host_state.specs.declared.held.Held.{Held}
 use Rattle.bundle.specs.declared.answers.Got.{Got}
 use Rattle.bundle.specs.declared.answers.Got.TheVariants.{Lease, Wait}
-use Rattle.bundle.specs.Calls.{Start, newest_start, newest_wait, add, next_number, start_new, open_for, unfit_cause, pass_to}
-use Rattle.bundle.specs.Idle.{stream_of}
+use Rattle.host_state.specs.Steps.{add, next_number}
+use Rattle.bundle.specs.Calls.{Start, newest_start, newest_wait, start_new, open_for, unfit_cause, pass_to}
+use Rattle.host_state.specs.Idle.{stream_of}
 use Rattle.bundle.specs.Laws.{IsSoundAndQuiet}
-use Rattle.bundle.specs.Lease.{OneHost, Leasing, Ticketed, waiting_want, granted_want, is_same_want, GetsLease, GetsTicket, Spends}
+use Rattle.host_state.specs.Queue.{waiting_want}
+use Rattle.bundle.specs.Lease.{HostShown, Leasing, Ticketed, granted_want, is_same_want, GetsLease, GetsTicket, Spends}
 use Rattle.bundle.specs.Grants.{grant_of, without_grant, grant_transfers, with_stream, grant_streams, GrantsKept, with_new, with_passed, IsAlone}
 use Rattle.bundle.specs.Replies.{GivesLease, GivesTicket}
-use Rattle.bundle.specs.State.{held_facts_of}
+use Rattle.host_state.specs.State.{facts_of_held}
 use Rattle.bundle.proofs.KeptSound.{held_want, only_idle}
 use Rattle.bundle.proofs.Told.{Told, apart_held, holder_awaits_nothing, told_left_others, awaited_none, awaited_waits}
 use Rattle.bundle.proofs.Granting.{leased, ticketed, leased_same, ticketed_same, kept_at, granted_none, kept_others, kept_without, among_without, not_without, is_some-grant_of, Freed, no_stream, stream_of-append, stream_of-push, stream_of-pushed, stream_of-without, stream_of-granted}
 use Rattle.bundle.proofs.Acquired.{Starts, Waits}
 
 -- a connection that was closed is not open
-pub closed_not_open : (terms : Terms) (m c : ℕ) (cause : Cause) (log : List Entry) (wants : List Want) → is_open (open_for terms m (add m (Closed c cause) log) wants) c ≡ false
-closed_not_open terms m c cause log [] = is_open_is (add m (Closed c cause) log) c ∙ grind (arith, nat_tests)
-closed_not_open terms m c cause log (head ∷ others) = is_open_is (start_new terms head m (add m (Closed c cause) log)) c ∙ grind (arith, nat_tests)
+pub closed_not_open : (settings : LimitAndFirst) (m c : ℕ) (cause : Cause) (log : List Entry) (wants : List Want) → is_open (open_for settings m (add m (Closed c cause) log) wants) c ≡ false
+closed_not_open settings m c cause log [] = is_open_is (add m (Closed c cause) log) c ∙ grind (arith, nat_tests)
+closed_not_open settings m c cause log (head ∷ others) = is_open_is (start_new settings head m (add m (Closed c cause) log)) c ∙ grind (arith, nat_tests)
 
 pub apart_open : (log : List Entry) (c d : ℕ) → is_open log c ≡ false → is_open log d ≡ true → (c == d) ≡ false
 apart_open log c d closed still = elim (eqb_tells c d) [
@@ -68,7 +70,7 @@ module _ {S : Type 0} where
   gives_ticket (Wait ticket) P Q R step p q = step ticket p q
 
   -- who has what after an acquire
-  module _ (terms : Terms) (log after : List Entry) (grants : List (Grant S)) (kept : GrantsKept log grants) (want : Want) (free : held_number log want.transfer ≡ None) where
+  module _ (settings : LimitAndFirst) (log after : List Entry) (grants : List (Grant S)) (kept : GrantsKept log grants) (want : Want) (free : held_number log want.transfer ≡ None) where
     out : is_among want.transfer (grant_transfers grants) ≡ false
     out = granted_none log grants want.transfer kept free
 
@@ -96,12 +98,12 @@ module _ {S : Type 0} where
       | inr other ↦ ticketed_same log after (grant_transfers grants) (grant_transfers grants) u (starts.others u other.0) refl ∙ sym (ap (λ b. if b then None else ticketed log (grant_transfers grants) u) other.0)
     ]
 
-    module _ (terms' : Terms) (host host' : ℕ) (streams streams' : List (ℕ × S)) where
-      abbrev host_before : OneHost S
-      host_before = record { log = log; terms = terms; host = host; streams = streams; unclaimed = grant_transfers grants }
+    module _ (settings' : LimitAndFirst) (host host' : ℕ) (streams streams' : List (ℕ × S)) where
+      abbrev host_before : HostShown S
+      host_before = record { log = log; settings = settings; host = host; streams = streams; unclaimed = grant_transfers grants }
 
-      abbrev host_after : OneHost S
-      host_after = record { log = after; terms = terms'; host = host'; streams = streams'; unclaimed = grant_transfers grants }
+      abbrev host_after : HostShown S
+      host_after = record { log = after; settings = settings'; host = host'; streams = streams'; unclaimed = grant_transfers grants }
 
       pub begun_lease : (start : Start) → Starts want log after ⊎ Waits want log after → newest_start after ≡ Some start → GetsLease host_before host_after want.transfer start.number
       begun_lease start (inl starts) answer = record { leases = leases_started start starts answer; tickets = tickets_started starts }
@@ -127,13 +129,13 @@ module _ {S : Type 0} where
       }
 
     -- no grant has the stream of the connection that it starts on
-    pub begun_stream : IsOrderly terms after → (start : Start) → Starts want log after ⊎ Waits want log after → newest_start after ≡ Some start → stream_of (grant_streams grants) start.number ≡ None
+    pub begun_stream : IsOrderly settings after → (start : Start) → Starts want log after ⊎ Waits want log after → newest_start after ≡ Some start → stream_of (grant_streams grants) start.number ≡ None
     begun_stream orderly start (inr waits) answer = let never : None ≡ Some start = sym waits.no_start ∙ answer in absurd (cc)
     begun_stream orderly start (inl starts) answer =
         let one : Some starts.start ≡ Some start = sym starts.answer ∙ answer in
         let it : starts.start ≡ start = cc in
         let mine : held_number after want.transfer ≡ Some start.number = ap (λ (t : Told). t.number) starts.mine ∙ ap (λ (s : Start). Some s.number) it in
-        no_stream after grants start.number (kept_others log after grants want.transfer starts.others out kept) (λ u c among theirs. apart_held terms after orderly u want.transfer c start.number (parted u among) theirs mine)
+        no_stream after grants start.number (kept_others log after grants want.transfer starts.others out kept) (λ u c among theirs. apart_held settings after orderly u want.transfer c start.number (parted u among) theirs mine)
       where
         parted : (u : ℕ) → is_among u (grant_transfers grants) ≡ true → (u == want.transfer) ≡ false
         parted u among = elim (eqb_tells u want.transfer) [
@@ -155,11 +157,11 @@ module _ {S : Type 0} where
   pub front_first : (front xs : List (ℕ × S)) (d : ℕ) (stream : S) → stream_of front d ≡ Some stream → stream_of (front ++ xs) d ≡ Some stream
   front_first front xs d stream is = stream_of-append front xs d ∙ ap (λ s. option_or s (stream_of xs d)) is
 
-  pub spends_at : (inner outer after : OneHost S) (t u : ℕ) → inner ≡ outer → t ≡ u → Spends inner after t → Spends outer after u
-  spends_at inner outer after t u same who spent = subst (λ (v : OneHost S). Spends v after u) same (subst (λ (k : ℕ). Spends inner after k) who spent)
+  pub spends_at : (inner outer after : HostShown S) (t u : ℕ) → inner ≡ outer → t ≡ u → Spends inner after t → Spends outer after u
+  spends_at inner outer after t u same who spent = subst (λ (v : HostShown S). Spends v after u) same (subst (λ (k : ℕ). Spends inner after k) who spent)
 
-  pub gets_at : (inner outer after : OneHost S) (t u c d : ℕ) → inner ≡ outer → t ≡ u → c ≡ d → GetsLease inner after t c → GetsLease outer after u d
-  gets_at inner outer after t u c d same who which gets = subst (λ (v : OneHost S). GetsLease v after u d) same (subst (λ (k : ℕ). GetsLease inner after k d) who (subst (λ (k : ℕ). GetsLease inner after t k) which gets))
+  pub gets_at : (inner outer after : HostShown S) (t u c d : ℕ) → inner ≡ outer → t ≡ u → c ≡ d → GetsLease inner after t c → GetsLease outer after u d
+  gets_at inner outer after t u c d same who which gets = subst (λ (v : HostShown S). GetsLease v after u d) same (subst (λ (k : ℕ). GetsLease inner after k d) who (subst (λ (k : ℕ). GetsLease inner after t k) which gets))
 
   -- the want of a transfer's ticket
   pub ticket_granted : (log : List Entry) (grants : List (Grant S)) → GrantsKept log grants → (t : ℕ) (want : Want) → option_map (λ (grant : Grant S). grant.want) (grant_of grants t) ≡ Some want → ticketed log (grant_transfers grants) t ≡ Some want
@@ -185,8 +187,8 @@ module _ {S : Type 0} where
       by_grant (Some grant) here = never grant.want (sym (ticket_granted log grants kept t grant.want (ap (option_map (λ (g : Grant S). g.want)) here)) ∙ none)
 
   -- who has what once a transfer has spent what it had
-  pub freed_spends : (t : ℕ) (log : List Entry) (grants : List (Grant S)) (after : List Entry) (left : List (Grant S)) (terms terms' : Terms) (host host' : ℕ) (streams streams' : List (ℕ × S)) → Freed t log grants after left → Spends (record { log = log; terms = terms; host = host; streams = streams; unclaimed = grant_transfers grants }) (record { log = after; terms = terms'; host = host'; streams = streams'; unclaimed = grant_transfers left }) t
-  freed_spends t log grants after left terms terms' host host' streams streams' freed =
+  pub freed_spends : (t : ℕ) (log : List Entry) (grants : List (Grant S)) (after : List Entry) (left : List (Grant S)) (settings settings' : LimitAndFirst) (host host' : ℕ) (streams streams' : List (ℕ × S)) → Freed t log grants after left → Spends (record { log = log; settings = settings; host = host; streams = streams; unclaimed = grant_transfers grants }) (record { log = after; settings = settings'; host = host'; streams = streams'; unclaimed = grant_transfers left }) t
+  freed_spends t log grants after left settings settings' host host' streams streams' freed =
       let itself : (t == t) ≡ true = grind (arith, nat_tests) in
       record {
         leases = freed.leases;
@@ -220,7 +222,7 @@ module _ {S : Type 0} where
       same_want want grant.want (ap (λ (o : Option Want). option_map_or (is_same_want want) o false) (sym ticket) ∙ stood)
 
   -- a transfer that waits leaves
-  module _ (terms : Terms) (log : List Entry) (orderly : IsOrderly terms log) (grants : List (Grant S)) (kept : GrantsKept log grants) (m t : ℕ) (waits_here : waits log t ≡ true) where
+  module _ (settings : LimitAndFirst) (log : List Entry) (orderly : IsOrderly settings log) (grants : List (Grant S)) (kept : GrantsKept log grants) (m t : ℕ) (waits_here : waits log t ≡ true) where
     pub left_freed : Freed t log grants (add m (Left t) log) grants
     left_freed =
         let free = orderly.waiting_free t waits_here in
@@ -247,7 +249,7 @@ module _ {S : Type 0} where
         either_none false n is = is
 
   -- a transfer claims what it was granted
-  module _ (terms : Terms) (log : List Entry) (orderly : IsOrderly terms log) (grants : List (Grant S)) (kept : GrantsKept log grants) (t : ℕ) (grant : Grant S) (is : grant_of grants t ≡ Some grant) where
+  module _ (settings : LimitAndFirst) (log : List Entry) (orderly : IsOrderly settings log) (grants : List (Grant S)) (kept : GrantsKept log grants) (t : ℕ) (grant : Grant S) (is : grant_of grants t ≡ Some grant) where
     pub claimed_number : held_number log t ≡ Some grant.number
     claimed_number = let there = kept_at log grants t grant kept is in ap (held_number log) (sym there.1) ∙ there.0.number
 
@@ -257,8 +259,8 @@ module _ {S : Type 0} where
     others_stay : (u : ℕ) → (t == u) ≡ false → is_among u (grant_transfers (without_grant t grants)) ≡ is_among u (grant_transfers grants)
     others_stay u other = among_without log grants t u kept ∙ ap (λ b. not b && is_among u (grant_transfers grants)) other
 
-    pub claimed_lease : (terms' : Terms) (host host' : ℕ) (streams streams' : List (ℕ × S)) → GetsLease (record { log = log; terms = terms; host = host; streams = streams; unclaimed = grant_transfers grants }) (record { log = log; terms = terms'; host = host'; streams = streams'; unclaimed = grant_transfers (without_grant t grants) }) t grant.number
-    claimed_lease terms' host host' streams streams' = record {
+    pub claimed_lease : (settings' : LimitAndFirst) (host host' : ℕ) (streams streams' : List (ℕ × S)) → GetsLease (record { log = log; settings = settings; host = host; streams = streams; unclaimed = grant_transfers grants }) (record { log = log; settings = settings'; host = host'; streams = streams'; unclaimed = grant_transfers (without_grant t grants) }) t grant.number
+    claimed_lease settings' host host' streams streams' = record {
       leases = λ u. elim (eqb_tells t u) [
         | inl same ↦
             let out_u : is_among u (grant_transfers (without_grant t grants)) ≡ false = subst (λ (n : ℕ). is_among n (grant_transfers (without_grant t grants)) ≡ false) same.1 (not_without log grants t kept) in
@@ -269,21 +271,21 @@ module _ {S : Type 0} where
       tickets = λ u. elim (eqb_tells t u) [
         | inl same ↦
             let out_u : is_among u (grant_transfers (without_grant t grants)) ≡ false = subst (λ (n : ℕ). is_among n (grant_transfers (without_grant t grants)) ≡ false) same.1 (not_without log grants t kept) in
-            let none : waiting_want (waiting log) u ≡ None = subst (λ (n : ℕ). waiting_want (waiting log) n ≡ None) same.1 (holder_awaits_nothing terms log orderly grant.number t claimed_number) in
+            let none : waiting_want (waiting log) u ≡ None = subst (λ (n : ℕ). waiting_want (waiting log) n ≡ None) same.1 (holder_awaits_nothing settings log orderly grant.number t claimed_number) in
             ap (λ b. if b then granted_want log u else waiting_want (waiting log) u) out_u ∙ none ∙ sym (ap (λ b. if b then None else ticketed log (grant_transfers grants) u) same.0)
         | inr other ↦ ticketed_same log log (grant_transfers grants) (grant_transfers (without_grant t grants)) u refl (others_stay u other.0) ∙ sym (ap (λ b. if b then None else ticketed log (grant_transfers grants) u) other.0)
       ];
     }
 
-    pub claimed_left : (left : List (Grant S)) → left ≡ without_grant t grants → (terms' : Terms) (host host' : ℕ) (streams streams' : List (ℕ × S)) → GetsLease (record { log = log; terms = terms; host = host; streams = streams; unclaimed = grant_transfers grants }) (record { log = log; terms = terms'; host = host'; streams = streams'; unclaimed = grant_transfers left }) t grant.number
-    claimed_left left e_left terms' host host' streams streams' =
-        let old : OneHost S = record { log = log; terms = terms; host = host; streams = streams; unclaimed = grant_transfers grants } in
-        let new : List (Grant S) → OneHost S = λ gs. record { log = log; terms = terms'; host = host'; streams = streams'; unclaimed = grant_transfers gs } in
-        subst (λ gs. GetsLease old (new gs) t grant.number) (sym e_left) (claimed_lease terms' host host' streams streams')
+    pub claimed_left : (left : List (Grant S)) → left ≡ without_grant t grants → (settings' : LimitAndFirst) (host host' : ℕ) (streams streams' : List (ℕ × S)) → GetsLease (record { log = log; settings = settings; host = host; streams = streams; unclaimed = grant_transfers grants }) (record { log = log; settings = settings'; host = host'; streams = streams'; unclaimed = grant_transfers left }) t grant.number
+    claimed_left left e_left settings' host host' streams streams' =
+        let old : HostShown S = record { log = log; settings = settings; host = host; streams = streams; unclaimed = grant_transfers grants } in
+        let new : List (Grant S) → HostShown S = λ gs. record { log = log; settings = settings'; host = host'; streams = streams'; unclaimed = grant_transfers gs } in
+        subst (λ gs. GetsLease old (new gs) t grant.number) (sym e_left) (claimed_lease settings' host host' streams streams')
 
     -- with the stream that came back under its number
     pub claimed_stream : (xs : List (ℕ × S)) → grant.stream ≡ (if is_some grant.stream then stream_of (grant_streams grants ++ xs) grant.number else None)
-    claimed_stream xs = by_stream grant.stream (stream_of-append (grant_streams grants) xs grant.number ∙ ap (λ s. option_or s (stream_of xs grant.number)) (stream_of-granted terms log orderly grants t grant kept is))
+    claimed_stream xs = by_stream grant.stream (stream_of-append (grant_streams grants) xs grant.number ∙ ap (λ s. option_or s (stream_of xs grant.number)) (stream_of-granted settings log orderly grants t grant kept is))
       where
         by_stream : (stream : Option S) → stream_of (grant_streams grants ++ xs) grant.number ≡ option_or stream (stream_of xs grant.number) → stream ≡ (if is_some stream then stream_of (grant_streams grants ++ xs) grant.number else None)
         by_stream None kept_is = refl
@@ -301,33 +303,33 @@ module _ {S : Type 0} where
       by_stream None rest = rest
       by_stream (Some stream) rest = ap (λ s. if x.number == d then Some stream else s) rest
 
-  pub with_new_streams : (terms : Terms) (m : ℕ) (log : List Entry) (wants : List Want) (grants : List (Grant S)) (d : ℕ) → stream_of (grant_streams (with_new terms m log wants grants)) d ≡ stream_of (grant_streams grants) d
-  with_new_streams terms m log [] grants d = refl
-  with_new_streams terms m log (head ∷ others) grants d = pushed_none grants (record { want = head; number = next_number terms log; moment = m; stream = None }) d refl
+  pub with_new_streams : (settings : LimitAndFirst) (m : ℕ) (log : List Entry) (wants : List Want) (grants : List (Grant S)) (d : ℕ) → stream_of (grant_streams (with_new settings m log wants grants)) d ≡ stream_of (grant_streams grants) d
+  with_new_streams settings m log [] grants d = refl
+  with_new_streams settings m log (head ∷ others) grants d = pushed_none grants (record { want = head; number = next_number settings log; moment = m; stream = None }) d refl
 
-  pub with_passed_streams : (terms : Terms) (c m : ℕ) (stream : Option S) (log : List Entry) (wants : List Want) (grants : List (Grant S)) (d : ℕ) → (c == d) ≡ false → stream_of (grant_streams (with_passed terms c m stream log wants grants)) d ≡ stream_of (grant_streams grants) d
-  with_passed_streams terms c m stream log [] grants d other = refl
-  with_passed_streams terms c m stream log (head ∷ others) grants d other = by_fit (is_fit log head m c)
+  pub with_passed_streams : (settings : LimitAndFirst) (c m : ℕ) (stream : Option S) (log : List Entry) (wants : List Want) (grants : List (Grant S)) (d : ℕ) → (c == d) ≡ false → stream_of (grant_streams (with_passed settings c m stream log wants grants)) d ≡ stream_of (grant_streams grants) d
+  with_passed_streams settings c m stream log [] grants d other = refl
+  with_passed_streams settings c m stream log (head ∷ others) grants d other = by_fit (is_fit log head m c)
     where
-      by_fit : (fits : Bool) → stream_of (grant_streams (if fits then grants ++ record { want = head; number = c; moment = m; stream = stream } ∷ [] else with_new terms m log (head ∷ others) grants)) d ≡ stream_of (grant_streams grants) d
+      by_fit : (fits : Bool) → stream_of (grant_streams (if fits then grants ++ record { want = head; number = c; moment = m; stream = stream } ∷ [] else with_new settings m log (head ∷ others) grants)) d ≡ stream_of (grant_streams grants) d
       by_fit true = stream_of-push grants (record { want = head; number = c; moment = m; stream = stream }) d other
-      by_fit false = with_new_streams terms m log (head ∷ others) grants d
+      by_fit false = with_new_streams settings m log (head ∷ others) grants d
 
   -- the stream of the connection that came back, where it stays open
-  pub passed_stream : (terms : Terms) (c m : ℕ) (log : List Entry) (grants : List (Grant S)) (stream : S) (xs ys : List (ℕ × S)) → stream_of (grant_streams grants) c ≡ None → stream_of xs c ≡ Some stream → (waiting log ≡ [] → ys ≡ xs) → is_open (pass_to terms c m log (waiting log)) c ≡ true → stream_of (grant_streams (with_passed terms c m (stream_of xs c) log (waiting log) grants) ++ ys) c ≡ Some stream
-  passed_stream terms c m log grants stream xs ys none kept_is nobody = by_queue (waiting log) nobody
+  pub passed_stream : (settings : LimitAndFirst) (c m : ℕ) (log : List Entry) (grants : List (Grant S)) (stream : S) (xs ys : List (ℕ × S)) → stream_of (grant_streams grants) c ≡ None → stream_of xs c ≡ Some stream → (waiting log ≡ [] → ys ≡ xs) → is_open (pass_to settings c m log (waiting log)) c ≡ true → stream_of (grant_streams (with_passed settings c m (stream_of xs c) log (waiting log) grants) ++ ys) c ≡ Some stream
+  passed_stream settings c m log grants stream xs ys none kept_is nobody = by_queue (waiting log) nobody
     where
-      by_fit : (head : Want) (others : List Want) (fits : Bool) → is_open (if fits then add m (Leased c head) log else start_new terms head m (add m (Closed c (unfit_cause terms log head m c)) log)) c ≡ true → stream_of (grant_streams (if fits then grants ++ record { want = head; number = c; moment = m; stream = stream_of xs c } ∷ [] else with_new terms m log (head ∷ others) grants) ++ ys) c ≡ Some stream
+      by_fit : (head : Want) (others : List Want) (fits : Bool) → is_open (if fits then add m (Leased c head) log else start_new settings head m (add m (Closed c (unfit_cause settings log head m c)) log)) c ≡ true → stream_of (grant_streams (if fits then grants ++ record { want = head; number = c; moment = m; stream = stream_of xs c } ∷ [] else with_new settings m log (head ∷ others) grants) ++ ys) c ≡ Some stream
       by_fit head others true still = front_first (grant_streams (grants ++ record { want = head; number = c; moment = m; stream = stream_of xs c } ∷ [])) ys c stream (stream_of-pushed grants (record { want = head; number = c; moment = m; stream = stream_of xs c }) none ∙ kept_is)
-      by_fit head others false still = absurd (false≢true (sym (closed_not_open terms m c (unfit_cause terms log head m c) log (head ∷ others)) ∙ still))
+      by_fit head others false still = absurd (false≢true (sym (closed_not_open settings m c (unfit_cause settings log head m c) log (head ∷ others)) ∙ still))
 
-      by_queue : (wants : List Want) → (wants ≡ [] → ys ≡ xs) → is_open (pass_to terms c m log wants) c ≡ true → stream_of (grant_streams (with_passed terms c m (stream_of xs c) log wants grants) ++ ys) c ≡ Some stream
+      by_queue : (wants : List Want) → (wants ≡ [] → ys ≡ xs) → is_open (pass_to settings c m log wants) c ≡ true → stream_of (grant_streams (with_passed settings c m (stream_of xs c) log wants grants) ++ ys) c ≡ Some stream
       by_queue [] same still = behind_only (grant_streams grants) ys c none ∙ ap (λ zs. stream_of zs c) (same refl) ∙ kept_is
       by_queue (head ∷ others) same still = by_fit head others (is_fit log head m c) still
 
   -- no other grant has the stream of what a transfer holds
-  pub freed_stream : (terms : Terms) (log : List Entry) → IsOrderly terms log → (grants : List (Grant S)) → GrantsKept log grants → (c t : ℕ) → held_number log t ≡ Some c → stream_of (grant_streams (without_grant t grants)) c ≡ None
-  freed_stream terms log orderly grants kept c t mine = no_stream log (without_grant t grants) c (kept_without log grants t kept) (λ u d among theirs. apart_held terms log orderly u t d c (parted u among) theirs mine)
+  pub freed_stream : (settings : LimitAndFirst) (log : List Entry) → IsOrderly settings log → (grants : List (Grant S)) → GrantsKept log grants → (c t : ℕ) → held_number log t ≡ Some c → stream_of (grant_streams (without_grant t grants)) c ≡ None
+  freed_stream settings log orderly grants kept c t mine = no_stream log (without_grant t grants) c (kept_without log grants t kept) (λ u d among theirs. apart_held settings log orderly u t d c (parted u among) theirs mine)
     where
       parted : (u : ℕ) → is_among u (grant_transfers (without_grant t grants)) ≡ true → (u == t) ≡ false
       parted u among = elim (eqb_tells u t) [
@@ -341,13 +343,13 @@ pub record IsKnown (log : List Entry) (transfer : ℕ) (held : Held) : Type 0 wh
   pub lane : lane log held.number ≡ held.lane
   pub born : born log held.number ≡ held.born
 
-pub known : (log : List Entry) (transfer : ℕ) (held : Held) → held_facts log transfer ≡ Some (held_facts_of held) → IsKnown log transfer held
+pub known : (log : List Entry) (transfer : ℕ) (held : Held) → held_facts log transfer ≡ Some (facts_of_held held) → IsKnown log transfer held
 known log transfer held is = by_number (held_number log transfer) refl is
   where
-    by_number : (n : Option ℕ) → held_number log transfer ≡ n → option_map (facts_if_held log) n ≡ Some (held_facts_of held) → IsKnown log transfer held
+    by_number : (n : Option ℕ) → held_number log transfer ≡ n → option_map (facts_if_held log) n ≡ Some (facts_of_held held) → IsKnown log transfer held
     by_number None none never = absurd (cc)
     by_number (Some c) here some =
-        let same : facts_if_held log c ≡ held_facts_of held = cc in
+        let same : facts_if_held log c ≡ facts_of_held held = cc in
         let number : c ≡ held.number = ap (λ (f : HeldFacts). f.number) same in
         record {
           number = here ∙ ap (λ (k : ℕ). Some k) number;
@@ -356,9 +358,9 @@ known log transfer held is = by_number (held_number log transfer) refl is
         }
 
 -- it is the only idle one once it has come back, where someone waits
-pub came_back_alone : (terms : Terms) (log : List Entry) → IsSoundAndQuiet terms log → (transfer : ℕ) (held : Held) (m : ℕ) (facts : Facts) → held_facts log transfer ≡ Some (held_facts_of held) → is_persistent facts ≡ true → IsAnyone (waiting log) → IsAlone (add m (Returned held.number facts) log) held m
-came_back_alone terms log kept transfer held m facts is persists anyone =
+pub came_back_alone : (settings : LimitAndFirst) (log : List Entry) → IsSoundAndQuiet settings log → (transfer : ℕ) (held : Held) (m : ℕ) (facts : Facts) → held_facts log transfer ≡ Some (facts_of_held held) → is_persistent facts ≡ true → IsAnyone (waiting log) → IsAlone (add m (Returned held.number facts) log) held m
+came_back_alone settings log kept transfer held m facts is persists anyone =
     let it = known log transfer held is in
-    let holder = held_want terms log kept.sound transfer held.number it.number in
-    let alone = only_idle terms log kept held.number (ap is_some holder.1) m facts anyone persists in
+    let holder = held_want settings log kept.sound transfer held.number it.number in
+    let alone = only_idle settings log kept held.number (ap is_some holder.1) m facts anyone persists in
     record { only = alone.only; lane = it.lane; born = it.born; since = grind (arith, nat_tests) }

@@ -8,13 +8,14 @@ use Rattle.conn_log.specs.declared.entry.Want.{Want}
 use Rattle.conn_log.specs.declared.entry.Entry.{Entry}
 use Rattle.conn_log.specs.Connections.{is_among, held_number, holder_want}
 use Rattle.conn_log.specs.Waiting.{waiting}
-use Rattle.conn_log.specs.Legal.{Terms}
+use Rattle.conn_log.specs.Legal.{LimitAndFirst}
 use Rattle.conn_log.specs.Sound.{IsOrderly, IsNext}
 use Rattle.conn_log.proofs.Soundness.{next_free}
 use Rattle.bundle.specs.declared.grant.Grant.{Grant}
 use Rattle.bundle.specs.Calls.{Start}
-use Rattle.bundle.specs.Idle.{stream_of}
-use Rattle.bundle.specs.Lease.{waiting_want, granted_want}
+use Rattle.host_state.specs.Idle.{stream_of}
+use Rattle.host_state.specs.Queue.{waiting_want}
+use Rattle.bundle.specs.Lease.{granted_want}
 use Rattle.bundle.specs.Grants.{grant_of, without_grant, grant_transfers, with_stream, grant_streams, IsGrantKept, GrantsKept}
 use Rattle.bundle.proofs.Told.{Told, told, IsFreed, IsStarted, told_ended, ended_number, holder_awaits_nothing, told_others, told_started, apart_held}
 
@@ -130,22 +131,22 @@ module _ {S : Type 0} where
     pub leases : (u : ℕ) → leased after (grant_transfers left) u ≡ (if t == u then None else leased log (grant_transfers grants) u)
     pub tickets : (u : ℕ) → ticketed after (grant_transfers left) u ≡ (if t == u then None else ticketed log (grant_transfers grants) u)
 
-  pub frees : (terms : Terms) (log : List Entry) → IsOrderly terms log → (grants : List (Grant S)) → GrantsKept log grants → (c t : ℕ) → held_number log t ≡ Some c → (after : List Entry) → IsFreed c log after → Freed t log grants after (without_grant t grants)
-  frees terms log orderly grants kept c t mine after freed = record {
-    kept = kept_others log after (without_grant t grants) t (told_ended terms log orderly c t mine after freed) (not_without log grants t kept) (kept_without log grants t kept);
+  pub frees : (settings : LimitAndFirst) (log : List Entry) → IsOrderly settings log → (grants : List (Grant S)) → GrantsKept log grants → (c t : ℕ) → held_number log t ≡ Some c → (after : List Entry) → IsFreed c log after → Freed t log grants after (without_grant t grants)
+  frees settings log orderly grants kept c t mine after freed = record {
+    kept = kept_others log after (without_grant t grants) t (told_ended settings log orderly c t mine after freed) (not_without log grants t kept) (kept_without log grants t kept);
     leases = λ u. elim (eqb_tells t u) [
       | inl same ↦
           let out : is_among u (grant_transfers (without_grant t grants)) ≡ false = subst (λ (n : ℕ). is_among n (grant_transfers (without_grant t grants)) ≡ false) same.1 (not_without log grants t kept) in
-          let none : held_number after u ≡ None = subst (λ (n : ℕ). held_number after n ≡ None) same.1 (ended_number terms log orderly c t mine after freed) in
+          let none : held_number after u ≡ None = subst (λ (n : ℕ). held_number after n ≡ None) same.1 (ended_number settings log orderly c t mine after freed) in
           ap (λ b. if b then None else held_number after u) out ∙ none ∙ sym (ap (λ b. if b then None else leased log (grant_transfers grants) u) same.0)
-      | inr other ↦ leased_same log after (grant_transfers grants) (grant_transfers (without_grant t grants)) u (told_ended terms log orderly c t mine after freed u other.0) (others_stay u other.0) ∙ sym (ap (λ b. if b then None else leased log (grant_transfers grants) u) other.0)
+      | inr other ↦ leased_same log after (grant_transfers grants) (grant_transfers (without_grant t grants)) u (told_ended settings log orderly c t mine after freed u other.0) (others_stay u other.0) ∙ sym (ap (λ b. if b then None else leased log (grant_transfers grants) u) other.0)
     ];
     tickets = λ u. elim (eqb_tells t u) [
       | inl same ↦
           let out : is_among u (grant_transfers (without_grant t grants)) ≡ false = subst (λ (n : ℕ). is_among n (grant_transfers (without_grant t grants)) ≡ false) same.1 (not_without log grants t kept) in
-          let none : waiting_want (waiting after) u ≡ None = subst (λ (n : ℕ). waiting_want (waiting after) n ≡ None) same.1 (ap (λ wants. waiting_want wants t) freed.waiting ∙ holder_awaits_nothing terms log orderly c t mine) in
+          let none : waiting_want (waiting after) u ≡ None = subst (λ (n : ℕ). waiting_want (waiting after) n ≡ None) same.1 (ap (λ wants. waiting_want wants t) freed.waiting ∙ holder_awaits_nothing settings log orderly c t mine) in
           ap (λ b. if b then granted_want after u else waiting_want (waiting after) u) out ∙ none ∙ sym (ap (λ b. if b then None else ticketed log (grant_transfers grants) u) same.0)
-      | inr other ↦ ticketed_same log after (grant_transfers grants) (grant_transfers (without_grant t grants)) u (told_ended terms log orderly c t mine after freed u other.0) (others_stay u other.0) ∙ sym (ap (λ b. if b then None else ticketed log (grant_transfers grants) u) other.0)
+      | inr other ↦ ticketed_same log after (grant_transfers grants) (grant_transfers (without_grant t grants)) u (told_ended settings log orderly c t mine after freed u other.0) (others_stay u other.0) ∙ sym (ap (λ b. if b then None else ticketed log (grant_transfers grants) u) other.0)
     ];
   }
     where
@@ -180,9 +181,9 @@ module _ {S : Type 0} where
   }
 
   -- the first that waits is granted a connection that nobody holds
-  pub grants_head : (terms : Terms) (log : List Entry) → IsOrderly terms log → (grants : List (Grant S)) → GrantsKept log grants → (grant : Grant S) (others : List Want) → waiting log ≡ grant.want ∷ others → IsNext log grant.want → holder_want log grant.number ≡ None → (after : List Entry) → IsStarted (record { number = grant.number; want = grant.want; moment = grant.moment; reused = is_some grant.stream }) log after → Grants log grants after (grants ++ grant ∷ [])
-  grants_head terms log orderly grants kept grant others queue next none after started = record {
-    kept = kept_push after grants grant (kept_others log after grants head (told_others terms log orderly start none after started) out kept) (record {
+  pub grants_head : (settings : LimitAndFirst) (log : List Entry) → IsOrderly settings log → (grants : List (Grant S)) → GrantsKept log grants → (grant : Grant S) (others : List Want) → waiting log ≡ grant.want ∷ others → IsNext log grant.want → holder_want log grant.number ≡ None → (after : List Entry) → IsStarted (record { number = grant.number; want = grant.want; moment = grant.moment; reused = is_some grant.stream }) log after → Grants log grants after (grants ++ grant ∷ [])
+  grants_head settings log orderly grants kept grant others queue next none after started = record {
+    kept = kept_push after grants grant (kept_others log after grants head (told_others settings log orderly start none after started) out kept) (record {
       number = ap (λ (t : Told). t.number) mine;
       want = ap (λ (t : Told). t.granted) mine;
       start = ap (λ (t : Told). t.start) mine;
@@ -193,7 +194,7 @@ module _ {S : Type 0} where
           let among : is_among u (grant_transfers (grants ++ grant ∷ [])) ≡ true = among_push grants grant u ∙ grind (arith, same.0) in
           let out_u : is_among u (grant_transfers grants) ≡ false = subst (λ (n : ℕ). is_among n (grant_transfers grants) ≡ false) same.1 out in
           ap (λ b. if b then None else held_number after u) among ∙ sym (ap (λ b. if b then None else held_number log u) out_u ∙ free_u)
-      | inr other ↦ leased_same log after (grant_transfers grants) (grant_transfers (grants ++ grant ∷ [])) u (told_others terms log orderly start none after started u other.0) (others_stay u other.0)
+      | inr other ↦ leased_same log after (grant_transfers grants) (grant_transfers (grants ++ grant ∷ [])) u (told_others settings log orderly start none after started u other.0) (others_stay u other.0)
     ];
     tickets = λ u. elim (eqb_tells head u) [
       | inl same ↦
@@ -202,7 +203,7 @@ module _ {S : Type 0} where
           let wanted : granted_want after u ≡ Some grant.want = subst (λ (n : ℕ). granted_want after n ≡ Some grant.want) same.1 (ap (λ (t : Told). t.granted) mine) in
           let awaited : waiting_want (waiting log) u ≡ Some grant.want = ap (λ wants. waiting_want wants u) queue ∙ ap (λ b. if b then Some grant.want else waiting_want others u) same.0 in
           ap (λ b. if b then granted_want after u else waiting_want (waiting after) u) among ∙ wanted ∙ sym (ap (λ b. if b then granted_want log u else waiting_want (waiting log) u) out_u ∙ awaited)
-      | inr other ↦ ticketed_same log after (grant_transfers grants) (grant_transfers (grants ++ grant ∷ [])) u (told_others terms log orderly start none after started u other.0) (others_stay u other.0)
+      | inr other ↦ ticketed_same log after (grant_transfers grants) (grant_transfers (grants ++ grant ∷ [])) u (told_others settings log orderly start none after started u other.0) (others_stay u other.0)
     ];
   }
     where
@@ -213,7 +214,7 @@ module _ {S : Type 0} where
       head = grant.want.transfer
 
       free : held_number log head ≡ None
-      free = next_free terms log orderly grant.want next
+      free = next_free settings log orderly grant.want next
 
       out : is_among head (grant_transfers grants) ≡ false
       out = granted_none log grants head kept free
@@ -288,18 +289,18 @@ module _ {S : Type 0} where
       by_stream (Some stream) rest = ap (λ s. if x.number == d then Some stream else s) rest
 
   -- the stream of what a transfer was granted
-  pub stream_of-granted : (terms : Terms) (log : List Entry) → IsOrderly terms log → (grants : List (Grant S)) (transfer : ℕ) (grant : Grant S) → GrantsKept log grants → grant_of grants transfer ≡ Some grant → stream_of (grant_streams grants) grant.number ≡ grant.stream
-  stream_of-granted terms log orderly [] transfer grant kept is = absurd (cc)
-  stream_of-granted terms log orderly (x ∷ others) transfer grant kept is = elim (eqb_tells x.want.transfer transfer) [
+  pub stream_of-granted : (settings : LimitAndFirst) (log : List Entry) → IsOrderly settings log → (grants : List (Grant S)) (transfer : ℕ) (grant : Grant S) → GrantsKept log grants → grant_of grants transfer ≡ Some grant → stream_of (grant_streams grants) grant.number ≡ grant.stream
+  stream_of-granted settings log orderly [] transfer grant kept is = absurd (cc)
+  stream_of-granted settings log orderly (x ∷ others) transfer grant kept is = elim (eqb_tells x.want.transfer transfer) [
     | inl same ↦
         let it : Some x ≡ Some grant = rw same.0 at is in
         let here : x ≡ grant = cc in
-        subst (λ (g : Grant S). stream_of (with_stream x.number x.stream (grant_streams others)) g.number ≡ g.stream) here (with_none x.number x.stream (grant_streams others) (no_stream log others x.number kept.2 (λ u c among theirs. apart_held terms log orderly u x.want.transfer c x.number (parted_from u among) theirs kept.0.number)))
+        subst (λ (g : Grant S). stream_of (with_stream x.number x.stream (grant_streams others)) g.number ≡ g.stream) here (with_none x.number x.stream (grant_streams others) (no_stream log others x.number kept.2 (λ u c among theirs. apart_held settings log orderly u x.want.transfer c x.number (parted_from u among) theirs kept.0.number)))
     | inr differs ↦
         let it : grant_of others transfer ≡ Some grant = rw differs.0 at is in
         let there = kept_at log others transfer grant kept.2 it in
         let apart : (x.want.transfer == grant.want.transfer) ≡ false = ap (λ (n : ℕ). x.want.transfer == n) there.1 ∙ differs.0 in
-        stream_of-with x.number x.stream (grant_streams others) grant.number (apart_held terms log orderly x.want.transfer grant.want.transfer x.number grant.number apart kept.0.number there.0.number) ∙ stream_of-granted terms log orderly others transfer grant kept.2 it
+        stream_of-with x.number x.stream (grant_streams others) grant.number (apart_held settings log orderly x.want.transfer grant.want.transfer x.number grant.number apart kept.0.number there.0.number) ∙ stream_of-granted settings log orderly others transfer grant kept.2 it
   ]
     where
       parted_from : (u : ℕ) → is_among u (grant_transfers others) ≡ true → (u == x.want.transfer) ≡ false

@@ -1,9 +1,3 @@
-pub mod Order
-pub mod Waits
-pub mod Kept
-pub mod Replaying
-pub mod Transitions
-pub mod TooOld
 pub mod Growth
 pub mod KeptSound
 pub mod Told

@@ -12,11 +12,13 @@ use Rattle.conn_log.specs.declared.entry.Event.TheVariants.{Opened, Leased, Retu
 use Rattle.conn_log.specs.declared.entry.Entry.{Entry}
 use Rattle.conn_log.specs.Connections.{held_number, unless_it_is, holder_want, is_held_by}
 use Rattle.conn_log.specs.Waiting.{waiting, waits, without}
-use Rattle.conn_log.specs.Legal.{Terms}
+use Rattle.conn_log.specs.Legal.{LimitAndFirst}
 use Rattle.conn_log.specs.Sound.{IsOrderly, has_number}
 use Rattle.conn_log.proofs.Steps.{gone_ended, taken_end, taken_same}
-use Rattle.bundle.specs.Calls.{Start, last_start, add}
-use Rattle.bundle.specs.Lease.{waiting_want, granted_want}
+use Rattle.host_state.specs.Steps.{add}
+use Rattle.bundle.specs.Calls.{Start, last_start}
+use Rattle.host_state.specs.Queue.{waiting_want}
+use Rattle.bundle.specs.Lease.{granted_want}
 
 -- the connection that it holds, what that was granted for, its last start, and what it waits for
 pub record Told : Type 0 where
@@ -109,7 +111,7 @@ started_open moment c want log = record { taken = λ transfer. refl; held = λ d
 pub started_lease : (moment c : ℕ) (want : Want) (log : List Entry) → IsStarted (record { number = c; want = want; moment = moment; reused = true }) log (add moment (Leased c want) log)
 started_lease moment c want log = record { taken = λ transfer. refl; held = λ d. refl; waiting = refl; begun = λ transfer. refl }
 
-module _ (terms : Terms) (log : List Entry) (orderly : IsOrderly terms log) where
+module _ (settings : LimitAndFirst) (log : List Entry) (orderly : IsOrderly settings log) where
   pub held_here : (transfer c : ℕ) → held_number log transfer ≡ Some c → is_held_by log transfer c ≡ true
   held_here transfer c is = orderly.held_once c transfer ∙ ap (λ held. has_number held c) is ∙ grind (arith, nat_tests)
 
@@ -133,7 +135,7 @@ module _ (terms : Terms) (log : List Entry) (orderly : IsOrderly terms log) wher
   -- two transfers hold two connections
   pub apart_held : (t u c d : ℕ) → (t == u) ≡ false → held_number log t ≡ Some c → held_number log u ≡ Some d → (c == d) ≡ false
   apart_held t u c d other mine theirs =
-      let kept : unless_it_is c (Some d) ≡ Some d = sym (ap (unless_it_is c) theirs) ∙ taken_end terms log orderly c t mine u ∙ ap (λ b. if b then None else held_number log u) other ∙ theirs in
+      let kept : unless_it_is c (Some d) ≡ Some d = sym (ap (unless_it_is c) theirs) ∙ taken_end settings log orderly c t mine u ∙ ap (λ b. if b then None else held_number log u) other ∙ theirs in
       differs kept
     where
       differs : unless_it_is c (Some d) ≡ Some d → (c == d) ≡ false
@@ -145,14 +147,14 @@ module _ (terms : Terms) (log : List Entry) (orderly : IsOrderly terms log) wher
   -- one that nobody held is closed: nothing else is told
   pub told_unheld : (c : ℕ) → holder_want log c ≡ None → (after : List Entry) → IsFreed c log after → (u : ℕ) → told after u ≡ told log u
   told_unheld c none after freed u =
-      let number = freed.taken u ∙ taken_same terms log orderly c none u in
+      let number = freed.taken u ∙ taken_same settings log orderly c none u in
       let granted = granted_same after u number (λ d is. freed.held d ∙ ap (λ b. if b then None else holder_want log d) (apart_unheld c u d none is)) in
       same_told _ _ _ _ _ _ _ _ number granted (freed.start u) (ap (λ wants. waiting_want wants u) freed.waiting)
 
   -- what a transfer held is nobody's: the same is told of others
   pub told_ended : (c t : ℕ) → held_number log t ≡ Some c → (after : List Entry) → IsFreed c log after → (u : ℕ) → (t == u) ≡ false → told after u ≡ told log u
   told_ended c t mine after freed u other =
-      let number = freed.taken u ∙ taken_end terms log orderly c t mine u ∙ ap (λ b. if b then None else held_number log u) other in
+      let number = freed.taken u ∙ taken_end settings log orderly c t mine u ∙ ap (λ b. if b then None else held_number log u) other in
       let granted = granted_same after u number (λ d is. freed.held d ∙ ap (λ b. if b then None else holder_want log d) (apart_held t u c d other mine is)) in
       same_told _ _ _ _ _ _ _ _ number granted (freed.start u) (ap (λ wants. waiting_want wants u) freed.waiting)
 

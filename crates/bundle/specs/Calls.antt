@@ -1,7 +1,7 @@
 -- What a call of a bundle answers: the log after it, from the log before it, the call and its moment;
 -- and the reply, which is read off the newest entry where the call is not refused. Steps take the log
 -- last, so that they read in their order.
-use Rattle.std.specs.Prelude.{◌≡◌, ℕ, zero, suc, ◌+◌, max, Bool, true, false, not, ◌==◌, ◌||◌, if◌then◌else◌, nat_le, List, [], ◌∷◌, ◌++◌, length, Option, Some, None}
+use Rattle.std.specs.Prelude.{◌≡◌, ℕ, Bool, true, false, not, ◌==◌, ◌||◌, if◌then◌else◌, List, [], ◌∷◌, ◌++◌, Option, Some, None}
 use Rattle.persistence.specs.declared.facts.Facts.{Facts}
 use Rattle.conn_log.specs.declared.entry.Want.{Want}
 use Rattle.conn_log.specs.declared.entry.Cause.{Cause}
@@ -9,141 +9,95 @@ use Rattle.conn_log.specs.declared.entry.Cause.TheVariants.{TooOld, HostRoom, To
 use Rattle.conn_log.specs.declared.entry.Event.{Event}
 use Rattle.conn_log.specs.declared.entry.Event.TheVariants.{Opened, Leased, Returned, Closed, Waited, Left}
 use Rattle.conn_log.specs.declared.entry.Entry.{Entry}
-use Rattle.conn_log.specs.Connections.{last_moment, opened, greatest, open_connections, idle_connections, holds, is_held_by, held_number}
+use Rattle.conn_log.specs.Connections.{holds, is_held_by, held_number}
 use Rattle.conn_log.specs.Waiting.{waiting, waits}
-use Rattle.conn_log.specs.Fit.{is_fit, newest_fit, is_too_old_in_lane, oldest_too_old, oldest}
-use Rattle.conn_log.specs.Legal.{Terms, owed}
+use Rattle.conn_log.specs.Fit.{is_fit, newest_fit, is_too_old_in_lane}
+use Rattle.conn_log.specs.Legal.{LimitAndFirst, owed}
+use Rattle.host_state.specs.Steps.{moment_at, add, next_number, is_full, is_exhausted, without_too_old, with_host_room}
 use Rattle.bundle.specs.declared.refusal.Refusal.{Refusal}
 use Rattle.bundle.specs.declared.refusal.Refusal.TheVariants.{TransferBusy, Exhausted}
 
--- an event's moment: the greater of the moment handed in and that of the newest entry
-abbrev pub moment_at : List Entry → ℕ → ℕ
-moment_at log now = max now (last_moment log)
-
--- the log with one more event
-abbrev pub add : ℕ → Event → List Entry → List Entry
-add moment event log = record { moment = moment; event = event } ∷ log
-
--- the number of the next connection
-abbrev pub next_number : Terms → List Entry → ℕ
-next_number terms log = greatest terms.first (opened log) + 1
-
--- the host has as many open connections as it may
-abbrev pub is_full : Terms → List Entry → Bool
-is_full terms log = length (open_connections log) == terms.limit
-
--- that connection is closed as too old, if there is one, before others are
-abbrev pub close_before : ℕ → List Entry → Option ℕ → (List Entry → List Entry) → List Entry
-close_before moment log None others = log
-close_before moment log (Some c) others = others (add moment (Closed c TooOld) log)
-
--- those too old in their lane are closed, the one idle for the longest first, and no more than so many
-abbrev pub close_too_old : ℕ → Want → ℕ → List Entry → List Entry
-close_too_old zero want moment log = log
-close_too_old (suc n) want moment log = close_before moment log (oldest_too_old log want moment) (close_too_old n want moment)
-
--- an acquire first closes each of them
-abbrev pub without_too_old : Want → ℕ → List Entry → List Entry
-without_too_old want moment log = close_too_old (length (idle_connections log)) want moment log
-
--- that connection makes room, if there is one
-abbrev pub close_for_room : ℕ → List Entry → Option ℕ → List Entry
-close_for_room moment log None = log
-close_for_room moment log (Some c) = add moment (Closed c HostRoom) log
-
--- at the host's limit the oldest idle connection makes room, if one is idle
-abbrev pub with_host_room : Terms → ℕ → List Entry → List Entry
-with_host_room terms moment log = if is_full terms log then close_for_room moment log (oldest log) else log
-
 -- on a new connection
-abbrev pub start_new : Terms → Want → ℕ → List Entry → List Entry
-start_new terms want moment log = add moment (Opened (next_number terms log) want) log
+abbrev pub start_new : LimitAndFirst → Want → ℕ → List Entry → List Entry
+start_new settings want moment log = add moment (Opened (next_number settings log) want) log
 
 -- and where the host is at its limit, with nothing idle, the transfer waits
-abbrev pub start_or_wait : Terms → Want → ℕ → List Entry → List Entry
-start_or_wait terms want moment log = if is_full terms log then add moment (Waited want) log else start_new terms want moment log
+abbrev pub start_or_wait : LimitAndFirst → Want → ℕ → List Entry → List Entry
+start_or_wait settings want moment log = if is_full settings log then add moment (Waited want) log else start_new settings want moment log
 
-abbrev pub start_on : Terms → Want → ℕ → List Entry → Option ℕ → List Entry
-start_on terms want moment log None = start_or_wait terms want moment (with_host_room terms moment log)
-start_on terms want moment log (Some c) = add moment (Leased c want) log
+abbrev pub start_on : LimitAndFirst → Want → ℕ → List Entry → Option ℕ → List Entry
+start_on settings want moment log None = start_or_wait settings want moment (with_host_room settings moment log)
+start_on settings want moment log (Some c) = add moment (Leased c want) log
 
 -- a transfer starts: on the newest fit connection, or where none fits on a new one
-abbrev pub with_start : Terms → Want → ℕ → List Entry → List Entry
-with_start terms want moment log = start_on terms want moment log (newest_fit log want moment)
+abbrev pub with_start : LimitAndFirst → Want → ℕ → List Entry → List Entry
+with_start settings want moment log = start_on settings want moment log (newest_fit log want moment)
 
 -- where others wait the transfer waits after them; else it starts, once what is too old is closed
-abbrev pub start_unless : List Want → Terms → Want → ℕ → List Entry → List Entry
-start_unless [] terms want moment log = with_start terms want moment (without_too_old want moment log)
-start_unless (head ∷ others) terms want moment log = add moment (Waited want) log
+abbrev pub start_unless : List Want → LimitAndFirst → Want → ℕ → List Entry → List Entry
+start_unless [] settings want moment log = with_start settings want moment (without_too_old want moment log)
+start_unless (head ∷ others) settings want moment log = add moment (Waited want) log
 
 -- the log after an acquire that is not refused
-abbrev pub after_acquire : Terms → List Entry → Want → ℕ → List Entry
-after_acquire terms log want now = start_unless (waiting log) terms want (moment_at log now) log
+abbrev pub after_acquire : LimitAndFirst → List Entry → Want → ℕ → List Entry
+after_acquire settings log want now = start_unless (waiting log) settings want (moment_at log now) log
 
 -- one is opened for the first transfer that waits, if one does
-abbrev pub open_for : Terms → ℕ → List Entry → List Want → List Entry
-open_for terms moment log [] = log
-open_for terms moment log (head ∷ others) = start_new terms head moment log
+abbrev pub open_for : LimitAndFirst → ℕ → List Entry → List Want → List Entry
+open_for settings moment log [] = log
+open_for settings moment log (head ∷ others) = start_new settings head moment log
 
-abbrev pub open_for_head : Terms → ℕ → List Entry → List Entry
-open_for_head terms moment log = open_for terms moment log (waiting log)
+abbrev pub open_for_head : LimitAndFirst → ℕ → List Entry → List Entry
+open_for_head settings moment log = open_for settings moment log (waiting log)
 
 -- why a connection that came back is closed where it does not fit the first transfer that waits
-abbrev pub unfit_cause : Terms → List Entry → Want → ℕ → ℕ → Cause
-unfit_cause terms log head moment c = if is_too_old_in_lane log head moment c then TooOld else (if is_full terms log then HostRoom else TotalRoom)
+abbrev pub unfit_cause : LimitAndFirst → List Entry → Want → ℕ → ℕ → Cause
+unfit_cause settings log head moment c = if is_too_old_in_lane log head moment c then TooOld else (if is_full settings log then HostRoom else TotalRoom)
 
 -- a connection that came back goes to the first transfer that waits, where it fits; where it does not,
 -- it is closed and one is opened for that transfer; where nobody waits it is idle
-abbrev pub pass_to : Terms → ℕ → ℕ → List Entry → List Want → List Entry
-pass_to terms c moment log [] = log
-pass_to terms c moment log (head ∷ others) =
-    if is_fit log head moment c then add moment (Leased c head) log else start_new terms head moment (add moment (Closed c (unfit_cause terms log head moment c)) log)
+abbrev pub pass_to : LimitAndFirst → ℕ → ℕ → List Entry → List Want → List Entry
+pass_to settings c moment log [] = log
+pass_to settings c moment log (head ∷ others) =
+    if is_fit log head moment c then add moment (Leased c head) log else start_new settings head moment (add moment (Closed c (unfit_cause settings log head moment c)) log)
 
 -- a use that ends has its close at once, and one is opened for the first transfer that waits
-abbrev pub settle : Terms → ℕ → ℕ → List Entry → Option (ℕ × Cause) → List Entry
-settle terms c moment log None = pass_to terms c moment log (waiting log)
-settle terms c moment log (Some close) = open_for_head terms moment (add moment (Closed close.0 close.1) log)
+abbrev pub settle : LimitAndFirst → ℕ → ℕ → List Entry → Option (ℕ × Cause) → List Entry
+settle settings c moment log None = pass_to settings c moment log (waiting log)
+settle settings c moment log (Some close) = open_for_head settings moment (add moment (Closed close.0 close.1) log)
 
-abbrev pub after_return : Terms → ℕ → ℕ → List Entry → List Entry
-after_return terms c moment log = settle terms c moment log (owed log)
+abbrev pub after_return : LimitAndFirst → ℕ → ℕ → List Entry → List Entry
+after_return settings c moment log = settle settings c moment log (owed log)
 
 -- the log after a connection is given back with the facts of its response
-abbrev pub after_give_back : Terms → List Entry → ℕ → Facts → ℕ → List Entry
-after_give_back terms log c facts now = let moment = moment_at log now in after_return terms c moment (add moment (Returned c facts) log)
+abbrev pub after_give_back : LimitAndFirst → List Entry → ℕ → Facts → ℕ → List Entry
+after_give_back settings log c facts now = let moment = moment_at log now in after_return settings c moment (add moment (Returned c facts) log)
 
 -- the log after a connection is closed by its holder, and one is opened for the first that waits
-abbrev pub after_close : Terms → List Entry → ℕ → Cause → ℕ → List Entry
-after_close terms log c cause now = let moment = moment_at log now in open_for_head terms moment (add moment (Closed c cause) log)
+abbrev pub after_close : LimitAndFirst → List Entry → ℕ → Cause → ℕ → List Entry
+after_close settings log c cause now = let moment = moment_at log now in open_for_head settings moment (add moment (Closed c cause) log)
 
 -- the log after a lease is abandoned
-abbrev pub after_abandon : Terms → List Entry → ℕ → ℕ → List Entry
-after_abandon terms log c now = after_close terms log c Dropped now
+abbrev pub after_abandon : LimitAndFirst → List Entry → ℕ → ℕ → List Entry
+after_abandon settings log c now = after_close settings log c Dropped now
 
 -- the log after a ticket is withdrawn: its transfer leaves where it waits; what it was granted is closed
-abbrev pub close_granted : Terms → List Entry → Option ℕ → ℕ → List Entry
-close_granted terms log None now = log
-close_granted terms log (Some c) now = after_close terms log c Withdrawn now
+abbrev pub close_granted : LimitAndFirst → List Entry → Option ℕ → ℕ → List Entry
+close_granted settings log None now = log
+close_granted settings log (Some c) now = after_close settings log c Withdrawn now
 
-abbrev pub after_withdraw : Terms → List Entry → ℕ → ℕ → List Entry
-after_withdraw terms log transfer now = if waits log transfer then add (moment_at log now) (Left transfer) log else close_granted terms log (held_number log transfer) now
-
--- the greatest number that a connection can have
-abbrev pub last_number : ℕ
-last_number = 4294967295
-
--- exhausted: the numbers left are those that the waiting transfers may need
-abbrev pub is_exhausted : Terms → List Entry → Bool
-is_exhausted terms log = nat_le last_number (greatest terms.first (opened log) + length (waiting log))
+abbrev pub after_withdraw : LimitAndFirst → List Entry → ℕ → ℕ → List Entry
+after_withdraw settings log transfer now = if waits log transfer then add (moment_at log now) (Left transfer) log else close_granted settings log (held_number log transfer) now
 
 -- busy: the transfer holds a connection, or waits
 abbrev pub is_busy : List Entry → ℕ → Bool
 is_busy log transfer = holds log transfer || waits log transfer
 
 -- why an acquire is refused, if the log is why: the first of these that holds
-abbrev pub refusal : Terms → List Entry → Want → Option Refusal
-refusal terms log want =
+abbrev pub refusal : LimitAndFirst → List Entry → Want → Option Refusal
+refusal settings log want =
     if is_busy log want.transfer then Some TransferBusy else (
-    if is_exhausted terms log then Some Exhausted else None)
+    if is_exhausted settings log then Some Exhausted else None)
 
 -- a stranger: a lease of a connection that the log does not show held by that transfer
 abbrev pub is_stranger : List Entry → ℕ → ℕ → Bool

@@ -4,10 +4,11 @@ use Rattle.conn_log.specs.declared.entry.Want.{Want}
 use Rattle.conn_log.specs.declared.entry.Entry.{Entry}
 use Rattle.conn_log.specs.Connections.{is_among, held_number, idle_connections, lane, born, since}
 use Rattle.conn_log.specs.Fit.{is_fit}
-use Rattle.conn_log.specs.Legal.{Terms}
+use Rattle.conn_log.specs.Legal.{LimitAndFirst}
 use Rattle.bundle.specs.declared.grant.Grant.{Grant}
-use Rattle.bundle.specs.declared.held.Held.{Held}
-use Rattle.bundle.specs.Calls.{last_start, next_number}
+use Rattle.host_state.specs.declared.held.Held.{Held}
+use Rattle.host_state.specs.Steps.{next_number}
+use Rattle.bundle.specs.Calls.{last_start}
 use Rattle.bundle.specs.Lease.{granted_want}
 
 -- what a transfer was granted
@@ -52,16 +53,16 @@ GrantsKept log [] = Unit {0}
 GrantsKept log (grant ∷ others) = IsGrantKept log grant × (is_among grant.want.transfer (grant_transfers others) ≡ false) × GrantsKept log others
 
 -- once a new connection is opened for the first transfer that waits, if one does
-abbrev pub with_new : {S : Type 0} → Terms → ℕ → List Entry → List Want → List (Grant S) → List (Grant S)
-with_new terms moment log [] grants = grants
-with_new terms moment log (head ∷ others) grants = grants ++ record { want = head; number = next_number terms log; moment = moment; stream = None } ∷ []
+abbrev pub with_new : {S : Type 0} → LimitAndFirst → ℕ → List Entry → List Want → List (Grant S) → List (Grant S)
+with_new settings moment log [] grants = grants
+with_new settings moment log (head ∷ others) grants = grants ++ record { want = head; number = next_number settings log; moment = moment; stream = None } ∷ []
 
 -- once a connection that came back went to the first transfer that waits, where it fits, or a new one was
 -- opened for that transfer
-abbrev pub with_passed : {S : Type 0} → Terms → ℕ → ℕ → Option S → List Entry → List Want → List (Grant S) → List (Grant S)
-with_passed terms c moment stream log [] grants = grants
-with_passed terms c moment stream log (head ∷ others) grants =
-    if is_fit log head moment c then grants ++ record { want = head; number = c; moment = moment; stream = stream } ∷ [] else with_new terms moment log (head ∷ others) grants
+abbrev pub with_passed : {S : Type 0} → LimitAndFirst → ℕ → ℕ → Option S → List Entry → List Want → List (Grant S) → List (Grant S)
+with_passed settings c moment stream log [] grants = grants
+with_passed settings c moment stream log (head ∷ others) grants =
+    if is_fit log head moment c then grants ++ record { want = head; number = c; moment = moment; stream = stream } ∷ [] else with_new settings moment log (head ∷ others) grants
 
 -- the connection that has just come back is the only idle one
 pub record IsAlone (log : List Entry) (held : Held) (moment : ℕ) : Type 0 where

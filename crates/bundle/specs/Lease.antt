@@ -1,15 +1,16 @@
 -- A lease, a ticket, and what a host shows to those who use its bundle.
-use Rattle.std.specs.Prelude.{◌≡◌, ℕ, ◌-◌, Bool, true, false, ◌==◌, ◌&&◌, if◌then◌else◌, List, [], ◌∷◌, length, Option, Some, None}
+use Rattle.std.specs.Prelude.{◌≡◌, ℕ, ◌-◌, Bool, true, false, ◌==◌, ◌&&◌, if◌then◌else◌, List, length, Option, Some, None}
 use Rattle.std.specs.Option.{option_map_or, option_and_then}
 use Rattle.std.specs.Bool.{beq}
 use Rattle.conn_log.specs.declared.entry.Want.{Want}
 use Rattle.conn_log.specs.declared.entry.Entry.{Entry}
 use Rattle.conn_log.specs.Connections.{is_among, is_open, open_connections, idle_connections, held_number, holder_want}
 use Rattle.conn_log.specs.Waiting.{waiting}
-use Rattle.conn_log.specs.Legal.{Terms}
+use Rattle.conn_log.specs.Legal.{LimitAndFirst}
+use Rattle.host_state.specs.Queue.{waiting_want}
 use Rattle.bundle.specs.declared.snapshot.Snapshot.{Snapshot}
 use Rattle.bundle.specs.Calls.{Start, Wait}
-use Rattle.bundle.specs.Idle.{stream_of}
+use Rattle.host_state.specs.Idle.{stream_of}
 
 -- a lease tells of its host's index and of its start, and may have its connection's stream
 pub record Leasing (S : Type 0) : Type 0 where
@@ -25,64 +26,59 @@ pub record Ticketed : Type 0 where
 -- a host: its log, its limit and first number, its index, the streams by number (of its idle connections, and
 -- of those granted ones that came back and are not claimed), and the transfers granted what they have not
 -- claimed
-pub record OneHost (S : Type 0) : Type 0 where
+pub record HostShown (S : Type 0) : Type 0 where
   pub log : List Entry
-  pub terms : Terms
+  pub settings : LimitAndFirst
   pub host : ℕ
   pub streams : List (ℕ × S)
   pub unclaimed : List ℕ
 
 -- the transfer was granted a connection that it has not claimed
-abbrev pub is_unclaimed : {S : Type 0} → OneHost S → ℕ → Bool
+abbrev pub is_unclaimed : {S : Type 0} → HostShown S → ℕ → Bool
 is_unclaimed host transfer = is_among transfer host.unclaimed
 
 -- the connection that a transfer has a lease of: the one that it holds, unless it has yet to claim it
-abbrev pub leased_number : {S : Type 0} → OneHost S → ℕ → Option ℕ
-leased_number host transfer = if is_unclaimed host transfer then None else held_number host.log transfer
-
--- what a waiting transfer wants
-abbrev pub waiting_want : List Want → ℕ → Option Want
-waiting_want [] transfer = None
-waiting_want (want ∷ others) transfer = if want.transfer == transfer then Some want else waiting_want others transfer
+abbrev pub lease_number : {S : Type 0} → HostShown S → ℕ → Option ℕ
+lease_number host transfer = if is_unclaimed host transfer then None else held_number host.log transfer
 
 -- what a transfer was granted its connection for
 abbrev pub granted_want : List Entry → ℕ → Option Want
 granted_want log transfer = option_and_then (holder_want log) (held_number log transfer)
 
 -- the want of the ticket that a transfer has: it waits with it, or was granted for it what it has yet to claim
-abbrev pub ticket_want : {S : Type 0} → OneHost S → ℕ → Option Want
+abbrev pub ticket_want : {S : Type 0} → HostShown S → ℕ → Option Want
 ticket_want host transfer = if is_unclaimed host transfer then granted_want host.log transfer else waiting_want (waiting host.log) transfer
 
 abbrev pub is_same_want : Want → Want → Bool
 is_same_want x y = (x.transfer == y.transfer) && (x.lane == y.lane) && (x.max_age == y.max_age) && (x.max_life == y.max_life) && beq x.fresh y.fresh && beq x.forbid_reuse y.forbid_reuse
 
 -- a ticket is no stranger where its transfer waits with its want, or has yet to claim what it was granted for it
-abbrev pub stands : {S : Type 0} → OneHost S → Want → Bool
-stands host want = option_map_or (is_same_want want) (ticket_want host want.transfer) false
+abbrev pub is_valid_ticket : {S : Type 0} → HostShown S → Want → Bool
+is_valid_ticket host want = option_map_or (is_same_want want) (ticket_want host want.transfer) false
 
 -- every other connection that is still open keeps its stream
-abbrev pub KeepsOthers : {S : Type 0} → ℕ → OneHost S → OneHost S → Type 0
+abbrev pub KeepsOthers : {S : Type 0} → ℕ → HostShown S → HostShown S → Type 0
 KeepsOthers c old new = (d : ℕ) → (c == d) ≡ false → is_open new.log d ≡ true → stream_of new.streams d ≡ stream_of old.streams d
 
 -- who has a lease, and who a ticket, once the transfer has the lease of that connection
-pub record GetsLease {S : Type 0} (old new : OneHost S) (transfer c : ℕ) : Type 0 where
-  pub leases : (t : ℕ) → leased_number new t ≡ (if transfer == t then Some c else leased_number old t)
+pub record GetsLease {S : Type 0} (old new : HostShown S) (transfer c : ℕ) : Type 0 where
+  pub leases : (t : ℕ) → lease_number new t ≡ (if transfer == t then Some c else lease_number old t)
   pub tickets : (t : ℕ) → ticket_want new t ≡ (if transfer == t then None else ticket_want old t)
 
 -- the same once a transfer has the ticket of a wait
-pub record GetsTicket {S : Type 0} (old new : OneHost S) (want : Want) : Type 0 where
-  pub leases : (t : ℕ) → leased_number new t ≡ leased_number old t
+pub record GetsTicket {S : Type 0} (old new : HostShown S) (want : Want) : Type 0 where
+  pub leases : (t : ℕ) → lease_number new t ≡ lease_number old t
   pub tickets : (t : ℕ) → ticket_want new t ≡ (if want.transfer == t then Some want else ticket_want old t)
 
 -- and once the transfer has spent what it had
-pub record Spends {S : Type 0} (old new : OneHost S) (transfer : ℕ) : Type 0 where
-  pub leases : (t : ℕ) → leased_number new t ≡ (if transfer == t then None else leased_number old t)
+pub record Spends {S : Type 0} (old new : HostShown S) (transfer : ℕ) : Type 0 where
+  pub leases : (t : ℕ) → lease_number new t ≡ (if transfer == t then None else lease_number old t)
   pub tickets : (t : ℕ) → ticket_want new t ≡ (if transfer == t then None else ticket_want old t)
   pub unclaimed : is_unclaimed new transfer ≡ false
 
 -- the host stays what it is
-pub record StaysThere {S : Type 0} (old new : OneHost S) : Type 0 where
-  pub terms : new.terms ≡ old.terms
+pub record StaysThere {S : Type 0} (old new : HostShown S) : Type 0 where
+  pub settings : new.settings ≡ old.settings
   pub host : new.host ≡ old.host
 
 -- what a look tells: the counts of the log, and the mark

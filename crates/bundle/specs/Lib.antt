@@ -1,7 +1,4 @@
 pub mod Calls
-pub mod Idle
-pub mod Queue
-pub mod State
 pub mod Lease
 pub mod Grants
 pub mod Replies

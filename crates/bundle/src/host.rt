@@ -5,9 +5,10 @@ ghost use Rattle.conn_log.specs.Waiting.{waiting, waits};
 ghost use Rattle.conn_log.specs.Fit.{oldest_stamp};
 ghost use Rattle.conn_log.specs.Legal.{IsLegal, IsQuiet};
 ghost use Rattle.conn_log.specs.Sound.{IsSound};
-ghost use Rattle.bundle.specs.Calls.{after_acquire, after_give_back, after_abandon, after_withdraw, newest_start, newest_wait, last_start, refusal, is_exhausted, GrowsBy};
-ghost use Rattle.bundle.specs.Idle.{stream_of};
-ghost use Rattle.bundle.specs.Lease.{OneHost, is_unclaimed, stands, is_same_want, KeepsOthers, GetsLease, GetsTicket, Spends, StaysThere, snapshot_of};
+ghost use Rattle.host_state.specs.Steps.{is_exhausted};
+ghost use Rattle.bundle.specs.Calls.{after_acquire, after_give_back, after_abandon, after_withdraw, newest_start, newest_wait, last_start, refusal, GrowsBy};
+ghost use Rattle.host_state.specs.Idle.{stream_of};
+ghost use Rattle.bundle.specs.Lease.{HostShown, is_unclaimed, is_valid_ticket, is_same_want, KeepsOthers, GetsLease, GetsTicket, Spends, StaysThere, snapshot_of};
 ghost use Rattle.bundle.specs.Replies.{IfLeased, IfWaits, IfClaimed, IfStill};
 
 use crate::answers::{Claimed, Got};
@@ -16,9 +17,9 @@ use crate::lease::{Lease, Stray};
 use crate::refusal::Refusal;
 use crate::serving::{open_for_head, pass_to_head, start_or_wait};
 use crate::snapshot::Snapshot;
-use crate::state::State;
 use crate::ticket::Ticket;
 use conn_log::{Cause, Log, Stamp, Want};
+use host_state::State;
 use persistence::{Facts, persists};
 use std::alloc::Global;
 use std::marker::Model;
@@ -34,16 +35,16 @@ impl<S: Drop> Model for Bundle<S> {
     ghost use Rattle.std.specs.Prelude.{◌≡◌, ◌++◌, ◌+◌, ◌≤◌, length, vec_len, vec_capacity};
     ghost use Rattle.conn_log.specs.Waiting.{waiting};
     ghost use Rattle.bundle.specs.Laws.{IsSoundAndQuiet};
-    ghost use Rattle.bundle.specs.Lease.{OneHost};
+    ghost use Rattle.bundle.specs.Lease.{HostShown};
     ghost use Rattle.bundle.specs.Grants.{grant_streams, grant_transfers, GrantsKept};
 
-    ghost Value = { OneHost S };
+    ghost Value = { HostShown S };
 
-    ghost view = { λ bundle. record { log = bundle.state.log; terms = bundle.state.terms; host = bundle.state.host; streams = grant_streams bundle.grants.items ++ bundle.state.streams; unclaimed = grant_transfers bundle.grants.items } };
+    ghost view = { λ bundle. record { log = bundle.state.log; settings = bundle.state.settings; host = bundle.state.host; streams = grant_streams bundle.grants.items ++ bundle.state.streams; unclaimed = grant_transfers bundle.grants.items } };
 
     ghost invariant = { λ bundle. record {
       booked : bundle.state.booked ≡ 0;
-      settled : IsSoundAndQuiet bundle.state.terms bundle.state.log;
+      settled : IsSoundAndQuiet bundle.state.settings bundle.state.log;
       grants : GrantsKept bundle.state.log bundle.grants.items;
       room : length (waiting bundle.state.log) + vec_len bundle.grants ≤ vec_capacity bundle.grants;
     } };
@@ -56,7 +57,7 @@ impl<S: Drop> Bundle<S> {
     /// The only refusal is [`Refusal::Memory`].
     pub fn new(alloc: Global, host_limit: u32, host: u32, first: u32) -> Result<Self, Refusal>
         requires { 0 < first }
-        ensures ok { IfOk result (λ bundle. bundle ≡ record { log = []; terms = record { limit = host_limit; first = first }; host = host; streams = []; unclaimed = [] }) }
+        ensures ok { IfOk result (λ bundle. bundle ≡ record { log = []; settings = record { limit = host_limit; first = first }; host = host; streams = []; unclaimed = [] }) }
         ensures err { IfErr result (λ refusal. refusal ≡ Refusal.Memory) }
     {
         Ok(Bundle {
@@ -77,9 +78,9 @@ impl<S: Drop> Bundle<S> {
     /// or a ticket takes no memory.
     pub fn log(&self) -> &Log
         ensures entries { result.now.entries ≡ self.now.log }
-        ensures sound { IsSound self.now.terms self.now.log }
-        ensures legal { IsLegal self.now.terms self.now.log }
-        ensures quiet { IsQuiet self.now.terms false self.now.log }
+        ensures sound { IsSound self.now.settings self.now.log }
+        ensures legal { IsLegal self.now.settings self.now.log }
+        ensures quiet { IsQuiet self.now.settings false self.now.log }
         ensures room { let leased = length (open_connections self.now.log) - length (idle_connections self.now.log) in 3 * length (waiting self.now.log) + 2 * leased + length (idle_connections self.now.log) ≤ result.now.room }
     {
         self.state.log()
@@ -89,7 +90,13 @@ impl<S: Drop> Bundle<S> {
     pub fn look(&self) -> Snapshot
         ensures { result ≡ snapshot_of self.now.log false }
     {
-        self.state.look()
+        Snapshot {
+            alive: self.state.open_len(),
+            idle: self.state.idle_len(),
+            leased: self.state.held_len(),
+            waiting: self.state.waiting_len(),
+            queued: false,
+        }
     }
 
     /// The stamp of the connection that is idle for the longest.
@@ -110,7 +117,7 @@ impl<S: Drop> Bundle<S> {
     /// waiting transfers may need, and with [`Refusal::Memory`] where memory runs out.
     #[inline(always)]
     pub fn acquire(&mut self, want: Want, now: u64) -> Result<Got<S>, Refusal>
-        ensures log { OnOk result (self.new.log ≡ after_acquire self.old.terms self.old.log want now) }
+        ensures log { OnOk result (self.new.log ≡ after_acquire self.old.settings self.old.log want now) }
         ensures lease { IfLeased result (λ lease. (newest_start self.new.log ≡ Some lease.start) × (lease.site ≡ self.old.host)) }
         ensures ticket { IfWaits result (λ ticket. (newest_wait self.new.log ≡ Some ticket.wait) × (ticket.site ≡ self.old.host)) }
         ensures has_stream { IfLeased result (λ lease. is_some lease.stream ≡ lease.start.reused) }
@@ -119,8 +126,8 @@ impl<S: Drop> Bundle<S> {
         ensures kept { IfWaits result (λ ticket. (d : ℕ) → is_open self.new.log d ≡ true → stream_of self.new.streams d ≡ stream_of self.old.streams d) }
 
         // Each refusal comes exactly where the log gives it; else only memory can be short.
-        ensures refused { IfSome (refusal self.old.terms self.old.log want) (λ reason. result ≡ Err reason) }
-        ensures else_memory { IfErr result (λ reason. (refusal self.old.terms self.old.log want ≡ Some reason) ⊎ (reason ≡ Refusal.Memory)) }
+        ensures refused { IfSome (refusal self.old.settings self.old.log want) (λ reason. result ≡ Err reason) }
+        ensures else_memory { IfErr result (λ reason. (refusal self.old.settings self.old.log want ≡ Some reason) ⊎ (reason ≡ Refusal.Memory)) }
         ensures err { OnErr result (self.new ≡ self.old) }
 
         // For those above: who has a lease or a ticket after the call, that the log only grew, and
@@ -138,7 +145,7 @@ impl<S: Drop> Bundle<S> {
         if let Some(reason) = reason_against(&self.state, &want) {
             return Err(reason);
         }
-        let Ok(()) = self.grants.reserve(self.state.waiting_len() + 1) else {
+        let Ok(()) = self.grants.reserve(self.state.waiting_len() as usize + 1) else {
             return Err(Refusal::Memory);
         };
         let Ok(()) = self.state.book() else {
@@ -148,8 +155,8 @@ impl<S: Drop> Bundle<S> {
     }
 
     // Whether that is the want of the transfer's ticket.
-    fn stands(&self, want: &Want) -> bool
-        ensures { result ≡ stands self.now want.now }
+    fn is_valid_ticket(&self, want: &Want) -> bool
+        ensures { result ≡ is_valid_ticket self.now want.now }
     {
         if let Some(granted) = granted_want(&self.grants, want.transfer) {
             return is_same(want, &granted);
@@ -167,8 +174,8 @@ impl<S: Drop> Bundle<S> {
     /// A ticket comes back in a [`Stray`] where its transfer neither waits with its want nor has
     /// yet to claim what it was granted for that want.
     pub fn claim(&mut self, ticket: Ticket) -> Result<Claimed<S>, Stray<Ticket>>
-        ensures ok { OnOk result (stands self.old ticket.wait.want ≡ true) }
-        ensures strange { IfErr result (λ stray. (stands self.old ticket.wait.want ≡ false) × (stray ≡ ticket)) }
+        ensures ok { OnOk result (is_valid_ticket self.old ticket.wait.want ≡ true) }
+        ensures strange { IfErr result (λ stray. (is_valid_ticket self.old ticket.wait.want ≡ false) × (stray ≡ ticket)) }
         ensures log { self.new.log ≡ self.old.log }
         ensures lease { IfClaimed result (λ lease. (is_unclaimed self.old ticket.wait.want.transfer ≡ true) × (last_start self.old.log ticket.wait.want.transfer ≡ Some lease.start) × (lease.site ≡ self.old.host)) }
         ensures want { IfClaimed result (λ lease. lease.start.want ≡ ticket.wait.want) }
@@ -181,7 +188,7 @@ impl<S: Drop> Bundle<S> {
         ensures same { StaysThere self.old self.new }
     {
         let want = ticket.want();
-        if !self.stands(&want) {
+        if !self.is_valid_ticket(&want) {
             return Err(Stray::new(ticket));
         }
         let Some(grant) = take_grant(&mut self.grants, want.transfer) else {
@@ -208,7 +215,7 @@ impl<S: Drop> Bundle<S> {
         requires { IsSome lease.stream }
         ensures ok { OnOk result (is_held_by self.old.log lease.start.want.transfer lease.start.number ≡ true) }
         ensures strange { IfErr result (λ stray. (is_held_by self.old.log lease.start.want.transfer lease.start.number ≡ false) × (stray ≡ lease)) }
-        ensures log { OnOk result (self.new.log ≡ after_give_back self.old.terms self.old.log lease.start.number facts now) }
+        ensures log { OnOk result (self.new.log ≡ after_give_back self.old.settings self.old.log lease.start.number facts now) }
         ensures stream { OnOk result (is_open self.new.log lease.start.number ≡ true → stream_of self.new.streams lease.start.number ≡ lease.stream) }
         ensures streams { OnOk result (KeepsOthers lease.start.number self.old self.new) }
         ensures err { OnErr result (self.new ≡ self.old) }
@@ -240,7 +247,7 @@ impl<S: Drop> Bundle<S> {
     pub fn abandon(&mut self, lease: Lease<S>, now: u64) -> Result<(), Stray<Lease<S>>>
         ensures ok { OnOk result (is_held_by self.old.log lease.start.want.transfer lease.start.number ≡ true) }
         ensures strange { IfErr result (λ stray. (is_held_by self.old.log lease.start.want.transfer lease.start.number ≡ false) × (stray ≡ lease)) }
-        ensures log { OnOk result (self.new.log ≡ after_abandon self.old.terms self.old.log lease.start.number now) }
+        ensures log { OnOk result (self.new.log ≡ after_abandon self.old.settings self.old.log lease.start.number now) }
         ensures streams { OnOk result (KeepsOthers lease.start.number self.old self.new) }
         ensures err { OnErr result (self.new ≡ self.old) }
         ensures spends { OnOk result (Spends self.old self.new lease.start.want.transfer) }
@@ -267,9 +274,9 @@ impl<S: Drop> Bundle<S> {
     /// A ticket comes back in a [`Stray`] where its transfer neither waits with its want nor has
     /// yet to claim what it was granted for that want.
     pub fn withdraw(&mut self, ticket: Ticket, now: u64) -> Result<(), Stray<Ticket>>
-        ensures ok { OnOk result (stands self.old ticket.wait.want ≡ true) }
-        ensures strange { IfErr result (λ stray. (stands self.old ticket.wait.want ≡ false) × (stray ≡ ticket)) }
-        ensures log { OnOk result (self.new.log ≡ after_withdraw self.old.terms self.old.log ticket.wait.want.transfer now) }
+        ensures ok { OnOk result (is_valid_ticket self.old ticket.wait.want ≡ true) }
+        ensures strange { IfErr result (λ stray. (is_valid_ticket self.old ticket.wait.want ≡ false) × (stray ≡ ticket)) }
+        ensures log { OnOk result (self.new.log ≡ after_withdraw self.old.settings self.old.log ticket.wait.want.transfer now) }
         ensures streams { OnOk result ((d : ℕ) → is_open self.new.log d ≡ true → stream_of self.new.streams d ≡ stream_of self.old.streams d) }
         ensures err { OnErr result (self.new ≡ self.old) }
         ensures spends { OnOk result (Spends self.old self.new ticket.wait.want.transfer) }
@@ -277,7 +284,7 @@ impl<S: Drop> Bundle<S> {
         ensures same { StaysThere self.old self.new }
     {
         let want = ticket.want();
-        if !self.stands(&want) {
+        if !self.is_valid_ticket(&want) {
             return Err(Stray::new(ticket));
         }
         ticket.spend();
@@ -299,10 +306,10 @@ impl<S: Drop> Bundle<S> {
 
 // Why the log is against an acquire, if it is.
 fn reason_against<S: Drop>(state: &State<S>, want: &Want) -> Option<Refusal>
-    ensures reason { result ≡ refusal state.now.terms state.now.log want.now }
+    ensures reason { result ≡ refusal state.now.settings state.now.log want.now }
     ensures free { IfNone result (held_number state.now.log want.now.transfer ≡ None) }
     ensures once { IfNone result (waits state.now.log want.now.transfer ≡ false) }
-    ensures number { IfNone result (is_exhausted state.now.terms state.now.log ≡ false) }
+    ensures number { IfNone result (is_exhausted state.now.settings state.now.log ≡ false) }
 {
     if state.holds(want.transfer) || state.waits(want.transfer) {
         return Some(Refusal::TransferBusy);

@@ -3,16 +3,12 @@
 
 mod answers;
 mod grant;
-mod held;
 mod host;
-mod idle;
 pub mod laws;
 mod lease;
-mod queue;
 mod refusal;
 mod serving;
 mod snapshot;
-mod state;
 #[cfg(test)]
 mod tests;
 mod ticket;

@@ -5,19 +5,19 @@ ghost use Rattle.conn_log.specs.Connections.{last_moment, held_number, is_open, 
 ghost use Rattle.conn_log.specs.Waiting.{waiting, waits};
 ghost use Rattle.conn_log.specs.Fit.{is_older};
 ghost use Rattle.conn_log.specs.Legal.{IsAnyone};
-ghost use Rattle.bundle.specs.Calls.{add, start_unless, pass_to, open_for_head, newest_start, newest_wait, is_full};
+ghost use Rattle.host_state.specs.Steps.{add, is_full};
+ghost use Rattle.bundle.specs.Calls.{start_unless, pass_to, open_for_head, newest_start, newest_wait};
 ghost use Rattle.bundle.specs.Grants.{with_new, with_passed, IsAlone};
-ghost use Rattle.bundle.specs.Idle.{stream_of};
+ghost use Rattle.host_state.specs.Idle.{stream_of};
 ghost use Rattle.bundle.specs.Replies.{GivesLease, GivesTicket};
-ghost use Rattle.bundle.specs.State.{IsSameHost};
+ghost use Rattle.host_state.specs.State.{IsSameHost};
 
 use crate::answers::Got;
 use crate::grant::Grant;
-use crate::held::Held;
 use crate::lease::Lease;
-use crate::state::State;
 use crate::ticket::Ticket;
 use conn_log::{Cause, Want};
+use host_state::{Held, State};
 
 /// Starts the transfer on the newest idle connection that fits, or on a new one; where others wait,
 /// or the host has no room, it waits.
@@ -27,7 +27,7 @@ pub(crate) fn start_or_wait<S: Drop>(state: &mut State<S>, want: Want, moment: u
     requires free { held_number state.old.log want.transfer ≡ None }
     requires once { waits state.old.log want.transfer ≡ false }
     requires quiet { IsAnyone (waiting state.old.log) → idle_connections state.old.log ≡ [] }
-    ensures log { state.new.log ≡ start_unless (waiting state.old.log) state.old.terms want moment state.old.log }
+    ensures log { state.new.log ≡ start_unless (waiting state.old.log) state.old.settings want moment state.old.log }
     ensures lease { GivesLease result (λ lease. (newest_start state.new.log ≡ Some lease.start) × (lease.site ≡ state.old.host)) }
     ensures ticket { GivesTicket result (λ ticket. (newest_wait state.new.log ≡ Some ticket.wait) × (ticket.site ≡ state.old.host)) }
     ensures has_stream { GivesLease result (λ lease. is_some lease.stream ≡ lease.start.reused) }
@@ -74,10 +74,10 @@ fn wait_last<S: Drop>(state: &mut State<S>, want: Want, moment: u64) -> Ticket
 pub(crate) fn open_for_head<S: Drop>(state: &mut State<S>, grants: &mut Vec<Grant<S>>, moment: u64)
     requires booked { state.old.booked ≡ 0 }
     requires later { last_moment state.old.log ≤ moment }
-    requires room { IsAnyone (waiting state.old.log) → is_full state.old.terms state.old.log ≡ false }
+    requires room { IsAnyone (waiting state.old.log) → is_full state.old.settings state.old.log ≡ false }
     requires places { length (waiting state.old.log) + vec_len grants.old ≤ vec_capacity grants.old }
-    ensures log { state.new.log ≡ open_for_head state.old.terms moment state.old.log }
-    ensures grants { grants.new.items ≡ with_new state.old.terms moment state.old.log (waiting state.old.log) grants.old.items }
+    ensures log { state.new.log ≡ open_for_head state.old.settings moment state.old.log }
+    ensures grants { grants.new.items ≡ with_new state.old.settings moment state.old.log (waiting state.old.log) grants.old.items }
     ensures places { length (waiting state.new.log) + vec_len grants.new ≤ vec_capacity grants.new }
     ensures streams { state.new.streams ≡ state.old.streams }
     ensures booked { state.new.booked ≡ 0 }
@@ -108,8 +108,8 @@ pub(crate) fn pass_to_head<S: Drop>(
     requires later { last_moment state.old.log ≤ moment }
     requires alone { IsAnyone (waiting state.old.log) → IsAlone state.old.log held.now moment }
     requires places { length (waiting state.old.log) + vec_len grants.old ≤ vec_capacity grants.old }
-    ensures log { state.new.log ≡ pass_to state.old.terms held.now.number moment state.old.log (waiting state.old.log) }
-    ensures grants { grants.new.items ≡ with_passed state.old.terms held.now.number moment (stream_of state.old.streams held.now.number) state.old.log (waiting state.old.log) grants.old.items }
+    ensures log { state.new.log ≡ pass_to state.old.settings held.now.number moment state.old.log (waiting state.old.log) }
+    ensures grants { grants.new.items ≡ with_passed state.old.settings held.now.number moment (stream_of state.old.streams held.now.number) state.old.log (waiting state.old.log) grants.old.items }
     ensures places { length (waiting state.new.log) + vec_len grants.new ≤ vec_capacity grants.new }
     ensures others { (d : ℕ) → (held.now.number == d) ≡ false → is_open state.new.log d ≡ true → stream_of state.new.streams d ≡ stream_of state.old.streams d }
     ensures nobody { waiting state.old.log ≡ [] → state.new.streams ≡ state.old.streams }

@@ -1,24 +1,24 @@
 //! Small logs whose answers are known, against which the definitions of the calls were tried.
 
-ghost use Rattle.bundle.specs.Worked.{BusyAndNoSuchSite, ReuseThenDrop, NewestIsReused, NotPersistentAtTheLimit, IdleAsLongAsTheAge, IdleLongerThanTheAge, AsOldAsTheLifetime, OlderThanTheLifetime, AnotherLaneAtTheHostLimit, ForbiddenAndCut, MomentGoesBack, MomentsClampedPerHost, WaitThenClaim, WithdrawAGrant, WhatDoesNotFit, NumbersRunOut};
+ghost use Rattle.bundle.specs.Worked.{BusyAndNoSuchSiteCalls, ReuseThenDropCalls, NewestIsReusedCalls, NotPersistentAtTheLimitCalls, IdleAsLongAsTheAgeCalls, IdleLongerThanTheAgeCalls, AsOldAsTheLifetimeCalls, OlderThanTheLifetimeCalls, AnotherLaneAtTheHostLimitCalls, ForbiddenAndCutCalls, MomentGoesBackCalls, MomentsClampedPerHostCalls, WaitThenClaimCalls, WithdrawAGrantCalls, WhatDoesNotFit, NumbersRunOut};
 
 /// What calls answer on small logs, by computation: each clause is named for the script of its log, or
 /// for what its logs show.
 pub fn worked_calls()
-    ensures busy_and_no_such_site { BusyAndNoSuchSite }
-    ensures reuse_then_drop { ReuseThenDrop }
-    ensures newest_is_reused { NewestIsReused }
-    ensures not_persistent_at_the_limit { NotPersistentAtTheLimit }
-    ensures idle_as_long_as_the_age { IdleAsLongAsTheAge }
-    ensures idle_longer_than_the_age { IdleLongerThanTheAge }
-    ensures as_old_as_the_lifetime { AsOldAsTheLifetime }
-    ensures older_than_the_lifetime { OlderThanTheLifetime }
-    ensures another_lane_at_the_host_limit { AnotherLaneAtTheHostLimit }
-    ensures forbidden_and_cut { ForbiddenAndCut }
-    ensures moment_goes_back { MomentGoesBack }
-    ensures moments_clamped_per_host { MomentsClampedPerHost }
-    ensures wait_then_claim { WaitThenClaim }
-    ensures withdraw_a_grant { WithdrawAGrant }
+    ensures busy_and_no_such_site { BusyAndNoSuchSiteCalls }
+    ensures reuse_then_drop { ReuseThenDropCalls }
+    ensures newest_is_reused { NewestIsReusedCalls }
+    ensures not_persistent_at_the_limit { NotPersistentAtTheLimitCalls }
+    ensures idle_as_long_as_the_age { IdleAsLongAsTheAgeCalls }
+    ensures idle_longer_than_the_age { IdleLongerThanTheAgeCalls }
+    ensures as_old_as_the_lifetime { AsOldAsTheLifetimeCalls }
+    ensures older_than_the_lifetime { OlderThanTheLifetimeCalls }
+    ensures another_lane_at_the_host_limit { AnotherLaneAtTheHostLimitCalls }
+    ensures forbidden_and_cut { ForbiddenAndCutCalls }
+    ensures moment_goes_back { MomentGoesBackCalls }
+    ensures moments_clamped_per_host { MomentsClampedPerHostCalls }
+    ensures wait_then_claim { WaitThenClaimCalls }
+    ensures withdraw_a_grant { WithdrawAGrantCalls }
     ensures what_does_not_fit { WhatDoesNotFit }
     ensures numbers_run_out { NumbersRunOut }
 {}

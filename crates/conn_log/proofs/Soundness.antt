@@ -14,7 +14,7 @@ use Rattle.conn_log.specs.declared.entry.Entry.{Entry}
 use Rattle.conn_log.specs.Connections.{held_number, is_among, last_moment, opened, greatest, open_connections, is_open, holder_want, is_held_by, holds, idle_connections, is_idle}
 use Rattle.conn_log.specs.Waiting.{waiting, waits}
 use Rattle.conn_log.specs.Fit.{is_fit, suits}
-use Rattle.conn_log.specs.Legal.{Terms, ends_use, ending_cause, owed, MayStartAmong, MayStart, IsQuiet, IsAnyone, MayClose}
+use Rattle.conn_log.specs.Legal.{LimitAndFirst, ends_use, ending_cause, owed, MayStartAmong, MayStart, IsQuiet, IsAnyone, MayClose}
 use Rattle.conn_log.specs.Sound.{IsOrderly, IsSound, IsNextAmong, IsNext, is_of_holder, is_of_idle, has_number}
 use Rattle.conn_log.proofs.Numbers.{le-greatest}
 use Rattle.conn_log.proofs.Steps.{idle_open_unheld, gone_closed, gone_ended, orderly_open, orderly_lease, orderly_return, orderly_gone, orderly_wait, orderly_leave}
@@ -67,7 +67,7 @@ none_passes : (p : ℕ → Bool) (xs : List ℕ) → ((c : ℕ) → p c ≡ fals
 none_passes p [] none = refl
 none_passes p (x ∷ xs) none = grind (arith, none x, none_passes p xs none)
 
-module _ (terms : Terms) (log : List Entry) (orderly : IsOrderly terms log) where
+module _ (settings : LimitAndFirst) (log : List Entry) (orderly : IsOrderly settings log) where
   held_is_open : (c transfer : ℕ) → is_held_by log transfer c ≡ true → is_open log c ≡ true
   held_is_open c transfer held = orderly.held_open c (some_held (holder_want log c) held)
     where
@@ -102,7 +102,7 @@ module _ (terms : Terms) (log : List Entry) (orderly : IsOrderly terms log) wher
       among (head ∷ wants) first = first
 
   -- where nobody waits it is quiet if no close is owed
-  pub quiet : waiting log ≡ [] → owed log ≡ None → IsQuiet terms false log
+  pub quiet : waiting log ≡ [] → owed log ≡ None → IsQuiet settings false log
   quiet nobody settled = record {
     none_idle = λ anyone. absurd (subst IsAnyone nobody anyone);
     no_room = λ anyone. absurd (subst IsAnyone nobody anyone);
@@ -110,76 +110,76 @@ module _ (terms : Terms) (log : List Entry) (orderly : IsOrderly terms log) wher
     settled = settled;
   }
 
-  pub next_is_new : (c : ℕ) → c ≡ greatest terms.first (opened log) + 1 → is_among c (opened log) ≡ false
+  pub next_is_new : (c : ℕ) → c ≡ greatest settings.first (opened log) + 1 → is_among c (opened log) ≡ false
   next_is_new c next = elim (is_among c (opened log)) as (λ b. is_among c (opened log) ≡ b → b ≡ false) [
-    | true ↦ λ among. absurd (omega (arith, next, le-greatest terms.first c (opened log) among))
+    | true ↦ λ among. absurd (omega (arith, next, le-greatest settings.first c (opened log) among))
     | false ↦ λ among. refl
   ] refl
 
-module _ (terms : Terms) (log : List Entry) (sound : IsSound terms log) (moment : ℕ) (later : last_moment log ≤ moment) where
-  pub sound_open : (c : ℕ) (want : Want) → c ≡ greatest terms.first (opened log) + 1 → length (open_connections log) < terms.limit → IsNext log want → IsSound terms (record { moment = moment; event = Opened c want } ∷ log)
+module _ (settings : LimitAndFirst) (log : List Entry) (sound : IsSound settings log) (moment : ℕ) (later : last_moment log ≤ moment) where
+  pub sound_open : (c : ℕ) (want : Want) → c ≡ greatest settings.first (opened log) + 1 → length (open_connections log) < settings.limit → IsNext log want → IsSound settings (record { moment = moment; event = Opened c want } ∷ log)
   sound_open c want next room first = record {
-    legal = (later, (sound.settled, record { next = next; room = room; start = may_start terms log sound.orderly want first }), sound.legal);
+    legal = (later, (sound.settled, record { next = next; room = room; start = may_start settings log sound.orderly want first }), sound.legal);
     settled = refl;
-    orderly = orderly_open terms log sound.orderly moment c want (next_is_new terms log sound.orderly c next) (next_free terms log sound.orderly want first) room;
+    orderly = orderly_open settings log sound.orderly moment c want (next_is_new settings log sound.orderly c next) (next_free settings log sound.orderly want first) room;
   }
 
-  pub sound_lease : (c : ℕ) (want : Want) → is_fit log want moment c ≡ true → IsNext log want → IsSound terms (record { moment = moment; event = Leased c want } ∷ log)
+  pub sound_lease : (c : ℕ) (want : Want) → is_fit log want moment c ≡ true → IsNext log want → IsSound settings (record { moment = moment; event = Leased c want } ∷ log)
   sound_lease c want fit first = record {
-    legal = (later, (sound.settled, record { fit = fit; start = may_start terms log sound.orderly want first }), sound.legal);
+    legal = (later, (sound.settled, record { fit = fit; start = may_start settings log sound.orderly want first }), sound.legal);
     settled = refl;
-    orderly = orderly_lease terms log sound.orderly moment c want (and_left (is_idle log c) (suits log want moment c) fit) (next_free terms log sound.orderly want first);
+    orderly = orderly_lease settings log sound.orderly moment c want (and_left (is_idle log c) (suits log want moment c) fit) (next_free settings log sound.orderly want first);
   }
 
-  pub sound_return : (c : ℕ) (facts : Facts) (want : Want) → holder_want log c ≡ Some want → ends_use facts want ≡ false → IsSound terms (record { moment = moment; event = Returned c facts } ∷ log)
+  pub sound_return : (c : ℕ) (facts : Facts) (want : Want) → holder_want log c ≡ Some want → ends_use facts want ≡ false → IsSound settings (record { moment = moment; event = Returned c facts } ∷ log)
   sound_return c facts want held stays = record {
     legal = (later, (sound.settled, rw held refl), sound.legal);
     settled = rw (held, stays) refl;
-    orderly = orderly_return terms log sound.orderly moment c facts (grind (arith, stays));
+    orderly = orderly_return settings log sound.orderly moment c facts (grind (arith, stays));
   }
 
-  pub sound_end : (c : ℕ) (facts : Facts) (want : Want) → holder_want log c ≡ Some want → ends_use facts want ≡ true → IsSound terms (record { moment = moment; event = Closed c (ending_cause facts want) } ∷ record { moment = moment; event = Returned c facts } ∷ log)
+  pub sound_end : (c : ℕ) (facts : Facts) (want : Want) → holder_want log c ≡ Some want → ends_use facts want ≡ true → IsSound settings (record { moment = moment; event = Closed c (ending_cause facts want) } ∷ record { moment = moment; event = Returned c facts } ∷ log)
   sound_end c facts want held ends = record {
     legal = (omega arith, ended_close facts.whole want.forbid_reuse (record { moment = moment; event = Returned c facts } ∷ log) c (rw (held, ends) refl), (later, (sound.settled, rw held refl), sound.legal));
     settled = refl;
-    orderly = orderly_gone terms log sound.orderly c _ (gone_ended moment c facts (ending_cause facts want) log) (sound.orderly.held_open c (rw held refl));
+    orderly = orderly_gone settings log sound.orderly c _ (gone_ended moment c facts (ending_cause facts want) log) (sound.orderly.held_open c (rw held refl));
   }
 
   -- what a transfer holds is closed, for a cause that is for holders
-  pub sound_drop : (c : ℕ) (cause : Cause) → is_of_holder cause ≡ true → is_some (holder_want log c) ≡ true → IsSound terms (record { moment = moment; event = Closed c cause } ∷ log)
+  pub sound_drop : (c : ℕ) (cause : Cause) → is_of_holder cause ≡ true → is_some (holder_want log c) ≡ true → IsSound settings (record { moment = moment; event = Closed c cause } ∷ log)
   sound_drop c cause fits held = record {
     legal = (later, holder_may_close log c cause fits sound.settled held, sound.legal);
     settled = refl;
-    orderly = orderly_gone terms log sound.orderly c _ (gone_closed moment c cause log) (sound.orderly.held_open c held);
+    orderly = orderly_gone settings log sound.orderly c _ (gone_closed moment c cause log) (sound.orderly.held_open c held);
   }
 
   -- a transfer that neither holds nor waits begins to wait, where nothing is idle
-  pub sound_wait : (want : Want) → held_number log want.transfer ≡ None → waits log want.transfer ≡ false → idle_connections log ≡ [] → IsSound terms (record { moment = moment; event = Waited want } ∷ log)
+  pub sound_wait : (want : Want) → held_number log want.transfer ≡ None → waits log want.transfer ≡ false → idle_connections log ≡ [] → IsSound settings (record { moment = moment; event = Waited want } ∷ log)
   sound_wait want free new none_idle = record {
-    legal = (later, (sound.settled, record { holds_nothing = holds_is terms log sound.orderly want.transfer ∙ ap is_some free; waits_not = new; none_idle = none_idle }), sound.legal);
+    legal = (later, (sound.settled, record { holds_nothing = holds_is settings log sound.orderly want.transfer ∙ ap is_some free; waits_not = new; none_idle = none_idle }), sound.legal);
     settled = refl;
-    orderly = orderly_wait terms log sound.orderly moment want free new;
+    orderly = orderly_wait settings log sound.orderly moment want free new;
   }
 
   -- a transfer that waits leaves
-  pub sound_leave : (transfer : ℕ) → waits log transfer ≡ true → IsSound terms (record { moment = moment; event = Left transfer } ∷ log)
+  pub sound_leave : (transfer : ℕ) → waits log transfer ≡ true → IsSound settings (record { moment = moment; event = Left transfer } ∷ log)
   sound_leave transfer there = record {
     legal = (later, (sound.settled, there), sound.legal);
     settled = refl;
-    orderly = orderly_leave terms log sound.orderly moment transfer;
+    orderly = orderly_leave settings log sound.orderly moment transfer;
   }
 
   -- an idle one is closed, for a cause that is for idle ones
-  pub sound_close : (c : ℕ) (cause : Cause) → MayClose log c cause → is_idle log c ≡ true → IsSound terms (record { moment = moment; event = Closed c cause } ∷ log)
+  pub sound_close : (c : ℕ) (cause : Cause) → MayClose log c cause → is_idle log c ≡ true → IsSound settings (record { moment = moment; event = Closed c cause } ∷ log)
   sound_close c cause allowed idle = record {
     legal = (later, allowed, sound.legal);
     settled = refl;
-    orderly = let open_unheld = idle_open_unheld log c idle in orderly_gone terms log sound.orderly c _ (gone_closed moment c cause log) open_unheld.0;
+    orderly = let open_unheld = idle_open_unheld log c idle in orderly_gone settings log sound.orderly c _ (gone_closed moment c cause log) open_unheld.0;
   }
 
 -- the empty log
-pub sound_empty : (terms : Terms) → IsSound terms []
-sound_empty terms = record {
+pub sound_empty : (settings : LimitAndFirst) → IsSound settings []
+sound_empty settings = record {
   legal = tt;
   settled = refl;
   orderly = record {

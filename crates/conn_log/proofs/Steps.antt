@@ -11,7 +11,7 @@ use Rattle.conn_log.specs.declared.entry.Event.TheVariants.{Opened, Leased, Retu
 use Rattle.conn_log.specs.declared.entry.Entry.{Entry}
 use Rattle.conn_log.specs.Connections.{held_number, unless_it_is, is_among, opened, is_closed, open_connections, is_open, holder_want, is_held_by, idle_connections, is_idle, born, since, lane, came_back_persistent}
 use Rattle.conn_log.specs.Waiting.{waiting, without, waits}
-use Rattle.conn_log.specs.Legal.{Terms}
+use Rattle.conn_log.specs.Legal.{LimitAndFirst}
 use Rattle.conn_log.specs.Sound.{IsOrderly, has_number, IdleFacts, idle_facts, held_facts, facts_if_held}
 use Rattle.conn_log.proofs.Waits.{filter-filter}
 use Rattle.conn_log.proofs.Queues.{is_waiting, once_without, once_last, waits_without, waits_last}
@@ -119,7 +119,7 @@ not_idle_none log d out = ap (λ i. made i (lane log d) (born log d) (since log 
 and_parts : (a b : Bool) → (a && b) ≡ true → (a ≡ true) × (b ≡ true)
 and_parts a b both = grind (arith, both)
 
-module _ (terms : Terms) (log : List Entry) (orderly : IsOrderly terms log) where
+module _ (settings : LimitAndFirst) (log : List Entry) (orderly : IsOrderly settings log) where
   -- a number that was never opened is neither closed nor held
   pub new_not_closed : (c : ℕ) → is_among c (opened log) ≡ false → is_closed log c ≡ false
   new_not_closed c new = grind (arith, orderly.closed_opened c)
@@ -157,7 +157,7 @@ module _ (terms : Terms) (log : List Entry) (orderly : IsOrderly terms log) wher
       rw other (orderly.waiting_free transfer parts.1)
 
   -- a transfer that holds nothing waits
-  pub orderly_wait : (moment : ℕ) (want : Want) → held_number log want.transfer ≡ None → waits log want.transfer ≡ false → IsOrderly terms (record { moment = moment; event = Waited want } ∷ log)
+  pub orderly_wait : (moment : ℕ) (want : Want) → held_number log want.transfer ≡ None → waits log want.transfer ≡ false → IsOrderly settings (record { moment = moment; event = Waited want } ∷ log)
   orderly_wait moment want free new = record {
     distinct = orderly.distinct;
     closed_opened = orderly.closed_opened;
@@ -176,7 +176,7 @@ module _ (terms : Terms) (log : List Entry) (orderly : IsOrderly terms log) wher
       still out either = grind (arith, out, either)
 
   -- a transfer leaves
-  pub orderly_leave : (moment transfer : ℕ) → IsOrderly terms (record { moment = moment; event = Left transfer } ∷ log)
+  pub orderly_leave : (moment transfer : ℕ) → IsOrderly settings (record { moment = moment; event = Left transfer } ∷ log)
   orderly_leave moment transfer = record {
     distinct = orderly.distinct;
     closed_opened = orderly.closed_opened;
@@ -189,7 +189,7 @@ module _ (terms : Terms) (log : List Entry) (orderly : IsOrderly terms log) wher
   }
 
   -- a new connection for a transfer that holds none
-  module _ (moment c : ℕ) (want : Want) (new : is_among c (opened log) ≡ false) (free : held_number log want.transfer ≡ None) (room : length (open_connections log) < terms.limit) where
+  module _ (moment c : ℕ) (want : Want) (new : is_among c (opened log) ≡ false) (free : held_number log want.transfer ≡ None) (room : length (open_connections log) < settings.limit) where
     idle_same_open : (d : ℕ) → is_idle (record { moment = moment; event = Opened c want } ∷ log) d ≡ is_idle log d
     idle_same_open d = grind (arith, nat_tests, is_idle_is (record { moment = moment; event = Opened c want } ∷ log) d, is_open_is (record { moment = moment; event = Opened c want } ∷ log) d, is_idle_is log d, is_open_is log d, λ (e : c ≡ d). ap (λ (n : ℕ). is_among n (opened log)) e, new)
 
@@ -228,7 +228,7 @@ module _ (terms : Terms) (log : List Entry) (orderly : IsOrderly terms log) wher
         let same : filter (is_free (record { moment = moment; event = Opened c want } ∷ log)) (opened log) ≡ filter (is_free log) (opened log) = filter_agree (is_free (record { moment = moment; event = Opened c want } ∷ log)) (is_free log) (opened log) (λ d there. grind (arith, parted c d (opened log) new there)) in
         rw (idle_of_opened (record { moment = moment; event = Opened c want } ∷ log), idle_of_opened log, held) (ap length same)
 
-    pub orderly_open : IsOrderly terms (record { moment = moment; event = Opened c want } ∷ log)
+    pub orderly_open : IsOrderly settings (record { moment = moment; event = Opened c want } ∷ log)
     orderly_open = record {
       distinct = (new, orderly.distinct);
       closed_opened = λ d closed. grind (arith, nat_tests, orderly.closed_opened d);
@@ -320,7 +320,7 @@ module _ (terms : Terms) (log : List Entry) (orderly : IsOrderly terms log) wher
         let opened_closed = opened_not_closed log c open_unheld.0 in
         rw (idle_of_opened (record { moment = moment; event = Leased c want } ∷ log), idle_of_opened log) (length-filter_flip (is_free log) (is_free (record { moment = moment; event = Leased c want } ∷ log)) c (opened log) orderly.distinct opened_closed.0 (grind (arith, opened_closed.1, open_unheld.1)) (grind (arith, nat_tests)) (λ d other. grind (arith, other)))
 
-    pub orderly_lease : IsOrderly terms (record { moment = moment; event = Leased c want } ∷ log)
+    pub orderly_lease : IsOrderly settings (record { moment = moment; event = Leased c want } ∷ log)
     orderly_lease = record {
       distinct = orderly.distinct;
       closed_opened = orderly.closed_opened;
@@ -359,7 +359,7 @@ module _ (terms : Terms) (log : List Entry) (orderly : IsOrderly terms log) wher
         let opened_closed = opened_not_closed log c was_open in
         rw (idle_of_opened (record { moment = moment; event = Returned c facts } ∷ log), idle_of_opened log) (length-filter_flip (is_free (record { moment = moment; event = Returned c facts } ∷ log)) (is_free log) c (opened log) orderly.distinct opened_closed.0 (grind (arith, nat_tests, opened_closed.1)) (grind (arith, held)) (λ d other. grind (arith, other)))
 
-    pub orderly_return : IsOrderly terms (record { moment = moment; event = Returned c facts } ∷ log)
+    pub orderly_return : IsOrderly settings (record { moment = moment; event = Returned c facts } ∷ log)
     orderly_return = record {
       distinct = orderly.distinct;
       closed_opened = orderly.closed_opened;
@@ -409,7 +409,7 @@ module _ (terms : Terms) (log : List Entry) (orderly : IsOrderly terms log) wher
     pub held_facts_gone : (transfer : ℕ) → held_number log transfer ≡ Some c → (t : ℕ) → held_facts after t ≡ (if transfer == t then None else held_facts log t)
     held_facts_gone transfer holds t = rw (gone.taken t) (held_facts_end c transfer holds after gone.held gone.lane gone.born t)
 
-    pub orderly_gone : is_open log c ≡ true → IsOrderly terms after
+    pub orderly_gone : is_open log c ≡ true → IsOrderly settings after
     orderly_gone was_open = record {
       distinct = rw gone.opened orderly.distinct;
       closed_opened = λ d closed. rw gone.opened (grind (arith, nat_tests, gone.closed d, orderly.closed_opened d, is_open_is log c, was_open, λ (e : c ≡ d). ap (λ (n : ℕ). is_among n (opened log)) e));

@@ -14,7 +14,7 @@ use Rattle.conn_log.specs.Waiting.{waiting, waits}
 use Rattle.conn_log.specs.Fit.{is_fit}
 
 -- the host's limit on open connections (CURLMOPT_MAX_HOST_CONNECTIONS) and its first connection number
-pub record Terms : Type 0 where
+pub record LimitAndFirst : Type 0 where
   pub limit : ℕ
   pub first : ℕ
 
@@ -47,9 +47,9 @@ abbrev pub MayStart : List Entry → Want → Type 0
 MayStart log want = MayStartAmong (waiting log) (holds log want.transfer) want
 
 -- the number is the next one, there is room at the host, and the transfer may start
-pub record MayOpen (terms : Terms) (before : List Entry) (c : ℕ) (want : Want) : Type 0 where
-  pub next : c ≡ greatest terms.first (opened before) + 1
-  pub room : length (open_connections before) < terms.limit
+pub record MayOpen (settings : LimitAndFirst) (before : List Entry) (c : ℕ) (want : Want) : Type 0 where
+  pub next : c ≡ greatest settings.first (opened before) + 1
+  pub room : length (open_connections before) < settings.limit
   pub start : MayStart before want
 
 -- the connection is fit for the want at that moment, and the transfer may start
@@ -74,18 +74,18 @@ MayClose before c _ = (owed before ≡ None) × IsTrue (is_idle before c)
 
 -- what the log before an event must show; every event but the close of an ended use comes where no
 -- close is owed
-abbrev pub Allows : Terms → List Entry → ℕ → Event → Type 0
-Allows terms before moment (Opened c want) = (owed before ≡ None) × MayOpen terms before c want
-Allows terms before moment (Leased c want) = (owed before ≡ None) × MayLease before c want moment
-Allows terms before moment (Returned c facts) = (owed before ≡ None) × IsSome (holder_want before c)
-Allows terms before moment (Closed c cause) = MayClose before c cause
-Allows terms before moment (Waited want) = (owed before ≡ None) × MayWait before want
-Allows terms before moment (Left transfer) = (owed before ≡ None) × IsTrue (waits before transfer)
+abbrev pub Allows : LimitAndFirst → List Entry → ℕ → Event → Type 0
+Allows settings before moment (Opened c want) = (owed before ≡ None) × MayOpen settings before c want
+Allows settings before moment (Leased c want) = (owed before ≡ None) × MayLease before c want moment
+Allows settings before moment (Returned c facts) = (owed before ≡ None) × IsSome (holder_want before c)
+Allows settings before moment (Closed c cause) = MayClose before c cause
+Allows settings before moment (Waited want) = (owed before ≡ None) × MayWait before want
+Allows settings before moment (Left transfer) = (owed before ≡ None) × IsTrue (waits before transfer)
 
 -- legal: no moment is below the one before it, and each entry is one that the log before it allows
-abbrev pub IsLegal : Terms → List Entry → Type 0
-IsLegal terms [] = Unit {0}
-IsLegal terms (e ∷ before) = (last_moment before ≤ e.moment) × Allows terms before e.moment e.event × IsLegal terms before
+abbrev pub IsLegal : LimitAndFirst → List Entry → Type 0
+IsLegal settings [] = Unit {0}
+IsLegal settings (e ∷ before) = (last_moment before ≤ e.moment) × Allows settings before e.moment e.event × IsLegal settings before
 
 -- someone waits
 abbrev pub IsAnyone : List Want → Type 0
@@ -94,8 +94,8 @@ IsAnyone (want ∷ others) = Unit {0}
 
 -- quiet: where anyone waits nothing is idle, and the host is at its limit or queued for room among all
 -- hosts; it is queued only where someone waits and the host has room; and no close is owed
-pub record IsQuiet (terms : Terms) (queued : Bool) (log : List Entry) : Type 0 where
+pub record IsQuiet (settings : LimitAndFirst) (queued : Bool) (log : List Entry) : Type 0 where
   pub none_idle : IsAnyone (waiting log) → idle_connections log ≡ []
-  pub no_room : IsAnyone (waiting log) → (length (open_connections log) ≡ terms.limit) ⊎ IsTrue queued
-  pub queued_for : IsTrue queued → IsAnyone (waiting log) × (length (open_connections log) < terms.limit)
+  pub no_room : IsAnyone (waiting log) → (length (open_connections log) ≡ settings.limit) ⊎ IsTrue queued
+  pub queued_for : IsTrue queued → IsAnyone (waiting log) × (length (open_connections log) < settings.limit)
   pub settled : owed log ≡ None

@@ -7,7 +7,7 @@ use Rattle.conn_log.specs.declared.entry.Cause.TheVariants.{NotPersistent, Cut, 
 use Rattle.conn_log.specs.declared.entry.Entry.{Entry}
 use Rattle.conn_log.specs.Connections.{is_among, opened, is_closed, open_connections, is_open, holder_want, is_held_by, is_idle, born, since, lane, came_back_persistent, held_number}
 use Rattle.conn_log.specs.Waiting.{without, waiting, waits}
-use Rattle.conn_log.specs.Legal.{Terms, owed, IsLegal}
+use Rattle.conn_log.specs.Legal.{LimitAndFirst, owed, IsLegal}
 
 -- each number stands once
 abbrev pub AreDistinct : List ℕ → Type 0
@@ -26,13 +26,13 @@ WaitOnce (want ∷ others) = (without want.transfer others ≡ others) × WaitOn
 -- numbers stand once; a closed or held connection was opened, and a held one is open; each transfer
 -- holds one connection at most; each idle connection came back persistent; each transfer waits once,
 -- and one that waits holds nothing
-pub record IsOrderly (terms : Terms) (log : List Entry) : Type 0 where
+pub record IsOrderly (settings : LimitAndFirst) (log : List Entry) : Type 0 where
   pub distinct : AreDistinct (opened log)
   pub closed_opened : (c : ℕ) → is_closed log c ≡ true → is_among c (opened log) ≡ true
   pub held_open : (c : ℕ) → is_some (holder_want log c) ≡ true → is_open log c ≡ true
   pub held_once : (c transfer : ℕ) → is_held_by log transfer c ≡ has_number (held_number log transfer) c
   pub idle_persists : (c : ℕ) → is_idle log c ≡ true → came_back_persistent log c ≡ true
-  pub within : length (open_connections log) ≤ terms.limit
+  pub within : length (open_connections log) ≤ settings.limit
   pub wait_once : WaitOnce (waiting log)
   pub waiting_free : (transfer : ℕ) → waits log transfer ≡ true → held_number log transfer ≡ None
 
@@ -60,10 +60,10 @@ is_of_idle Withdrawn = false
 is_of_idle _ = true
 
 -- sound: legal, with no close owed, and orderly
-pub record IsSound (terms : Terms) (log : List Entry) : Type 0 where
-  pub legal : IsLegal terms log
+pub record IsSound (settings : LimitAndFirst) (log : List Entry) : Type 0 where
+  pub legal : IsLegal settings log
   pub settled : owed log ≡ None
-  pub orderly : IsOrderly terms log
+  pub orderly : IsOrderly settings log
 
 -- what is kept of an idle connection, and of a held one
 pub record IdleFacts : Type 0 where

@@ -12,7 +12,7 @@ use Rattle.conn_log.specs.declared.entry.Entry.{Entry}
 use Rattle.conn_log.specs.Connections.{open_connections, idle_connections, holder, holds, is_held_by, since, born, lane}
 use Rattle.conn_log.specs.Waiting.{waiting}
 use Rattle.conn_log.specs.Fit.{is_too_old, newest_fit, oldest}
-use Rattle.conn_log.specs.Legal.{Terms, owed, IsLegal, IsQuiet}
+use Rattle.conn_log.specs.Legal.{LimitAndFirst, owed, IsLegal, IsQuiet}
 
 -- the entries of a transcript
 infix 80 opened◌for◌at◌
@@ -54,7 +54,7 @@ abbrev pub cut : Facts
 cut = record keep { whole = false }
 
 -- that many connections may be open at the host, and its first number is 1
-abbrev pub limits : ℕ → Terms
+abbrev pub limits : ℕ → LimitAndFirst
 limits most = record { limit = most; first = 1 }
 
 -- a transfer that holds a connection is busy, and no other one is

@@ -2,8 +2,8 @@ use Rattle.std.proofs.Common.{length, ℕ, ap, sym, ◌∙◌, arith}
 use Rattle.std.specs.Prelude.{◌==◌}
 use Rattle.conn_log.specs.Waiting.{waiting}
 use Rattle.conn_log.specs.Fit.{oldest}
-use Rattle.bundle.specs.Idle.{stream_of}
-use Rattle.bundle.specs.State.{HostState}
+use Rattle.host_state.specs.Idle.{stream_of}
+use Rattle.host_state.specs.State.{HostState}
 use Rattle.bundle.proofs.KeptSound.{someone}
 use Rattle.bundle.proofs.Served.{fewer_after_head, alone_oldest}
 use Rattle.bundle.proofs.serving.pass_to_head.Goals as goal

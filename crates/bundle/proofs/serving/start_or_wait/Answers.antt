@@ -1,9 +1,9 @@
 use Rattle.std.proofs.Common.{◌≡◌, true, ℕ, sym, ap, ◌∙◌}
 use Rattle.std.specs.Prelude.{◌==◌}
 use Rattle.conn_log.specs.Connections.{is_open}
-use Rattle.bundle.specs.Idle.{stream_of}
+use Rattle.host_state.specs.Idle.{stream_of}
 use Rattle.bundle.specs.Lease.{Leasing}
-use Rattle.bundle.specs.State.{HostState}
+use Rattle.host_state.specs.State.{HostState}
 use Rattle.bundle.proofs.serving.start_or_wait.Goals as goal
 
 pub returns-in-Some-clause-others : goal.returns-in-Some-clause-others

@@ -4,8 +4,8 @@ use Rattle.conn_log.specs.declared.entry.Want.{Want}
 use Rattle.conn_log.specs.Connections.{is_among}
 use Rattle.bundle.specs.Calls.{last_start}
 use Rattle.bundle.specs.Grants.{GrantsKept, grant_streams, grant_transfers}
-use Rattle.bundle.specs.Idle.{stream_of}
-use Rattle.bundle.specs.Lease.{OneHost, Leasing, is_unclaimed, stands}
+use Rattle.host_state.specs.Idle.{stream_of}
+use Rattle.bundle.specs.Lease.{HostShown, Leasing, is_unclaimed, is_valid_ticket}
 use Rattle.bundle.proofs.Granting.{is_some-grant_of, kept_at, kept_without}
 use Rattle.bundle.proofs.Answering.{stood_granted, claimed_among, claimed_left, claimed_stream, claimed_streams, gets_at}
 use Rattle.bundle.proofs.host.Bundle.claim.Goals as goal
@@ -16,7 +16,7 @@ returns-in_default-clause-still g c =
     let who : t ≡ c.args.ticket.wait.want.transfer = ap (λ (w : Want). w.transfer) c.want-want.ensures in
     let out : is_among t (grant_transfers c.self.inside.grants.items) ≡ false = sym (is_some-grant_of c.self.inside.grants.items t) ∙ ap is_some (sym c.in_default.ensures.grant) in
     let items = c.in_default.ensures.unchanged in
-    (ap (λ (v : OneHost g.row.S.Denot). is_unclaimed v c.args.ticket.wait.want.transfer) (sym c.self.view_is) ∙ ap (λ (n : ℕ). is_among n (grant_transfers c.self.inside.grants.items)) (sym who) ∙ out, refl, cc)
+    (ap (λ (v : HostShown g.row.S.Denot). is_unclaimed v c.args.ticket.wait.want.transfer) (sym c.self.view_is) ∙ ap (λ (n : ℕ). is_among n (grant_transfers c.self.inside.grants.items)) (sym who) ∙ out, refl, cc)
 
 pub invariant_of-self-2 : goal.invariant_of-self-2
 invariant_of-self-2 g c =
@@ -43,17 +43,17 @@ returns-clause-lease g c =
     let is = sym c.in-Some.ensures.grant in
     let who : t ≡ c.args.ticket.wait.want.transfer = ap (λ (w : Want). w.transfer) c.want-want.ensures in
     let there = kept_at state.log grants t grant inv.grants is in
-    let among = claimed_among state.terms state.log inv.settled.sound.orderly grants inv.grants t grant is in
-    let log_is = ap (λ (v : OneHost g.row.S.Denot). v.log) c.self.view_is in
+    let among = claimed_among state.settings state.log inv.settled.sound.orderly grants inv.grants t grant is in
+    let log_is = ap (λ (v : HostShown g.row.S.Denot). v.log) c.self.view_is in
     let begun = ap (λ log. last_start log c.args.ticket.wait.want.transfer) (sym log_is) ∙ ap (last_start state.log) (sym (there.1 ∙ who)) ∙ there.0.start in
-    (ap (λ (v : OneHost g.row.S.Denot). is_unclaimed v c.args.ticket.wait.want.transfer) (sym c.self.view_is) ∙ ap (λ (n : ℕ). is_among n (grant_transfers grants)) (sym who) ∙ among, begun ∙ ap (λ (l : Leasing g.row.S.Denot). Some l.start) (sym c.granted.ensures), ap (λ (l : Leasing g.row.S.Denot). l.site) c.granted.ensures ∙ c.host.ensures ∙ ap (λ (v : OneHost g.row.S.Denot). v.host) c.self.view_is)
+    (ap (λ (v : HostShown g.row.S.Denot). is_unclaimed v c.args.ticket.wait.want.transfer) (sym c.self.view_is) ∙ ap (λ (n : ℕ). is_among n (grant_transfers grants)) (sym who) ∙ among, begun ∙ ap (λ (l : Leasing g.row.S.Denot). Some l.start) (sym c.granted.ensures), ap (λ (l : Leasing g.row.S.Denot). l.site) c.granted.ensures ∙ c.host.ensures ∙ ap (λ (v : HostShown g.row.S.Denot). v.host) c.self.view_is)
 
 pub returns-clause-want : goal.returns-clause-want
 returns-clause-want g c =
     let state = c.self.inside.state in
     let grants = c.self.inside.grants.items in
-    let test : c.stands.result ≡ true = grind (arith, c.if-not-stands.false) in
-    let stood = ap (λ (v : OneHost g.row.S.Denot). stands v c.want-want.result) c.self.view_is ∙ sym c.stands.ensures ∙ test in
+    let test : c.is_valid_ticket.result ≡ true = grind (arith, c.if-not-is_valid_ticket.false) in
+    let stood = ap (λ (v : HostShown g.row.S.Denot). is_valid_ticket v c.want-want.result) c.self.view_is ∙ sym c.is_valid_ticket.ensures ∙ test in
     let granted_for = stood_granted state.log grants c.self.invariant.grants c.want-want.result c.in-Some.grant (sym c.in-Some.ensures.grant) stood in
     ap (λ (l : Leasing g.row.S.Denot). l.start.want) c.granted.ensures ∙ granted_for ∙ c.want-want.ensures
 
@@ -65,10 +65,10 @@ returns-clause-stream g c =
     let t = c.want-want.result.transfer in
     let grant = c.in-Some.grant in
     let is = sym c.in-Some.ensures.grant in
-    let kept = claimed_stream state.terms state.log inv.settled.sound.orderly grants inv.grants t grant is state.streams in
+    let kept = claimed_stream state.settings state.log inv.settled.sound.orderly grants inv.grants t grant is state.streams in
     let streams = grant_streams grants ++ state.streams in
     let told = subst (λ (l : Leasing g.row.S.Denot). l.stream ≡ (if l.start.reused then stream_of streams l.start.number else None)) (sym c.granted.ensures) kept in
-    subst (λ (v : OneHost g.row.S.Denot). c.granted.result.stream ≡ (if c.granted.result.start.reused then stream_of v.streams c.granted.result.start.number else None)) c.self.view_is told
+    subst (λ (v : HostShown g.row.S.Denot). c.granted.result.stream ≡ (if c.granted.result.start.reused then stream_of v.streams c.granted.result.start.number else None)) c.self.view_is told
 
 pub returns-clause-streams : goal.returns-clause-streams
 returns-clause-streams g c d other still =
@@ -81,8 +81,8 @@ returns-clause-streams g c d other still =
     let number : c.granted.result.start.number ≡ grant.number = ap (λ (l : Leasing g.row.S.Denot). l.start.number) c.granted.ensures in
     let apart : (grant.number == d) ≡ false = ap (λ (n : ℕ). n == d) (sym number) ∙ other in
     ap (λ gs. stream_of (grant_streams gs ++ state.streams) d) c.take_grant.ensures.others
-    ∙ claimed_streams state.terms state.log inv.settled.sound.orderly grants inv.grants t grant is state.streams d apart
-    ∙ ap (λ (v : OneHost g.row.S.Denot). stream_of v.streams d) c.self.view_is
+    ∙ claimed_streams state.settings state.log inv.settled.sound.orderly grants inv.grants t grant is state.streams d apart
+    ∙ ap (λ (v : HostShown g.row.S.Denot). stream_of v.streams d) c.self.view_is
 
 pub returns-clause-gets_lease : goal.returns-clause-gets_lease
 returns-clause-gets_lease g c =
@@ -94,4 +94,4 @@ returns-clause-gets_lease g c =
     let is = sym c.in-Some.ensures.grant in
     let who : t ≡ c.args.ticket.wait.want.transfer = ap (λ (w : Want). w.transfer) c.want-want.ensures in
     let number : grant.number ≡ c.granted.result.start.number = ap (λ (l : Leasing g.row.S.Denot). l.start.number) (sym c.granted.ensures) in
-    gets_at _ _ _ _ _ _ _ c.self.view_is who number (claimed_left state.terms state.log inv.settled.sound.orderly grants inv.grants t grant is c.take_grant.new.grants.items c.take_grant.ensures.others _ _ _ _ _)
+    gets_at _ _ _ _ _ _ _ c.self.view_is who number (claimed_left state.settings state.log inv.settled.sound.orderly grants inv.grants t grant is c.take_grant.new.grants.items c.take_grant.ensures.others _ _ _ _ _)

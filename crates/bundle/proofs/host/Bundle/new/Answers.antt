@@ -1,19 +1,19 @@
 use Rattle.std.proofs.Common.{[], length, refl, sym, ap, subst, arith}
 use Rattle.conn_log.specs.Waiting.{waiting}
-use Rattle.conn_log.specs.Legal.{Terms}
+use Rattle.conn_log.specs.Legal.{LimitAndFirst}
 use Rattle.conn_log.proofs.Soundness.{sound_empty}
 use Rattle.bundle.specs.Laws.{IsSoundAndQuiet}
-use Rattle.bundle.specs.State.{HostState}
+use Rattle.host_state.specs.State.{HostState}
 use Rattle.bundle.proofs.KeptSound.{nobody_after}
 use Rattle.bundle.proofs.host.Bundle.new.Goals as goal
 
 pub invariant_of-result : goal.invariant_of-result
 invariant_of-result g c =
     let is = c.in_ok-new.ensures in
-    let terms : Terms = record { limit = c.args.host_limit; first = c.args.first } in
+    let settings : LimitAndFirst = record { limit = c.args.host_limit; first = c.args.first } in
     record {
       booked = ap (λ (v : HostState g.row.S.Denot). v.booked) is;
-      settled = subst (λ (v : HostState g.row.S.Denot). IsSoundAndQuiet v.terms v.log) (sym is) (nobody_after terms [] (sound_empty terms) refl);
+      settled = subst (λ (v : HostState g.row.S.Denot). IsSoundAndQuiet v.settings v.log) (sym is) (nobody_after settings [] (sound_empty settings) refl);
       grants = rw c.new-2.ensures.items tt;
       room = omega (arith, ap (λ (v : HostState g.row.S.Denot). length (waiting v.log)) is, c.new-2.ensures.len);
     }

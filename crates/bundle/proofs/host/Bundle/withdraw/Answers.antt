@@ -4,9 +4,9 @@ use Rattle.conn_log.specs.declared.entry.Want.{Want}
 use Rattle.conn_log.specs.declared.entry.Cause.TheVariants.{Withdrawn}
 use Rattle.conn_log.specs.Waiting.{waiting}
 use Rattle.bundle.specs.Calls.{after_withdraw}
-use Rattle.bundle.specs.Idle.{stream_of}
+use Rattle.host_state.specs.Idle.{stream_of}
 use Rattle.bundle.specs.Laws.{IsSoundAndQuiet}
-use Rattle.bundle.specs.Lease.{OneHost, stands}
+use Rattle.bundle.specs.Lease.{HostShown, is_valid_ticket}
 use Rattle.bundle.proofs.Growth.{grows_withdraw}
 use Rattle.bundle.proofs.KeptSound.{kept_withdraw}
 use Rattle.bundle.proofs.Told.{held_here}
@@ -21,8 +21,8 @@ leave-requires-clause-waits g c =
     let grants = c.self.inside.grants.items in
     let inv = c.self.invariant in
     let t = c.want-want.result.transfer in
-    let test : c.stands.result ≡ true = grind (arith, c.if-not-stands.false) in
-    let stood = ap (λ (v : OneHost g.row.S.Denot). stands v c.want-want.result) c.self.view_is ∙ sym c.stands.ensures ∙ test in
+    let test : c.is_valid_ticket.result ≡ true = grind (arith, c.if-not-is_valid_ticket.false) in
+    let stood = ap (λ (v : HostShown g.row.S.Denot). is_valid_ticket v c.want-want.result) c.self.view_is ∙ sym c.is_valid_ticket.ensures ∙ test in
     let waits_here = stood_waits state.log grants c.want-want.result (sym c.in_default.ensures.grant) stood in
     waits_here
 
@@ -32,15 +32,15 @@ invariant_of-self g c =
     let grants = c.self.inside.grants.items in
     let inv = c.self.invariant in
     let t = c.want-want.result.transfer in
-    let test : c.stands.result ≡ true = grind (arith, c.if-not-stands.false) in
-    let stood = ap (λ (v : OneHost g.row.S.Denot). stands v c.want-want.result) c.self.view_is ∙ sym c.stands.ensures ∙ test in
+    let test : c.is_valid_ticket.result ≡ true = grind (arith, c.if-not-is_valid_ticket.false) in
+    let stood = ap (λ (v : HostShown g.row.S.Denot). is_valid_ticket v c.want-want.result) c.self.view_is ∙ sym c.is_valid_ticket.ensures ∙ test in
     let waits_here = stood_waits state.log grants c.want-want.result (sym c.in_default.ensures.grant) stood in
-    let is = left_log state.terms state.log t c.args.now c.moment-moment.result c.leave.new.self.log waits_here c.moment-moment.ensures c.leave.ensures.log in
-    let freed = left_moved state.terms state.log inv.settled.sound.orderly grants inv.grants c.moment-moment.result t waits_here c.leave.new.self.log c.leave.ensures.log c.take_grant.new.grants.items c.in_default.ensures.unchanged in
+    let is = left_log state.settings state.log t c.args.now c.moment-moment.result c.leave.new.self.log waits_here c.moment-moment.ensures c.leave.ensures.log in
+    let freed = left_moved state.settings state.log inv.settled.sound.orderly grants inv.grants c.moment-moment.result t waits_here c.leave.new.self.log c.leave.ensures.log c.take_grant.new.grants.items c.in_default.ensures.unchanged in
     let fewer = fewer_without t (waiting state.log) in
     record {
       booked = c.leave.ensures.booked ∙ inv.booked;
-      settled = subst (λ terms. IsSoundAndQuiet terms c.leave.new.self.log) (sym c.leave.ensures.same.terms) (subst (λ log. IsSoundAndQuiet state.terms log) (sym is) (kept_withdraw state.terms state.log t c.args.now inv.settled));
+      settled = subst (λ settings. IsSoundAndQuiet settings c.leave.new.self.log) (sym c.leave.ensures.same.settings) (subst (λ log. IsSoundAndQuiet state.settings log) (sym is) (kept_withdraw state.settings state.log t c.args.now inv.settled));
       grants = freed.kept;
       room = omega (arith, inv.room, fewer, ap (λ log. length (waiting log)) c.leave.ensures.log, c.take_grant.ensures.len, c.take_grant.ensures.capacity);
     }
@@ -51,13 +51,13 @@ returns-in_default-clause-log g c =
     let grants = c.self.inside.grants.items in
     let inv = c.self.invariant in
     let t = c.want-want.result.transfer in
-    let test : c.stands.result ≡ true = grind (arith, c.if-not-stands.false) in
-    let stood = ap (λ (v : OneHost g.row.S.Denot). stands v c.want-want.result) c.self.view_is ∙ sym c.stands.ensures ∙ test in
+    let test : c.is_valid_ticket.result ≡ true = grind (arith, c.if-not-is_valid_ticket.false) in
+    let stood = ap (λ (v : HostShown g.row.S.Denot). is_valid_ticket v c.want-want.result) c.self.view_is ∙ sym c.is_valid_ticket.ensures ∙ test in
     let waits_here = stood_waits state.log grants c.want-want.result (sym c.in_default.ensures.grant) stood in
-    let log_is = ap (λ (v : OneHost g.row.S.Denot). v.log) c.self.view_is in
+    let log_is = ap (λ (v : HostShown g.row.S.Denot). v.log) c.self.view_is in
     let who : t ≡ c.args.ticket.wait.want.transfer = ap (λ (w : Want). w.transfer) c.want-want.ensures in
-    let named : after_withdraw state.terms state.log t c.args.now ≡ after_withdraw c.args.self.now.terms c.args.self.now.log c.args.ticket.wait.want.transfer c.args.now = ap (λ (n : ℕ). after_withdraw state.terms state.log n c.args.now) who ∙ ap (λ (v : OneHost g.row.S.Denot). after_withdraw v.terms v.log c.args.ticket.wait.want.transfer c.args.now) c.self.view_is in
-    left_log state.terms state.log t c.args.now c.moment-moment.result c.leave.new.self.log waits_here c.moment-moment.ensures c.leave.ensures.log ∙ named
+    let named : after_withdraw state.settings state.log t c.args.now ≡ after_withdraw c.args.self.now.settings c.args.self.now.log c.args.ticket.wait.want.transfer c.args.now = ap (λ (n : ℕ). after_withdraw state.settings state.log n c.args.now) who ∙ ap (λ (v : HostShown g.row.S.Denot). after_withdraw v.settings v.log c.args.ticket.wait.want.transfer c.args.now) c.self.view_is in
+    left_log state.settings state.log t c.args.now c.moment-moment.result c.leave.new.self.log waits_here c.moment-moment.ensures c.leave.ensures.log ∙ named
 
 pub returns-in_default-clause-spends : goal.returns-in_default-clause-spends
 returns-in_default-clause-spends g c =
@@ -65,11 +65,11 @@ returns-in_default-clause-spends g c =
     let grants = c.self.inside.grants.items in
     let inv = c.self.invariant in
     let t = c.want-want.result.transfer in
-    let test : c.stands.result ≡ true = grind (arith, c.if-not-stands.false) in
-    let stood = ap (λ (v : OneHost g.row.S.Denot). stands v c.want-want.result) c.self.view_is ∙ sym c.stands.ensures ∙ test in
+    let test : c.is_valid_ticket.result ≡ true = grind (arith, c.if-not-is_valid_ticket.false) in
+    let stood = ap (λ (v : HostShown g.row.S.Denot). is_valid_ticket v c.want-want.result) c.self.view_is ∙ sym c.is_valid_ticket.ensures ∙ test in
     let waits_here = stood_waits state.log grants c.want-want.result (sym c.in_default.ensures.grant) stood in
     let who : t ≡ c.args.ticket.wait.want.transfer = ap (λ (w : Want). w.transfer) c.want-want.ensures in
-    let freed = left_moved state.terms state.log inv.settled.sound.orderly grants inv.grants c.moment-moment.result t waits_here c.leave.new.self.log c.leave.ensures.log c.take_grant.new.grants.items c.in_default.ensures.unchanged in
+    let freed = left_moved state.settings state.log inv.settled.sound.orderly grants inv.grants c.moment-moment.result t waits_here c.leave.new.self.log c.leave.ensures.log c.take_grant.new.grants.items c.in_default.ensures.unchanged in
     spends_at _ _ _ _ _ c.self.view_is who (freed_spends _ _ _ _ _ _ _ _ _ _ _ freed)
 
 pub returns-in_default-clause-grew : goal.returns-in_default-clause-grew
@@ -78,12 +78,12 @@ returns-in_default-clause-grew g c =
     let grants = c.self.inside.grants.items in
     let inv = c.self.invariant in
     let t = c.want-want.result.transfer in
-    let test : c.stands.result ≡ true = grind (arith, c.if-not-stands.false) in
-    let stood = ap (λ (v : OneHost g.row.S.Denot). stands v c.want-want.result) c.self.view_is ∙ sym c.stands.ensures ∙ test in
+    let test : c.is_valid_ticket.result ≡ true = grind (arith, c.if-not-is_valid_ticket.false) in
+    let stood = ap (λ (v : HostShown g.row.S.Denot). is_valid_ticket v c.want-want.result) c.self.view_is ∙ sym c.is_valid_ticket.ensures ∙ test in
     let waits_here = stood_waits state.log grants c.want-want.result (sym c.in_default.ensures.grant) stood in
-    let is = left_log state.terms state.log t c.args.now c.moment-moment.result c.leave.new.self.log waits_here c.moment-moment.ensures c.leave.ensures.log in
-    let grew = grows_withdraw state.terms state.log t c.args.now in
-    grows_from state.log c.args.self.now.log c.leave.new.self.log (ap (λ (v : OneHost g.row.S.Denot). v.log) c.self.view_is) (grew.0, is ∙ grew.1)
+    let is = left_log state.settings state.log t c.args.now c.moment-moment.result c.leave.new.self.log waits_here c.moment-moment.ensures c.leave.ensures.log in
+    let grew = grows_withdraw state.settings state.log t c.args.now in
+    grows_from state.log c.args.self.now.log c.leave.new.self.log (ap (λ (v : HostShown g.row.S.Denot). v.log) c.self.view_is) (grew.0, is ∙ grew.1)
 
 pub unreachable-requires : goal.unreachable-requires
 unreachable-requires g c =
@@ -91,8 +91,8 @@ unreachable-requires g c =
     let grants = c.self.inside.grants.items in
     let inv = c.self.invariant in
     let t = c.want-want.result.transfer in
-    let number = claimed_number state.terms state.log inv.settled.sound.orderly grants inv.grants t c.in-Some.grant (sym c.in-Some.ensures.grant) in
-    false≢true (sym c.in_default-held.ensures.none ∙ held_here state.terms state.log inv.settled.sound.orderly t c.in-Some.grant.number number)
+    let number = claimed_number state.settings state.log inv.settled.sound.orderly grants inv.grants t c.in-Some.grant (sym c.in-Some.ensures.grant) in
+    false≢true (sym c.in_default-held.ensures.none ∙ held_here state.settings state.log inv.settled.sound.orderly t c.in-Some.grant.number number)
 
 pub open_for_head-requires-clause-room : goal.open_for_head-requires-clause-room
 open_for_head-requires-clause-room g c anyone =
@@ -102,7 +102,7 @@ open_for_head-requires-clause-room g c anyone =
     let t = c.want-want.result.transfer in
     let held = c.in-Some-held.held in
     let it = known state.log t held c.in-Some-held.ensures.some in
-    room_closed state.terms state.log grants inv.settled inv.grants state.streams t held.number it.number c.args.now Withdrawn c.close_held.new.self.terms c.close_held.ensures.same.terms c.moment-moment.result c.close_held.new.self.log c.close_held.ensures.log anyone
+    room_closed state.settings state.log grants inv.settled inv.grants state.streams t held.number it.number c.args.now Withdrawn c.close_held.new.self.settings c.close_held.ensures.same.settings c.moment-moment.result c.close_held.new.self.log c.close_held.ensures.log anyone
 
 pub invariant_of-self-2 : goal.invariant_of-self-2
 invariant_of-self-2 g c =
@@ -112,10 +112,10 @@ invariant_of-self-2 g c =
     let t = c.want-want.result.transfer in
     let held = c.in-Some-held.held in
     let it = known state.log t held c.in-Some-held.ensures.some in
-    let settled = settled_closed state.terms state.log grants inv.settled inv.grants state.streams t held.number it.number c.args.now Withdrawn refl c.close_held.new.self.terms c.close_held.ensures.same.terms c.moment-moment.result c.moment-moment.ensures c.close_held.new.self.log c.close_held.ensures.log c.take_grant.new.grants.items c.take_grant.ensures.others c.open_for_head.new.state.log c.open_for_head.ensures.log c.open_for_head.new.grants.items c.open_for_head.ensures.grants c.open_for_head.new.state.streams (c.open_for_head.ensures.streams ∙ c.close_held.ensures.streams) in
+    let settled = settled_closed state.settings state.log grants inv.settled inv.grants state.streams t held.number it.number c.args.now Withdrawn refl c.close_held.new.self.settings c.close_held.ensures.same.settings c.moment-moment.result c.moment-moment.ensures c.close_held.new.self.log c.close_held.ensures.log c.take_grant.new.grants.items c.take_grant.ensures.others c.open_for_head.new.state.log c.open_for_head.ensures.log c.open_for_head.new.grants.items c.open_for_head.ensures.grants c.open_for_head.new.state.streams (c.open_for_head.ensures.streams ∙ c.close_held.ensures.streams) in
     record {
       booked = c.open_for_head.ensures.booked;
-      settled = subst (λ terms. IsSoundAndQuiet terms c.open_for_head.new.state.log) (sym (c.open_for_head.ensures.same.terms ∙ c.close_held.ensures.same.terms)) settled.settled;
+      settled = subst (λ settings. IsSoundAndQuiet settings c.open_for_head.new.state.log) (sym (c.open_for_head.ensures.same.settings ∙ c.close_held.ensures.same.settings)) settled.settled;
       grants = settled.freed.kept;
       room = c.open_for_head.ensures.places;
     }
@@ -128,10 +128,10 @@ returns-clause-log g c =
     let t = c.want-want.result.transfer in
     let held = c.in-Some-held.held in
     let it = known state.log t held c.in-Some-held.ensures.some in
-    let log_is = ap (λ (v : OneHost g.row.S.Denot). v.log) c.self.view_is in
+    let log_is = ap (λ (v : HostShown g.row.S.Denot). v.log) c.self.view_is in
     let who : t ≡ c.args.ticket.wait.want.transfer = ap (λ (w : Want). w.transfer) c.want-want.ensures in
-    let named : after_withdraw state.terms state.log t c.args.now ≡ after_withdraw c.args.self.now.terms c.args.self.now.log c.args.ticket.wait.want.transfer c.args.now = ap (λ (n : ℕ). after_withdraw state.terms state.log n c.args.now) who ∙ ap (λ (v : OneHost g.row.S.Denot). after_withdraw v.terms v.log c.args.ticket.wait.want.transfer c.args.now) c.self.view_is in
-    withdrawn_log state.terms state.log inv.settled.sound t held.number it.number c.args.now c.close_held.new.self.terms c.close_held.ensures.same.terms c.moment-moment.result c.moment-moment.ensures c.close_held.new.self.log c.close_held.ensures.log c.open_for_head.new.state.log c.open_for_head.ensures.log ∙ named
+    let named : after_withdraw state.settings state.log t c.args.now ≡ after_withdraw c.args.self.now.settings c.args.self.now.log c.args.ticket.wait.want.transfer c.args.now = ap (λ (n : ℕ). after_withdraw state.settings state.log n c.args.now) who ∙ ap (λ (v : HostShown g.row.S.Denot). after_withdraw v.settings v.log c.args.ticket.wait.want.transfer c.args.now) c.self.view_is in
+    withdrawn_log state.settings state.log inv.settled.sound t held.number it.number c.args.now c.close_held.new.self.settings c.close_held.ensures.same.settings c.moment-moment.result c.moment-moment.ensures c.close_held.new.self.log c.close_held.ensures.log c.open_for_head.new.state.log c.open_for_head.ensures.log ∙ named
 
 pub returns-clause-streams : goal.returns-clause-streams
 returns-clause-streams g c d still =
@@ -141,9 +141,9 @@ returns-clause-streams g c d still =
     let t = c.want-want.result.transfer in
     let held = c.in-Some-held.held in
     let it = known state.log t held c.in-Some-held.ensures.some in
-    let settled = settled_closed state.terms state.log grants inv.settled inv.grants state.streams t held.number it.number c.args.now Withdrawn refl c.close_held.new.self.terms c.close_held.ensures.same.terms c.moment-moment.result c.moment-moment.ensures c.close_held.new.self.log c.close_held.ensures.log c.take_grant.new.grants.items c.take_grant.ensures.others c.open_for_head.new.state.log c.open_for_head.ensures.log c.open_for_head.new.grants.items c.open_for_head.ensures.grants c.open_for_head.new.state.streams (c.open_for_head.ensures.streams ∙ c.close_held.ensures.streams) in
-    let closed = gone_open held.number Withdrawn c.close_held.new.self.terms c.moment-moment.result state.log c.close_held.new.self.log c.close_held.ensures.log c.open_for_head.new.state.log c.open_for_head.ensures.log in
-    settled.others d (apart_open c.open_for_head.new.state.log held.number d closed still) still ∙ ap (λ (v : OneHost g.row.S.Denot). stream_of v.streams d) c.self.view_is
+    let settled = settled_closed state.settings state.log grants inv.settled inv.grants state.streams t held.number it.number c.args.now Withdrawn refl c.close_held.new.self.settings c.close_held.ensures.same.settings c.moment-moment.result c.moment-moment.ensures c.close_held.new.self.log c.close_held.ensures.log c.take_grant.new.grants.items c.take_grant.ensures.others c.open_for_head.new.state.log c.open_for_head.ensures.log c.open_for_head.new.grants.items c.open_for_head.ensures.grants c.open_for_head.new.state.streams (c.open_for_head.ensures.streams ∙ c.close_held.ensures.streams) in
+    let closed = gone_open held.number Withdrawn c.close_held.new.self.settings c.moment-moment.result state.log c.close_held.new.self.log c.close_held.ensures.log c.open_for_head.new.state.log c.open_for_head.ensures.log in
+    settled.others d (apart_open c.open_for_head.new.state.log held.number d closed still) still ∙ ap (λ (v : HostShown g.row.S.Denot). stream_of v.streams d) c.self.view_is
 
 pub returns-clause-spends : goal.returns-clause-spends
 returns-clause-spends g c =
@@ -153,7 +153,7 @@ returns-clause-spends g c =
     let t = c.want-want.result.transfer in
     let held = c.in-Some-held.held in
     let it = known state.log t held c.in-Some-held.ensures.some in
-    let settled = settled_closed state.terms state.log grants inv.settled inv.grants state.streams t held.number it.number c.args.now Withdrawn refl c.close_held.new.self.terms c.close_held.ensures.same.terms c.moment-moment.result c.moment-moment.ensures c.close_held.new.self.log c.close_held.ensures.log c.take_grant.new.grants.items c.take_grant.ensures.others c.open_for_head.new.state.log c.open_for_head.ensures.log c.open_for_head.new.grants.items c.open_for_head.ensures.grants c.open_for_head.new.state.streams (c.open_for_head.ensures.streams ∙ c.close_held.ensures.streams) in
+    let settled = settled_closed state.settings state.log grants inv.settled inv.grants state.streams t held.number it.number c.args.now Withdrawn refl c.close_held.new.self.settings c.close_held.ensures.same.settings c.moment-moment.result c.moment-moment.ensures c.close_held.new.self.log c.close_held.ensures.log c.take_grant.new.grants.items c.take_grant.ensures.others c.open_for_head.new.state.log c.open_for_head.ensures.log c.open_for_head.new.grants.items c.open_for_head.ensures.grants c.open_for_head.new.state.streams (c.open_for_head.ensures.streams ∙ c.close_held.ensures.streams) in
     let who : t ≡ c.args.ticket.wait.want.transfer = ap (λ (w : Want). w.transfer) c.want-want.ensures in
     spends_at _ _ _ _ _ c.self.view_is who (freed_spends _ _ _ _ _ _ _ _ _ _ _ settled.freed)
 
@@ -165,5 +165,5 @@ returns-clause-grew g c =
     let t = c.want-want.result.transfer in
     let held = c.in-Some-held.held in
     let it = known state.log t held c.in-Some-held.ensures.some in
-    let settled = settled_closed state.terms state.log grants inv.settled inv.grants state.streams t held.number it.number c.args.now Withdrawn refl c.close_held.new.self.terms c.close_held.ensures.same.terms c.moment-moment.result c.moment-moment.ensures c.close_held.new.self.log c.close_held.ensures.log c.take_grant.new.grants.items c.take_grant.ensures.others c.open_for_head.new.state.log c.open_for_head.ensures.log c.open_for_head.new.grants.items c.open_for_head.ensures.grants c.open_for_head.new.state.streams (c.open_for_head.ensures.streams ∙ c.close_held.ensures.streams) in
-    grows_from _ _ _ (ap (λ (v : OneHost g.row.S.Denot). v.log) c.self.view_is) settled.grew
+    let settled = settled_closed state.settings state.log grants inv.settled inv.grants state.streams t held.number it.number c.args.now Withdrawn refl c.close_held.new.self.settings c.close_held.ensures.same.settings c.moment-moment.result c.moment-moment.ensures c.close_held.new.self.log c.close_held.ensures.log c.take_grant.new.grants.items c.take_grant.ensures.others c.open_for_head.new.state.log c.open_for_head.ensures.log c.open_for_head.new.grants.items c.open_for_head.ensures.grants c.open_for_head.new.state.streams (c.open_for_head.ensures.streams ∙ c.close_held.ensures.streams) in
+    grows_from _ _ _ (ap (λ (v : HostShown g.row.S.Denot). v.log) c.self.view_is) settled.grew

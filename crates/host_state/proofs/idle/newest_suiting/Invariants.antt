@@ -1,0 +1,13 @@
+use Rattle.std.proofs.Common.{◌≡◌, ℕ, ◌<◌, ◌≤◌, length, false, get_or}
+use Rattle.host_state.specs.declared.idle.Idle.{Idle}
+use Rattle.host_state.specs.Idle.{item_suits}
+use Rattle.host_state.proofs.idle.newest_suiting.Given as goal
+
+abbrev pub invariant-loop-place : goal.invariant-loop-place
+invariant-loop-place g l = record {
+  in_range : l.place ≤ length l.idle;
+  none_after : (k : ℕ) (d : Idle g.row.S.Denot) → l.place ≤ k → k < length l.idle → item_suits l.want l.moment (get_or l.idle k d) ≡ false;
+}
+
+abbrev pub decreases-loop-place : goal.decreases-loop-place
+decreases-loop-place g l = l.place

@@ -1,0 +1,9 @@
+use Rattle.std.proofs.Common.{◌≡◌, ◌<◌, length, get_or, subst}
+use Rattle.host_state.proofs.Replaying.{oldest_read}
+use Rattle.host_state.proofs.state.State.oldest.Goals as goal
+
+pub returns : goal.returns
+returns g c =
+    let item = c.in_ok-oldest.ensures.item in
+    let oldest = c.in_ok-oldest.oldest.now in
+    rw (← c.self.view_is) (oldest_read c.self.invariant.replays c.self.inside.host oldest (subst (λ idle. 0 < length idle) c.deref.ensures.value item.3.0) (subst (λ idle. oldest ≡ get_or idle 0 oldest) c.deref.ensures.value item.1))

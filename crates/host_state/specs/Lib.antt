@@ -1,0 +1,4 @@
+pub mod Steps
+pub mod Queue
+pub mod Idle
+pub mod State

@@ -1,0 +1,121 @@
+-- What a bundle's state has to do with its log.
+use Rattle.std.specs.Prelude.{◌≡◌, ℕ, ◌+◌, ◌*◌, ◌≤◌, Bool, true, false, not, ◌&&◌, ◌==◌, List, [], ◌∷◌, length, Option, Some}
+use Rattle.std.specs.Option.{option_map}
+use Rattle.persistence.specs.declared.facts.Facts.{Facts}
+use Rattle.persistence.specs.Persistent.{is_persistent}
+use Rattle.conn_log.specs.declared.entry.Want.{Want}
+use Rattle.conn_log.specs.declared.entry.Cause.{Cause}
+use Rattle.conn_log.specs.declared.entry.Cause.TheVariants.{TooOld}
+use Rattle.conn_log.specs.declared.entry.Event.TheVariants.{Leased, Returned, Closed}
+use Rattle.conn_log.specs.declared.entry.Entry.{Entry}
+use Rattle.conn_log.specs.Connections.{last_moment, opened, greatest, is_open, held_number, open_connections, idle_connections}
+use Rattle.conn_log.specs.Waiting.{waiting}
+use Rattle.conn_log.specs.Fit.{newest_fit, oldest_too_old, oldest}
+use Rattle.conn_log.specs.Legal.{LimitAndFirst, owed}
+use Rattle.conn_log.specs.Sound.{IsSound, AreDistinct, HeldFacts, idle_facts, held_facts}
+use Rattle.host_state.specs.declared.idle.Idle.{Idle}
+use Rattle.host_state.specs.declared.held.Held.{Held}
+use Rattle.host_state.specs.Steps.{add, is_full}
+use Rattle.host_state.specs.Idle.{find_number, numbers, facts_of_idle, stream_of, AreInOrder}
+
+-- a host as a step sees it: its log, its limit and first number, its index, the streams of its idle
+-- connections by number, and how many acquires are halfway
+pub record HostState (S : Type 0) : Type 0 where
+  pub log : List Entry
+  pub settings : LimitAndFirst
+  pub host : ℕ
+  pub streams : List (ℕ × S)
+  pub booked : ℕ
+
+-- what the log knows of a held connection
+abbrev pub facts_of_held : Held → HeldFacts
+facts_of_held held = record { number = held.number; lane = held.lane; born = held.born; forbids_reuse = held.forbids_reuse }
+
+-- the state says of each connection and of each transfer what the log says; beside that, how many are
+-- idle and how many are held, and the greatest number
+pub record Replays {S : Type 0} (settings : LimitAndFirst) (log : List Entry) (greatest_used : ℕ) (idle : List (Idle S)) (held : ℕ → Option Held) (held_len : ℕ) : Type 0 where
+  pub sound : IsSound settings log
+  pub greatest_is : greatest_used ≡ greatest settings.first (opened log)
+  pub idle_at : (c : ℕ) → option_map facts_of_idle (find_number idle c) ≡ idle_facts log c
+  pub idle_distinct : AreDistinct (numbers idle)
+  pub idle_in_order : AreInOrder idle
+  pub idle_len : length idle ≡ length (idle_connections log)
+  pub held_at : (transfer : ℕ) → option_map facts_of_held (held transfer) ≡ held_facts log transfer
+  pub open_len : length (open_connections log) ≡ length idle + held_len
+
+-- room for what is to come: of entries one for each idle connection, two for each held one, three for each
+-- transfer that waits and four for each acquire halfway; a place in the idle list for each of these; one in
+-- the table for each transfer that waits and for each acquire halfway; one in the queue for the latter
+pub record HasRoom (booked idle_len held_len waiting_len free_entries idle_capacity held_spare queue_spare : ℕ) : Type 0 where
+  pub log_room : 4 * booked + (3 * waiting_len + (2 * held_len + idle_len)) ≤ free_entries
+  pub idle_room : booked + (waiting_len + (idle_len + held_len)) ≤ idle_capacity
+  pub held_room : booked + waiting_len ≤ held_spare
+  pub queue_room : booked ≤ queue_spare
+
+-- what is booked once a transfer has started: where nobody waited it took what was booked
+abbrev pub booked_after_start : List Want → ℕ → ℕ
+booked_after_start [] booked = 0
+booked_after_start (head ∷ others) booked = booked
+
+-- the host stays, with its limit and first number
+pub record IsSameHost {S : Type 0} (old new : HostState S) : Type 0 where
+  pub settings : new.settings ≡ old.settings
+  pub host : new.host ≡ old.host
+
+-- idle connections were closed, and nothing else: the same were opened, none is open that was not, those that
+-- are open have their streams, and who holds what and who waits stay
+pub record ClosesIdle {S : Type 0} (moment : ℕ) (old new : HostState S) : Type 0 where
+  pub opened : opened new.log ≡ opened old.log
+  pub still : (d : ℕ) → is_open new.log d ≡ true → is_open old.log d ≡ true
+  pub streams : (d : ℕ) → is_open new.log d ≡ true → stream_of new.streams d ≡ stream_of old.streams d
+  pub holders : (t : ℕ) → held_number new.log t ≡ held_number old.log t
+  pub waiting : waiting new.log ≡ waiting old.log
+  pub later : last_moment new.log ≤ moment
+  pub booked : new.booked ≡ old.booked
+  pub same : IsSameHost old new
+
+-- the oldest that is too old in its lane was closed
+pub record ClosesOldest {S : Type 0} (want : Want) (moment : ℕ) (old new : HostState S) : Type 0 where
+  pub number : ℕ
+  pub oldest : oldest_too_old old.log want moment ≡ Some number
+  pub log : new.log ≡ add moment (Closed number TooOld) old.log
+  pub fewer : length (idle_connections old.log) ≡ length (idle_connections new.log) + 1
+  pub closes : ClosesIdle moment old new
+
+-- the one that is idle for the longest was closed, so that the host has room
+pub record ClosesFirst {S : Type 0} (cause : Cause) (moment : ℕ) (old new : HostState S) : Type 0 where
+  pub number : ℕ
+  pub oldest : oldest old.log ≡ Some number
+  pub log : new.log ≡ add moment (Closed number cause) old.log
+  pub room : is_full new.settings new.log ≡ false
+  pub others : (d : ℕ) → (number == d) ≡ false → stream_of new.streams d ≡ stream_of old.streams d
+  pub closes : ClosesIdle moment old new
+
+-- a connection came back after a response that ends its use, and was closed at once, as is owed then
+pub record EndsUse (old new : List Entry) (c : ℕ) (facts : Facts) (moment : ℕ) : Type 0 where
+  pub cause : Cause
+  pub owes : owed (add moment (Returned c facts) old) ≡ Some (c, cause)
+  pub log : new ≡ add moment (Closed c cause) (add moment (Returned c facts) old)
+
+-- the first transfer that waits wants this
+pub record WaitsFirst (log : List Entry) (want : Want) : Type 0 where
+  pub others : List Want
+  pub first : waiting log ≡ want ∷ others
+
+-- a lease on the newest fit connection, with the stream kept under its number
+pub record LeasesNewest {S : Type 0} (old new : HostState S) (want : Want) (moment c : ℕ) (stream : S) : Type 0 where
+  pub newest : newest_fit old.log want moment ≡ Some c
+  pub was_open : is_open old.log c ≡ true
+  pub log : new.log ≡ add moment (Leased c want) old.log
+  pub kept : stream_of old.streams c ≡ Some stream
+  pub others : (d : ℕ) → (c == d) ≡ false → stream_of new.streams d ≡ stream_of old.streams d
+  pub booked : new.booked ≡ booked_after_start (waiting old.log) old.booked
+  pub same : IsSameHost old new
+
+-- what a step asks of a held connection: that the log shows it held so by that transfer
+abbrev pub IsHeldAs : {S : Type 0} → HostState S → ℕ → Held → Type 0
+IsHeldAs state transfer held = held_facts state.log transfer ≡ Some (facts_of_held held)
+
+-- whether it stays open after that response
+abbrev pub stays_open : Facts → Held → Bool
+stays_open facts held = is_persistent facts && not held.forbids_reuse

@@ -1,0 +1,159 @@
+ghost use Rattle.std.specs.Prelude.{◌≡◌, ◌+◌, ◌<◌, ◌≤◌, IfSome, IfNone, slice_index_or, vec_len, vec_capacity};
+ghost use Rattle.std.specs.List.{insert, remove};
+ghost use Rattle.conn_log.specs.Fit.{is_older};
+ghost use Rattle.host_state.specs.Idle.{item_suits, item_too_old, ends_search, LastSuits, NoneSuits, FirstTooOld, NoneTooOld, AreInOrder, IsPlaceFor, is_before};
+
+use conn_log::Want;
+
+/// A connection that nobody holds, with its stream.
+#[derive(Drop)]
+pub(crate) struct Idle<S> {
+    pub number: u32,
+    pub lane: u32,
+    /// The moment in which it was opened, in seconds.
+    pub born: u64,
+    /// The moment since which it is idle, in seconds.
+    pub since: u64,
+    pub stream: S,
+}
+
+// Whether it is idle, or open, for longer than the want allows at that moment.
+fn is_older<S>(idle: &Idle<S>, want: &Want, moment: u64) -> bool
+    ensures { result ≡ is_older idle.now.since idle.now.born want.now.max_age want.now.max_life moment }
+{
+    let idle_for = moment.saturating_sub(idle.since);
+    let open_for = moment.saturating_sub(idle.born);
+    idle_for > want.max_age || (want.max_life != 0 && open_for > want.max_life)
+}
+
+// Whether a connection that came back persistent suits the want at that moment.
+fn suits<S>(idle: &Idle<S>, want: &Want, moment: u64) -> bool
+    ensures { result ≡ item_suits want.now moment idle.now }
+{
+    idle.lane == want.lane && !want.fresh && !is_older(idle, want, moment)
+}
+
+// Whether the want finds it too old in its lane at that moment.
+fn is_too_old<S>(idle: &Idle<S>, want: &Want, moment: u64) -> bool
+    ensures { result ≡ item_too_old want.now moment idle.now }
+{
+    idle.lane == want.lane && !want.fresh && is_older(idle, want, moment)
+}
+
+// Whether no connection that is idle for a shorter time can be too old for the want.
+fn ends_search<S>(idle: &Idle<S>, want: &Want, moment: u64) -> bool
+    ensures { result ≡ ends_search want.now moment idle.now }
+{
+    want.max_life == 0 && !is_older(idle, want, moment)
+}
+
+// Whether it goes before one that is idle since that moment and has that number.
+fn goes_before<S>(idle: &Idle<S>, since: u64, number: u32) -> bool
+    ensures { result ≡ is_before idle.now.since idle.now.number since number }
+{
+    idle.since < since || (idle.since == since && idle.number < number)
+}
+
+/// The place of the newest that suits the want; none does where it is for a new one.
+#[inline(always)]
+pub(crate) fn newest_suiting<S>(idle: &[Idle<S>], want: &Want, moment: u64) -> Option<usize>
+    ensures found { IfSome result (LastSuits want.now moment idle.now) }
+    ensures none { IfNone result (NoneSuits want.now moment idle.now) }
+{
+    if want.fresh {
+        return None;
+    }
+    let mut place = idle.len();
+    while place > 0 {
+        place -= 1;
+        if suits(&idle[place], want, moment) {
+            return Some(place);
+        }
+    }
+    None
+}
+
+/// The place of the newest, where it suits the want.
+#[inline(always)]
+pub(crate) fn newest_if_suiting<S>(idle: &[Idle<S>], want: &Want, moment: u64) -> Option<usize>
+    ensures { IfSome result (LastSuits want.now moment idle.now) }
+{
+    let place = idle.len().checked_sub(1)?;
+    if !suits(&idle[place], want, moment) {
+        return None;
+    }
+    Some(place)
+}
+
+/// The place of the first that is too old for the want in its lane; none is where it is for a new
+/// one. Where the want sets no limit on
+/// the time since a connection was opened, the search ends at the first that is idle for a short
+/// enough time, since none after it is idle for longer.
+#[inline(always)]
+pub(crate) fn first_too_old<S>(idle: &[Idle<S>], want: &Want, moment: u64) -> Option<usize>
+    requires { AreInOrder idle.now }
+    ensures found { IfSome result (FirstTooOld want.now moment idle.now) }
+    ensures none { IfNone result (NoneTooOld want.now moment idle.now) }
+{
+    if want.fresh {
+        return None;
+    }
+    let mut place = 0;
+    while place < idle.len() && !ends_search(&idle[place], want, moment) {
+        if is_too_old(&idle[place], want, moment) {
+            return Some(place);
+        }
+        place += 1;
+    }
+    None
+}
+
+/// The place that one of that moment and number takes in the order. It is sought from the end: those
+/// that are passed are those that have to be moved.
+#[inline(always)]
+pub(crate) fn place_for<S>(idle: &[Idle<S>], since: u64, number: u32) -> usize
+    requires { AreInOrder idle.now }
+    ensures { IsPlaceFor since number idle.now result }
+{
+    let mut place = idle.len();
+    while place > 0 && !goes_before(&idle[place - 1], since, number) {
+        place -= 1;
+    }
+    place
+}
+
+/// Takes out the one at that place. None is moved where it is the last.
+#[inline(always)]
+pub(crate) fn take_from<S: Drop>(idle: &mut Vec<Idle<S>>, place: usize) -> Idle<S>
+    requires { place < vec_len idle.old }
+    ensures value { result ≡ slice_index_or idle.old.items place result }
+    ensures items { idle.new.items ≡ remove idle.old.items place }
+    ensures len { vec_len idle.new + 1 ≡ vec_len idle.old }
+    ensures capacity { vec_capacity idle.new ≡ vec_capacity idle.old }
+{
+    if place + 1 < idle.len() {
+        return idle.remove(place);
+    }
+    let Some(last) = idle.pop() else {
+        unreachable!();
+    };
+    last
+}
+
+/// Puts one in at that place, in room made before. None is moved where it is the last.
+#[inline(always)]
+pub(crate) fn put_in<S: Drop>(idle: &mut Vec<Idle<S>>, place: usize, new: Idle<S>)
+    requires range { place ≤ vec_len idle.old }
+    requires room { vec_len idle.old < vec_capacity idle.old }
+    ensures items { idle.new.items ≡ insert idle.old.items place new }
+    ensures len { vec_len idle.new ≡ vec_len idle.old + 1 }
+    ensures capacity { vec_capacity idle.new ≡ vec_capacity idle.old }
+{
+    if place == idle.len() {
+        idle.push_reserved(new);
+        return;
+    }
+    let Ok(()) = idle.insert(place, new) else {
+        unreachable!();
+    };
+}

@@ -1,0 +1,564 @@
+ghost use Rattle.std.specs.Prelude.{◌≡◌, ℕ, ◌+◌, ◌-◌, ◌*◌, ◌<◌, ◌≤◌, [], true, false, ◌&&◌, ◌==◌, length, Some, None, IfOk, OnOk, OnErr, IfSome, IfNone, OnSome, is_some, if◌then◌else◌};
+ghost use Rattle.conn_log.specs.declared.entry.Entry.{Entry};
+ghost use Rattle.conn_log.specs.declared.entry.Event.TheVariants.{Opened, Leased, Returned, Closed, Waited, Left};
+ghost use Rattle.conn_log.specs.Connections.{last_moment, held_number, is_open, is_idle, open_connections, idle_connections, holds, is_held_by};
+ghost use Rattle.conn_log.specs.Waiting.{waiting, waits};
+ghost use Rattle.conn_log.specs.Fit.{newest_fit, oldest_too_old, oldest_stamp};
+ghost use Rattle.conn_log.specs.Sound.{IsSound, IsNext, is_of_holder, is_of_idle};
+ghost use Rattle.host_state.specs.Steps.{add, next_number, without_too_old, with_host_room, is_full, is_exhausted, moment_at};
+ghost use Rattle.host_state.specs.Idle.{stream_of};
+ghost use Rattle.host_state.specs.Queue.{waiting_want};
+ghost use Rattle.host_state.specs.State.{HostState, IsSameHost, ClosesIdle, ClosesOldest, ClosesFirst, LeasesNewest, EndsUse, WaitsFirst, IsHeldAs, stays_open, booked_after_start};
+ghost use Rattle.conn_log.specs.Legal.{IsAnyone, owed, ending_cause};
+ghost use Rattle.conn_log.specs.declared.entry.Want.{Want};
+
+use crate::held::{Held, enter, enter_if_free, take_out};
+use crate::idle::{
+    Idle, first_too_old, newest_if_suiting, newest_suiting, place_for, put_in, take_from,
+};
+use crate::queue::{Queue, spend_place};
+use conn_log::{Cause, Entry, Event, Log, LogFault, Stamp, Want};
+use persistence::Facts;
+use std::alloc::Global;
+use std::collections::HashMap;
+use std::marker::Model;
+
+/// How many entries a lease and its end may add.
+const ENTRIES_OF_A_LEASE: usize = 2;
+
+/// How many entries an acquire may add, with those of the end of its wait and of its lease.
+const ENTRIES_OF_AN_ACQUIRE: usize = 4;
+
+/// How many entries the end of a wait may add, with those of the end of its lease.
+const ENTRIES_OF_A_WAIT: usize = 3;
+
+/// The state of one host, which replays its log. Each step adds the entries that it is named for.
+#[derive(Drop)]
+pub struct State<S: Drop> {
+    host_limit: u32,
+    host: u32,
+    first: u32,
+    greatest: u32,
+    booked: u32,
+    log: Log,
+    idle: Vec<Idle<S>>,
+    held: HashMap<u64, Held>,
+    queue: Queue,
+}
+
+impl<S: Drop> Model for State<S> {
+    ghost use Rattle.std.specs.Prelude.{◌≡◌, ℕ, ◌+◌, ◌≤◌, nat_eq, length, vec_len, vec_capacity};
+    ghost use Rattle.std.specs.HashMap.{get, hash_map_len, spare};
+    ghost use Rattle.conn_log.specs.Waiting.{waiting};
+    ghost use Rattle.host_state.specs.Steps.{last_number};
+    ghost use Rattle.host_state.specs.State.{HostState, Replays, HasRoom};
+    ghost use Rattle.host_state.specs.Idle.{streams_of};
+
+    ghost Value = { HostState S };
+
+    ghost view = { λ state. record { log = state.log.entries; settings = record { limit = state.host_limit; first = state.first }; host = state.host; streams = streams_of state.idle.items; booked = state.booked } };
+
+    ghost invariant = { λ state. record {
+      replays : Replays (record { limit = state.host_limit; first = state.first }) state.log.entries state.greatest state.idle.items (get nat_eq state.held) (hash_map_len state.held);
+      queue : state.queue.wants ≡ waiting state.log.entries;
+      numbers : state.greatest + (length state.queue.wants + state.booked) ≤ last_number;
+      room : HasRoom state.booked (vec_len state.idle) (hash_map_len state.held) (length state.queue.wants) state.log.room (vec_capacity state.idle) (spare state.held) state.queue.room;
+    } };
+}
+
+impl<S: Drop> State<S> {
+    /// A host without connections.
+    pub fn new(
+        alloc: Global,
+        host_limit: u32,
+        host: u32,
+        first: u32,
+    ) -> Result<Self, LogFault>
+        ensures { IfOk result (λ state. state ≡ record { log = []; settings = record { limit = host_limit; first = first }; host = host; streams = []; booked = 0 }) }
+    {
+        Ok(State {
+            host_limit,
+            host,
+            first,
+            greatest: first.saturating_sub(1),
+            booked: 0,
+            log: Log::new(alloc)?,
+            idle: Vec::new(alloc),
+            held: HashMap::new(alloc),
+            queue: Queue::new(alloc),
+        })
+    }
+
+    /// The host's index.
+    pub fn host(&self) -> u32
+        ensures { result ≡ self.now.host }
+    {
+        self.host
+    }
+
+    /// The host's log, which is sound.
+    pub fn log(&self) -> &Log
+        ensures entries { result.now.entries ≡ self.now.log }
+        ensures sound { IsSound self.now.settings self.now.log }
+        ensures room { let leased = length (open_connections self.now.log) - length (idle_connections self.now.log) in 3 * length (waiting self.now.log) + 2 * leased + length (idle_connections self.now.log) ≤ result.now.room }
+        ensures streams { (c : ℕ) → is_idle self.now.log c ≡ false → stream_of self.now.streams c ≡ None }
+    {
+        &self.log
+    }
+
+    /// How many connections are idle.
+    pub fn idle_len(&self) -> u32
+        ensures { result ≡ length (idle_connections self.now.log) }
+    {
+        let _limit = self.host_limit;
+        self.idle.len() as u32
+    }
+
+    /// How many connections are open.
+    pub fn open_len(&self) -> u32
+        ensures { result ≡ length (open_connections self.now.log) }
+    {
+        let _limit = self.host_limit;
+        (self.idle.len() + self.held.len()) as u32
+    }
+
+    /// How many connections a transfer holds.
+    pub fn held_len(&self) -> u32
+        ensures { result ≡ length (open_connections self.now.log) - length (idle_connections self.now.log) }
+    {
+        let _limit = self.host_limit;
+        self.held.len() as u32
+    }
+
+    /// Whether as many connections are open as the host may have.
+    pub fn is_full(&self) -> bool
+        ensures { result ≡ is_full self.now.settings self.now.log }
+    {
+        self.open_len() == self.host_limit
+    }
+
+    /// Whether the connection numbers that are left are those that the waiting transfers may need.
+    pub fn is_exhausted(&self) -> bool
+        ensures { result ≡ is_exhausted self.now.settings self.now.log }
+    {
+        u32::MAX - self.greatest <= self.queue.len() as u32
+    }
+
+    /// How many transfers wait.
+    pub fn waiting_len(&self) -> u32
+        ensures { result ≡ length (waiting self.now.log) }
+    {
+        self.queue.len() as u32
+    }
+
+    /// Whether a transfer waits.
+    pub fn anyone_waits(&self) -> bool
+        ensures yes { result ≡ true → IsAnyone (waiting self.now.log) }
+        ensures no { result ≡ false → waiting self.now.log ≡ [] }
+    {
+        !self.queue.is_empty()
+    }
+
+    /// What the first transfer that waits wants.
+    pub fn first_waiting(&self) -> Option<Want>
+        ensures none { IfNone result (waiting self.now.log ≡ []) }
+        ensures some { IfSome result (λ want. WaitsFirst self.now.log want) }
+    {
+        self.queue.first()
+    }
+
+    /// What that transfer wants, if it waits.
+    pub fn waiting_want(&self, transfer: u64) -> Option<Want>
+        ensures { result ≡ waiting_want (waiting self.now.log) transfer }
+    {
+        self.queue.want_of(transfer)
+    }
+
+    /// Whether that transfer waits.
+    #[inline(always)]
+    pub fn waits(&self, transfer: u64) -> bool
+        ensures { result ≡ waits self.now.log transfer }
+    {
+        self.queue.want_of(transfer).is_some()
+    }
+
+    /// Whether the transfer holds a connection.
+    #[inline(always)]
+    pub fn holds(&self, transfer: u64) -> bool
+        ensures holds { result ≡ holds self.now.log transfer }
+        ensures number { result ≡ is_some (held_number self.now.log transfer) }
+    {
+        self.held.contains_key(&transfer)
+    }
+
+    /// What is kept of that connection, where that transfer holds it.
+    #[inline(always)]
+    pub fn held(&self, transfer: u64, number: u32) -> Option<Held>
+        ensures none { IfNone result (is_held_by self.now.log transfer number ≡ false) }
+        ensures number { IfSome result (λ held. held.number ≡ number) }
+        ensures some { IfSome result (λ held. IsHeldAs self.now transfer held) }
+        ensures known { OnSome result (is_held_by self.now.log transfer number ≡ true) }
+    {
+        match self.held.get(&transfer) {
+            Some(held) if held.number == number => Some(*held),
+            _ => None,
+        }
+    }
+
+    /// The moment of an event that is to be added: the greater of `now` and the last one.
+    #[inline(always)]
+    pub fn moment(&self, now: u64) -> u64
+        ensures { result ≡ moment_at self.now.log now }
+    {
+        now.max(self.log.last_moment())
+    }
+
+    /// The stamp of the connection that is idle for the longest.
+    pub fn oldest(&self) -> Option<Stamp>
+        ensures { result ≡ oldest_stamp self.now.log self.now.host }
+    {
+        let oldest = self.idle.first()?;
+        Some(Stamp {
+            since: oldest.since,
+            host: self.host,
+            number: oldest.number,
+        })
+    }
+
+    /// Makes room for all that an acquire, the end of its wait and the end of its lease will add. No
+    /// other step takes memory.
+    #[inline(always)]
+    pub fn book(&mut self) -> Result<(), LogFault>
+        requires none { self.old.booked ≡ 0 }
+        requires number { is_exhausted self.old.settings self.old.log ≡ false }
+        ensures ok { OnOk result (self.new ≡ record self.old { booked = 1 }) }
+        ensures err { OnErr result (self.new ≡ self.old) }
+    {
+        let held = self.held.len();
+        let waiting = self.queue.len();
+        let open = self.idle.len() + held;
+        self.log.reserve(ENTRIES_OF_AN_ACQUIRE + ENTRIES_OF_A_WAIT * waiting + open + held)?;
+        self.idle.reserve(held + waiting + 1)?;
+        self.queue.reserve(1)?;
+        self.held.reserve(waiting + 1)?;
+        self.booked = 1;
+        Ok(())
+    }
+
+    /// Leases the connection that came back last to the transfer, where nothing else has to be done:
+    /// the transfer holds nothing, nobody waits, numbers are left, nothing that is idle is too old,
+    /// and that connection fits. Where memory runs out nothing has changed.
+    #[inline(always)]
+    pub fn lease_last(&mut self, want: &Want, moment: u64) -> Option<(u32, S)>
+        requires none { self.old.booked ≡ 0 }
+        requires later { last_moment self.old.log ≤ moment }
+        ensures none { IfNone result (self.new ≡ self.old) }
+        ensures free { OnSome result (held_number self.old.log want.now.transfer ≡ None) }
+        ensures alone { OnSome result (waiting self.old.log ≡ []) }
+        ensures number { OnSome result (is_exhausted self.old.settings self.old.log ≡ false) }
+        ensures none_too_old { OnSome result (oldest_too_old self.old.log want.now moment ≡ None) }
+        ensures some { IfSome result (λ leased. LeasesNewest self.old self.new want.now moment leased.0 leased.1) }
+    {
+        if !self.queue.is_empty() || self.is_exhausted() {
+            return None;
+        }
+        let place = newest_if_suiting(&self.idle, want, moment)?;
+        if let Some(_) = first_too_old(&self.idle, want, moment) {
+            return None;
+        }
+        let last = &self.idle[place];
+        let held = Held {
+            number: last.number,
+            lane: last.lane,
+            born: last.born,
+            forbids_reuse: want.forbid_reuse,
+        };
+        let entries = ENTRIES_OF_A_LEASE + self.idle.len() + 2 * self.held.len();
+        let Ok(()) = self.log.reserve(entries) else {
+            return None;
+        };
+        if !enter_if_free(&mut self.held, want.transfer, held) {
+            return None;
+        }
+        let Idle { number, stream, .. } = take_from(&mut self.idle, place);
+        self.log.append(Entry {
+            moment,
+            event: Event::Leased {
+                connection: number,
+                want: *want,
+            },
+        });
+        Some((number, stream))
+    }
+
+    /// Leases the newest fit connection to the transfer, if there is one. The transfer is the first
+    /// that waits; where nobody waits, any that holds nothing, for which room was made.
+    #[inline(always)]
+    pub fn lease_newest_fit(&mut self, want: &Want, moment: u64) -> Option<(u32, S)>
+        requires next { IsNext self.old.log want.now }
+        requires booked { waiting self.old.log ≡ [] → self.old.booked ≡ 1 }
+        requires later { last_moment self.old.log ≤ moment }
+        ensures none { IfNone result ((newest_fit self.old.log want.now moment ≡ None) × (self.new ≡ self.old)) }
+        ensures some { IfSome result (λ leased. LeasesNewest self.old self.new want.now moment leased.0 leased.1) }
+    {
+        let place = newest_suiting(&self.idle, want, moment)?;
+        let Idle {
+            number,
+            lane,
+            born,
+            since: _,
+            stream,
+        } = take_from(&mut self.idle, place);
+        spend_place(&mut self.queue, &mut self.booked);
+        self.log.append(Entry {
+            moment,
+            event: Event::Leased {
+                connection: number,
+                want: *want,
+            },
+        });
+        let held = Held {
+            number,
+            lane,
+            born,
+            forbids_reuse: want.forbid_reuse,
+        };
+        enter(&mut self.held, want.transfer, held);
+        Some((number, stream))
+    }
+
+    /// Closes the idle connections of the want's lane that are too old for it, the one idle for the
+    /// longest first.
+    #[inline(always)]
+    pub fn close_too_old(&mut self, want: &Want, moment: u64)
+        requires { last_moment self.old.log ≤ moment }
+        ensures log { self.new.log ≡ without_too_old want.now moment self.old.log }
+        ensures closes { ClosesIdle moment self.old self.new }
+    {
+        while self.close_oldest_too_old(want, moment) {}
+    }
+
+    // Closes the one of them that is idle for the longest, if there is one.
+    #[inline(always)]
+    fn close_oldest_too_old(&mut self, want: &Want, moment: u64) -> bool
+        requires { last_moment self.old.log ≤ moment }
+        ensures none { result ≡ false → (oldest_too_old self.old.log want.now moment ≡ None) × (self.new ≡ self.old) }
+        ensures some { result ≡ true → ClosesOldest want.now moment self.old self.new }
+    {
+        let Some(place) = first_too_old(&self.idle, want, moment) else {
+            return false;
+        };
+        let oldest = self.idle.remove(place);
+        self.log.append(Entry {
+            moment,
+            event: Event::Closed {
+                connection: oldest.number,
+                cause: Cause::TooOld,
+            },
+        });
+        true
+    }
+
+    /// At the host's limit, closes the connection that is idle for the longest, if one is idle.
+    pub fn make_room(&mut self, moment: u64)
+        requires { last_moment self.old.log ≤ moment }
+        ensures log { self.new.log ≡ with_host_room self.old.settings moment self.old.log }
+        ensures room { is_full self.new.settings self.new.log ≡ true → idle_connections self.new.log ≡ [] }
+        ensures closes { ClosesIdle moment self.old self.new }
+    {
+        if self.is_full() && self.idle_len() > 0 {
+            self.close_oldest(Cause::HostRoom, moment);
+        }
+    }
+
+    /// Closes the connection that is idle for the longest.
+    pub fn close_oldest(&mut self, cause: Cause, moment: u64)
+        requires some { 0 < length (idle_connections self.old.log) }
+        requires cause { is_of_idle cause ≡ true }
+        requires later { last_moment self.old.log ≤ moment }
+        ensures { ClosesFirst cause moment self.old self.new }
+    {
+        let oldest = self.idle.remove(0);
+        self.log.append(Entry {
+            moment,
+            event: Event::Closed {
+                connection: oldest.number,
+                cause,
+            },
+        });
+    }
+
+    /// Opens a connection for the transfer, and answers its number. The transfer is the first that
+    /// waits; where nobody waits, any that holds nothing, for which room was made.
+    pub fn open(&mut self, want: &Want, moment: u64) -> u32
+        requires next { IsNext self.old.log want.now }
+        requires booked { waiting self.old.log ≡ [] → self.old.booked ≡ 1 }
+        requires later { last_moment self.old.log ≤ moment }
+        requires room { is_full self.old.settings self.old.log ≡ false }
+        ensures number { result ≡ next_number self.old.settings self.old.log }
+        ensures log { self.new.log ≡ add moment (Opened result want.now) self.old.log }
+        ensures opened { (d : ℕ) → (result == d) ≡ false → is_open self.new.log d ≡ true → is_open self.old.log d ≡ true }
+        ensures streams { self.new.streams ≡ self.old.streams }
+        ensures booked { self.new.booked ≡ booked_after_start (waiting self.old.log) self.old.booked }
+        ensures same { IsSameHost self.old self.new }
+    {
+        spend_place(&mut self.queue, &mut self.booked);
+        self.greatest += 1;
+        let number = self.greatest;
+        self.log.append(Entry {
+            moment,
+            event: Event::Opened {
+                connection: number,
+                want: *want,
+            },
+        });
+        let held = Held {
+            number,
+            lane: want.lane,
+            born: moment,
+            forbids_reuse: want.forbid_reuse,
+        };
+        enter(&mut self.held, want.transfer, held);
+        number
+    }
+
+    /// The transfer waits after all others, for which room was made.
+    pub fn wait(&mut self, want: Want, moment: u64)
+        requires booked { self.old.booked ≡ 1 }
+        requires later { last_moment self.old.log ≤ moment }
+        requires free { held_number self.old.log want.transfer ≡ None }
+        requires once { waits self.old.log want.transfer ≡ false }
+        requires none_idle { idle_connections self.old.log ≡ [] }
+        ensures log { self.new.log ≡ add moment (Waited want) self.old.log }
+        ensures streams { self.new.streams ≡ self.old.streams }
+        ensures booked { self.new.booked ≡ 0 }
+        ensures same { IsSameHost self.old self.new }
+    {
+        self.booked = 0;
+        self.queue.push(want);
+        self.log.append(Entry {
+            moment,
+            event: Event::Waited { want },
+        });
+    }
+
+    /// A transfer that waits is withdrawn.
+    pub fn leave(&mut self, transfer: u64, moment: u64)
+        requires waits { waits self.old.log transfer ≡ true }
+        requires later { last_moment self.old.log ≤ moment }
+        ensures log { self.new.log ≡ add moment (Left transfer) self.old.log }
+        ensures streams { self.new.streams ≡ self.old.streams }
+        ensures booked { self.new.booked ≡ self.old.booked }
+        ensures same { IsSameHost self.old self.new }
+    {
+        self.queue.take_out(transfer);
+        self.log.append(Entry {
+            moment,
+            event: Event::Left { transfer },
+        });
+    }
+
+    /// The connection comes back and is idle from then on, with its stream.
+    #[inline(always)]
+    pub fn come_back(
+        &mut self,
+        transfer: u64,
+        held: Held,
+        facts: Facts,
+        stream: S,
+        moment: u64,
+    )
+        requires held { IsHeldAs self.old transfer held }
+        requires stays { stays_open facts held ≡ true }
+        requires later { last_moment self.old.log ≤ moment }
+        ensures log { self.new.log ≡ add moment (Returned held.number facts) self.old.log }
+        ensures settled { owed self.new.log ≡ None }
+        ensures holders { (t : ℕ) → held_number self.new.log t ≡ (if transfer == t then None else held_number self.old.log t) }
+        ensures stream { stream_of self.new.streams held.number ≡ Some stream }
+        ensures others { (d : ℕ) → (held.number == d) ≡ false → stream_of self.new.streams d ≡ stream_of self.old.streams d }
+        ensures booked { self.new.booked ≡ self.old.booked }
+        ensures same { IsSameHost self.old self.new }
+    {
+        take_out(&mut self.held, transfer);
+        self.log.append(Entry {
+            moment,
+            event: Event::Returned {
+                connection: held.number,
+                facts,
+            },
+        });
+        let place = place_for(&self.idle, moment, held.number);
+        let idle = Idle {
+            number: held.number,
+            lane: held.lane,
+            born: held.born,
+            since: moment,
+            stream,
+        };
+        put_in(&mut self.idle, place, idle);
+    }
+
+    /// The connection comes back after a response that ends its use, and is closed.
+    pub fn end_use(&mut self, transfer: u64, held: Held, facts: Facts, moment: u64)
+        requires held { IsHeldAs self.old transfer held }
+        requires ends { stays_open facts held ≡ false }
+        requires later { last_moment self.old.log ≤ moment }
+        ensures log { EndsUse self.old.log self.new.log held.number facts moment }
+        ensures closed { is_open self.new.log held.number ≡ false }
+        ensures holders { (t : ℕ) → held_number self.new.log t ≡ (if transfer == t then None else held_number self.old.log t) }
+        ensures streams { self.new.streams ≡ self.old.streams }
+        ensures booked { self.new.booked ≡ self.old.booked }
+        ensures same { IsSameHost self.old self.new }
+    {
+        let cause = ending_cause(&facts, held.forbids_reuse);
+        take_out(&mut self.held, transfer);
+        self.log.append(Entry {
+            moment,
+            event: Event::Returned {
+                connection: held.number,
+                facts,
+            },
+        });
+        self.log.append(Entry {
+            moment,
+            event: Event::Closed {
+                connection: held.number,
+                cause,
+            },
+        });
+    }
+
+    /// The connection is closed without a response.
+    pub fn close_held(&mut self, transfer: u64, held: Held, cause: Cause, moment: u64)
+        requires held { IsHeldAs self.old transfer held }
+        requires cause { is_of_holder cause ≡ true }
+        requires later { last_moment self.old.log ≤ moment }
+        ensures log { self.new.log ≡ add moment (Closed held.number cause) self.old.log }
+        ensures holders { (t : ℕ) → held_number self.new.log t ≡ (if transfer == t then None else held_number self.old.log t) }
+        ensures streams { self.new.streams ≡ self.old.streams }
+        ensures booked { self.new.booked ≡ self.old.booked }
+        ensures same { IsSameHost self.old self.new }
+    {
+        take_out(&mut self.held, transfer);
+        self.log.append(Entry {
+            moment,
+            event: Event::Closed {
+                connection: held.number,
+                cause,
+            },
+        });
+    }
+}
+
+// Why a connection is closed after a response that ends its use.
+fn ending_cause(facts: &Facts, forbids_reuse: bool) -> Cause
+    ensures { (want : Want) → want.forbid_reuse ≡ forbids_reuse → result ≡ ending_cause facts.now want }
+{
+    if !facts.whole {
+        Cause::Cut
+    } else if forbids_reuse {
+        Cause::Forbidden
+    } else {
+        Cause::NotPersistent
+    }
+}
