@@ -2,21 +2,21 @@
 use Rattle.std.proofs.Common.{◌≡◌, ℕ, ◌+◌, ◌-◌, ◌<◌, ◌≤◌, Bool, true, false, cond, List, [], ◌∷◌, ◌++◌, length, take, refl, ap, sym, ◌∙◌, arith, Option, Some, None, Result, Ok, Err, append_assoc, append-nil, subst, inl, inr}
 use Rattle.std.specs.Io.KnownBytes.{Appends, Consumes, IsAtEnd}
 use Rattle.std.proofs.KnownBytes.{Appends-nil, Appends-trans}
-use Rattle.pool_cli.specs.declared.fault.FaultKind.{FaultKind}
-use Rattle.pool_cli.specs.declared.fault.FaultKind.TheVariants.{Memory, Read, Write, ScriptTooLong, LineTooLong, Unknown, Form, Place, BadLimits, BadSite, TooManySites}
-use Rattle.pool_cli.specs.declared.fault.ScriptFault.{ScriptFault}
-use Rattle.pool_cli.specs.declared.command.Command.{Command}
-use Rattle.pool_cli.specs.declared.command.Command.TheVariants as commands
-use Rattle.pool_cli.specs.declared.command.Limits.{Limits}
-use Rattle.pool_cli.specs.Words.{words}
-use Rattle.pool_cli.specs.Grammar.{reading, reading_of, present, command_of, formed, limits_form, site_form, get_form, claim_form, back_form, drop_form, leave_form, look_form}
+use Rattle.script_text.specs.declared.fault.FaultKind.{FaultKind}
+use Rattle.script_text.specs.declared.fault.FaultKind.TheVariants.{Memory, Read, Write, ScriptTooLong, LineTooLong, Unknown, Form, Place, BadLimits, BadSite, TooManySites}
+use Rattle.script_text.specs.declared.fault.ScriptFault.{ScriptFault}
+use Rattle.script_text.specs.declared.command.Command.{Command}
+use Rattle.script_text.specs.declared.command.Command.TheVariants as commands
+use Rattle.script_text.specs.declared.command.Limits.{Limits}
+use Rattle.script_text.specs.Words.{words}
+use Rattle.script_text.specs.Grammar.{reading, reading_of, present, command_of, formed, limits_form, site_form, get_form, claim_form, back_form, drop_form, leave_form, look_form}
 use Rattle.std.specs.Str.{bytes_eq}
 use Rattle.std.specs.Prelude.{codes}
-use Rattle.pool_cli.specs.Lines.{lines}
-use Rattle.pool_cli.specs.Meaning.{Run, start, step, with_limits, add_site, with_url, with_command}
-use Rattle.pool_cli.specs.Site.{site_named}
+use Rattle.script_text.specs.Lines.{lines}
+use Rattle.script_engine.specs.Meaning.{Run, start, step, with_limits, add_site, with_url, with_command}
+use Rattle.script_text.specs.Site.{site_named}
 use Rattle.conn_key.specs.declared.site.Site.{Site}
-use Rattle.pool_cli.specs.Transcript.{Transcript, whole_text, text_up_to, text_before, IsRun, told, before_others, line_step, line_step_of, Ends, EndsBy, FailsBy, transcript}
+use Rattle.script_engine.specs.Transcript.{Transcript, whole_text, text_up_to, text_before, IsRun, told, before_others, line_step, line_step_of, Ends, EndsBy, FailsBy, transcript}
 use Rattle.pool_cli.specs.Running.{RunsLines, LineFails, RunsScript, ReadsAll, ReadsOn}
 use Rattle.pool_cli.specs.Streams.{ReadFails}
 use Rattle.pool_cli.proofs.Streaming.{proper-front}

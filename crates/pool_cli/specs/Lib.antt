@@ -1,14 +1,2 @@
-pub mod Lines
-pub mod Words
-pub mod Grammar
-pub mod Site
-pub mod Printing
-pub mod Meaning
-pub mod Hosted
-pub mod Ending
-pub mod Transcript
 pub mod Streams
 pub mod Running
-pub mod Law
-pub mod TranscriptLines
-pub mod Worked

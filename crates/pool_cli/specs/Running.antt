@@ -1,11 +1,11 @@
 -- What running a script does to reader and writer.
 use Rattle.std.specs.Prelude.{◌≡◌, ◌<◌, ◌≤◌, ◌⊎◌, ℕ, length, List, [], Option, Result, Ok, Err}
 use Rattle.std.specs.Io.KnownBytes.{Appends, Consumes, IsAtEnd}
-use Rattle.pool_cli.specs.declared.fault.FaultKind.{FaultKind}
-use Rattle.pool_cli.specs.declared.fault.FaultKind.TheVariants.{Memory, Read, Write, ScriptTooLong}
-use Rattle.pool_cli.specs.declared.fault.ScriptFault.{ScriptFault}
-use Rattle.pool_cli.specs.Transcript.{Transcript, transcript, Ends, IsProperFront, LONGEST_SCRIPT}
-use Rattle.pool_cli.specs.Meaning.{Run}
+use Rattle.script_text.specs.declared.fault.FaultKind.{FaultKind}
+use Rattle.script_text.specs.declared.fault.FaultKind.TheVariants.{Memory, Read, Write, ScriptTooLong}
+use Rattle.script_text.specs.declared.fault.ScriptFault.{ScriptFault}
+use Rattle.script_engine.specs.Transcript.{Transcript, transcript, Ends, IsProperFront, LONGEST_SCRIPT}
+use Rattle.script_engine.specs.Meaning.{Run}
 
 -- what a line wrote that means this, and the run after it
 abbrev pub LineFails : Option (List ℕ) → Option (List ℕ) → Result (Run × List ℕ) FaultKind → FaultKind → Type 0

@@ -1,9 +1,9 @@
 -- What reading a script and writing a text do to the bytes of reader and writer.
 use Rattle.std.specs.Prelude.{◌≡◌, ℕ, ◌<◌, ◌≤◌, List, length, Option, Result, Ok, Err}
 use Rattle.std.specs.Io.KnownBytes.{Appends, Consumes, IsAtEnd}
-use Rattle.pool_cli.specs.declared.fault.FaultKind.{FaultKind}
-use Rattle.pool_cli.specs.declared.fault.FaultKind.TheVariants.{Memory, Read, Write, ScriptTooLong}
-use Rattle.pool_cli.specs.Transcript.{IsProperFront, LONGEST_SCRIPT}
+use Rattle.script_text.specs.declared.fault.FaultKind.{FaultKind}
+use Rattle.script_text.specs.declared.fault.FaultKind.TheVariants.{Memory, Read, Write, ScriptTooLong}
+use Rattle.script_engine.specs.Transcript.{IsProperFront, LONGEST_SCRIPT}
 
 -- all of the bytes are written, or, where a write failed, not all
 abbrev pub Puts : {A : Type 0} → Option (List ℕ) → Option (List ℕ) → List ℕ → Result A FaultKind → Type 0

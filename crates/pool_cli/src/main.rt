@@ -2,24 +2,11 @@
 //! transcript.
 #![tactic(auto)]
 
-mod command;
-mod fault;
-mod grammar;
-mod host;
-mod kept;
-mod law;
-mod lines;
-mod machine;
-mod options;
-mod printing;
 mod program;
 mod script;
-mod site;
 mod streams;
 #[cfg(test)]
 mod tests;
-mod words;
-mod worked;
 
 use program::{Words, run_program};
 use std::env;

@@ -2,10 +2,10 @@
 
 ghost use Rattle.std.specs.Prelude.{◌≡◌};
 
-use crate::fault::ScriptFault;
 use crate::script::run_script;
 use clap::error::ErrorKind;
 use clap::{Command, Error};
+use script_text::ScriptFault;
 use std::alloc::{AllocError, Global};
 use std::io::{Read, Write};
 

@@ -1,15 +1,13 @@
 //! A script, from its bytes to its transcript.
 
-ghost use Rattle.std.specs.Prelude.{◌≡◌, ◌≤◌, ℕ, length, List, Some, string_bytes};
-ghost use Rattle.pool_cli.specs.Lines.{lines};
-ghost use Rattle.pool_cli.specs.Transcript.{told, line_step, transcript, Answers};
+ghost use Rattle.std.specs.Prelude.{◌≡◌, ◌≤◌, ℕ, length, Some};
+ghost use Rattle.script_text.specs.Lines.{lines};
+ghost use Rattle.script_engine.specs.Transcript.{told, line_step, transcript};
 ghost use Rattle.pool_cli.specs.Running.{RunsLine, RunsLines, RunsScript};
 
-use crate::fault::{FaultKind, ScriptFault};
-use crate::grammar::read_line;
-use crate::lines::first_line;
-use crate::machine::{Engine, Machine};
 use crate::streams::{put, read_script};
+use script_engine::{Engine, Machine, line_text};
+use script_text::{FaultKind, ScriptFault, first_line};
 use std::alloc::Global;
 use std::io::{Read, Write};
 
@@ -88,18 +86,6 @@ fn run_line<M: Machine, W: Write>(
 {
     match line_text(alloc, machine, line) {
         Ok(text) => put(writer, text.as_bytes()),
-        Err(kind) => Err(kind),
-    }
-}
-
-/// Does what a line says, and gives the lines that tell of it.
-#[tactic(auto, unfolding(crate::specs::Transcript::line_step))]
-fn line_text<M: Machine>(alloc: Global, machine: &mut M, line: &[u8]) -> Result<String, FaultKind>
-    ensures { Answers string_bytes (line_step (M.run machine.old) line.now) result (M.run machine.new) }
-{
-    match read_line(line) {
-        Ok(Some(command)) => machine.answer(command),
-        Ok(None) => Ok(String::new(alloc)),
         Err(kind) => Err(kind),
     }
 }

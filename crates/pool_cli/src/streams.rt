@@ -4,7 +4,7 @@ ghost use Rattle.std.specs.Prelude.{◌≡◌, ℕ, ◌≤◌, ◌<◌, List, []
 ghost use Rattle.std.specs.Io.KnownBytes.{Appends, Consumes, IsAtEnd};
 ghost use Rattle.pool_cli.specs.Streams.{Puts, ReadsScript};
 
-use crate::fault::FaultKind;
+use script_text::FaultKind;
 use std::alloc::Global;
 use std::io::{Read, Write};
 

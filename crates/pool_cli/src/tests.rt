@@ -1,9 +1,9 @@
 //! What no clause says: that scripts run in ample memory, the worked ones among them, what words ask
 //! for, and what reader, writer and memory leave that fail.
 
-use crate::fault::{FaultKind, ScriptFault};
 use crate::program::{Words, run_program};
 use crate::script::{run_bytes, run_script};
+use script_text::{FaultKind, ScriptFault};
 use std::alloc::{AllocError, Global};
 use std::io;
 use std::io::{Read, Write};

@@ -1,7 +1,7 @@
 use Rattle.std.proofs.Common.{sym, ◌∙◌, ap, subst}
-use Rattle.pool_cli.specs.Lines.{lines}
-use Rattle.pool_cli.specs.Meaning.{Run}
-use Rattle.pool_cli.specs.Transcript.{Transcript, told}
+use Rattle.script_text.specs.Lines.{lines}
+use Rattle.script_engine.specs.Meaning.{Run}
+use Rattle.script_engine.specs.Transcript.{Transcript, told}
 use Rattle.pool_cli.specs.Running.{RunsLines}
 use Rattle.pool_cli.proofs.Running.{short-script}
 use Rattle.pool_cli.proofs.script.run_engine.Goals as goal

@@ -1,0 +1,190 @@
+-- What a host answers, from what its bundle did.
+use Rattle.std.proofs.Common.{◌≡◌, ℕ, Bool, true, false, cond, List, [], ◌∷◌, length, drop, reverse, flat_map, refl, ap, sym, ◌∙◌, Option, Some, None, IfSome, Result, Ok, Err, is_some}
+use Rattle.std.specs.Option.{option_map}
+use Rattle.conn_log.specs.declared.entry.Event.{Event}
+use Rattle.conn_log.specs.declared.entry.Event.TheVariants.{Opened, Leased, Returned, Closed, Waited, Left}
+use Rattle.conn_log.specs.declared.entry.Entry.{Entry}
+use Rattle.conn_log.specs.declared.entry.Want.{Want}
+use Rattle.conn_log.specs.Connections.{is_among, held_number}
+use Rattle.conn_log.specs.Waiting.{waiting}
+use Rattle.conn_log.specs.Legal.{Terms}
+use Rattle.conn_log.specs.Fit.{newest_fit}
+use Rattle.bundle.specs.declared.refusal.Refusal.{Refusal}
+use Rattle.bundle.specs.declared.snapshot.Snapshot.{Snapshot}
+use Rattle.bundle.specs.Calls.{after_acquire, after_give_back, after_abandon, after_withdraw, refusal, without_too_old, with_host_room, is_full, next_number, start_on, start_unless, moment_at, Start, start_by, newest_start, Wait, wait_by, newest_wait}
+use Rattle.bundle.specs.Lease.{OneHost, Leasing, leased_number, snapshot_of}
+use Rattle.script_text.specs.declared.command.Ending.{Ending}
+use Rattle.script_text.specs.declared.fault.FaultKind.{FaultKind}
+use Rattle.script_text.specs.Printing.{entry_line, lines_since, refused, claimed_line, still_line, look_line}
+use Rattle.script_engine.specs.Hosted.{lease_facts, kept_facts, leases_of}
+use Rattle.script_engine.specs.Meaning.{Answer, replied, grown, stranger, with_ticket, without_ticket, leased_number as leased_by_tickets, get_at, get_unless, acquired, tickets_with, claim_at, claim_of, back_at, back_of, drop_at, drop_of, leave_at, look_at, refusal_word, facts_of}
+use Rattle.script_engine.specs.Transcript.{Gives}
+use Rattle.script_text.specs.Printing.{GivesText}
+use Rattle.script_engine.proofs.Growth.{Grows, lines-grown}
+
+pub gives-answer : {T : Type 0} (bytes : T → List ℕ) (meant : Answer) (log : List Entry) (tickets text : List ℕ) (r : Result T FaultKind)
+    → meant ≡ replied log tickets text → GivesText bytes text r → Gives bytes meant r log tickets
+gives-answer bytes meant log tickets text (Ok t) is gives = is ∙ ap (λ l. replied log tickets l) (sym gives)
+gives-answer bytes meant log tickets text (Err kind) is gives = gives
+
+pub gives-lines : {T : Type 0} (bytes : T → List ℕ) (by : ℕ) (old new : List Entry) (place : ℕ) (r : Result T FaultKind) → place ≡ length old → Grows by old new
+    → GivesText bytes (flat_map (entry_line 0 by) (drop place (reverse new))) r → GivesText bytes (lines_since old new) r
+gives-lines bytes by old new place (Ok t) here grows gives = gives ∙ ap (λ n. flat_map (entry_line 0 by) (drop n (reverse new))) here ∙ lines-grown by old new grows
+gives-lines bytes by old new place (Err kind) here grows gives = gives
+
+-- where the entries that were added are written
+pub gives-grown : {T : Type 0} (bytes : T → List ℕ) (meant : Answer) (by : ℕ) (old new : List Entry) (tickets : List ℕ) (place : ℕ) (r : Result T FaultKind)
+    → meant ≡ grown old new tickets → place ≡ length old → Grows by old new
+    → GivesText bytes (flat_map (entry_line 0 by) (drop place (reverse new))) r → Gives bytes meant r new tickets
+gives-grown bytes meant by old new tickets place r is here grows gives =
+    gives-answer bytes meant new tickets (lines_since old new) r is (gives-lines bytes by old new place r here grows gives)
+
+-- get
+pub get-refused : (terms : Terms) (want : Want) (moment : ℕ) (log : List Entry) (tickets : List ℕ) (r : Refusal) → refusal terms log want ≡ Some r
+    → get_at terms want moment log tickets ≡ replied log tickets (refused (refusal_word r))
+unfolding get_at
+get-refused terms want moment log tickets r e = ap (get_unless terms want moment log tickets) e
+
+get-accepted : (terms : Terms) (want : Want) (moment : ℕ) (log new : List Entry) (tickets : List ℕ) → refusal terms log want ≡ None → new ≡ after_acquire terms log want moment
+    → get_at terms want moment log tickets ≡ acquired want log tickets new
+unfolding get_at
+get-accepted terms want moment log new tickets e same = ap (get_unless terms want moment log tickets) e ∙ ap (acquired want log tickets) (sym same)
+
+-- the newest entry starts no wait where it is a start
+no-wait : (moment : ℕ) (event : Event) (start : Start) → start_by moment event ≡ Some start → wait_by moment event ≡ None
+no-wait moment (Opened c want) start e = refl
+no-wait moment (Leased c want) start e = refl
+no-wait moment (Returned c facts) start e = refl
+no-wait moment (Closed c cause) start e = refl
+no-wait moment (Waited want) start e = cc
+no-wait moment (Left transfer) start e = refl
+
+started-no-wait : (log : List Entry) (start : Start) → newest_start log ≡ Some start → newest_wait log ≡ None
+started-no-wait [] start e = refl
+started-no-wait (e ∷ before) start is = no-wait e.moment e.event start is
+
+pub get-started : (terms : Terms) (want : Want) (moment : ℕ) (log new : List Entry) (tickets : List ℕ) (start : Start) → refusal terms log want ≡ None → new ≡ after_acquire terms log want moment
+    → newest_start new ≡ Some start → get_at terms want moment log tickets ≡ grown log new tickets
+get-started terms want moment log new tickets start e same newest =
+    get-accepted terms want moment log new tickets e same ∙ ap (λ wait. grown log new (tickets_with want.transfer tickets wait)) (started-no-wait new start newest)
+
+pub get-waited : (terms : Terms) (want : Want) (moment : ℕ) (log new : List Entry) (tickets : List ℕ) (wait : Wait) → refusal terms log want ≡ None → new ≡ after_acquire terms log want moment
+    → newest_wait new ≡ Some wait → get_at terms want moment log tickets ≡ grown log new (with_ticket want.transfer tickets)
+get-waited terms want moment log new tickets wait e same newest =
+    get-accepted terms want moment log new tickets e same ∙ ap (λ w. grown log new (tickets_with want.transfer tickets w)) newest
+
+-- an accepted acquire, and the want of its lease or ticket
+pub accepted : {A : Type 0} (got : A) (shows : Option Refusal) → IfSome shows (λ reason. ◌≡◌ {A = Result A Refusal} (Ok got) (Err reason)) → shows ≡ None
+accepted got None e = refl
+accepted got (Some reason) e = cc
+
+abbrev IsOf : Want → List Entry → Type 0
+IsOf want log = ((start : Start) → newest_start log ≡ Some start → start.want ≡ want) × ((wait : Wait) → newest_wait log ≡ Some wait → wait.want ≡ want)
+
+some-same : {A : Type 0} {x y : A} → Some x ≡ Some y → x ≡ y
+some-same e = cc
+
+opened-of : (want : Want) (moment c : ℕ) (log : List Entry) → IsOf want (record { moment = moment; event = Opened c want } ∷ log)
+opened-of want moment c log = ((λ start e. ap (λ (s : Start). s.want) (sym (some-same e))), (λ wait e. cc))
+
+leased-of : (want : Want) (moment c : ℕ) (log : List Entry) → IsOf want (record { moment = moment; event = Leased c want } ∷ log)
+leased-of want moment c log = ((λ start e. ap (λ (s : Start). s.want) (sym (some-same e))), (λ wait e. cc))
+
+waited-of : (want : Want) (moment : ℕ) (log : List Entry) → IsOf want (record { moment = moment; event = Waited want } ∷ log)
+waited-of want moment log = ((λ start e. cc), (λ wait e. ap (λ (w : Wait). w.want) (sym (some-same e))))
+
+start-of : (terms : Terms) (want : Want) (moment : ℕ) (log : List Entry) (fit : Option ℕ) → IsOf want (start_on terms want moment log fit)
+start-of terms want moment log None = by_room (is_full terms (with_host_room terms moment log))
+  where
+    room : List Entry
+    room = with_host_room terms moment log
+
+    by_room : (full : Bool) → IsOf want (cond full (record { moment = moment; event = Waited want } ∷ room) (record { moment = moment; event = Opened (next_number terms room) want } ∷ room))
+    by_room true = waited-of want moment room
+    by_room false = opened-of want moment (next_number terms room) room
+start-of terms want moment log (Some c) = leased-of want moment c log
+
+pub acquired-of : (terms : Terms) (log : List Entry) (want : Want) (now : ℕ) → IsOf want (after_acquire terms log want now)
+acquired-of terms log want now = by_waiting (waiting log)
+  where
+    moment : ℕ
+    moment = moment_at log now
+
+    by_waiting : (wants : List Want) → IsOf want (start_unless wants terms want moment log)
+    by_waiting [] = let closed = without_too_old want moment log in start-of terms want moment closed (newest_fit closed want moment)
+    by_waiting (head ∷ others) = waited-of want moment log
+
+-- back and drop
+pub back-stranger : (terms : Terms) (transfer : ℕ) (ending : Ending) (moment : ℕ) (log : List Entry) (tickets : List ℕ) → leased_by_tickets log tickets transfer ≡ None
+    → back_at terms transfer ending moment log tickets ≡ stranger log tickets
+unfolding back_at
+back-stranger terms transfer ending moment log tickets e = ap (back_of terms ending moment log tickets) e
+
+pub back-taken : (terms : Terms) (transfer : ℕ) (ending : Ending) (moment : ℕ) (log : List Entry) (tickets : List ℕ) (c : ℕ) → leased_by_tickets log tickets transfer ≡ Some c
+    → back_at terms transfer ending moment log tickets ≡ grown log (after_give_back terms log c (facts_of ending) moment) tickets
+unfolding back_at
+back-taken terms transfer ending moment log tickets c e = ap (back_of terms ending moment log tickets) e
+
+pub drop-stranger : (terms : Terms) (transfer moment : ℕ) (log : List Entry) (tickets : List ℕ) → leased_by_tickets log tickets transfer ≡ None → drop_at terms transfer moment log tickets ≡ stranger log tickets
+unfolding drop_at
+drop-stranger terms transfer moment log tickets e = ap (drop_of terms moment log tickets) e
+
+pub drop-taken : (terms : Terms) (transfer moment : ℕ) (log : List Entry) (tickets : List ℕ) (c : ℕ) → leased_by_tickets log tickets transfer ≡ Some c
+    → drop_at terms transfer moment log tickets ≡ grown log (after_abandon terms log c moment) tickets
+unfolding drop_at
+drop-taken terms transfer moment log tickets c e = ap (drop_of terms moment log tickets) e
+
+-- claim and leave
+pub claim-stranger : (transfer : ℕ) (log : List Entry) (tickets : List ℕ) → is_among transfer tickets ≡ false → claim_at transfer log tickets ≡ stranger log tickets
+unfolding claim_at
+claim-stranger transfer log tickets e = ap (λ b. cond b (claim_of transfer log tickets (held_number log transfer)) (stranger log tickets)) e
+
+claim-ticketed : (transfer : ℕ) (log : List Entry) (tickets : List ℕ) → is_among transfer tickets ≡ true → claim_at transfer log tickets ≡ claim_of transfer log tickets (held_number log transfer)
+unfolding claim_at
+claim-ticketed transfer log tickets e = ap (λ b. cond b (claim_of transfer log tickets (held_number log transfer)) (stranger log tickets)) e
+
+pub claim-still : (transfer : ℕ) (log : List Entry) (tickets : List ℕ) → is_among transfer tickets ≡ true → held_number log transfer ≡ None → claim_at transfer log tickets ≡ replied log tickets still_line
+claim-still transfer log tickets e held = claim-ticketed transfer log tickets e ∙ ap (claim_of transfer log tickets) held
+
+pub claim-granted : (transfer : ℕ) (log : List Entry) (tickets : List ℕ) (c : ℕ) → is_among transfer tickets ≡ true → held_number log transfer ≡ Some c
+    → claim_at transfer log tickets ≡ replied log (without_ticket transfer tickets) (claimed_line 0 c)
+claim-granted transfer log tickets c e held = claim-ticketed transfer log tickets e ∙ ap (claim_of transfer log tickets) held
+
+pub leave-stranger : (terms : Terms) (transfer moment : ℕ) (log : List Entry) (tickets : List ℕ) → is_among transfer tickets ≡ false → leave_at terms transfer moment log tickets ≡ stranger log tickets
+unfolding leave_at
+leave-stranger terms transfer moment log tickets e = ap (λ b. cond b (grown log (after_withdraw terms log transfer moment) (without_ticket transfer tickets)) (stranger log tickets)) e
+
+pub leave-taken : (terms : Terms) (transfer moment : ℕ) (log : List Entry) (tickets : List ℕ) → is_among transfer tickets ≡ true
+    → leave_at terms transfer moment log tickets ≡ grown log (after_withdraw terms log transfer moment) (without_ticket transfer tickets)
+unfolding leave_at
+leave-taken terms transfer moment log tickets e = ap (λ b. cond b (grown log (after_withdraw terms log transfer moment) (without_ticket transfer tickets)) (stranger log tickets)) e
+
+-- what is kept for a transfer
+pub record IsKeptFor {S : Type 0} (host : OneHost S) (transfer : ℕ) (lease : Leasing S) : Type 0 where
+  pub leased : leased_number host transfer ≡ Some lease.start.number
+  pub own : lease.start.want.transfer ≡ transfer
+  pub stream : is_some lease.stream ≡ true
+
+pub kept-lease : {S : Type 0} (host : OneHost S) (transfer : ℕ) (lease : Leasing S) → Some (lease_facts lease) ≡ leases_of host transfer → IsKeptFor host transfer lease
+kept-lease host transfer lease e = by_leased (leased_number host transfer) refl e
+  where
+    by_leased : (leased : Option ℕ) → leased_number host transfer ≡ leased → Some (lease_facts lease) ≡ option_map (kept_facts transfer) leased → IsKeptFor host transfer lease
+    by_leased None is h = cc
+    by_leased (Some n) is h =
+        let same : lease_facts lease ≡ kept_facts transfer n = cc in
+        record {
+          leased = is ∙ ap (λ (f : ℕ × ℕ × Bool). Some f.0) (sym same);
+          own = ap (λ (f : ℕ × ℕ × Bool). f.1) same;
+          stream = ap (λ (f : ℕ × ℕ × Bool). f.2) same;
+        }
+
+pub kept-none : {S : Type 0} (host : OneHost S) (transfer : ℕ) → None ≡ leases_of host transfer → leased_number host transfer ≡ None
+kept-none host transfer e = by_leased (leased_number host transfer) e
+  where
+    by_leased : (leased : Option ℕ) → None ≡ option_map (kept_facts transfer) leased → leased ≡ None
+    by_leased None h = refl
+    by_leased (Some n) h = cc
+
+pub look-told : (log : List Entry) (tickets : List ℕ) (s : Snapshot) → s ≡ snapshot_of log false → look_at log tickets ≡ replied log tickets (look_line 0 s.alive s.idle s.leased s.waiting s.queued)
+unfolding look_at
+look-told log tickets s is = ap (λ (s : Snapshot). replied log tickets (look_line 0 s.alive s.idle s.leased s.waiting s.queued)) (sym is)

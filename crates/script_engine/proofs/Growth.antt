@@ -1,0 +1,229 @@
+-- The lines of the entries that a call appends.
+use Rattle.std.proofs.Common.{◌≡◌, ℕ, zero, suc, ◌-◌, ◌≤◌, Bool, true, false, cond, List, [], ◌∷◌, ◌++◌, length, drop, reverse, flat_map, refl, ap, sym, subst, ◌∙◌, arith, Option, Some, None, append-nil}
+use Rattle.std.proofs.lemmas.Grind.{flat_map-append}
+use Rattle.std.proofs.lemmas.List.{reverse-append, length-reverse, length-append, drop_at}
+use Rattle.std.specs.Option.{option_map, option_map_or}
+use Rattle.std.specs.Prelude.{◌==◌}
+use Rattle.std.proofs.lemmas.Bool.{eqb-true}
+use Rattle.persistence.specs.declared.facts.Facts.{Facts}
+use Rattle.conn_log.specs.declared.entry.Want.{Want}
+use Rattle.conn_log.specs.declared.entry.Cause.{Cause}
+use Rattle.conn_log.specs.declared.entry.Cause.TheVariants as cause
+use Rattle.conn_log.specs.declared.entry.Event.{Event}
+use Rattle.conn_log.specs.declared.entry.Event.TheVariants.{Opened, Leased, Returned, Closed, Waited, Left}
+use Rattle.conn_log.specs.declared.entry.Entry.{Entry}
+use Rattle.conn_log.specs.Connections.{idle_connections, holder, is_held_by, holder_want, held_number}
+use Rattle.conn_log.specs.Waiting.{waiting, waits}
+use Rattle.conn_log.specs.Legal.{Terms, owed}
+use Rattle.conn_log.specs.Fit.{is_fit, newest_fit, oldest_too_old, oldest}
+use Rattle.bundle.specs.Calls.{after_acquire, after_give_back, after_close, after_abandon, after_withdraw, add, moment_at, close_before, close_too_old, without_too_old, with_host_room, is_full, close_for_room, start_new, start_on, start_unless, open_for, unfit_cause, pass_to, settle, close_granted, GrowsBy}
+use Rattle.script_text.specs.Printing.{entry_line, event_text, returned_by, newest_lines, lines_since}
+
+-- the new log has entries in front of the old one, and of each this is said
+abbrev pub SaysAll : (Event → List Entry → Type 0) → List Entry → List Entry → Type 0
+SaysAll Says [] old = Unit {0}
+SaysAll Says (e ∷ added) old = Says e.event (added ++ old) × SaysAll Says added old
+
+pub record Adds (Says : Event → List Entry → Type 0) (old new : List Entry) : Type 0 where
+  pub added : List Entry
+  pub whole : new ≡ added ++ old
+  pub says : SaysAll Says added old
+
+-- a Returned among the new entries is of a connection that the transfer held
+abbrev pub SaysIt : ℕ → Event → List Entry → Type 0
+SaysIt by (Returned c facts) before = holder before c ≡ Some by
+SaysIt by _ before = Unit {0}
+
+abbrev pub SaysBy : ℕ → List Entry → List Entry → Type 0
+SaysBy by added old = SaysAll (SaysIt by) added old
+
+abbrev pub Grows : ℕ → List Entry → List Entry → Type 0
+Grows by old new = Adds (SaysIt by) old new
+
+event-says : (by : ℕ) (event : Event) (before : List Entry) → SaysIt by event before → event_text 0 (returned_by before event) event ≡ event_text 0 by event
+event-says by (Opened c want) before says = refl
+event-says by (Leased c want) before says = refl
+event-says by (Returned c facts) before says = rw says refl
+event-says by (Closed c cause) before says = refl
+event-says by (Waited want) before says = refl
+event-says by (Left transfer) before says = refl
+
+entry-says : (by : ℕ) (e : Entry) (before : List Entry) → SaysIt by e.event before → entry_line 0 (returned_by before e.event) e ≡ entry_line 0 by e
+entry-says by e before says = rw (event-says by e.event before says) refl
+
+turned : (by : ℕ) (e : Entry) (added : List Entry) → flat_map (entry_line 0 by) (reverse (e ∷ added)) ≡ flat_map (entry_line 0 by) (reverse added) ++ entry_line 0 by e
+turned by e added =
+    ap (flat_map (entry_line 0 by)) (reverse-append (e ∷ []) added)
+    ∙ flat_map-append (entry_line 0 by) (reverse added) (e ∷ [])
+    ∙ ap (λ l. flat_map (entry_line 0 by) (reverse added) ++ l) (append-nil (entry_line 0 by e))
+
+newest : (by : ℕ) (added old : List Entry) → SaysBy by added old → newest_lines (length added) (added ++ old) ≡ flat_map (entry_line 0 by) (reverse added)
+newest by [] old says = refl
+newest by (e ∷ added) old says =
+    ap (λ l. newest_lines (length added) (added ++ old) ++ l) (entry-says by e (added ++ old) says.0)
+    ∙ ap (λ l. l ++ entry_line 0 by e) (newest by added old says.1)
+    ∙ sym (turned by e added)
+
+pub count-added : (added old : List Entry) → length (added ++ old) - length old ≡ length added
+count-added added old = simp length-append (omega arith)
+
+oldest-first : (added old : List Entry) → drop (length old) (reverse (added ++ old)) ≡ reverse added
+oldest-first added old = rw (reverse-append added old) (drop_at (reverse old) (reverse added) (length old) (length-reverse old))
+
+grown-lines : (by : ℕ) (added old : List Entry) → SaysBy by added old
+    → flat_map (entry_line 0 by) (drop (length old) (reverse (added ++ old))) ≡ newest_lines (length (added ++ old) - length old) (added ++ old)
+grown-lines by added old says =
+    ap (flat_map (entry_line 0 by)) (oldest-first added old)
+    ∙ sym (newest by added old says)
+    ∙ ap (λ n. newest_lines n (added ++ old)) (sym (count-added added old))
+
+-- what is written of the entries from a place on is what the definition says of the new ones
+pub lines-grown : (by : ℕ) (old new : List Entry) → Grows by old new
+    → flat_map (entry_line 0 by) (drop (length old) (reverse new)) ≡ lines_since old new
+unfolding lines_since
+lines-grown by old new grows = rw grows.whole (grown-lines by grows.added old grows.says)
+
+-- what the calls append: what is said of each entry is said of all but a Returned
+abbrev pub is_return : Event → Bool
+is_return (Returned c facts) = true
+is_return _ = false
+
+module _ (Says : Event → List Entry → Type 0) (silent : (event : Event) (before : List Entry) → is_return event ≡ false → Says event before) (old : List Entry) where
+  nothing : Adds Says old old
+  nothing = record { added = []; whole = refl; says = tt }
+
+  adds : (moment : ℕ) (event : Event) (log : List Entry) → Says event log → Adds Says old log → Adds Says old (add moment event log)
+  adds moment event log says so_far = record {
+    added = record { moment = moment; event = event } ∷ so_far.added;
+    whole = ap (add moment event) so_far.whole;
+    says = (subst (Says event) so_far.whole says, so_far.says);
+  }
+
+  adds_other : (moment : ℕ) (event : Event) (log : List Entry) → is_return event ≡ false → Adds Says old log → Adds Says old (add moment event log)
+  adds_other moment event log other = adds moment event log (silent event log other)
+
+  either : (b : Bool) (x y : List Entry) → Adds Says old x → Adds Says old y → Adds Says old (cond b x y)
+  either true x y p q = p
+  either false x y p q = q
+
+  adds_closes : (n : ℕ) (want : Want) (moment : ℕ) (log : List Entry) → Adds Says old log → Adds Says old (close_too_old n want moment log)
+  adds_closes zero want moment log so_far = so_far
+  adds_closes (suc n) want moment log so_far =
+      by_first (oldest_too_old log want moment) (λ c. adds_closes n want moment (add moment (Closed c cause.TooOld) log) (adds_other moment (Closed c cause.TooOld) log refl so_far))
+    where
+      by_first : (first : Option ℕ) → ((c : ℕ) → Adds Says old (close_too_old n want moment (add moment (Closed c cause.TooOld) log))) → Adds Says old (close_before moment log first (close_too_old n want moment))
+      by_first None rest = so_far
+      by_first (Some c) rest = rest c
+
+  adds_room : (terms : Terms) (moment : ℕ) (log : List Entry) → Adds Says old log → Adds Says old (with_host_room terms moment log)
+  adds_room terms moment log so_far = either (is_full terms log) _ _ (by_oldest (oldest log)) so_far
+    where
+      by_oldest : (first : Option ℕ) → Adds Says old (close_for_room moment log first)
+      by_oldest None = so_far
+      by_oldest (Some c) = adds_other moment (Closed c cause.HostRoom) log refl so_far
+
+  adds_new : (terms : Terms) (want : Want) (moment : ℕ) (log : List Entry) → Adds Says old log → Adds Says old (start_new terms want moment log)
+  adds_new terms want moment log so_far = adds_other moment (Opened _ want) log refl so_far
+
+  adds_start_on : (terms : Terms) (want : Want) (moment : ℕ) (log : List Entry) (fit : Option ℕ) → Adds Says old log → Adds Says old (start_on terms want moment log fit)
+  adds_start_on terms want moment log None so_far =
+      let room = with_host_room terms moment log in
+      let roomy = adds_room terms moment log so_far in
+      either (is_full terms room) _ _ (adds_other moment (Waited want) room refl roomy) (adds_new terms want moment room roomy)
+  adds_start_on terms want moment log (Some c) so_far = adds_other moment (Leased c want) log refl so_far
+
+  adds_start_unless : (terms : Terms) (want : Want) (moment : ℕ) (wants : List Want) → Adds Says old (start_unless wants terms want moment old)
+  adds_start_unless terms want moment [] =
+      let closed = without_too_old want moment old in
+      adds_start_on terms want moment closed (newest_fit closed want moment) (adds_closes (length (idle_connections old)) want moment old nothing)
+  adds_start_unless terms want moment (head ∷ others) = adds_other moment (Waited want) old refl nothing
+
+  pub adds_acquire : (terms : Terms) (want : Want) (now : ℕ) → Adds Says old (after_acquire terms old want now)
+  adds_acquire terms want now = adds_start_unless terms want (moment_at old now) (waiting old)
+
+  adds_open_for : (terms : Terms) (moment : ℕ) (log : List Entry) (wants : List Want) → Adds Says old log → Adds Says old (open_for terms moment log wants)
+  adds_open_for terms moment log [] so_far = so_far
+  adds_open_for terms moment log (head ∷ others) so_far = adds_new terms head moment log so_far
+
+  adds_pass : (terms : Terms) (c moment : ℕ) (log : List Entry) (wants : List Want) → Adds Says old log → Adds Says old (pass_to terms c moment log wants)
+  adds_pass terms c moment log [] so_far = so_far
+  adds_pass terms c moment log (head ∷ others) so_far =
+      let cause = unfit_cause terms log head moment c in
+      either (is_fit log head moment c) _ _ (adds_other moment (Leased c head) log refl so_far)
+      (adds_new terms head moment (add moment (Closed c cause) log) (adds_other moment (Closed c cause) log refl so_far))
+
+  adds_settle : (terms : Terms) (c moment : ℕ) (log : List Entry) (close : Option (ℕ × Cause)) → Adds Says old log → Adds Says old (settle terms c moment log close)
+  adds_settle terms c moment log None so_far = adds_pass terms c moment log (waiting log) so_far
+  adds_settle terms c moment log (Some close) so_far =
+      let closed = add moment (Closed close.0 close.1) log in
+      adds_open_for terms moment closed (waiting closed) (adds_other moment (Closed close.0 close.1) log refl so_far)
+
+  pub adds_give_back : (terms : Terms) (c : ℕ) (facts : Facts) (now : ℕ) → Says (Returned c facts) old → Adds Says old (after_give_back terms old c facts now)
+  adds_give_back terms c facts now says =
+      let moment = moment_at old now in
+      let returned = add moment (Returned c facts) old in
+      adds_settle terms c moment returned (owed returned) (adds moment (Returned c facts) old says nothing)
+
+  adds_close : (terms : Terms) (c : ℕ) (cause : Cause) (now : ℕ) → Adds Says old (after_close terms old c cause now)
+  adds_close terms c cause now =
+      let moment = moment_at old now in
+      let closed = add moment (Closed c cause) old in
+      adds_open_for terms moment closed (waiting closed) (adds_other moment (Closed c cause) old refl nothing)
+
+  pub adds_abandon : (terms : Terms) (c now : ℕ) → Adds Says old (after_abandon terms old c now)
+  adds_abandon terms c now = adds_close terms c cause.Dropped now
+
+  pub adds_withdraw : (terms : Terms) (transfer now : ℕ) → Adds Says old (after_withdraw terms old transfer now)
+  adds_withdraw terms transfer now = either (waits old transfer) _ _ (adds_other (moment_at old now) (Left transfer) old refl nothing) (by_held (held_number old transfer))
+    where
+      by_held : (held : Option ℕ) → Adds Says old (close_granted terms old held now)
+      by_held None = nothing
+      by_held (Some c) = adds_close terms c cause.Withdrawn now
+
+-- which transfer a connection comes back from
+silent-by : (by : ℕ) (event : Event) (before : List Entry) → is_return event ≡ false → SaysIt by event before
+silent-by by (Opened c want) before other = tt
+silent-by by (Leased c want) before other = tt
+silent-by by (Returned c facts) before other = absurd (cc)
+silent-by by (Closed c cause) before other = tt
+silent-by by (Waited want) before other = tt
+silent-by by (Left transfer) before other = tt
+
+held-holder : (by : ℕ) (want : Option Want) → option_map_or (λ (w : Want). w.transfer == by) want false ≡ true → option_map (λ (w : Want). w.transfer) want ≡ Some by
+held-holder by None h = cc
+held-holder by (Some want) h = ap Some (eqb-true want.transfer by h)
+
+pub acquired-grows : (by : ℕ) (terms : Terms) (log : List Entry) (want : Want) (now : ℕ) → Grows by log (after_acquire terms log want now)
+acquired-grows by terms log want now = adds_acquire (SaysIt by) (silent-by by) log terms want now
+
+pub given_back-grows : (by : ℕ) (terms : Terms) (log : List Entry) (c : ℕ) (facts : Facts) (now : ℕ) → is_held_by log by c ≡ true → Grows by log (after_give_back terms log c facts now)
+given_back-grows by terms log c facts now held = adds_give_back (SaysIt by) (silent-by by) log terms c facts now (held-holder by (holder_want log c) held)
+
+pub abandoned-grows : (by : ℕ) (terms : Terms) (log : List Entry) (c now : ℕ) → Grows by log (after_abandon terms log c now)
+abandoned-grows by terms log c now = adds_abandon (SaysIt by) (silent-by by) log terms c now
+
+pub withdrawn-grows : (by : ℕ) (terms : Terms) (log : List Entry) (transfer now : ℕ) → Grows by log (after_withdraw terms log transfer now)
+withdrawn-grows by terms log transfer now = adds_withdraw (SaysIt by) (silent-by by) log terms transfer now
+
+-- that it grew, whatever is said
+abbrev SaysNothing : Event → List Entry → Type 0
+SaysNothing event before = Unit {0}
+
+grew : (old new : List Entry) → Adds SaysNothing old new → GrowsBy old new
+grew old new adds = (adds.added, adds.whole)
+
+module _ (terms : Terms) (log : List Entry) where
+  pub grows-acquire : (want : Want) (now : ℕ) → GrowsBy log (after_acquire terms log want now)
+  grows-acquire want now = grew log _ (adds_acquire SaysNothing (λ event before other. tt) log terms want now)
+
+  pub grows-give_back : (c : ℕ) (facts : Facts) (now : ℕ) → GrowsBy log (after_give_back terms log c facts now)
+  grows-give_back c facts now = grew log _ (adds_give_back SaysNothing (λ event before other. tt) log terms c facts now tt)
+
+  pub grows-abandon : (c now : ℕ) → GrowsBy log (after_abandon terms log c now)
+  grows-abandon c now = grew log _ (adds_abandon SaysNothing (λ event before other. tt) log terms c now)
+
+  pub grows-withdraw : (transfer now : ℕ) → GrowsBy log (after_withdraw terms log transfer now)
+  grows-withdraw transfer now = grew log _ (adds_withdraw SaysNothing (λ event before other. tt) log terms transfer now)
+
+pub grows-length : (by : ℕ) (old new : List Entry) → Grows by old new → length old ≤ length new
+grows-length by old new grows = rw grows.whole (omega (arith, length-append grows.added old))

@@ -1,0 +1,15 @@
+pub mod WholeLines
+pub mod EventLines
+pub mod Growth
+pub mod Tickets
+pub mod Leases
+pub mod Answering
+pub mod Spending
+pub mod Asking
+pub mod Lawful
+pub mod TicketLists
+pub mod Stakes
+pub mod Ticketed
+pub mod Telling
+pub mod LeasedLines
+pub mod Ending

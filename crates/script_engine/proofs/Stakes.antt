@@ -1,0 +1,215 @@
+-- Who waits and who holds, once a transfer gave back, abandoned or left, and once one acquired.
+use Rattle.std.proofs.Common.{◌≡◌, ℕ, Bool, true, false, cond, not, ◌||◌, List, [], ◌∷◌, Option, Some, None, is_some, refl, ap, sym, ◌∙◌}
+use Rattle.std.specs.Prelude.{◌==◌}
+use Rattle.std.specs.Option.{option_map_or, option_and_then}
+use Rattle.std.specs.List.{list_any}
+use Rattle.std.proofs.lemmas.Bool.{eqb-true}
+use Rattle.persistence.specs.declared.facts.Facts.{Facts}
+use Rattle.conn_log.specs.declared.entry.Want.{Want}
+use Rattle.conn_log.specs.declared.entry.Cause.{Cause}
+use Rattle.conn_log.specs.declared.entry.Cause.TheVariants as causes
+use Rattle.conn_log.specs.declared.entry.Event.TheVariants.{Leased, Returned, Closed, Left}
+use Rattle.conn_log.specs.declared.entry.Entry.{Entry}
+use Rattle.conn_log.specs.Connections.{is_held_by, holder_want, held_number, unless_it_is}
+use Rattle.conn_log.specs.Waiting.{waiting, waits, without}
+use Rattle.conn_log.specs.Fit.{is_fit}
+use Rattle.conn_log.specs.Legal.{Terms, owed, owed_for, ends_use, ending_cause}
+use Rattle.conn_log.specs.Sound.{IsSound}
+use Rattle.bundle.specs.Calls.{add, moment_at, next_number, start_new, open_for, unfit_cause, pass_to, settle, after_give_back, after_close, after_abandon, close_granted, after_withdraw}
+use Rattle.script_engine.specs.Law.{is_served}
+use Rattle.script_engine.proofs.Leases.{held-passes}
+use Rattle.script_engine.proofs.TicketLists.{no-both}
+
+-- nobody else waits than before, and what the others had they have
+pub record Moves (t : ℕ) (old new : List Entry) : Type 0 where
+  pub waits_less : (u : ℕ) → waits new u ≡ true → waits old u ≡ true
+  pub keeps : (u : ℕ) → (t == u) ≡ false → is_served old u ≡ true → is_served new u ≡ true
+
+both : (t : ℕ) (old mid new : List Entry) → Moves t old mid → Moves t mid new → Moves t old new
+both t old mid new first second = record {
+  waits_less = λ u w. first.waits_less u (second.waits_less u w);
+  keeps = λ u other served. second.keeps u other (first.keeps u other served);
+}
+
+pub still : (t : ℕ) (log : List Entry) → Moves t log log
+still t log = record { waits_less = λ u w. w; keeps = λ u other served. served }
+
+-- who waits, without one
+any-less : (s u : ℕ) (wants : List Want) → list_any (λ (w : Want). w.transfer == u) (without s wants) ≡ true → list_any (λ (w : Want). w.transfer == u) wants ≡ true
+any-less s u [] h = h
+any-less s u (want ∷ wants) h = by_first (want.transfer == s) (want.transfer == u) h (any-less s u wants)
+  where
+    by_first : (gone here : Bool) → list_any (λ (w : Want). w.transfer == u) (cond (not gone) (want ∷ without s wants) (without s wants)) ≡ true
+        → (list_any (λ (w : Want). w.transfer == u) (without s wants) ≡ true → list_any (λ (w : Want). w.transfer == u) wants ≡ true) → ((want.transfer == u) || list_any (λ (w : Want). w.transfer == u) wants) ≡ true
+    by_first true here h' rest = right (want.transfer == u) _ (rest h')
+      where
+        right : (a b : Bool) → b ≡ true → (a || b) ≡ true
+        right true b e = refl
+        right false b e = e
+    by_first false here h' rest = either (want.transfer == u) _ _ h' rest
+      where
+        either : (a b c : Bool) → (a || b) ≡ true → (b ≡ true → c ≡ true) → (a || c) ≡ true
+        either true b c e f = refl
+        either false b c e f = f e
+
+any-others : (s u : ℕ) (wants : List Want) → (s == u) ≡ false → list_any (λ (w : Want). w.transfer == u) (without s wants) ≡ list_any (λ (w : Want). w.transfer == u) wants
+any-others s u [] other = refl
+any-others s u (want ∷ wants) other = by_first (want.transfer == s) refl (any-others s u wants other)
+  where
+    by_first : (gone : Bool) → (want.transfer == s) ≡ gone → list_any (λ (w : Want). w.transfer == u) (without s wants) ≡ list_any (λ (w : Want). w.transfer == u) wants
+        → list_any (λ (w : Want). w.transfer == u) (cond (not gone) (want ∷ without s wants) (without s wants)) ≡ ((want.transfer == u) || list_any (λ (w : Want). w.transfer == u) wants)
+    by_first true is rest = rest ∙ ap (λ b. b || list_any (λ (w : Want). w.transfer == u) wants) (sym (ap (λ (k : ℕ). k == u) (eqb-true want.transfer s is) ∙ other))
+    by_first false is rest = ap (λ b. (want.transfer == u) || b) rest
+
+any-none : (t : ℕ) (wants : List Want) → list_any (λ (w : Want). w.transfer == t) (without t wants) ≡ false
+any-none t [] = refl
+any-none t (want ∷ wants) = by_first (want.transfer == t) refl (any-none t wants)
+  where
+    by_first : (gone : Bool) → (want.transfer == t) ≡ gone → list_any (λ (w : Want). w.transfer == t) (without t wants) ≡ false
+        → list_any (λ (w : Want). w.transfer == t) (cond (not gone) (want ∷ without t wants) (without t wants)) ≡ false
+    by_first true is rest = rest
+    by_first false is rest = ap (λ b. b || list_any (λ (w : Want). w.transfer == t) (without t wants)) is ∙ rest
+
+-- a start
+or-true : (b : Bool) → (b || true) ≡ true
+or-true true = refl
+or-true false = refl
+
+started : (t moment c : ℕ) (want : Want) (log new : List Entry) → waiting new ≡ without want.transfer (waiting log) → ((u : ℕ) → held_number new u ≡ cond (want.transfer == u) (Some c) (held_number log u)) → Moves t log new
+started t moment c want log new wants held = record {
+  waits_less = λ u w. any-less want.transfer u (waiting log) (ap (list_any (λ (x : Want). x.transfer == u)) (sym wants) ∙ w);
+  keeps = λ u other served. by_first u (want.transfer == u) refl (held u) served;
+}
+  where
+    by_first : (u : ℕ) (own : Bool) → (want.transfer == u) ≡ own → held_number new u ≡ cond own (Some c) (held_number log u) → is_served log u ≡ true → is_served new u ≡ true
+    by_first u true is has served = ap (λ h. waits new u || is_some h) has ∙ or-true (waits new u)
+    by_first u false is has served =
+        ap (λ h. waits new u || is_some h) has
+        ∙ ap (λ b. b || is_some (held_number log u)) (ap (list_any (λ (x : Want). x.transfer == u)) wants ∙ any-others want.transfer u (waiting log) is)
+        ∙ served
+
+opens : (t : ℕ) (terms : Terms) (want : Want) (moment : ℕ) (log : List Entry) → Moves t log (start_new terms want moment log)
+opens t terms want moment log = started t moment (next_number terms log) want log (start_new terms want moment log) refl (λ u. refl)
+
+leases : (t moment c : ℕ) (want : Want) (log : List Entry) → Moves t log (add moment (Leased c want) log)
+leases t moment c want log = started t moment c want log (add moment (Leased c want) log) refl (λ u. refl)
+
+opens-for : (t : ℕ) (terms : Terms) (moment : ℕ) (log : List Entry) (wants : List Want) → Moves t log (open_for terms moment log wants)
+opens-for t terms moment log [] = still t log
+opens-for t terms moment log (head ∷ others) = opens t terms head moment log
+
+-- a connection comes back or is closed, which no other transfer holds
+let_go : (t c : ℕ) (log new : List Entry) → waiting new ≡ waiting log → ((u : ℕ) → held_number new u ≡ unless_it_is c (held_number log u)) → ((u : ℕ) → (t == u) ≡ false → unless_it_is c (held_number log u) ≡ held_number log u) → Moves t log new
+let_go t c log new wants held apart = record {
+  waits_less = λ u w. ap (list_any (λ (x : Want). x.transfer == u)) (sym wants) ∙ w;
+  keeps = λ u other served. ap (λ h. waits new u || is_some h) (held u ∙ apart u other) ∙ ap (λ ws. list_any (λ (x : Want). x.transfer == u) ws || is_some (held_number log u)) wants ∙ served;
+}
+
+apart-after : (t c : ℕ) (log new : List Entry) → ((u : ℕ) → held_number new u ≡ unless_it_is c (held_number log u)) → (u : ℕ) → (t == u) ≡ false → unless_it_is c (held_number new u) ≡ held_number new u
+apart-after t c log new held u other = ap (unless_it_is c) (held u) ∙ twice (held_number log u) ∙ sym (held u)
+  where
+    by_same : (d : ℕ) (same : Bool) → (d == c) ≡ same → unless_it_is c (cond same None (Some d)) ≡ cond same None (Some d)
+    by_same d true is = refl
+    by_same d false is = ap (λ b. cond b None (Some d)) is
+
+    twice : (number : Option ℕ) → unless_it_is c (unless_it_is c number) ≡ unless_it_is c number
+    twice None = refl
+    twice (Some d) = by_same d (d == c) refl
+
+one-holder : (held : Option Want) (t u : ℕ) → option_map_or (λ (w : Want). w.transfer == t) held false ≡ true → option_map_or (λ (w : Want). w.transfer == u) held false ≡ true → (t == u) ≡ true
+one-holder None t u a b = absurd (cc)
+one-holder (Some w) t u a b = ap (λ (k : ℕ). k == u) (sym (eqb-true w.transfer t a)) ∙ b
+
+apart-holder : (terms : Terms) (log : List Entry) → IsSound terms log → (t c : ℕ) → held_number log t ≡ Some c → (u : ℕ) → (t == u) ≡ false → unless_it_is c (held_number log u) ≡ held_number log u
+apart-holder terms log sound t c holds u other = by_held (held_number log u) refl
+  where
+    by_same : (d : ℕ) → held_number log u ≡ Some d → (same : Bool) → (d == c) ≡ same → cond same None (Some d) ≡ Some d
+    by_same d is true same =
+        let held : is_held_by log u c ≡ true = held-passes terms log sound u c (is ∙ ap Some (eqb-true d c same)) in
+        absurd (no-both (t == u) (one-holder (holder_want log c) t u (held-passes terms log sound t c holds) held) other)
+    by_same d is false same = refl
+
+    by_held : (held : Option ℕ) → held_number log u ≡ held → unless_it_is c held ≡ held
+    by_held None is = refl
+    by_held (Some d) is = by_same d is (d == c) refl
+
+-- what is owed is the close of what came back
+owed-own : (c : ℕ) (facts : Facts) (held : Option Want) (close : ℕ × Cause) → option_and_then (owed_for c facts) held ≡ Some close → close.0 ≡ c
+owed-own c facts None close e = cc
+owed-own c facts (Some want) close e = by_end (ends_use facts want) e
+  where
+    by_end : (ends : Bool) → cond ends (Some (c, ending_cause facts want)) None ≡ Some close → close.0 ≡ c
+    by_end true e' = let same : (c, ending_cause facts want) ≡ close = cc in ap (λ (p : ℕ × Cause). p.0) (sym same)
+    by_end false e' = cc
+
+module _ (terms : Terms) (log : List Entry) (sound : IsSound terms log) (t c : ℕ) (holds : held_number log t ≡ Some c) where
+  closes : (cause : Cause) (now : ℕ) → Moves t log (after_close terms log c cause now)
+  closes cause now =
+      let moment = moment_at log now in
+      let closed = add moment (Closed c cause) log in
+      both t log closed (after_close terms log c cause now) (let_go t c log closed refl (λ u. refl) (apart-holder terms log sound t c holds)) (opens-for t terms moment closed (waiting closed))
+
+  pub abandoned : (now : ℕ) → Moves t log (after_abandon terms log c now)
+  abandoned now = closes causes.Dropped now
+
+  pub given-back : (facts : Facts) (now : ℕ) → Moves t log (after_give_back terms log c facts now)
+  given-back facts now = both t log returned (settle terms c moment returned (owed returned)) (let_go t c log returned refl (λ u. refl) (apart-holder terms log sound t c holds)) (by_owed (owed returned) refl)
+    where
+      moment : ℕ
+      moment = moment_at log now
+
+      returned : List Entry
+      returned = add moment (Returned c facts) log
+
+      apart : (u : ℕ) → (t == u) ≡ false → unless_it_is c (held_number returned u) ≡ held_number returned u
+      apart = apart-after t c log returned (λ u. refl)
+
+      passed : (head : Want) (fits : Bool) (cause : Cause) → Moves t returned (cond fits (add moment (Leased c head) returned) (start_new terms head moment (add moment (Closed c cause) returned)))
+      passed head true cause = leases t moment c head returned
+      passed head false cause =
+          let closed = add moment (Closed c cause) returned in
+          both t returned closed (start_new terms head moment closed) (let_go t c returned closed refl (λ u. refl) apart) (opens t terms head moment closed)
+
+      by_waiting : (wants : List Want) → Moves t returned (pass_to terms c moment returned wants)
+      by_waiting [] = still t returned
+      by_waiting (head ∷ others) = passed head (is_fit returned head moment c) (unfit_cause terms returned head moment c)
+
+      by_owed : (close : Option (ℕ × Cause)) → owed returned ≡ close → Moves t returned (settle terms c moment returned close)
+      by_owed None is = by_waiting (waiting returned)
+      by_owed (Some close) is =
+          let same : close.0 ≡ c = owed-own c facts (holder_want log c) close is in
+          let closed = add moment (Closed close.0 close.1) returned in
+          both t returned closed (open_for terms moment closed (waiting closed))
+          (let_go t close.0 returned closed refl (λ u. refl) (λ u other. ap (λ (d : ℕ). unless_it_is d (held_number returned u)) same ∙ apart u other))
+          (opens-for t terms moment closed (waiting closed))
+
+-- who withdraws waits no more
+pub record Leaves (t : ℕ) (old new : List Entry) : Type 0 where
+  pub moves : Moves t old new
+  pub gone : waits new t ≡ false
+
+left : (t moment : ℕ) (log : List Entry) → Leaves t log (add moment (Left t) log)
+left t moment log = record {
+  moves = record {
+    waits_less = λ u w. any-less t u (waiting log) w;
+    keeps = λ u other served. ap (λ b. b || is_some (held_number log u)) (any-others t u (waiting log) other) ∙ served;
+  };
+  gone = any-none t (waiting log);
+}
+
+no-more : (b before : Bool) → before ≡ false → (b ≡ true → before ≡ true) → b ≡ false
+no-more true before e f = absurd (no-both before (f refl) e)
+no-more false before e f = refl
+
+pub withdrawn : (terms : Terms) (log : List Entry) → IsSound terms log → (t now : ℕ) → Leaves t log (after_withdraw terms log t now)
+withdrawn terms log sound t now = by_waits (waits log t) refl
+  where
+    by_held : (held : Option ℕ) → held_number log t ≡ held → Moves t log (close_granted terms log held now)
+    by_held None is = still t log
+    by_held (Some c) is = closes terms log sound t c is causes.Withdrawn now
+
+    by_waits : (waiting_now : Bool) → waits log t ≡ waiting_now → Leaves t log (cond waiting_now (add (moment_at log now) (Left t) log) (close_granted terms log (held_number log t) now))
+    by_waits true is = left t (moment_at log now) log
+    by_waits false is =
+        let moved = by_held (held_number log t) refl in
+        record { moves = moved; gone = no-more (waits (close_granted terms log (held_number log t) now) t) (waits log t) is (moved.waits_less t) }

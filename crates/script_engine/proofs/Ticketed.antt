@@ -1,0 +1,335 @@
+-- Each command leaves tickets to those that wait or have yet to claim, so the tickets after a script stand.
+use Rattle.std.proofs.Common.{◌≡◌, ℕ, Bool, true, false, cond, ◌||◌, ◌&&◌, List, [], ◌∷◌, Option, Some, None, Result, Ok, Err, is_some, refl, ap, sym, subst, inl, inr, ◌∙◌}
+use Rattle.std.specs.Prelude.{◌==◌, ◌⊎◌, nat_lt, if◌then◌else◌, length}
+use Rattle.std.proofs.lemmas.Bool.{eqb-true}
+use Rattle.conn_log.specs.declared.entry.Want.{Want}
+use Rattle.conn_log.specs.declared.entry.Event.TheVariants.{Opened, Waited}
+use Rattle.conn_log.specs.declared.entry.Entry.{Entry}
+use Rattle.conn_log.specs.Connections.{is_among, held_number}
+use Rattle.conn_log.specs.Waiting.{waiting, waits}
+use Rattle.conn_log.specs.Fit.{newest_fit}
+use Rattle.conn_log.specs.Legal.{Terms}
+use Rattle.conn_log.specs.Sound.{AreDistinct, IsSound}
+use Rattle.bundle.specs.declared.refusal.Refusal.{Refusal}
+use Rattle.bundle.specs.Calls.{refusal, after_acquire, after_withdraw, moment_at, without_too_old, with_host_room, is_full, next_number, start_on, start_unless, newest_start, Wait, newest_wait}
+use Rattle.bundle.proofs.Told.{told, Told}
+use Rattle.bundle.proofs.Acquired.{begun, Starts, Waits}
+use Rattle.conn_key.specs.declared.site.Site.{Site}
+use Rattle.conn_key.specs.Sites.{with_site}
+use Rattle.script_text.specs.Lines.{lines}
+use Rattle.script_text.specs.Grammar.{reading}
+use Rattle.script_text.specs.Site.{site_named}
+use Rattle.script_engine.specs.Meaning.{has_site, is_one_too_many}
+use Rattle.script_engine.specs.Meaning.{Run, start, step, terms_of, facts_of, with_ticket, without_ticket, leased_number, tickets_with, stranger, grown, get_at, get_unless, claim_at, claim_of, back_at, back_of, drop_at, drop_of, leave_at, look_at, at_host, at_no_host, with_limits, add_site, with_url, with_command, are_good, site_of}
+use Rattle.script_engine.specs.Transcript.{line_step, line_step_of, LONGEST_SCRIPT}
+use Rattle.script_engine.specs.Law.{run_after, after_line, is_served, TicketsStand, EveryTicketStands}
+use Rattle.script_text.specs.declared.command.Limits.{Limits}
+use Rattle.script_text.specs.declared.command.Command.{Command}
+use Rattle.script_text.specs.declared.command.Command.TheVariants as commands
+use Rattle.script_text.specs.declared.command.Ending.{Ending}
+use Rattle.script_text.specs.declared.fault.FaultKind.{FaultKind}
+use Rattle.script_text.specs.declared.fault.FaultKind.TheVariants.{Place, BadLimits, TooManySites}
+use Rattle.script_engine.proofs.Leases.{accepted-free, waits-want}
+use Rattle.script_engine.proofs.Lawful.{CallsKeep, SoundUnder, SoundRun, SoundStep, held-where-leased, sound_line}
+use Rattle.script_engine.proofs.TicketLists.{no-both, among-with, among-less, among-other, among-own, distinct-with, distinct-without}
+use Rattle.script_engine.proofs.Stakes.{Moves, Leaves, still, abandoned, given-back, withdrawn}
+
+-- the tickets stand, and each transfer has one at most
+record Fits (log : List Entry) (tickets : List ℕ) : Type 0 where
+  stands : TicketsStand log tickets
+  distinct : AreDistinct tickets
+
+unlike : (t u : ℕ) → (t ≡ u → ⊥) → (t == u) ≡ false
+unlike t u never = by_test (t == u) refl
+  where
+    by_test : (same : Bool) → (t == u) ≡ same → same ≡ false
+    by_test true is = absurd (never (eqb-true t u is))
+    by_test false is = refl
+
+-- a transfer without a ticket gave back or abandoned
+moved : (t : ℕ) (log new : List Entry) (tickets : List ℕ) → Moves t log new → is_among t tickets ≡ false → Fits log tickets → Fits new tickets
+moved t log new tickets moves none fits = record {
+  stands = record {
+    ticketed = λ u w. fits.stands.ticketed u (moves.waits_less u w);
+    served = λ u among. moves.keeps u (unlike t u (λ same. no-both (is_among u tickets) among (ap (λ (k : ℕ). is_among k tickets) (sym same) ∙ none))) (fits.stands.served u among);
+  };
+  distinct = fits.distinct;
+}
+
+-- a transfer's ticket was spent
+spent : (t : ℕ) (log new : List Entry) (tickets : List ℕ) → Leaves t log new → Fits log tickets → Fits new (without_ticket t tickets)
+spent t log new tickets leaves fits = record {
+  stands = record {
+    ticketed = λ u w. among-other u t tickets (unlike t u (λ same. no-both (waits new u) w (ap (waits new) (sym same) ∙ leaves.gone))) (fits.stands.ticketed u (leaves.moves.waits_less u w));
+    served = λ u among. leaves.moves.keeps u
+        (unlike t u (λ same. no-both (is_among u (without_ticket t tickets)) among (ap (λ (k : ℕ). is_among k (without_ticket t tickets)) (sym same) ∙ among-own t tickets fits.distinct)))
+        (fits.stands.served u (among-less u t tickets among));
+  };
+  distinct = distinct-without t tickets fits.distinct;
+}
+
+-- a transfer acquired
+told-waits : (log new : List Entry) (u : ℕ) → told new u ≡ told log u → waits new u ≡ waits log u
+told-waits log new u same = sym (waits-want (waiting new) u) ∙ ap (λ (t : Told). is_some t.awaited) same ∙ waits-want (waiting log) u
+
+told-served : (log new : List Entry) (u : ℕ) → told new u ≡ told log u → is_served new u ≡ is_served log u
+told-served log new u same = ap (λ b. b || is_some (held_number new u)) (told-waits log new u same) ∙ ap (λ (t : Told). waits log u || is_some t.number) same
+
+or-true : (b : Bool) → (b || true) ≡ true
+or-true true = refl
+or-true false = refl
+
+begins : (want : Want) (log new : List Entry) (tickets : List ℕ) → Starts want log new → Fits log tickets → Fits new tickets
+begins want log new tickets starts fits = record {
+  stands = record { ticketed = λ u w. ticketed u (want.transfer == u) refl w; served = λ u among. served u (want.transfer == u) refl among };
+  distinct = fits.distinct;
+}
+  where
+    unwaited : waits new want.transfer ≡ false
+    unwaited = sym (waits-want (waiting new) want.transfer) ∙ ap (λ (t : Told). is_some t.awaited) starts.mine
+
+    ticketed : (u : ℕ) (own : Bool) → (want.transfer == u) ≡ own → waits new u ≡ true → is_among u tickets ≡ true
+    ticketed u true is w = absurd (no-both (waits new u) w (ap (waits new) (sym (eqb-true want.transfer u is)) ∙ unwaited))
+    ticketed u false is w = fits.stands.ticketed u (sym (told-waits log new u (starts.others u is)) ∙ w)
+
+    served : (u : ℕ) (own : Bool) → (want.transfer == u) ≡ own → is_among u tickets ≡ true → is_served new u ≡ true
+    served u true is among =
+        subst (λ (k : ℕ). is_served new k ≡ true) (eqb-true want.transfer u is)
+        (ap (λ (t : Told). waits new want.transfer || is_some t.number) starts.mine ∙ or-true (waits new want.transfer))
+    served u false is among = told-served log new u (starts.others u is) ∙ fits.stands.served u among
+
+waits-there : (want : Want) (log new : List Entry) (tickets : List ℕ) → held_number log want.transfer ≡ None → waits log want.transfer ≡ false → Waits want log new → Fits log tickets → Fits new (with_ticket want.transfer tickets)
+waits-there want log new tickets free unwaiting begins_to fits = record {
+  stands = record { ticketed = λ u w. ticketed u (want.transfer == u) refl w; served = λ u among. served u (want.transfer == u) refl (sym (among-with u want.transfer tickets) ∙ among) };
+  distinct = distinct-with want.transfer tickets none fits.distinct;
+}
+  where
+    unserved : is_served log want.transfer ≡ false
+    unserved = ap (λ b. b || is_some (held_number log want.transfer)) unwaiting ∙ ap is_some free
+
+    none-of : (among : Bool) → is_among want.transfer tickets ≡ among → among ≡ false
+    none-of true is = absurd (no-both (is_served log want.transfer) (fits.stands.served want.transfer is) unserved)
+    none-of false is = refl
+
+    none : is_among want.transfer tickets ≡ false
+    none = none-of (is_among want.transfer tickets) refl
+
+    waited : waits new want.transfer ≡ true
+    waited = sym (waits-want (waiting new) want.transfer) ∙ ap is_some begins_to.awaited
+
+    ticketed : (u : ℕ) (own : Bool) → (want.transfer == u) ≡ own → waits new u ≡ true → is_among u (with_ticket want.transfer tickets) ≡ true
+    ticketed u true is w = among-with u want.transfer tickets ∙ ap (λ b. b || is_among u tickets) is
+    ticketed u false is w =
+        among-with u want.transfer tickets ∙ ap (λ b. b || is_among u tickets) is ∙ fits.stands.ticketed u (sym (told-waits log new u (begins_to.others u is)) ∙ w)
+
+    served : (u : ℕ) (own : Bool) → (want.transfer == u) ≡ own → ((want.transfer == u) || is_among u tickets) ≡ true → is_served new u ≡ true
+    served u true is among = subst (λ (k : ℕ). is_served new k ≡ true) (eqb-true want.transfer u is) (ap (λ b. b || is_some (held_number new want.transfer)) waited)
+    served u false is among = told-served log new u (begins_to.others u is) ∙ fits.stands.served u (sym (ap (λ b. b || is_among u tickets) is) ∙ among)
+
+-- the newest entry of an acquire is a start or a wait
+abbrev IsEither : List Entry → Type 0
+IsEither log = newest_start log ≡ None → is_some (newest_wait log) ≡ true
+
+either-on : (terms : Terms) (want : Want) (moment : ℕ) (log : List Entry) (fit : Option ℕ) → IsEither (start_on terms want moment log fit)
+either-on terms want moment log None = by_room (is_full terms (with_host_room terms moment log))
+  where
+    room : List Entry
+    room = with_host_room terms moment log
+
+    by_room : (full : Bool) → IsEither (cond full (record { moment = moment; event = Waited want } ∷ room) (record { moment = moment; event = Opened (next_number terms room) want } ∷ room))
+    by_room true = λ none. refl
+    by_room false = λ none. cc
+either-on terms want moment log (Some c) = λ none. cc
+
+either-start : (terms : Terms) (log : List Entry) (want : Want) (now : ℕ) → IsEither (after_acquire terms log want now)
+either-start terms log want now = by_waiting (waiting log)
+  where
+    moment : ℕ
+    moment = moment_at log now
+
+    by_waiting : (wants : List Want) → IsEither (start_unless wants terms want moment log)
+    by_waiting [] = let closed = without_too_old want moment log in either-on terms want moment closed (newest_fit closed want moment)
+    by_waiting (head ∷ others) = λ none. refl
+
+module _ (terms : Terms) (log : List Entry) (tickets : List ℕ) (sound : IsSound terms log) (fits : Fits log tickets) where
+  fits_get : (want : Want) (moment : ℕ) → let answer = get_at terms want moment log tickets in Fits answer.log answer.tickets
+  unfolding get_at
+  fits_get want moment = by_refusal (refusal terms log want) refl
+    where
+      new : List Entry
+      new = after_acquire terms log want moment
+
+      by_wait : (wait : Option Wait) → is_some wait ≡ true → Fits new (with_ticket want.transfer tickets) → Fits new (tickets_with want.transfer tickets wait)
+      by_wait (Some wait) there fits_new = fits_new
+      by_wait None there fits_new = absurd (cc)
+
+      by_begin : refusal terms log want ≡ None → Starts want log new ⊎ Waits want log new → Fits new (tickets_with want.transfer tickets (newest_wait new))
+      by_begin is (inl starts) = subst (λ wait. Fits new (tickets_with want.transfer tickets wait)) (sym starts.no_wait) (begins want log new tickets starts fits)
+      by_begin is (inr begins_to) =
+          let free = accepted-free terms log sound want is in
+          by_wait (newest_wait new) (either-start terms log want moment begins_to.no_start) (waits-there want log new tickets free.0 free.1 begins_to fits)
+
+      by_refusal : (reason : Option Refusal) → refusal terms log want ≡ reason → let answer = get_unless terms want moment log tickets reason in Fits answer.log answer.tickets
+      by_refusal (Some r) is = fits
+      by_refusal None is = by_begin is (begun terms log want moment sound is)
+
+  holder-unwaiting : (transfer c : ℕ) → held_number log transfer ≡ Some c → waits log transfer ≡ false
+  holder-unwaiting transfer c held = by_waits (waits log transfer) refl
+    where
+      by_waits : (waiting_now : Bool) → waits log transfer ≡ waiting_now → waiting_now ≡ false
+      by_waits true is = let both : Some c ≡ None = sym held ∙ sound.orderly.waiting_free transfer is in absurd (cc)
+      by_waits false is = refl
+
+  fits_claim : (transfer : ℕ) → let answer = claim_at transfer log tickets in Fits answer.log answer.tickets
+  unfolding claim_at
+  fits_claim transfer = by_ticket (is_among transfer tickets)
+    where
+      by_held : (held : Option ℕ) → held_number log transfer ≡ held → let answer = claim_of transfer log tickets held in Fits answer.log answer.tickets
+      by_held None is = fits
+      by_held (Some c) is = spent transfer log log tickets (record { moves = still transfer log; gone = holder-unwaiting transfer c is }) fits
+
+      by_ticket : (ticketed : Bool) → let answer = (if ticketed then claim_of transfer log tickets (held_number log transfer) else stranger log tickets) in Fits answer.log answer.tickets
+      by_ticket true = by_held (held_number log transfer) refl
+      by_ticket false = fits
+
+  unticketed : (transfer c : ℕ) → leased_number log tickets transfer ≡ Some c → is_among transfer tickets ≡ false
+  unticketed transfer c leased = by_ticket (is_among transfer tickets) leased
+    where
+      by_ticket : (ticketed : Bool) → cond ticketed None (held_number log transfer) ≡ Some c → ticketed ≡ false
+      by_ticket true e = cc
+      by_ticket false e = refl
+
+  fits_back : (transfer : ℕ) (ending : Ending) (moment : ℕ) → let answer = back_at terms transfer ending moment log tickets in Fits answer.log answer.tickets
+  unfolding back_at
+  fits_back transfer ending moment = by_leased (leased_number log tickets transfer) refl
+    where
+      by_leased : (leased : Option ℕ) → leased_number log tickets transfer ≡ leased → let answer = back_of terms ending moment log tickets leased in Fits answer.log answer.tickets
+      by_leased None is = fits
+      by_leased (Some c) is =
+          let held = held-where-leased (is_among transfer tickets) (held_number log transfer) c is in
+          moved transfer log _ tickets (given-back terms log sound transfer c held (facts_of ending) moment) (unticketed transfer c is) fits
+
+  fits_drop : (transfer moment : ℕ) → let answer = drop_at terms transfer moment log tickets in Fits answer.log answer.tickets
+  unfolding drop_at
+  fits_drop transfer moment = by_leased (leased_number log tickets transfer) refl
+    where
+      by_leased : (leased : Option ℕ) → leased_number log tickets transfer ≡ leased → let answer = drop_of terms moment log tickets leased in Fits answer.log answer.tickets
+      by_leased None is = fits
+      by_leased (Some c) is =
+          let held = held-where-leased (is_among transfer tickets) (held_number log transfer) c is in
+          moved transfer log _ tickets (abandoned terms log sound transfer c held moment) (unticketed transfer c is) fits
+
+  fits_leave : (transfer moment : ℕ) → let answer = leave_at terms transfer moment log tickets in Fits answer.log answer.tickets
+  unfolding leave_at
+  fits_leave transfer moment = by_ticket (is_among transfer tickets)
+    where
+      left : List Entry
+      left = after_withdraw terms log transfer moment
+
+      by_ticket : (ticketed : Bool) → let answer = (if ticketed then grown log left (without_ticket transfer tickets) else stranger log tickets) in Fits answer.log answer.tickets
+      by_ticket true = spent transfer log left tickets (withdrawn terms log sound transfer moment) fits
+      by_ticket false = fits
+
+  fits_look : let answer = look_at log tickets in Fits answer.log answer.tickets
+  unfolding look_at
+  fits_look = fits
+
+  fits_at_host : (command : Command) → let answer = at_host terms log tickets command in Fits answer.log answer.tickets
+  fits_at_host (commands.Limits limits) = fits
+  fits_at_host (commands.Site word) = fits
+  fits_at_host (commands.Get want site moment) = fits_get want moment
+  fits_at_host (commands.Claim transfer site) = fits_claim transfer
+  fits_at_host (commands.Back transfer site ending moment) = fits_back transfer ending moment
+  fits_at_host (commands.Drop transfer site moment) = fits_drop transfer moment
+  fits_at_host (commands.Leave transfer site moment) = fits_leave transfer moment
+  fits_at_host (commands.Look site) = fits_look
+
+fits_at_no_host : (log : List Entry) (tickets : List ℕ) → Fits log tickets → (command : Command) → let answer = at_no_host log tickets command in Fits answer.log answer.tickets
+fits_at_no_host log tickets fits (commands.Limits limits) = fits
+fits_at_no_host log tickets fits (commands.Site word) = fits
+fits_at_no_host log tickets fits (commands.Get want site moment) = fits
+fits_at_no_host log tickets fits (commands.Claim transfer site) = fits
+fits_at_no_host log tickets fits (commands.Back transfer site ending moment) = fits
+fits_at_no_host log tickets fits (commands.Drop transfer site moment) = fits
+fits_at_no_host log tickets fits (commands.Leave transfer site moment) = fits
+fits_at_no_host log tickets fits (commands.Look site) = fits
+
+-- a run's, and what a step makes
+abbrev FitRun : Run → Type 0
+FitRun run = Fits run.log run.tickets
+
+abbrev FitStep : Result (Run × List ℕ) FaultKind → Type 0
+FitStep (Err kind) = Unit {0}
+FitStep (Ok next) = FitRun next.0
+
+fits_command : (run : Run) (command : Command) (old : Option Limits) → SoundUnder old run.log → FitRun run → FitStep (with_command run command old)
+fits_command run command None sound fits = tt
+fits_command run command (Some limits) sound fits = by_test (has_site run.sites && (site_of command == 0))
+  where
+    by_test : (here : Bool) → let answer = (if here then at_host (terms_of limits) run.log run.tickets command else at_no_host run.log run.tickets command) in Fits answer.log answer.tickets
+    by_test true = fits_at_host (terms_of limits) run.log run.tickets sound.sound fits command
+    by_test false = fits_at_no_host run.log run.tickets fits command
+
+fits_limits : (run : Run) (limits : Limits) (old : Option Limits) → FitRun run → FitStep (with_limits run limits old)
+fits_limits run limits (Some others) fits = tt
+fits_limits run limits None fits = by_good (are_good limits)
+  where
+    by_good : (good : Bool) → FitStep (if good then Ok (record run { limits = Some limits }, []) else Err BadLimits)
+    by_good true = fits
+    by_good false = tt
+
+fits_named : (run : Run) (site : Option Site) → FitRun run → FitStep (add_site run site)
+fits_named run None fits = tt
+fits_named run (Some site) fits = by_test (is_one_too_many run.sites site)
+  where
+    by_test : (too_many : Bool) → FitStep (if too_many then Err TooManySites else Ok (record run { sites = with_site run.sites site }, []))
+    by_test true = tt
+    by_test false = fits
+
+fits_site : (run : Run) (word : List ℕ) (old : Option Limits) → FitRun run → FitStep (with_url run word old)
+fits_site run word None fits = tt
+fits_site run word (Some limits) fits = by_test run.has_begun
+  where
+    by_test : (begun_already : Bool) → FitStep (if begun_already then Err Place else add_site run (site_named word))
+    by_test true = tt
+    by_test false = fits_named run (site_named word) fits
+
+fits_step : (run : Run) (command : Command) → SoundRun run → FitRun run → FitStep (step run command)
+unfolding step
+fits_step run (commands.Limits limits) sound fits = fits_limits run limits run.limits fits
+fits_step run (commands.Site word) sound fits = fits_site run word run.limits fits
+fits_step run (commands.Get want site moment) sound fits = fits_command run (commands.Get want site moment) run.limits sound fits
+fits_step run (commands.Claim transfer site) sound fits = fits_command run (commands.Claim transfer site) run.limits sound fits
+fits_step run (commands.Back transfer site ending moment) sound fits = fits_command run (commands.Back transfer site ending moment) run.limits sound fits
+fits_step run (commands.Drop transfer site moment) sound fits = fits_command run (commands.Drop transfer site moment) run.limits sound fits
+fits_step run (commands.Leave transfer site moment) sound fits = fits_command run (commands.Leave transfer site moment) run.limits sound fits
+fits_step run (commands.Look site) sound fits = fits_command run (commands.Look site) run.limits sound fits
+
+fits_line : (run : Run) (line : List ℕ) → SoundRun run → FitRun run → FitStep (line_step run line)
+unfolding line_step
+fits_line run line sound fits = by_reading (reading line)
+  where
+    by_reading : (read : Result (Option Command) FaultKind) → FitStep (line_step_of run read)
+    by_reading (Err kind) = tt
+    by_reading (Ok None) = fits
+    by_reading (Ok (Some command)) = fits_step run command sound fits
+
+module _ (keep : CallsKeep) where
+  fits_after : (run : Run) (lines : List (List ℕ)) → SoundRun run → FitRun run → FitRun (run_after run lines)
+  fits_after run [] sound fits = fits
+  fits_after run (line ∷ others) sound fits =
+      by_step (line_step run line) (sound_line keep run line sound) (fits_line run line sound fits) (λ next next_sound next_fits. fits_after next others next_sound next_fits)
+    where
+      by_step : (made : Result (Run × List ℕ) FaultKind) → SoundStep made → FitStep made → ((next : Run) → SoundRun next → FitRun next → FitRun (run_after next others)) → FitRun (after_line run made (λ next. run_after next others))
+      by_step (Err kind) made_sound made_fits rest = fits
+      by_step (Ok next) made_sound made_fits rest = rest next.0 made_sound made_fits
+
+  none_yet : FitRun start
+  none_yet = record { stands = record { ticketed = λ u w. w; served = λ u among. among }; distinct = tt }
+
+  pub every_ticket_stands : EveryTicketStands
+  every_ticket_stands script = by_length (nat_lt LONGEST_SCRIPT (length script))
+    where
+      by_length : (too_long : Bool) → let run = (if too_long then start else run_after start (lines script)) in TicketsStand run.log run.tickets
+      by_length true = none_yet.stands
+      by_length false = (fits_after start (lines script) refl none_yet).stands

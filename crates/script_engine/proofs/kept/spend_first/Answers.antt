@@ -1,0 +1,66 @@
+use Rattle.std.proofs.Common.{◌≡◌, false, cond, sym, ◌∙◌, ap, is_some}
+use Rattle.std.specs.Ordering.{nat_cmp}
+use Rattle.std.specs.BTreeMap.{get, keys}
+use Rattle.conn_log.specs.Connections.{is_among, held_number}
+use Rattle.bundle.specs.Calls.{after_withdraw}
+use Rattle.bundle.specs.Lease.{leased_number, ticket_want}
+use Rattle.script_engine.specs.Hosted.{lease_facts, leases_of, wanted}
+use Rattle.script_engine.specs.Ending.{after_dropping}
+use Rattle.script_engine.proofs.Leases.{kept-due, none-stays, leases-same}
+use Rattle.script_engine.proofs.Spending.{ticketed}
+use Rattle.script_engine.proofs.Ending.{waiter-first, holder-first, without-absent, holder-unticketed, waiter-unleased}
+use Rattle.script_engine.proofs.kept.spend_first.Goals as goal
+
+pub returns-then-is_ticket_first-clause-first : goal.returns-then-is_ticket_first-clause-first
+returns-then-is_ticket_first-clause-first c =
+    waiter-first c.withdraw_first.result (keys c.args.leases.now) (keys c.args.tickets.now) (keys c.withdraw_first.new.tickets) c.withdraw_first.ensures.first c.requires.holders c.requires.waiters
+    (sym c.is_ticket_first.ensures ∙ c.if-is_ticket_first.true)
+
+pub returns-then-is_ticket_first-clause-keeps : goal.returns-then-is_ticket_first-clause-keeps
+returns-then-is_ticket_first-clause-keeps c =
+    let host = c.args.bundle.now in
+    let new = c.withdraw_first.new.bundle in
+    let t = c.withdraw_first.result in
+    let unleased = waiter-unleased host c.log-log.ensures.sound t c.withdraw_first.ensures.own in
+    record {
+      leases = kept-due lease_facts (leases_of host) (leases_of new) (get nat_cmp c.args.leases.now) c.requires.keeps.leases
+          (leases-same host new t (none-stays t (leased_number host) (leased_number new) unleased c.withdraw_first.ensures.spends.leases));
+      tickets = c.withdraw_first.ensures.keeps;
+    }
+
+pub returns-else-is_ticket_first-clause-first : goal.returns-else-is_ticket_first-clause-first
+returns-else-is_ticket_first-clause-first c =
+    let host = c.args.bundle.now in
+    let t = c.abandon_first.result in
+    let none = holder-unticketed host c.log-log.ensures.sound t c.abandon_first.ensures.own in
+    let apart : is_among t (keys c.args.tickets.now) ≡ false = ticketed host c.log-log.ensures.sound c.args.tickets.now.entries c.requires.keeps.tickets t ∙ ap is_some none in
+    holder-first t (keys c.args.leases.now) (keys c.abandon_first.new.leases) (keys c.args.tickets.now) c.abandon_first.ensures.first c.requires.waiters
+    (sym c.is_ticket_first.ensures ∙ c.if-is_ticket_first.false) apart
+
+pub returns-else-is_ticket_first-clause-tickets : goal.returns-else-is_ticket_first-clause-tickets
+returns-else-is_ticket_first-clause-tickets c =
+    let host = c.args.bundle.now in
+    let t = c.abandon_first.result in
+    let none = holder-unticketed host c.log-log.ensures.sound t c.abandon_first.ensures.own in
+    let apart : is_among t (keys c.args.tickets.now) ≡ false = ticketed host c.log-log.ensures.sound c.args.tickets.now.entries c.requires.keeps.tickets t ∙ ap is_some none in
+    sym (without-absent t (keys c.args.tickets.now) apart)
+
+pub returns-else-is_ticket_first-clause-log : goal.returns-else-is_ticket_first-clause-log
+returns-else-is_ticket_first-clause-log c =
+    let host = c.args.bundle.now in
+    let t = c.abandon_first.result in
+    let none = holder-unticketed host c.log-log.ensures.sound t c.abandon_first.ensures.own in
+    let apart : is_among t (keys c.args.tickets.now) ≡ false = ticketed host c.log-log.ensures.sound c.args.tickets.now.entries c.requires.keeps.tickets t ∙ ap is_some none in
+    c.abandon_first.ensures.log ∙ ap (λ b. cond b (after_withdraw host.terms host.log t 0) (after_dropping host.terms host.log (held_number host.log t))) (sym apart)
+
+pub returns-else-is_ticket_first-clause-keeps : goal.returns-else-is_ticket_first-clause-keeps
+returns-else-is_ticket_first-clause-keeps c =
+    let host = c.args.bundle.now in
+    let new = c.abandon_first.new.bundle in
+    let t = c.abandon_first.result in
+    let none = holder-unticketed host c.log-log.ensures.sound t c.abandon_first.ensures.own in
+    record {
+      leases = c.abandon_first.ensures.keeps;
+      tickets = kept-due wanted (ticket_want host) (ticket_want new) (get nat_cmp c.args.tickets.now) c.requires.keeps.tickets
+          (none-stays t (ticket_want host) (ticket_want new) none c.abandon_first.ensures.spends.tickets);
+    }

@@ -1,0 +1,7 @@
+pub mod Meaning
+pub mod Hosted
+pub mod Ending
+pub mod Transcript
+pub mod Law
+pub mod TranscriptLines
+pub mod Worked

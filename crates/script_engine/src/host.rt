@@ -1,0 +1,207 @@
+//! The one host of a script: its bundle, and the leases and tickets that its transfers have.
+
+ghost use Rattle.std.specs.Prelude.{◌≡◌, IfOk, IfErr, string_bytes, []};
+ghost use Rattle.script_engine.specs.Meaning.{terms_of, get_at, claim_at, back_at, drop_at, leave_at, look_at};
+ghost use Rattle.script_engine.specs.Ending.{IsEnding};
+ghost use Rattle.script_text.specs.Printing.{entry_line, refused, claimed_line, still_line};
+ghost use Rattle.script_engine.specs.Transcript.{Gives};
+ghost use Rattle.script_text.specs.Printing.{GivesText};
+
+use crate::kept::{abandon, give_back, keep_lease, keep_ticket, spend_all, withdraw};
+use bundle::{Bundle, Claimed, Got, Lease, Refusal, Snapshot, Ticket};
+use conn_log::Want;
+use script_text::{Ending, FaultKind, Limits};
+use script_text::{LookLine, claimed, lines_since, reply, still_waiting};
+use std::alloc::Global;
+use std::collections::BTreeMap;
+use std::marker::Model;
+
+/// The host's index.
+const HOST: u32 = 0;
+
+/// The number of its first connection.
+const FIRST: u32 = 1;
+
+/// The host's bundle, and the lease or ticket of each transfer that has one. No stream is behind a
+/// lease.
+pub struct OneHost {
+    bundle: Bundle<()>,
+    leases: BTreeMap<u64, Lease<()>>,
+    tickets: BTreeMap<u64, Ticket>,
+}
+
+impl Model for OneHost {
+    ghost use Rattle.std.specs.Prelude.{◌≡◌};
+    ghost use Rattle.std.specs.Ordering.{nat_cmp};
+    ghost use Rattle.std.specs.BTreeMap.{get, keys, IsOrdered};
+    ghost use Rattle.script_engine.specs.Hosted.{Hosted, Keeps};
+
+    ghost Value = { Hosted };
+
+    ghost view = { λ h. record { log = h.bundle.log; terms = h.bundle.terms; tickets = keys h.tickets } };
+
+    ghost invariant = { λ h. (h.bundle.terms.first ≡ 1) × Keeps h.bundle (get nat_cmp h.leases) (get nat_cmp h.tickets) × IsOrdered nat_cmp h.tickets };
+}
+
+impl OneHost {
+    /// A host without connections.
+    pub fn new(alloc: Global, limits: Limits) -> Result<OneHost, FaultKind>
+        ensures ok { IfOk result (λ h. h ≡ record { log = []; terms = terms_of limits; tickets = [] }) }
+        ensures err { IfErr result (λ kind. kind ≡ FaultKind.Memory) }
+    {
+        match Bundle::new(alloc, limits.host, HOST, FIRST) {
+            Ok(bundle) => Ok(OneHost {
+                bundle,
+                leases: BTreeMap::new(alloc),
+                tickets: BTreeMap::new(alloc),
+            }),
+            Err(_) => Err(FaultKind::Memory),
+        }
+    }
+
+    /// The transfer acquires a connection, or begins to wait for one.
+    pub fn get(&mut self, alloc: Global, want: Want, moment: u64) -> Result<String, FaultKind>
+        ensures answer { Gives string_bytes (get_at self.old.terms want moment self.old.log self.old.tickets) result self.new.log self.new.tickets }
+        ensures terms { self.new.terms ≡ self.old.terms }
+    {
+        let place = self.bundle.log().len();
+        match self.bundle.acquire(want, moment) {
+            Ok(Got::Lease(lease)) => {
+                let text = lines_since(alloc, HOST, self.bundle.log(), place, want.transfer);
+                keep_lease(&mut self.bundle, &mut self.leases, lease)?;
+                text
+            }
+            Ok(Got::Wait(ticket)) => {
+                let text = lines_since(alloc, HOST, self.bundle.log(), place, want.transfer);
+                keep_ticket(&mut self.bundle, &mut self.tickets, ticket)?;
+                text
+            }
+            Err(Refusal::Memory) => Err(FaultKind::Memory),
+            Err(Refusal::TransferBusy) => reply(alloc, "busy"),
+            Err(Refusal::Exhausted) => reply(alloc, "exhausted"),
+        }
+    }
+
+    /// The transfer claims the connection that it waits for.
+    pub fn claim(&mut self, alloc: Global, transfer: u64) -> Result<String, FaultKind>
+        ensures answer { Gives string_bytes (claim_at transfer self.old.log self.old.tickets) result self.new.log self.new.tickets }
+        ensures terms { self.new.terms ≡ self.old.terms }
+    {
+        // The log is sound: who waits holds nothing.
+        let _log = self.bundle.log();
+        let Some(ticket) = self.tickets.remove(&transfer) else {
+            return reply(alloc, "stranger");
+        };
+        match self.bundle.claim(ticket) {
+            Ok(Claimed::Lease(lease)) => {
+                let number = lease.number();
+                keep_lease(&mut self.bundle, &mut self.leases, lease)?;
+                claimed(alloc, HOST, number)
+            }
+            Ok(Claimed::Still(ticket)) => {
+                keep_ticket(&mut self.bundle, &mut self.tickets, ticket)?;
+                still_waiting(alloc)
+            }
+            Err(stray) => {
+                stray.scrap();
+                reply(alloc, "stranger")
+            }
+        }
+    }
+
+    /// The transfer gives its connection back.
+    pub fn back(
+        &mut self,
+        alloc: Global,
+        transfer: u64,
+        ending: Ending,
+        moment: u64,
+    ) -> Result<String, FaultKind>
+        ensures answer { Gives string_bytes (back_at self.old.terms transfer ending moment self.old.log self.old.tickets) result self.new.log self.new.tickets }
+        ensures terms { self.new.terms ≡ self.old.terms }
+    {
+        let place = self.bundle.log().len();
+        match self.leases.remove(&transfer) {
+            Some(lease) => {
+                give_back(&mut self.bundle, lease, ending, moment);
+                lines_since(alloc, HOST, self.bundle.log(), place, transfer)
+            }
+            None => reply(alloc, "stranger"),
+        }
+    }
+
+    /// The transfer abandons its connection.
+    pub fn abandon(
+        &mut self,
+        alloc: Global,
+        transfer: u64,
+        moment: u64,
+    ) -> Result<String, FaultKind>
+        ensures answer { Gives string_bytes (drop_at self.old.terms transfer moment self.old.log self.old.tickets) result self.new.log self.new.tickets }
+        ensures terms { self.new.terms ≡ self.old.terms }
+    {
+        let place = self.bundle.log().len();
+        match self.leases.remove(&transfer) {
+            Some(lease) => {
+                abandon(&mut self.bundle, lease, moment);
+                lines_since(alloc, HOST, self.bundle.log(), place, transfer)
+            }
+            None => reply(alloc, "stranger"),
+        }
+    }
+
+    /// The transfer leaves where it waits.
+    pub fn leave(&mut self, alloc: Global, transfer: u64, moment: u64) -> Result<String, FaultKind>
+        ensures answer { Gives string_bytes (leave_at self.old.terms transfer moment self.old.log self.old.tickets) result self.new.log self.new.tickets }
+        ensures terms { self.new.terms ≡ self.old.terms }
+    {
+        let place = self.bundle.log().len();
+        match self.tickets.remove(&transfer) {
+            Some(ticket) => {
+                withdraw(&mut self.bundle, ticket, moment);
+                lines_since(alloc, HOST, self.bundle.log(), place, transfer)
+            }
+            None => reply(alloc, "stranger"),
+        }
+    }
+
+    /// What the connections do.
+    pub fn look(&self, alloc: Global) -> Result<String, FaultKind>
+        ensures { Gives string_bytes (look_at self.now.log self.now.tickets) result self.now.log self.now.tickets }
+    {
+        let Snapshot {
+            alive,
+            idle,
+            leased,
+            waiting,
+            queued,
+        } = self.bundle.look();
+        let line = LookLine {
+            host: HOST,
+            alive,
+            idle,
+            leased,
+            waiting,
+            queued,
+        };
+        match line.to_string(alloc) {
+            Ok(text) => Ok(text),
+            Err(_) => Err(FaultKind::Memory),
+        }
+    }
+
+    /// Abandons the leases and withdraws the tickets, by transfer, at moment 0; gives the bundle that
+    /// is left.
+    pub fn end(self) -> Bundle<()>
+        ensures ending { IsEnding self.terms self.log self.tickets result.log }
+        ensures terms { result.terms ≡ self.terms }
+    {
+        let OneHost {
+            mut bundle,
+            leases,
+            tickets,
+        } = self;
+        spend_all(&mut bundle, leases, tickets);
+        bundle
+    }
+}

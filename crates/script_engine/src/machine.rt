@@ -1,0 +1,285 @@
+//! What a script's commands do, one after another.
+
+ghost use Rattle.std.specs.Prelude.{◌≡◌, ℕ, List, [], ◌∷◌, IfErr, IfOk, OnOk, OnErr, IfSome, IsSome, Some, None, true, ◌&&◌, string_bytes};
+ghost use Rattle.script_engine.specs.Meaning.{Run, start, step, with_limits, with_url, with_command, at_end, at_host, at_no_host, site_of, are_good, terms_of};
+ghost use Rattle.script_engine.specs.Meaning.{has_site};
+ghost use Rattle.script_engine.specs.Ending.{IsEnding};
+ghost use Rattle.script_engine.specs.Transcript.{Answers, Gives};
+ghost use Rattle.conn_log.specs.declared.entry.Entry.{Entry};
+ghost use Rattle.script_text.specs.declared.command.Limits.{Limits};
+
+use crate::host::OneHost;
+use bundle::Bundle;
+use conn_key::Sites;
+use script_text::{Command, FaultKind, Limits, SiteWord, reply};
+use std::alloc::Global;
+use std::marker::Model;
+use std::mem;
+
+/// What answers a script's commands.
+pub trait Machine {
+    ghost use Rattle.script_engine.specs.Meaning.{Run};
+
+    /// What the commands so far came to.
+    ghost run: { Self → Run };
+
+    /// Does what a command says, and gives the lines that tell of it.
+    fn answer(&mut self, command: Command<'_>) -> Result<String, FaultKind>
+        ensures { Answers string_bytes (step (run self.old) command.entry) result (run self.new) };
+
+    /// What is due at the script's end: where limits are given the host is made by then, also where
+    /// no command came. The only error is `Memory`.
+    fn end_of_script(&mut self) -> Result<(), FaultKind>
+        ensures ok { OnOk result (run self.new ≡ at_end (run self.old) (run self.old).limits) }
+        ensures err { IfErr result (λ kind. kind ≡ FaultKind.Memory) };
+}
+
+/// A run of a script over at most one host.
+pub struct Engine {
+    alloc: Global,
+    limits: Option<Limits>,
+    sites: Sites,
+    has_begun: bool,
+    host: Option<OneHost>,
+}
+
+impl Model for Engine {
+    ghost use Rattle.std.specs.Prelude.{◌≡◌, None, false, ◌&&◌, if◌then◌else◌};
+    ghost use Rattle.std.specs.Option.{option_map, option_map_or};
+    ghost use Rattle.script_engine.specs.Hosted.{Hosted};
+    ghost use Rattle.script_engine.specs.Meaning.{Run, terms_of};
+    ghost use Rattle.script_engine.specs.Meaning.{has_site};
+    ghost use Rattle.std.specs.Prelude.{[]};
+
+    ghost Value = { Run };
+
+    ghost view = { λ e. record { limits = e.limits; sites = e.sites; has_begun = e.has_begun; log = option_map_or (λ (h : Hosted). h.log) e.host []; tickets = option_map_or (λ (h : Hosted). h.tickets) e.host [] } };
+
+    ghost invariant = { λ e. (option_map (λ (h : Hosted). h.terms) e.host ≡ (if e.has_begun && has_site e.sites then option_map terms_of e.limits else None)) × (e.limits ≡ None → e.has_begun ≡ false) };
+}
+
+impl Machine for Engine {
+    ghost run = { λ e. e };
+
+    #[tactic(auto, unfolding(crate::specs::Meaning::step))]
+    fn answer(&mut self, command: Command<'_>) -> Result<String, FaultKind> {
+        match command {
+            Command::Limits(limits) => self.set_limits(limits),
+            Command::Site(word) => self.add_site(&word),
+            Command::Get { .. } => self.ask(command),
+            Command::Claim { .. } => self.ask(command),
+            Command::Back { .. } => self.ask(command),
+            Command::Drop { .. } => self.ask(command),
+            Command::Leave { .. } => self.ask(command),
+            Command::Look { .. } => self.ask(command),
+        }
+    }
+
+    fn end_of_script(&mut self) -> Result<(), FaultKind> {
+        match self.limits {
+            Some(limits) => self.begin(limits),
+            None => Ok(()),
+        }
+    }
+}
+
+impl Engine {
+    /// A run before its first command. The only error is `Memory`.
+    pub fn new(alloc: Global) -> Result<Engine, FaultKind>
+        ensures ok { IfOk result (λ engine. engine ≡ start) }
+        ensures err { IfErr result (λ kind. kind ≡ FaultKind.Memory) }
+    {
+        match Sites::new(alloc) {
+            Ok(sites) => Ok(Engine {
+                alloc,
+                limits: None,
+                sites,
+                has_begun: false,
+                host: None,
+            }),
+            Err(_) => Err(FaultKind::Memory),
+        }
+    }
+
+    /// Abandons the leases that are left, and withdraws the tickets, by transfer, at moment 0; gives
+    /// the bundle that is left, where a host was made.
+    pub fn end(self) -> Option<Bundle<()>>
+        ensures ending { IfSome result (λ bundle. IsEnding bundle.terms self.log self.tickets bundle.log) }
+        ensures terms { (limits : Limits) → self.limits ≡ Some limits → IfSome result (λ bundle. bundle.terms ≡ terms_of limits) }
+        ensures host { (self.has_begun && has_site self.sites) ≡ true → IsSome self.limits → IsSome result }
+    {
+        let Engine {
+            alloc: _,
+            limits: _,
+            sites: _,
+            has_begun: _,
+            host,
+        } = self;
+        end_host(host)
+    }
+
+    /// `limits`: once, before all others.
+    fn set_limits(&mut self, limits: Limits) -> Result<String, FaultKind>
+        ensures { Answers string_bytes (with_limits self.old limits self.old.limits) result self.new }
+    {
+        if self.limits.is_some() {
+            return Err(FaultKind::Place);
+        }
+        if !are_good(limits) {
+            return Err(FaultKind::BadLimits);
+        }
+        self.limits = Some(limits);
+        Ok(String::new(self.alloc))
+    }
+
+    /// `site`: after the limits, before all others.
+    fn add_site(&mut self, word: &SiteWord<'_>) -> Result<String, FaultKind>
+        ensures { Answers string_bytes (with_url self.old word.now self.old.limits) result self.new }
+    {
+        if self.limits.is_none() || self.has_begun {
+            return Err(FaultKind::Place);
+        }
+        let target = word.target(self.alloc)?;
+        if !self.sites.is_empty() && self.sites.find(&target).is_none() {
+            return Err(FaultKind::TooManySites);
+        }
+        // The site is there, or it is the first: only memory can be short.
+        match self.sites.add(&target) {
+            Ok(_) => Ok(String::new(self.alloc)),
+            Err(_) => Err(FaultKind::Memory),
+        }
+    }
+
+    /// The other commands.
+    fn ask(&mut self, command: Command<'_>) -> Result<String, FaultKind>
+        ensures { Answers string_bytes (with_command self.old command.entry self.old.limits) result self.new }
+    {
+        let Some(limits) = self.limits else {
+            return Err(FaultKind::Place);
+        };
+        self.begin(limits)?;
+        self.ask_host(limits, command)
+    }
+
+    /// Makes the host, where there is a site, at the first command after the sites.
+    fn begin(&mut self, limits: Limits) -> Result<(), FaultKind>
+        requires limits { self.old.limits ≡ Some limits }
+        ensures ok { OnOk result (self.new ≡ record self.old { has_begun = true }) }
+        ensures err { IfErr result (λ kind. kind ≡ FaultKind.Memory) }
+    {
+        if self.has_begun {
+            return Ok(());
+        }
+        if !self.sites.is_empty() {
+            let host = OneHost::new(self.alloc, limits)?;
+            put_host(&mut self.host, host);
+        }
+        self.has_begun = true;
+        Ok(())
+    }
+
+    /// Hands the command to the host, where it is for the host.
+    fn ask_host(&mut self, limits: Limits, command: Command<'_>) -> Result<String, FaultKind>
+        requires begun { self.old.has_begun ≡ true }
+        requires limits { self.old.limits ≡ Some limits }
+        ensures { Answers string_bytes (with_command self.old command.entry (Some limits)) result self.new }
+    {
+        let alloc = self.alloc;
+        if site_of(&command) != 0 {
+            return answer_without_host(alloc, command);
+        }
+        let Some(host) = &mut self.host else {
+            return answer_without_host(alloc, command);
+        };
+        answer_at(host, alloc, command)
+    }
+}
+
+/// Whether these limits can be kept: no limit on all hosts yet, and a host's of one or more, and no
+/// more than are kept idle.
+fn are_good(limits: Limits) -> bool
+    ensures { result ≡ are_good limits }
+{
+    limits.total == 0 && 1 <= limits.host && limits.host <= limits.kept && limits.kept <= 65_535
+}
+
+/// The site that a command names.
+fn site_of(command: &Command<'_>) -> u32
+    ensures { result ≡ site_of command.now }
+{
+    match command {
+        Command::Limits(_) => 0,
+        Command::Site(_) => 0,
+        Command::Get { site, .. } => *site,
+        Command::Claim { site, .. } => *site,
+        Command::Back { site, .. } => *site,
+        Command::Drop { site, .. } => *site,
+        Command::Leave { site, .. } => *site,
+        Command::Look { site } => *site,
+    }
+}
+
+/// What the host answers.
+fn answer_at(host: &mut OneHost, alloc: Global, command: Command<'_>) -> Result<String, FaultKind>
+    ensures answer { Gives string_bytes (at_host host.old.terms host.old.log host.old.tickets command.entry) result host.new.log host.new.tickets }
+    ensures terms { host.new.terms ≡ host.old.terms }
+{
+    match command {
+        Command::Limits(_) => Ok(String::new(alloc)),
+        Command::Site(_) => Ok(String::new(alloc)),
+        Command::Get { want, moment, .. } => host.get(alloc, want, moment),
+        Command::Claim { transfer, .. } => host.claim(alloc, transfer),
+        Command::Back {
+            transfer,
+            ending,
+            moment,
+            ..
+        } => host.back(alloc, transfer, ending, moment),
+        Command::Drop {
+            transfer,
+            moment,
+            ..
+        } => host.abandon(alloc, transfer, moment),
+        Command::Leave {
+            transfer,
+            moment,
+            ..
+        } => host.leave(alloc, transfer, moment),
+        Command::Look { .. } => host.look(alloc),
+    }
+}
+
+/// The answer at a site that is not there.
+fn answer_without_host(alloc: Global, command: Command<'_>) -> Result<String, FaultKind>
+    ensures { (log : List Entry) (tickets : List ℕ) → Gives string_bytes (at_no_host log tickets command.entry) result log tickets }
+{
+    match command {
+        Command::Limits(_) => Ok(String::new(alloc)),
+        Command::Site(_) => Ok(String::new(alloc)),
+        Command::Get { .. } => reply(alloc, "bad-site"),
+        Command::Claim { .. } => reply(alloc, "stranger"),
+        Command::Back { .. } => reply(alloc, "stranger"),
+        Command::Drop { .. } => reply(alloc, "stranger"),
+        Command::Leave { .. } => reply(alloc, "stranger"),
+        Command::Look { .. } => reply(alloc, "bad-site"),
+    }
+}
+
+/// Puts the host in its place; one that was there is ended.
+fn put_host(place: &mut Option<OneHost>, host: OneHost)
+    ensures { place.new ≡ Some host }
+{
+    let _ = end_host(mem::replace(place, Some(host)));
+}
+
+/// Ends a host, where there is one; gives its bundle.
+fn end_host(host: Option<OneHost>) -> Option<Bundle<()>>
+    ensures none { host ≡ None → result ≡ None }
+    ensures ending { IfSome host (λ h. IfSome result (λ bundle. IsEnding h.terms h.log h.tickets bundle.log × (bundle.terms ≡ h.terms))) }
+    ensures some { IsSome host → IsSome result }
+{
+    match host {
+        Some(host) => Some(host.end()),
+        None => None,
+    }
+}

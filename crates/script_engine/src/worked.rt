@@ -1,0 +1,37 @@
+//! Small scripts whose transcripts are known, against which the definition of a transcript was tried.
+
+ghost use Rattle.script_engine.specs.Worked.{TellsReuseThenDrop, TellsBusyAndNoSuchSite, TellsNotPersistentAtTheLimit, TellsGetWithAMissingWord, TellsNoRoomToKeep, TellsIdleAsLongAsTheAge, TellsIdleLongerThanTheAge, TellsAsOldAsTheLifetime, TellsOlderThanTheLifetime, TellsAnotherLaneAtTheHostLimit, TellsForbiddenAndCut, TellsMomentGoesBack, TellsOptionsInAnotherOrder, TellsOneSiteInTwoSpellings, TellsWaitThenClaim, TellsWithdrawAGrant, TellsMomentsClampedPerHost, TellsTicketsAreNoLeases, TellsServedInOrder, TellsAnOptionTwice, TellsUnknownCommand, TellsSecondLimits, TellsBadSite, TellsTwoSites, TellsLongestLine, TellsLineTooLongByOne, TellsEvents, TellsLeases};
+
+/// The transcripts of small scripts, by computation: twelve of the worked ones, three more of transfers
+/// that wait, the options of `get` in another order, one site in two spellings, and one script of each
+/// fault that a line can have; and of one the lines of the log behind it.
+pub fn worked_scripts()
+    ensures reuse_then_drop { TellsReuseThenDrop }
+    ensures busy_and_no_such_site { TellsBusyAndNoSuchSite }
+    ensures not_persistent_at_the_limit { TellsNotPersistentAtTheLimit }
+    ensures get_with_a_missing_word { TellsGetWithAMissingWord }
+    ensures no_room_to_keep { TellsNoRoomToKeep }
+    ensures idle_as_long_as_the_age { TellsIdleAsLongAsTheAge }
+    ensures idle_longer_than_the_age { TellsIdleLongerThanTheAge }
+    ensures as_old_as_the_lifetime { TellsAsOldAsTheLifetime }
+    ensures older_than_the_lifetime { TellsOlderThanTheLifetime }
+    ensures another_lane_at_the_host_limit { TellsAnotherLaneAtTheHostLimit }
+    ensures forbidden_and_cut { TellsForbiddenAndCut }
+    ensures moment_goes_back { TellsMomentGoesBack }
+    ensures options_in_another_order { TellsOptionsInAnotherOrder }
+    ensures one_site_in_two_spellings { TellsOneSiteInTwoSpellings }
+    ensures wait_then_claim { TellsWaitThenClaim }
+    ensures withdraw_a_grant { TellsWithdrawAGrant }
+    ensures moments_clamped_per_host { TellsMomentsClampedPerHost }
+    ensures tickets_are_no_leases { TellsTicketsAreNoLeases }
+    ensures served_in_order { TellsServedInOrder }
+    ensures an_option_twice { TellsAnOptionTwice }
+    ensures unknown_command { TellsUnknownCommand }
+    ensures second_limits { TellsSecondLimits }
+    ensures bad_site { TellsBadSite }
+    ensures two_sites { TellsTwoSites }
+    ensures longest_line { TellsLongestLine }
+    ensures line_too_long_by_one { TellsLineTooLongByOne }
+    ensures events { TellsEvents }
+    ensures leases { TellsLeases }
+{}

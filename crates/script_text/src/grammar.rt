@@ -1,0 +1,212 @@
+ghost use Rattle.std.specs.Prelude.{◌≡◌, ℕ, List, [], ◌∷◌};
+ghost use Rattle.script_text.specs.Words.{words};
+ghost use Rattle.script_text.specs.Grammar.{ending_of, ending_first, at_end, limits_form, site_form, get_form, claim_form, back_form, drop_form, leave_form, look_form, command_of, reading};
+ghost use Rattle.std.specs.Option.{option_map};
+
+use crate::command::{Command, Ending, Limits};
+use crate::fault::FaultKind;
+use crate::options::{read_options, want_of};
+use crate::site::SiteWord;
+use crate::words::{first_word, is_blank, is_word, text_first, u32_first, u64_first};
+
+/// How the response ended, and the line after it.
+fn ending_first(line: &[u8]) -> Option<(Ending, &[u8])>
+    ensures { option_map (λ found. (found.0, words found.1.now)) result ≡ ending_first (words line.now) }
+{
+    let (word, others) = first_word(line)?;
+    let ending = ending_of(word)?;
+    Some((ending, others))
+}
+
+/// How the response ended that the word names.
+#[tactic(auto, unfolding(crate::specs::Grammar::ending_of))]
+fn ending_of(word: &[u8]) -> Option<Ending>
+    ensures { result ≡ ending_of word.now }
+{
+    if is_word(word, "keep") {
+        Some(Ending::Keep)
+    } else if is_word(word, "close") {
+        Some(Ending::Close)
+    } else if is_word(word, "old") {
+        Some(Ending::Old)
+    } else if is_word(word, "old-keep") {
+        Some(Ending::OldKeep)
+    } else if is_word(word, "eof") {
+        Some(Ending::Eof)
+    } else if is_word(word, "cut") {
+        Some(Ending::Cut)
+    } else if is_word(word, "surplus") {
+        Some(Ending::Surplus)
+    } else {
+        None
+    }
+}
+
+/// `limits H T C`.
+#[tactic(auto, unfolding(crate::specs::Grammar::limits_form))]
+fn limits_form(line: &[u8]) -> Option<Command<'_>>
+    ensures { result ≡ limits_form (words line.now) }
+{
+    let (host, line) = u32_first(line)?;
+    let (total, line) = u32_first(line)?;
+    let (kept, line) = u32_first(line)?;
+    at_end(line, Command::Limits(Limits { host, total, kept }))
+}
+
+/// `site URL`.
+#[tactic(auto, unfolding(crate::specs::Grammar::site_form))]
+fn site_form(line: &[u8]) -> Option<Command<'_>>
+    ensures { result ≡ site_form (words line.now) }
+{
+    let (word, line) = first_word(line)?;
+    at_end(line, Command::Site(SiteWord::new(word)))
+}
+
+/// `get T S L at M`, and options.
+#[tactic(auto, unfolding(crate::specs::Grammar::get_form))]
+fn get_form(line: &[u8]) -> Option<Command<'_>>
+    ensures { result ≡ get_form (words line.now) }
+{
+    let (transfer, line) = u64_first(line)?;
+    let (site, line) = u32_first(line)?;
+    let (lane, line) = u32_first(line)?;
+    let line = text_first("at", line)?;
+    let (moment, line) = u64_first(line)?;
+    let options = read_options(line)?;
+    Some(Command::Get {
+        want: want_of(transfer, lane, options),
+        site,
+        moment,
+    })
+}
+
+/// `claim T S`.
+#[tactic(auto, unfolding(crate::specs::Grammar::claim_form))]
+fn claim_form(line: &[u8]) -> Option<Command<'_>>
+    ensures { result ≡ claim_form (words line.now) }
+{
+    let (transfer, line) = u64_first(line)?;
+    let (site, line) = u32_first(line)?;
+    at_end(line, Command::Claim { transfer, site })
+}
+
+/// `back T S KIND at M`.
+#[tactic(auto, unfolding(crate::specs::Grammar::back_form))]
+fn back_form(line: &[u8]) -> Option<Command<'_>>
+    ensures { result ≡ back_form (words line.now) }
+{
+    let (transfer, line) = u64_first(line)?;
+    let (site, line) = u32_first(line)?;
+    let (ending, line) = ending_first(line)?;
+    let line = text_first("at", line)?;
+    let (moment, line) = u64_first(line)?;
+    at_end(
+        line,
+        Command::Back {
+            transfer,
+            site,
+            ending,
+            moment,
+        },
+    )
+}
+
+/// `drop T S at M`.
+#[tactic(auto, unfolding(crate::specs::Grammar::drop_form))]
+fn drop_form(line: &[u8]) -> Option<Command<'_>>
+    ensures { result ≡ drop_form (words line.now) }
+{
+    let (transfer, line) = u64_first(line)?;
+    let (site, line) = u32_first(line)?;
+    let line = text_first("at", line)?;
+    let (moment, line) = u64_first(line)?;
+    at_end(
+        line,
+        Command::Drop {
+            transfer,
+            site,
+            moment,
+        },
+    )
+}
+
+/// `leave T S at M`.
+#[tactic(auto, unfolding(crate::specs::Grammar::leave_form))]
+fn leave_form(line: &[u8]) -> Option<Command<'_>>
+    ensures { result ≡ leave_form (words line.now) }
+{
+    let (transfer, line) = u64_first(line)?;
+    let (site, line) = u32_first(line)?;
+    let line = text_first("at", line)?;
+    let (moment, line) = u64_first(line)?;
+    at_end(
+        line,
+        Command::Leave {
+            transfer,
+            site,
+            moment,
+        },
+    )
+}
+
+/// `look S`.
+#[tactic(auto, unfolding(crate::specs::Grammar::look_form))]
+fn look_form(line: &[u8]) -> Option<Command<'_>>
+    ensures { result ≡ look_form (words line.now) }
+{
+    let (site, line) = u32_first(line)?;
+    at_end(line, Command::Look { site })
+}
+
+/// The command, where no word is left.
+fn at_end<'a>(line: &[u8], command: Command<'a>) -> Option<Command<'a>>
+    ensures { result ≡ at_end (words line.now) command.entry }
+{
+    if is_blank(line) { Some(command) } else { None }
+}
+
+/// The command of that name, with the words after it.
+#[tactic(auto, unfolding(crate::specs::Grammar::command_of))]
+fn command_of<'a>(name: &[u8], line: &'a [u8]) -> Result<Command<'a>, FaultKind>
+    ensures { result ≡ command_of name.now (words line.now) }
+{
+    if is_word(name, "limits") {
+        limits_form(line).ok_or(FaultKind::Form)
+    } else if is_word(name, "site") {
+        site_form(line).ok_or(FaultKind::Form)
+    } else if is_word(name, "get") {
+        get_form(line).ok_or(FaultKind::Form)
+    } else if is_word(name, "claim") {
+        claim_form(line).ok_or(FaultKind::Form)
+    } else if is_word(name, "back") {
+        back_form(line).ok_or(FaultKind::Form)
+    } else if is_word(name, "drop") {
+        drop_form(line).ok_or(FaultKind::Form)
+    } else if is_word(name, "leave") {
+        leave_form(line).ok_or(FaultKind::Form)
+    } else if is_word(name, "look") {
+        look_form(line).ok_or(FaultKind::Form)
+    } else {
+        Err(FaultKind::Unknown)
+    }
+}
+
+/// The most bytes of a line, without its line end.
+pub const LINE_LIMIT: usize = 2304;
+
+/// What a line says: a command, nothing where it is skipped, or what is wrong with it.
+#[tactic(auto, unfolding(crate::specs::Grammar::reading))]
+pub fn read_line(line: &[u8]) -> Result<Option<Command<'_>>, FaultKind>
+    ensures { result ≡ reading line.now }
+{
+    if line.len() > LINE_LIMIT {
+        return Err(FaultKind::LineTooLong);
+    }
+    if line.first() == Some(&b'#') {
+        return Ok(None);
+    }
+    match first_word(line) {
+        Some((name, others)) => Ok(Some(command_of(name, others)?)),
+        None => Ok(None),
+    }
+}

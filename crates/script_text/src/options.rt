@@ -1,0 +1,166 @@
+//! The options of `get`.
+
+ghost use Rattle.std.specs.Prelude.{◌≡◌, ◌≤◌, ◌∷◌, length, MatchOption, None};
+ghost use Rattle.conn_log.specs.declared.entry.Want.{Want};
+ghost use Rattle.script_text.specs.Words.{words};
+ghost use Rattle.script_text.specs.Grammar.{no_options, options_of, takes_number, with_age, with_life, with_number, with_fresh, with_forbid, with_word, want_of};
+
+use crate::words::{first_word, is_word, u64_first};
+use conn_log::Want;
+
+/// The most seconds that a connection may have been idle, where `age` isn't given: the default of
+/// CURLOPT_MAXAGE_CONN.
+const DEFAULT_AGE: u64 = 118;
+
+/// The most seconds since a connection was opened, where `life` isn't given: no limit.
+const DEFAULT_LIFE: u64 = 0;
+
+/// The options of a `get`.
+#[derive(Clone, Copy, Debug, PartialEq, Eq)]
+pub struct Options {
+    /// `age N`: the most seconds that a connection may have been idle.
+    pub age: Option<u64>,
+    /// `life N`: the most seconds since a connection was opened; 0 for no limit.
+    pub life: Option<u64>,
+    /// `fresh`: only a new connection will do.
+    pub fresh: bool,
+    /// `forbid`: the connection is closed after this use.
+    pub forbid: bool,
+}
+
+/// No option is given.
+const NO_OPTIONS: Options = Options {
+    age: None,
+    life: None,
+    fresh: false,
+    forbid: false,
+};
+
+/// The options that a line's words are, in any order and each at most once.
+pub fn read_options(line: &[u8]) -> Option<Options>
+    ensures { result ≡ options_of no_options (words line.now) }
+{
+    let mut options = NO_OPTIONS;
+    let mut rest = line;
+    while let Some((name, others)) = first_word(rest) {
+        let (more, left) = with_option(options, name, others)?;
+        options = more;
+        rest = left;
+    }
+    Some(options)
+}
+
+/// The options with the one of that name, and the line after it.
+fn with_option<'a>(options: Options, name: &[u8], line: &'a [u8]) -> Option<(Options, &'a [u8])>
+    ensures { MatchOption result (options_of options (name.now ∷ words line.now) ≡ None) (λ found. (options_of options (name.now ∷ words line.now) ≡ options_of found.0 (words found.1.now)) × (length (words found.1.now) ≤ length (words line.now))) }
+{
+    if takes_number(name) {
+        let (number, others) = u64_first(line)?;
+        let options = with_number(name, options, number)?;
+        Some((options, others))
+    } else {
+        let options = with_word(name, options)?;
+        Some((options, line))
+    }
+}
+
+/// Whether a number follows the option of that name.
+fn takes_number(name: &[u8]) -> bool
+    ensures { result ≡ takes_number name.now }
+{
+    is_word(name, "age") || is_word(name, "life")
+}
+
+/// The options with the one of that name, to which that number belongs.
+#[tactic(auto, unfolding(crate::specs::Grammar::with_number))]
+fn with_number(name: &[u8], options: Options, number: u64) -> Option<Options>
+    ensures { result ≡ with_number name.now options number }
+{
+    if is_word(name, "age") {
+        with_age(options, number)
+    } else if is_word(name, "life") {
+        with_life(options, number)
+    } else {
+        None
+    }
+}
+
+/// The options with `age`, which is given once.
+fn with_age(options: Options, number: u64) -> Option<Options>
+    ensures { result ≡ with_age options number }
+{
+    if options.age.is_some() {
+        return None;
+    }
+    Some(Options {
+        age: Some(number),
+        ..options
+    })
+}
+
+/// The options with `life`, which is given once.
+fn with_life(options: Options, number: u64) -> Option<Options>
+    ensures { result ≡ with_life options number }
+{
+    if options.life.is_some() {
+        return None;
+    }
+    Some(Options {
+        life: Some(number),
+        ..options
+    })
+}
+
+/// The options with the one of that name, which stands alone.
+#[tactic(auto, unfolding(crate::specs::Grammar::with_word))]
+fn with_word(name: &[u8], options: Options) -> Option<Options>
+    ensures { result ≡ with_word name.now options }
+{
+    if is_word(name, "fresh") {
+        with_fresh(options)
+    } else if is_word(name, "forbid") {
+        with_forbid(options)
+    } else {
+        None
+    }
+}
+
+/// The options with `fresh`, which is given once.
+fn with_fresh(options: Options) -> Option<Options>
+    ensures { result ≡ with_fresh options }
+{
+    if options.fresh {
+        return None;
+    }
+    Some(Options {
+        fresh: true,
+        ..options
+    })
+}
+
+/// The options with `forbid`, which is given once.
+fn with_forbid(options: Options) -> Option<Options>
+    ensures { result ≡ with_forbid options }
+{
+    if options.forbid {
+        return None;
+    }
+    Some(Options {
+        forbid: true,
+        ..options
+    })
+}
+
+/// What a transfer wants, in that lane and with these options.
+pub fn want_of(transfer: u64, lane: u32, options: Options) -> Want
+    ensures { result ≡ want_of transfer lane options }
+{
+    Want {
+        transfer,
+        lane,
+        max_age: options.age.unwrap_or(DEFAULT_AGE),
+        max_life: options.life.unwrap_or(DEFAULT_LIFE),
+        fresh: options.fresh,
+        forbid_reuse: options.forbid,
+    }
+}
