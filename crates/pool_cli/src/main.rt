@@ -2,16 +2,20 @@
 //! transcript.
 #![tactic(auto)]
 
+mod help;
 mod program;
+mod request;
 mod script;
 mod streams;
 #[cfg(test)]
 mod tests;
 
-use program::{Words, run_program};
+use program::run_program;
+use request::Words;
 use std::env;
 use std::io::ErrorKind;
 use std::process::ExitCode;
+use streams::Watched;
 
 /// The words with which the program was started.
 fn given_words(rt: &HostRuntime) -> Words {
@@ -32,8 +36,8 @@ fn given_words(rt: &HostRuntime) -> Words {
 
 fn main(rt: HostRuntime) -> ExitCode {
     let words = given_words(&rt);
-    let mut input = rt.stdin();
-    let mut output = rt.stdout();
+    let mut input = Watched::new(rt.stdin());
+    let mut output = Watched::new(rt.stdout());
     let mut errors = rt.stderr();
     let status = run_program(rt.alloc(), words, &mut input, &mut output, &mut errors);
     ExitCode::from(status)

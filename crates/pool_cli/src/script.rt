@@ -1,25 +1,27 @@
 //! A script, from its bytes to its transcript.
 
-ghost use Rattle.std.specs.Prelude.{◌≡◌, ◌≤◌, ℕ, length, Some};
+ghost use Rattle.std.specs.Prelude.{◌≡◌, ◌≤◌, ℕ, length, IfErr};
 ghost use Rattle.script_text.specs.Lines.{lines};
 ghost use Rattle.script_engine.specs.Transcript.{told, line_step, transcript};
-ghost use Rattle.pool_cli.specs.Running.{RunsLine, RunsLines, RunsScript};
+ghost use Rattle.pool_cli.specs.Running.{IsOfNoStream, RunsLine, RunsLines, RunsScript, RunsWithoutReading};
+ghost use Rattle.pool_cli.specs.Streams.{CanCount, in_memory};
 
-use crate::streams::{put, read_script};
+use crate::streams::{Sink, Source, read_script};
 use script_engine::{Engine, Machine, line_text};
 use script_text::{FaultKind, ScriptFault, first_line};
 use std::alloc::Global;
-use std::io::{Read, Write};
 
 /// Runs the script that the reader gives, and writes its transcript: the lines of each event and
 /// reply, in order. The fault says at which line the script ended, and why. What was written before
 /// a fault stays: what the lines before that line write, and where writing failed a part of its own.
-pub fn run_script<R: Read, W: Write>(
+pub fn run_script<R: Source, W: Sink>(
     alloc: Global,
     reader: &mut R,
     writer: &mut W,
 ) -> Result<(), ScriptFault>
-    ensures { RunsScript (R.remaining reader.old) (R.remaining reader.new) (W.contents writer.old) (W.contents writer.new) result }
+    requires reader { CanCount (R.source reader.old) }
+    requires writer { CanCount (W.sink writer.old) }
+    ensures { RunsScript (R.source reader.old) (R.source reader.new) (W.sink writer.old) (W.sink writer.new) result }
 {
     match read_script(alloc, reader) {
         Ok(script) => run_engine(alloc, script.as_slice(), writer),
@@ -27,18 +29,21 @@ pub fn run_script<R: Read, W: Write>(
     }
 }
 
-/// Runs a script that lies in memory. Its transcript goes to the end of `out`.
+/// Runs a script that lies in memory. Its transcript goes to the end of `out`. No fault is a read's
+/// or a write's: where `out` can't grow, the fault is `Memory`.
 pub fn run_bytes(alloc: Global, script: &[u8], out: &mut Vec<u8>) -> Result<(), ScriptFault>
-    ensures { RunsLines (Some out.old.items) (Some out.new.items) (transcript script.now) result }
+    ensures lines { RunsLines (in_memory out.old.items) (in_memory out.new.items) (transcript script.now) result }
+    ensures streams { IfErr result IsOfNoStream }
 {
     let mut reader = script;
     run_script(alloc, &mut reader, out)
 }
 
 /// Runs the lines of a script on an engine of its own.
-fn run_engine<W: Write>(alloc: Global, script: &[u8], writer: &mut W) -> Result<(), ScriptFault>
-    requires { length script.now ≤ 1048576 }
-    ensures { RunsLines (W.contents writer.old) (W.contents writer.new) (transcript script.now) result }
+fn run_engine<W: Sink>(alloc: Global, script: &[u8], writer: &mut W) -> Result<(), ScriptFault>
+    requires short { length script.now ≤ 1048576 }
+    requires writer { CanCount (W.sink writer.old) }
+    ensures { RunsWithoutReading (W.sink writer.old) (W.sink writer.new) (transcript script.now) result }
 {
     let mut engine = match Engine::new(alloc) {
         Ok(engine) => engine,
@@ -50,14 +55,15 @@ fn run_engine<W: Write>(alloc: Global, script: &[u8], writer: &mut W) -> Result<
 }
 
 /// Runs the lines of a script, one after another.
-fn run_lines<M: Machine, W: Write>(
+fn run_lines<M: Machine, W: Sink>(
     alloc: Global,
     machine: &mut M,
     script: &[u8],
     writer: &mut W,
 ) -> Result<(), ScriptFault>
-    requires { length script.now ≤ 1048576 }
-    ensures { RunsLines (W.contents writer.old) (W.contents writer.new) (told (M.run machine.old) 1 (lines script.now)) result }
+    requires short { length script.now ≤ 1048576 }
+    requires writer { CanCount (W.sink writer.old) }
+    ensures { RunsWithoutReading (W.sink writer.old) (W.sink writer.new) (told (M.run machine.old) 1 (lines script.now)) result }
 {
     let mut rest = script;
     let mut line: u32 = 0;
@@ -76,16 +82,17 @@ fn run_lines<M: Machine, W: Write>(
 }
 
 /// Does what a line says, and writes the lines that tell of it.
-fn run_line<M: Machine, W: Write>(
+fn run_line<M: Machine, W: Sink>(
     alloc: Global,
     machine: &mut M,
     line: &[u8],
     writer: &mut W,
 ) -> Result<(), FaultKind>
-    ensures { RunsLine (W.contents writer.old) (W.contents writer.new) (line_step (M.run machine.old) line.now) (M.run machine.new) result }
+    requires { CanCount (W.sink writer.old) }
+    ensures { RunsLine (W.sink writer.old) (W.sink writer.new) (line_step (M.run machine.old) line.now) (M.run machine.new) result }
 {
     match line_text(alloc, machine, line) {
-        Ok(text) => put(writer, text.as_bytes()),
+        Ok(text) => writer.put(text.as_bytes()),
         Err(kind) => Err(kind),
     }
 }

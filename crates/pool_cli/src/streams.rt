@@ -1,8 +1,11 @@
-//! Reading a script and writing its transcript, by steps that tell what was read and written.
+//! The streams that a script is read from and its transcript is written to: they tell what was read
+//! and written, and count the reads and writes that failed.
 
-ghost use Rattle.std.specs.Prelude.{◌≡◌, ℕ, ◌≤◌, ◌<◌, List, [], length, IfOk, IfErr, vec_len};
-ghost use Rattle.std.specs.Io.KnownBytes.{Appends, Consumes, IsAtEnd};
-ghost use Rattle.pool_cli.specs.Streams.{Puts, ReadsScript};
+ghost use Rattle.std.specs.Prelude.{◌≡◌, ◌-◌, ◌^◌, ◌<◌, IfOk};
+ghost use Rattle.std.specs.Io.KnownBytes.{ReadConsumes, WriteAppends};
+ghost use Rattle.std.specs.Io.{ReadsAtMost, WritesAtMost};
+ghost use Rattle.pool_cli.specs.Streams.{CanCount, CountsFailure, Puts, ReadsScript, in_memory};
+ghost use Rattle.pool_cli.specs.Watching.{watched};
 
 use script_text::FaultKind;
 use std::alloc::Global;
@@ -14,29 +17,148 @@ pub const SCRIPT_LIMIT: usize = 1_048_576;
 /// How many bytes are read at a time.
 const PIECE: usize = 4096;
 
-/// Writes all of the bytes, or a front of them where the writer fails or takes no byte.
-pub fn put<W: Write>(writer: &mut W, bytes: &[u8]) -> Result<(), FaultKind>
-    ensures { Puts (W.contents writer.old) (W.contents writer.new) bytes.now result }
-{
-    let mut rest = bytes;
-    while !rest.is_empty() {
-        match writer.write(rest) {
-            Ok(0) => return Err(FaultKind::Write),
-            Ok(count) => rest = rest.split_at(count).1,
-            Err(_) => return Err(FaultKind::Write),
+/// A read failed.
+#[derive(Clone, Copy, Debug, PartialEq, Eq)]
+pub struct ReadFailed;
+
+/// A write failed, or took no byte.
+#[derive(Clone, Copy, Debug, PartialEq, Eq)]
+pub struct WriteFailed;
+
+/// What a script is read from.
+pub trait Source {
+    ghost use Rattle.pool_cli.specs.Streams.{Stream};
+
+    /// The bytes that reads will give from here on, where they are known, and how many reads failed.
+    ghost source: { Self → Stream };
+
+    /// Reads some bytes into the front of `buf`, and tells how many: none only at the end, or where
+    /// `buf` has no room. An interrupted read has failed.
+    fn read_some(&mut self, buf: &mut [u8]) -> Result<usize, ReadFailed>
+        requires { CanCount (source self.old) }
+        ensures bound { ReadsAtMost result buf.new }
+        ensures bytes { ReadConsumes (source self.old).bytes (source self.new).bytes result buf.new }
+        ensures failures { CountsFailure (source self.old) (source self.new) result };
+}
+
+/// What a transcript is written to.
+pub trait Sink {
+    ghost use Rattle.pool_cli.specs.Streams.{Stream};
+
+    /// The bytes that writes put, where they are known, and how many writes failed.
+    ghost sink: { Self → Stream };
+
+    /// Writes all of the bytes.
+    ///
+    /// Errors: `Write` where a write failed or took no byte; then a front of the bytes was written.
+    /// `Memory` where memory ran out; then none was.
+    fn put(&mut self, bytes: &[u8]) -> Result<(), FaultKind>
+        requires { CanCount (sink self.old) }
+        ensures { Puts (sink self.old) (sink self.new) bytes.now result };
+}
+
+impl Source for &[u8] {
+    ghost source = { λ s. in_memory s.now };
+
+    fn read_some(&mut self, buf: &mut [u8]) -> Result<usize, ReadFailed> {
+        let Ok(count) = Read::read(self, buf) else {
+            unreachable!()
+        };
+        Ok(count)
+    }
+}
+
+impl Sink for Vec<u8> {
+    ghost sink = { λ v. in_memory v.items };
+
+    fn put(&mut self, bytes: &[u8]) -> Result<(), FaultKind> {
+        match self.write(bytes) {
+            Ok(_) => Ok(()),
+            Err(_) => Err(FaultKind::Memory),
         }
     }
-    Ok(())
+}
+
+/// A reader or writer of the system's, with how many of its reads or writes failed.
+#[derive(Drop)]
+pub struct Watched<S> {
+    pub stream: S,
+    pub failures: u64,
+}
+
+impl<S> Watched<S> {
+    /// That stream, of which nothing failed yet.
+    pub fn new(stream: S) -> Watched<S>
+        ensures { result ≡ record { stream = stream; failures = 0 } }
+    {
+        Watched {
+            stream,
+            failures: 0,
+        }
+    }
+}
+
+impl<R: Read> Source for Watched<R> {
+    ghost source = { λ w. watched R.remaining w };
+
+    fn read_some(&mut self, buf: &mut [u8]) -> Result<usize, ReadFailed> {
+        match self.stream.read(buf) {
+            Ok(count) => Ok(count),
+            Err(_) => {
+                self.failures += 1;
+                Err(ReadFailed)
+            }
+        }
+    }
+}
+
+impl<W: Write> Watched<W> {
+    /// Writes some of the bytes, and tells how many.
+    fn write_some(&mut self, bytes: &[u8]) -> Result<usize, WriteFailed>
+        requires room { self.old.failures < 2 ^ 64 - 1 }
+        ensures bound { WritesAtMost result bytes.now }
+        ensures some { IfOk result (λ count. 0 < count) }
+        ensures bytes { WriteAppends (W.contents self.old.stream) (W.contents self.new.stream) result bytes.now }
+        ensures failures { CountsFailure (watched W.contents self.old) (watched W.contents self.new) result }
+    {
+        match self.stream.write(bytes) {
+            Ok(0) => {
+                self.failures += 1;
+                Err(WriteFailed)
+            }
+            Ok(count) => Ok(count),
+            Err(_) => {
+                self.failures += 1;
+                Err(WriteFailed)
+            }
+        }
+    }
+}
+
+impl<W: Write> Sink for Watched<W> {
+    ghost sink = { λ w. watched W.contents w };
+
+    fn put(&mut self, bytes: &[u8]) -> Result<(), FaultKind> {
+        let mut rest = bytes;
+        while !rest.is_empty() {
+            match self.write_some(rest) {
+                Ok(count) => rest = rest.split_at(count).1,
+                Err(_) => return Err(FaultKind::Write),
+            }
+        }
+        Ok(())
+    }
 }
 
 /// Reads a whole script.
-pub fn read_script<R: Read>(alloc: Global, reader: &mut R) -> Result<Vec<u8>, FaultKind>
-    ensures { ReadsScript (λ v. v.items) (R.remaining reader.old) (R.remaining reader.new) result }
+pub fn read_script<R: Source>(alloc: Global, reader: &mut R) -> Result<Vec<u8>, FaultKind>
+    requires { CanCount (R.source reader.old) }
+    ensures { ReadsScript (λ v. v.items) (R.source reader.old) (R.source reader.new) result }
 {
     let mut script = Vec::new(alloc);
     let mut piece = [0u8; PIECE];
     while script.len() <= SCRIPT_LIMIT {
-        match reader.read(&mut piece) {
+        match reader.read_some(&mut piece) {
             Ok(0) => return Ok(script),
             Ok(count) => match script.extend_from_slice(&piece[..count]) {
                 Ok(()) => {}

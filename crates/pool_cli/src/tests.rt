@@ -1,8 +1,10 @@
 //! What no clause says: that scripts run in ample memory, the worked ones among them, what words ask
 //! for, and what reader, writer and memory leave that fail.
 
-use crate::program::{Words, run_program};
+use crate::program::run_program;
+use crate::request::Words;
 use crate::script::{run_bytes, run_script};
+use crate::streams::Watched;
 use script_text::{FaultKind, ScriptFault};
 use std::alloc::{AllocError, Global};
 use std::io;
@@ -611,9 +613,9 @@ impl Read for Failing {
 
 #[test]
 fn a_reader_that_fails_in_the_middle(rt: HostRuntime) -> Result<(), Fail> {
-    let mut reader = Failing {
+    let mut reader = Watched::new(Failing {
         bytes: b"limits 4 0 4\nlook 0\n",
-    };
+    });
     let mut out = Vec::new(rt.alloc());
     let fault = ScriptFault {
         line: 0,
@@ -662,7 +664,7 @@ fn a_writer_that_fails_in_the_middle(rt: HostRuntime) -> Result<(), Fail> {
             takes_none,
         };
         assert_eq!(rt;
-            run_script(rt.alloc(), &mut reader, &mut writer),
+            run_script(rt.alloc(), &mut reader, &mut Watched::new(&mut writer)),
             Err(fault)
         );
         assert!(rt; writer.rest.is_empty());
@@ -679,7 +681,7 @@ fn want_of_memory_leaves_a_front_of_the_transcript(rt: HostRuntime) -> Result<()
             rest: transcript.as_bytes(),
             takes_none: false,
         };
-        match run_script(rt.alloc(), &mut reader, &mut writer) {
+        match run_script(rt.alloc(), &mut reader, &mut Watched::new(&mut writer)) {
             Ok(()) => assert!(rt; writer.rest.is_empty()),
             Err(fault) => assert_eq!(rt; fault.kind, FaultKind::Memory),
         }

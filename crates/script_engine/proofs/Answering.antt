@@ -7,17 +7,18 @@ use Rattle.conn_log.specs.declared.entry.Entry.{Entry}
 use Rattle.conn_log.specs.declared.entry.Want.{Want}
 use Rattle.conn_log.specs.Connections.{is_among, held_number}
 use Rattle.conn_log.specs.Waiting.{waiting}
-use Rattle.conn_log.specs.Legal.{Terms}
+use Rattle.conn_log.specs.Legal.{LimitAndFirst}
 use Rattle.conn_log.specs.Fit.{newest_fit}
 use Rattle.bundle.specs.declared.refusal.Refusal.{Refusal}
 use Rattle.bundle.specs.declared.snapshot.Snapshot.{Snapshot}
-use Rattle.bundle.specs.Calls.{after_acquire, after_give_back, after_abandon, after_withdraw, refusal, without_too_old, with_host_room, is_full, next_number, start_on, start_unless, moment_at, Start, start_by, newest_start, Wait, wait_by, newest_wait}
-use Rattle.bundle.specs.Lease.{OneHost, Leasing, leased_number, snapshot_of}
+use Rattle.host_state.specs.Steps.{without_too_old, with_host_room, is_full, next_number, moment_at}
+use Rattle.bundle.specs.Calls.{after_acquire, after_give_back, after_abandon, after_withdraw, refusal, start_on, start_unless, Start, start_by, newest_start, Wait, wait_by, newest_wait}
+use Rattle.bundle.specs.Lease.{HostShown, Leasing, lease_number, snapshot_of}
 use Rattle.script_text.specs.declared.command.Ending.{Ending}
 use Rattle.script_text.specs.declared.fault.FaultKind.{FaultKind}
 use Rattle.script_text.specs.Printing.{entry_line, lines_since, refused, claimed_line, still_line, look_line}
 use Rattle.script_engine.specs.Hosted.{lease_facts, kept_facts, leases_of}
-use Rattle.script_engine.specs.Meaning.{Answer, replied, grown, stranger, with_ticket, without_ticket, leased_number as leased_by_tickets, get_at, get_unless, acquired, tickets_with, claim_at, claim_of, back_at, back_of, drop_at, drop_of, leave_at, look_at, refusal_word, facts_of}
+use Rattle.script_engine.specs.Meaning.{Answer, replied, grown, stranger, with_ticket, without_ticket, claimed_number, get_at, get_unless, acquired, tickets_with, claim_at, claim_of, back_at, back_of, drop_at, drop_of, leave_at, look_at, refusal_word, facts_of_ending}
 use Rattle.script_engine.specs.Transcript.{Gives}
 use Rattle.script_text.specs.Printing.{GivesText}
 use Rattle.script_engine.proofs.Growth.{Grows, lines-grown}
@@ -40,15 +41,15 @@ gives-grown bytes meant by old new tickets place r is here grows gives =
     gives-answer bytes meant new tickets (lines_since old new) r is (gives-lines bytes by old new place r here grows gives)
 
 -- get
-pub get-refused : (terms : Terms) (want : Want) (moment : ℕ) (log : List Entry) (tickets : List ℕ) (r : Refusal) → refusal terms log want ≡ Some r
-    → get_at terms want moment log tickets ≡ replied log tickets (refused (refusal_word r))
+pub get-refused : (settings : LimitAndFirst) (want : Want) (moment : ℕ) (log : List Entry) (tickets : List ℕ) (r : Refusal) → refusal settings log want ≡ Some r
+    → get_at settings want moment log tickets ≡ replied log tickets (refused (refusal_word r))
 unfolding get_at
-get-refused terms want moment log tickets r e = ap (get_unless terms want moment log tickets) e
+get-refused settings want moment log tickets r e = ap (get_unless settings want moment log tickets) e
 
-get-accepted : (terms : Terms) (want : Want) (moment : ℕ) (log new : List Entry) (tickets : List ℕ) → refusal terms log want ≡ None → new ≡ after_acquire terms log want moment
-    → get_at terms want moment log tickets ≡ acquired want log tickets new
+get-accepted : (settings : LimitAndFirst) (want : Want) (moment : ℕ) (log new : List Entry) (tickets : List ℕ) → refusal settings log want ≡ None → new ≡ after_acquire settings log want moment
+    → get_at settings want moment log tickets ≡ acquired want log tickets new
 unfolding get_at
-get-accepted terms want moment log new tickets e same = ap (get_unless terms want moment log tickets) e ∙ ap (acquired want log tickets) (sym same)
+get-accepted settings want moment log new tickets e same = ap (get_unless settings want moment log tickets) e ∙ ap (acquired want log tickets) (sym same)
 
 -- the newest entry starts no wait where it is a start
 no-wait : (moment : ℕ) (event : Event) (start : Start) → start_by moment event ≡ Some start → wait_by moment event ≡ None
@@ -63,15 +64,15 @@ started-no-wait : (log : List Entry) (start : Start) → newest_start log ≡ So
 started-no-wait [] start e = refl
 started-no-wait (e ∷ before) start is = no-wait e.moment e.event start is
 
-pub get-started : (terms : Terms) (want : Want) (moment : ℕ) (log new : List Entry) (tickets : List ℕ) (start : Start) → refusal terms log want ≡ None → new ≡ after_acquire terms log want moment
-    → newest_start new ≡ Some start → get_at terms want moment log tickets ≡ grown log new tickets
-get-started terms want moment log new tickets start e same newest =
-    get-accepted terms want moment log new tickets e same ∙ ap (λ wait. grown log new (tickets_with want.transfer tickets wait)) (started-no-wait new start newest)
+pub get-started : (settings : LimitAndFirst) (want : Want) (moment : ℕ) (log new : List Entry) (tickets : List ℕ) (start : Start) → refusal settings log want ≡ None → new ≡ after_acquire settings log want moment
+    → newest_start new ≡ Some start → get_at settings want moment log tickets ≡ grown log new tickets
+get-started settings want moment log new tickets start e same newest =
+    get-accepted settings want moment log new tickets e same ∙ ap (λ wait. grown log new (tickets_with want.transfer tickets wait)) (started-no-wait new start newest)
 
-pub get-waited : (terms : Terms) (want : Want) (moment : ℕ) (log new : List Entry) (tickets : List ℕ) (wait : Wait) → refusal terms log want ≡ None → new ≡ after_acquire terms log want moment
-    → newest_wait new ≡ Some wait → get_at terms want moment log tickets ≡ grown log new (with_ticket want.transfer tickets)
-get-waited terms want moment log new tickets wait e same newest =
-    get-accepted terms want moment log new tickets e same ∙ ap (λ w. grown log new (tickets_with want.transfer tickets w)) newest
+pub get-waited : (settings : LimitAndFirst) (want : Want) (moment : ℕ) (log new : List Entry) (tickets : List ℕ) (wait : Wait) → refusal settings log want ≡ None → new ≡ after_acquire settings log want moment
+    → newest_wait new ≡ Some wait → get_at settings want moment log tickets ≡ grown log new (with_ticket want.transfer tickets)
+get-waited settings want moment log new tickets wait e same newest =
+    get-accepted settings want moment log new tickets e same ∙ ap (λ w. grown log new (tickets_with want.transfer tickets w)) newest
 
 -- an accepted acquire, and the want of its lease or ticket
 pub accepted : {A : Type 0} (got : A) (shows : Option Refusal) → IfSome shows (λ reason. ◌≡◌ {A = Result A Refusal} (Ok got) (Err reason)) → shows ≡ None
@@ -93,46 +94,46 @@ leased-of want moment c log = ((λ start e. ap (λ (s : Start). s.want) (sym (so
 waited-of : (want : Want) (moment : ℕ) (log : List Entry) → IsOf want (record { moment = moment; event = Waited want } ∷ log)
 waited-of want moment log = ((λ start e. cc), (λ wait e. ap (λ (w : Wait). w.want) (sym (some-same e))))
 
-start-of : (terms : Terms) (want : Want) (moment : ℕ) (log : List Entry) (fit : Option ℕ) → IsOf want (start_on terms want moment log fit)
-start-of terms want moment log None = by_room (is_full terms (with_host_room terms moment log))
+start-of : (settings : LimitAndFirst) (want : Want) (moment : ℕ) (log : List Entry) (fit : Option ℕ) → IsOf want (start_on settings want moment log fit)
+start-of settings want moment log None = by_room (is_full settings (with_host_room settings moment log))
   where
     room : List Entry
-    room = with_host_room terms moment log
+    room = with_host_room settings moment log
 
-    by_room : (full : Bool) → IsOf want (cond full (record { moment = moment; event = Waited want } ∷ room) (record { moment = moment; event = Opened (next_number terms room) want } ∷ room))
+    by_room : (full : Bool) → IsOf want (cond full (record { moment = moment; event = Waited want } ∷ room) (record { moment = moment; event = Opened (next_number settings room) want } ∷ room))
     by_room true = waited-of want moment room
-    by_room false = opened-of want moment (next_number terms room) room
-start-of terms want moment log (Some c) = leased-of want moment c log
+    by_room false = opened-of want moment (next_number settings room) room
+start-of settings want moment log (Some c) = leased-of want moment c log
 
-pub acquired-of : (terms : Terms) (log : List Entry) (want : Want) (now : ℕ) → IsOf want (after_acquire terms log want now)
-acquired-of terms log want now = by_waiting (waiting log)
+pub acquired-of : (settings : LimitAndFirst) (log : List Entry) (want : Want) (now : ℕ) → IsOf want (after_acquire settings log want now)
+acquired-of settings log want now = by_waiting (waiting log)
   where
     moment : ℕ
     moment = moment_at log now
 
-    by_waiting : (wants : List Want) → IsOf want (start_unless wants terms want moment log)
-    by_waiting [] = let closed = without_too_old want moment log in start-of terms want moment closed (newest_fit closed want moment)
+    by_waiting : (wants : List Want) → IsOf want (start_unless wants settings want moment log)
+    by_waiting [] = let closed = without_too_old want moment log in start-of settings want moment closed (newest_fit closed want moment)
     by_waiting (head ∷ others) = waited-of want moment log
 
 -- back and drop
-pub back-stranger : (terms : Terms) (transfer : ℕ) (ending : Ending) (moment : ℕ) (log : List Entry) (tickets : List ℕ) → leased_by_tickets log tickets transfer ≡ None
-    → back_at terms transfer ending moment log tickets ≡ stranger log tickets
+pub back-stranger : (settings : LimitAndFirst) (transfer : ℕ) (ending : Ending) (moment : ℕ) (log : List Entry) (tickets : List ℕ) → claimed_number log tickets transfer ≡ None
+    → back_at settings transfer ending moment log tickets ≡ stranger log tickets
 unfolding back_at
-back-stranger terms transfer ending moment log tickets e = ap (back_of terms ending moment log tickets) e
+back-stranger settings transfer ending moment log tickets e = ap (back_of settings ending moment log tickets) e
 
-pub back-taken : (terms : Terms) (transfer : ℕ) (ending : Ending) (moment : ℕ) (log : List Entry) (tickets : List ℕ) (c : ℕ) → leased_by_tickets log tickets transfer ≡ Some c
-    → back_at terms transfer ending moment log tickets ≡ grown log (after_give_back terms log c (facts_of ending) moment) tickets
+pub back-taken : (settings : LimitAndFirst) (transfer : ℕ) (ending : Ending) (moment : ℕ) (log : List Entry) (tickets : List ℕ) (c : ℕ) → claimed_number log tickets transfer ≡ Some c
+    → back_at settings transfer ending moment log tickets ≡ grown log (after_give_back settings log c (facts_of_ending ending) moment) tickets
 unfolding back_at
-back-taken terms transfer ending moment log tickets c e = ap (back_of terms ending moment log tickets) e
+back-taken settings transfer ending moment log tickets c e = ap (back_of settings ending moment log tickets) e
 
-pub drop-stranger : (terms : Terms) (transfer moment : ℕ) (log : List Entry) (tickets : List ℕ) → leased_by_tickets log tickets transfer ≡ None → drop_at terms transfer moment log tickets ≡ stranger log tickets
+pub drop-stranger : (settings : LimitAndFirst) (transfer moment : ℕ) (log : List Entry) (tickets : List ℕ) → claimed_number log tickets transfer ≡ None → drop_at settings transfer moment log tickets ≡ stranger log tickets
 unfolding drop_at
-drop-stranger terms transfer moment log tickets e = ap (drop_of terms moment log tickets) e
+drop-stranger settings transfer moment log tickets e = ap (drop_of settings moment log tickets) e
 
-pub drop-taken : (terms : Terms) (transfer moment : ℕ) (log : List Entry) (tickets : List ℕ) (c : ℕ) → leased_by_tickets log tickets transfer ≡ Some c
-    → drop_at terms transfer moment log tickets ≡ grown log (after_abandon terms log c moment) tickets
+pub drop-taken : (settings : LimitAndFirst) (transfer moment : ℕ) (log : List Entry) (tickets : List ℕ) (c : ℕ) → claimed_number log tickets transfer ≡ Some c
+    → drop_at settings transfer moment log tickets ≡ grown log (after_abandon settings log c moment) tickets
 unfolding drop_at
-drop-taken terms transfer moment log tickets c e = ap (drop_of terms moment log tickets) e
+drop-taken settings transfer moment log tickets c e = ap (drop_of settings moment log tickets) e
 
 -- claim and leave
 pub claim-stranger : (transfer : ℕ) (log : List Entry) (tickets : List ℕ) → is_among transfer tickets ≡ false → claim_at transfer log tickets ≡ stranger log tickets
@@ -150,25 +151,25 @@ pub claim-granted : (transfer : ℕ) (log : List Entry) (tickets : List ℕ) (c 
     → claim_at transfer log tickets ≡ replied log (without_ticket transfer tickets) (claimed_line 0 c)
 claim-granted transfer log tickets c e held = claim-ticketed transfer log tickets e ∙ ap (claim_of transfer log tickets) held
 
-pub leave-stranger : (terms : Terms) (transfer moment : ℕ) (log : List Entry) (tickets : List ℕ) → is_among transfer tickets ≡ false → leave_at terms transfer moment log tickets ≡ stranger log tickets
+pub leave-stranger : (settings : LimitAndFirst) (transfer moment : ℕ) (log : List Entry) (tickets : List ℕ) → is_among transfer tickets ≡ false → leave_at settings transfer moment log tickets ≡ stranger log tickets
 unfolding leave_at
-leave-stranger terms transfer moment log tickets e = ap (λ b. cond b (grown log (after_withdraw terms log transfer moment) (without_ticket transfer tickets)) (stranger log tickets)) e
+leave-stranger settings transfer moment log tickets e = ap (λ b. cond b (grown log (after_withdraw settings log transfer moment) (without_ticket transfer tickets)) (stranger log tickets)) e
 
-pub leave-taken : (terms : Terms) (transfer moment : ℕ) (log : List Entry) (tickets : List ℕ) → is_among transfer tickets ≡ true
-    → leave_at terms transfer moment log tickets ≡ grown log (after_withdraw terms log transfer moment) (without_ticket transfer tickets)
+pub leave-taken : (settings : LimitAndFirst) (transfer moment : ℕ) (log : List Entry) (tickets : List ℕ) → is_among transfer tickets ≡ true
+    → leave_at settings transfer moment log tickets ≡ grown log (after_withdraw settings log transfer moment) (without_ticket transfer tickets)
 unfolding leave_at
-leave-taken terms transfer moment log tickets e = ap (λ b. cond b (grown log (after_withdraw terms log transfer moment) (without_ticket transfer tickets)) (stranger log tickets)) e
+leave-taken settings transfer moment log tickets e = ap (λ b. cond b (grown log (after_withdraw settings log transfer moment) (without_ticket transfer tickets)) (stranger log tickets)) e
 
 -- what is kept for a transfer
-pub record IsKeptFor {S : Type 0} (host : OneHost S) (transfer : ℕ) (lease : Leasing S) : Type 0 where
-  pub leased : leased_number host transfer ≡ Some lease.start.number
+pub record IsKeptFor {S : Type 0} (host : HostShown S) (transfer : ℕ) (lease : Leasing S) : Type 0 where
+  pub leased : lease_number host transfer ≡ Some lease.start.number
   pub own : lease.start.want.transfer ≡ transfer
   pub stream : is_some lease.stream ≡ true
 
-pub kept-lease : {S : Type 0} (host : OneHost S) (transfer : ℕ) (lease : Leasing S) → Some (lease_facts lease) ≡ leases_of host transfer → IsKeptFor host transfer lease
-kept-lease host transfer lease e = by_leased (leased_number host transfer) refl e
+pub kept-lease : {S : Type 0} (host : HostShown S) (transfer : ℕ) (lease : Leasing S) → Some (lease_facts lease) ≡ leases_of host transfer → IsKeptFor host transfer lease
+kept-lease host transfer lease e = by_leased (lease_number host transfer) refl e
   where
-    by_leased : (leased : Option ℕ) → leased_number host transfer ≡ leased → Some (lease_facts lease) ≡ option_map (kept_facts transfer) leased → IsKeptFor host transfer lease
+    by_leased : (leased : Option ℕ) → lease_number host transfer ≡ leased → Some (lease_facts lease) ≡ option_map (kept_facts transfer) leased → IsKeptFor host transfer lease
     by_leased None is h = cc
     by_leased (Some n) is h =
         let same : lease_facts lease ≡ kept_facts transfer n = cc in
@@ -178,8 +179,8 @@ kept-lease host transfer lease e = by_leased (leased_number host transfer) refl 
           stream = ap (λ (f : ℕ × ℕ × Bool). f.2) same;
         }
 
-pub kept-none : {S : Type 0} (host : OneHost S) (transfer : ℕ) → None ≡ leases_of host transfer → leased_number host transfer ≡ None
-kept-none host transfer e = by_leased (leased_number host transfer) e
+pub kept-none : {S : Type 0} (host : HostShown S) (transfer : ℕ) → None ≡ leases_of host transfer → lease_number host transfer ≡ None
+kept-none host transfer e = by_leased (lease_number host transfer) e
   where
     by_leased : (leased : Option ℕ) → None ≡ option_map (kept_facts transfer) leased → leased ≡ None
     by_leased None h = refl

@@ -2,11 +2,13 @@
 use Rattle.std.proofs.Common.{◌≡◌, ℕ, arith, Bool, true, false, cond, List, refl, ap, sym, ◌∙◌, subst, Some, None, Result, Ok, Err}
 use Rattle.std.specs.Prelude.{◌==◌, ◌&&◌}
 use Rattle.std.proofs.lemmas.Bool.Decides.{nat_tests}
+use Rattle.script_text.specs.declared.command.Action.{Action}
+use Rattle.script_text.specs.declared.command.Action.TheVariants as actions
 use Rattle.script_text.specs.declared.command.Command.{Command}
 use Rattle.script_text.specs.declared.command.Limits.{Limits}
 use Rattle.script_text.specs.declared.fault.FaultKind.{FaultKind}
 use Rattle.script_engine.specs.Hosted.{Hosted}
-use Rattle.script_engine.specs.Meaning.{Run, Answer, with_command, after_answer, at_host, at_no_host, site_of, terms_of}
+use Rattle.script_engine.specs.Meaning.{Run, Answer, with_action, after_answer, at_host, at_no_host, settings_of}
 use Rattle.script_engine.specs.Meaning.{has_site}
 use Rattle.script_engine.specs.Transcript.{Answers, Gives, FailsBy}
 
@@ -20,20 +22,20 @@ given bytes run next meant answer (Ok text) is same gives =
     is ∙ ap (λ (a : Answer). Ok (after_answer run a)) gives ∙ ap (λ (n : Run). Ok (n, bytes text)) same
 given bytes run next meant answer (Err kind) is same gives = subst (FailsBy meant) (sym gives) tt
 
-pub answered-elsewhere : {T : Type 0} (bytes : T → List ℕ) (run : Run) (limits : Limits) (command : Command) (r : Result T FaultKind) → run.has_begun ≡ true
-    → (has_site run.sites && (site_of command == 0)) ≡ false → Gives bytes (at_no_host run.log run.tickets command) r run.log run.tickets → Answers bytes (with_command run command (Some limits)) r run
-answered-elsewhere bytes run limits command r begun elsewhere gives =
-    given bytes run run (with_command run command (Some limits)) (at_no_host run.log run.tickets command) r
-    (ap (λ b. answered-by run b (at_host (terms_of limits) run.log run.tickets command) (at_no_host run.log run.tickets command)) elsewhere)
+pub answered-elsewhere : {T : Type 0} (bytes : T → List ℕ) (run : Run) (limits : Limits) (site : ℕ) (action : Action) (r : Result T FaultKind) → run.has_begun ≡ true
+    → (has_site run.sites && (site == 0)) ≡ false → Gives bytes (at_no_host run.log run.tickets action) r run.log run.tickets → Answers bytes (with_action run site action (Some limits)) r run
+answered-elsewhere bytes run limits site action r begun elsewhere gives =
+    given bytes run run (with_action run site action (Some limits)) (at_no_host run.log run.tickets action) r
+    (ap (λ b. answered-by run b (at_host (settings_of limits) run.log run.tickets action) (at_no_host run.log run.tickets action)) elsewhere)
     (ap (λ b. record run { has_begun = b }) (sym begun)) gives
 
-pub host-there : (begun site : Bool) (limits : Limits) (host : Hosted) → begun ≡ true → Some host.terms ≡ cond (begun && site) (Some (terms_of limits)) None
-    → (site ≡ true) × (host.terms ≡ terms_of limits)
+pub host-there : (begun site : Bool) (limits : Limits) (host : Hosted) → begun ≡ true → Some host.settings ≡ cond (begun && site) (Some (settings_of limits)) None
+    → (site ≡ true) × (host.settings ≡ settings_of limits)
 host-there true true limits host b e = (refl, cc)
 host-there true false limits host b e = cc
 host-there false site limits host b e = cc
 
-pub host-missing : (begun site : Bool) (limits : Limits) → begun ≡ true → None ≡ cond (begun && site) (Some (terms_of limits)) None → site ≡ false
+pub host-missing : (begun site : Bool) (limits : Limits) → begun ≡ true → None ≡ cond (begun && site) (Some (settings_of limits)) None → site ≡ false
 host-missing true true limits b e = cc
 host-missing true false limits b e = refl
 host-missing false site limits b e = cc

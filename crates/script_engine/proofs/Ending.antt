@@ -11,9 +11,9 @@ use Rattle.std.proofs.lemmas.Bool.Decides.{nat_tests}
 use Rattle.conn_log.specs.declared.entry.Entry.{Entry}
 use Rattle.conn_log.specs.declared.entry.Want.{Want}
 use Rattle.conn_log.specs.Connections.{is_among, held_number}
-use Rattle.conn_log.specs.Legal.{Terms}
+use Rattle.conn_log.specs.Legal.{LimitAndFirst}
 use Rattle.conn_log.specs.Sound.{IsSound}
-use Rattle.bundle.specs.Lease.{OneHost, Leasing, Ticketed, leased_number, ticket_want}
+use Rattle.bundle.specs.Lease.{HostShown, Leasing, Ticketed, lease_number, ticket_want}
 use Rattle.script_engine.specs.Meaning.{with_ticket, without_ticket}
 use Rattle.script_engine.specs.Hosted.{KeepsLeases, KeepsTickets, lease_facts, kept_facts, leases_of, is_ticket_first, merged}
 use Rattle.script_engine.specs.Ending.{has_either, after_all}
@@ -144,18 +144,18 @@ without-absent t (x ∷ tickets) apart = by_first (t == x) (x == t) (turned t x)
     by_first false false is apart' rest = ap (λ keys. x ∷ keys) (rest apart')
 
 -- who has a lease has no ticket, and who has a ticket no lease
-module _ {S : Type 0} (host : OneHost S) (sound : IsSound host.terms host.log) (t : ℕ) where
-  pub holder-unticketed : is_some (leased_number host t) ≡ true → ticket_want host t ≡ None
-  holder-unticketed has = by_leased (leased_number host t) refl has
+module _ {S : Type 0} (host : HostShown S) (sound : IsSound host.settings host.log) (t : ℕ) where
+  pub holder-unticketed : is_some (lease_number host t) ≡ true → ticket_want host t ≡ None
+  holder-unticketed has = by_leased (lease_number host t) refl has
     where
-      by_leased : (leased : Option ℕ) → leased_number host t ≡ leased → is_some leased ≡ true → ticket_want host t ≡ None
+      by_leased : (leased : Option ℕ) → lease_number host t ≡ leased → is_some leased ≡ true → ticket_want host t ≡ None
       by_leased None is h = cc
       by_leased (Some c) is h = leased-no-ticket host sound t c is
 
-  pub waiter-unleased : is_some (ticket_want host t) ≡ true → leased_number host t ≡ None
+  pub waiter-unleased : is_some (ticket_want host t) ≡ true → lease_number host t ≡ None
   waiter-unleased has = by_want (ticket_want host t) refl has
     where
-      by_want : (want : Option Want) → ticket_want host t ≡ want → is_some want ≡ true → leased_number host t ≡ None
+      by_want : (want : Option Want) → ticket_want host t ≡ want → is_some want ≡ true → lease_number host t ≡ None
       by_want None is h = cc
       by_want (Some want) is h = ticket-no-lease host sound t want is
 
@@ -174,7 +174,7 @@ module _ {S : Type 0} (host : OneHost S) (sound : IsSound host.terms host.log) (
       leased : is_among t (keys_of leases) ≡ is_some (cond (is_among t (keys_of tickets)) None (held_number host.log t))
       leased =
           among-keys leases t
-          ∙ any-kept (lookup (is_at (nat_cmp t)) leases) (leased_number host t) (keeps_leases t)
+          ∙ any-kept (lookup (is_at (nat_cmp t)) leases) (lease_number host t) (keeps_leases t)
           ∙ ap is_some (sym (leased-by-keys host sound tickets keeps_tickets t))
 
       by_ticket : (ticketed : Bool) → (ticketed || is_some (cond ticketed None (held_number host.log t))) ≡ (ticketed || is_some (held_number host.log t))
@@ -182,8 +182,8 @@ module _ {S : Type 0} (host : OneHost S) (sound : IsSound host.terms host.log) (
       by_ticket false = refl
 
 -- none is left
-pub none-left : {A B : Type 0} (terms : Terms) (log : List Entry) (leases : List (ℕ × A)) (tickets : List (ℕ × B)) → length leases ≡ 0 → length tickets ≡ 0
-    → after_all terms log (keys_of tickets) (merged (keys_of leases) (keys_of tickets)) ≡ log
-none-left terms log [] [] no_lease no_ticket = refl
-none-left terms log (lease ∷ leases) tickets no_lease no_ticket = absurd (grind (arith, nat_tests))
-none-left terms log [] (ticket ∷ tickets) no_lease no_ticket = absurd (grind (arith, nat_tests))
+pub none-left : {A B : Type 0} (settings : LimitAndFirst) (log : List Entry) (leases : List (ℕ × A)) (tickets : List (ℕ × B)) → length leases ≡ 0 → length tickets ≡ 0
+    → after_all settings log (keys_of tickets) (merged (keys_of leases) (keys_of tickets)) ≡ log
+none-left settings log [] [] no_lease no_ticket = refl
+none-left settings log (lease ∷ leases) tickets no_lease no_ticket = absurd (grind (arith, nat_tests))
+none-left settings log [] (ticket ∷ tickets) no_lease no_ticket = absurd (grind (arith, nat_tests))

@@ -14,9 +14,10 @@ use Rattle.conn_log.specs.declared.entry.Event.TheVariants.{Opened, Leased, Retu
 use Rattle.conn_log.specs.declared.entry.Entry.{Entry}
 use Rattle.conn_log.specs.Connections.{idle_connections, holder, is_held_by, holder_want, held_number}
 use Rattle.conn_log.specs.Waiting.{waiting, waits}
-use Rattle.conn_log.specs.Legal.{Terms, owed}
+use Rattle.conn_log.specs.Legal.{LimitAndFirst, owed}
 use Rattle.conn_log.specs.Fit.{is_fit, newest_fit, oldest_too_old, oldest}
-use Rattle.bundle.specs.Calls.{after_acquire, after_give_back, after_close, after_abandon, after_withdraw, add, moment_at, close_before, close_too_old, without_too_old, with_host_room, is_full, close_for_room, start_new, start_on, start_unless, open_for, unfit_cause, pass_to, settle, close_granted, GrowsBy}
+use Rattle.host_state.specs.Steps.{add, moment_at, close_before, close_too_old, without_too_old, with_host_room, is_full, close_for_room}
+use Rattle.bundle.specs.Calls.{after_acquire, after_give_back, after_close, after_abandon, after_withdraw, start_new, start_on, start_unless, open_for, unfit_cause, pass_to, settle, close_granted, GrowsBy}
 use Rattle.script_text.specs.Printing.{entry_line, event_text, returned_by, newest_lines, lines_since}
 
 -- the new log has entries in front of the old one, and of each this is said
@@ -115,70 +116,70 @@ module _ (Says : Event → List Entry → Type 0) (silent : (event : Event) (bef
       by_first None rest = so_far
       by_first (Some c) rest = rest c
 
-  adds_room : (terms : Terms) (moment : ℕ) (log : List Entry) → Adds Says old log → Adds Says old (with_host_room terms moment log)
-  adds_room terms moment log so_far = either (is_full terms log) _ _ (by_oldest (oldest log)) so_far
+  adds_room : (settings : LimitAndFirst) (moment : ℕ) (log : List Entry) → Adds Says old log → Adds Says old (with_host_room settings moment log)
+  adds_room settings moment log so_far = either (is_full settings log) _ _ (by_oldest (oldest log)) so_far
     where
       by_oldest : (first : Option ℕ) → Adds Says old (close_for_room moment log first)
       by_oldest None = so_far
       by_oldest (Some c) = adds_other moment (Closed c cause.HostRoom) log refl so_far
 
-  adds_new : (terms : Terms) (want : Want) (moment : ℕ) (log : List Entry) → Adds Says old log → Adds Says old (start_new terms want moment log)
-  adds_new terms want moment log so_far = adds_other moment (Opened _ want) log refl so_far
+  adds_new : (settings : LimitAndFirst) (want : Want) (moment : ℕ) (log : List Entry) → Adds Says old log → Adds Says old (start_new settings want moment log)
+  adds_new settings want moment log so_far = adds_other moment (Opened _ want) log refl so_far
 
-  adds_start_on : (terms : Terms) (want : Want) (moment : ℕ) (log : List Entry) (fit : Option ℕ) → Adds Says old log → Adds Says old (start_on terms want moment log fit)
-  adds_start_on terms want moment log None so_far =
-      let room = with_host_room terms moment log in
-      let roomy = adds_room terms moment log so_far in
-      either (is_full terms room) _ _ (adds_other moment (Waited want) room refl roomy) (adds_new terms want moment room roomy)
-  adds_start_on terms want moment log (Some c) so_far = adds_other moment (Leased c want) log refl so_far
+  adds_start_on : (settings : LimitAndFirst) (want : Want) (moment : ℕ) (log : List Entry) (fit : Option ℕ) → Adds Says old log → Adds Says old (start_on settings want moment log fit)
+  adds_start_on settings want moment log None so_far =
+      let room = with_host_room settings moment log in
+      let roomy = adds_room settings moment log so_far in
+      either (is_full settings room) _ _ (adds_other moment (Waited want) room refl roomy) (adds_new settings want moment room roomy)
+  adds_start_on settings want moment log (Some c) so_far = adds_other moment (Leased c want) log refl so_far
 
-  adds_start_unless : (terms : Terms) (want : Want) (moment : ℕ) (wants : List Want) → Adds Says old (start_unless wants terms want moment old)
-  adds_start_unless terms want moment [] =
+  adds_start_unless : (settings : LimitAndFirst) (want : Want) (moment : ℕ) (wants : List Want) → Adds Says old (start_unless wants settings want moment old)
+  adds_start_unless settings want moment [] =
       let closed = without_too_old want moment old in
-      adds_start_on terms want moment closed (newest_fit closed want moment) (adds_closes (length (idle_connections old)) want moment old nothing)
-  adds_start_unless terms want moment (head ∷ others) = adds_other moment (Waited want) old refl nothing
+      adds_start_on settings want moment closed (newest_fit closed want moment) (adds_closes (length (idle_connections old)) want moment old nothing)
+  adds_start_unless settings want moment (head ∷ others) = adds_other moment (Waited want) old refl nothing
 
-  pub adds_acquire : (terms : Terms) (want : Want) (now : ℕ) → Adds Says old (after_acquire terms old want now)
-  adds_acquire terms want now = adds_start_unless terms want (moment_at old now) (waiting old)
+  pub adds_acquire : (settings : LimitAndFirst) (want : Want) (now : ℕ) → Adds Says old (after_acquire settings old want now)
+  adds_acquire settings want now = adds_start_unless settings want (moment_at old now) (waiting old)
 
-  adds_open_for : (terms : Terms) (moment : ℕ) (log : List Entry) (wants : List Want) → Adds Says old log → Adds Says old (open_for terms moment log wants)
-  adds_open_for terms moment log [] so_far = so_far
-  adds_open_for terms moment log (head ∷ others) so_far = adds_new terms head moment log so_far
+  adds_open_for : (settings : LimitAndFirst) (moment : ℕ) (log : List Entry) (wants : List Want) → Adds Says old log → Adds Says old (open_for settings moment log wants)
+  adds_open_for settings moment log [] so_far = so_far
+  adds_open_for settings moment log (head ∷ others) so_far = adds_new settings head moment log so_far
 
-  adds_pass : (terms : Terms) (c moment : ℕ) (log : List Entry) (wants : List Want) → Adds Says old log → Adds Says old (pass_to terms c moment log wants)
-  adds_pass terms c moment log [] so_far = so_far
-  adds_pass terms c moment log (head ∷ others) so_far =
-      let cause = unfit_cause terms log head moment c in
+  adds_pass : (settings : LimitAndFirst) (c moment : ℕ) (log : List Entry) (wants : List Want) → Adds Says old log → Adds Says old (pass_to settings c moment log wants)
+  adds_pass settings c moment log [] so_far = so_far
+  adds_pass settings c moment log (head ∷ others) so_far =
+      let cause = unfit_cause settings log head moment c in
       either (is_fit log head moment c) _ _ (adds_other moment (Leased c head) log refl so_far)
-      (adds_new terms head moment (add moment (Closed c cause) log) (adds_other moment (Closed c cause) log refl so_far))
+      (adds_new settings head moment (add moment (Closed c cause) log) (adds_other moment (Closed c cause) log refl so_far))
 
-  adds_settle : (terms : Terms) (c moment : ℕ) (log : List Entry) (close : Option (ℕ × Cause)) → Adds Says old log → Adds Says old (settle terms c moment log close)
-  adds_settle terms c moment log None so_far = adds_pass terms c moment log (waiting log) so_far
-  adds_settle terms c moment log (Some close) so_far =
+  adds_settle : (settings : LimitAndFirst) (c moment : ℕ) (log : List Entry) (close : Option (ℕ × Cause)) → Adds Says old log → Adds Says old (settle settings c moment log close)
+  adds_settle settings c moment log None so_far = adds_pass settings c moment log (waiting log) so_far
+  adds_settle settings c moment log (Some close) so_far =
       let closed = add moment (Closed close.0 close.1) log in
-      adds_open_for terms moment closed (waiting closed) (adds_other moment (Closed close.0 close.1) log refl so_far)
+      adds_open_for settings moment closed (waiting closed) (adds_other moment (Closed close.0 close.1) log refl so_far)
 
-  pub adds_give_back : (terms : Terms) (c : ℕ) (facts : Facts) (now : ℕ) → Says (Returned c facts) old → Adds Says old (after_give_back terms old c facts now)
-  adds_give_back terms c facts now says =
+  pub adds_give_back : (settings : LimitAndFirst) (c : ℕ) (facts : Facts) (now : ℕ) → Says (Returned c facts) old → Adds Says old (after_give_back settings old c facts now)
+  adds_give_back settings c facts now says =
       let moment = moment_at old now in
       let returned = add moment (Returned c facts) old in
-      adds_settle terms c moment returned (owed returned) (adds moment (Returned c facts) old says nothing)
+      adds_settle settings c moment returned (owed returned) (adds moment (Returned c facts) old says nothing)
 
-  adds_close : (terms : Terms) (c : ℕ) (cause : Cause) (now : ℕ) → Adds Says old (after_close terms old c cause now)
-  adds_close terms c cause now =
+  adds_close : (settings : LimitAndFirst) (c : ℕ) (cause : Cause) (now : ℕ) → Adds Says old (after_close settings old c cause now)
+  adds_close settings c cause now =
       let moment = moment_at old now in
       let closed = add moment (Closed c cause) old in
-      adds_open_for terms moment closed (waiting closed) (adds_other moment (Closed c cause) old refl nothing)
+      adds_open_for settings moment closed (waiting closed) (adds_other moment (Closed c cause) old refl nothing)
 
-  pub adds_abandon : (terms : Terms) (c now : ℕ) → Adds Says old (after_abandon terms old c now)
-  adds_abandon terms c now = adds_close terms c cause.Dropped now
+  pub adds_abandon : (settings : LimitAndFirst) (c now : ℕ) → Adds Says old (after_abandon settings old c now)
+  adds_abandon settings c now = adds_close settings c cause.Dropped now
 
-  pub adds_withdraw : (terms : Terms) (transfer now : ℕ) → Adds Says old (after_withdraw terms old transfer now)
-  adds_withdraw terms transfer now = either (waits old transfer) _ _ (adds_other (moment_at old now) (Left transfer) old refl nothing) (by_held (held_number old transfer))
+  pub adds_withdraw : (settings : LimitAndFirst) (transfer now : ℕ) → Adds Says old (after_withdraw settings old transfer now)
+  adds_withdraw settings transfer now = either (waits old transfer) _ _ (adds_other (moment_at old now) (Left transfer) old refl nothing) (by_held (held_number old transfer))
     where
-      by_held : (held : Option ℕ) → Adds Says old (close_granted terms old held now)
+      by_held : (held : Option ℕ) → Adds Says old (close_granted settings old held now)
       by_held None = nothing
-      by_held (Some c) = adds_close terms c cause.Withdrawn now
+      by_held (Some c) = adds_close settings c cause.Withdrawn now
 
 -- which transfer a connection comes back from
 silent-by : (by : ℕ) (event : Event) (before : List Entry) → is_return event ≡ false → SaysIt by event before
@@ -193,17 +194,17 @@ held-holder : (by : ℕ) (want : Option Want) → option_map_or (λ (w : Want). 
 held-holder by None h = cc
 held-holder by (Some want) h = ap Some (eqb-true want.transfer by h)
 
-pub acquired-grows : (by : ℕ) (terms : Terms) (log : List Entry) (want : Want) (now : ℕ) → Grows by log (after_acquire terms log want now)
-acquired-grows by terms log want now = adds_acquire (SaysIt by) (silent-by by) log terms want now
+pub acquired-grows : (by : ℕ) (settings : LimitAndFirst) (log : List Entry) (want : Want) (now : ℕ) → Grows by log (after_acquire settings log want now)
+acquired-grows by settings log want now = adds_acquire (SaysIt by) (silent-by by) log settings want now
 
-pub given_back-grows : (by : ℕ) (terms : Terms) (log : List Entry) (c : ℕ) (facts : Facts) (now : ℕ) → is_held_by log by c ≡ true → Grows by log (after_give_back terms log c facts now)
-given_back-grows by terms log c facts now held = adds_give_back (SaysIt by) (silent-by by) log terms c facts now (held-holder by (holder_want log c) held)
+pub given_back-grows : (by : ℕ) (settings : LimitAndFirst) (log : List Entry) (c : ℕ) (facts : Facts) (now : ℕ) → is_held_by log by c ≡ true → Grows by log (after_give_back settings log c facts now)
+given_back-grows by settings log c facts now held = adds_give_back (SaysIt by) (silent-by by) log settings c facts now (held-holder by (holder_want log c) held)
 
-pub abandoned-grows : (by : ℕ) (terms : Terms) (log : List Entry) (c now : ℕ) → Grows by log (after_abandon terms log c now)
-abandoned-grows by terms log c now = adds_abandon (SaysIt by) (silent-by by) log terms c now
+pub abandoned-grows : (by : ℕ) (settings : LimitAndFirst) (log : List Entry) (c now : ℕ) → Grows by log (after_abandon settings log c now)
+abandoned-grows by settings log c now = adds_abandon (SaysIt by) (silent-by by) log settings c now
 
-pub withdrawn-grows : (by : ℕ) (terms : Terms) (log : List Entry) (transfer now : ℕ) → Grows by log (after_withdraw terms log transfer now)
-withdrawn-grows by terms log transfer now = adds_withdraw (SaysIt by) (silent-by by) log terms transfer now
+pub withdrawn-grows : (by : ℕ) (settings : LimitAndFirst) (log : List Entry) (transfer now : ℕ) → Grows by log (after_withdraw settings log transfer now)
+withdrawn-grows by settings log transfer now = adds_withdraw (SaysIt by) (silent-by by) log settings transfer now
 
 -- that it grew, whatever is said
 abbrev SaysNothing : Event → List Entry → Type 0
@@ -212,18 +213,18 @@ SaysNothing event before = Unit {0}
 grew : (old new : List Entry) → Adds SaysNothing old new → GrowsBy old new
 grew old new adds = (adds.added, adds.whole)
 
-module _ (terms : Terms) (log : List Entry) where
-  pub grows-acquire : (want : Want) (now : ℕ) → GrowsBy log (after_acquire terms log want now)
-  grows-acquire want now = grew log _ (adds_acquire SaysNothing (λ event before other. tt) log terms want now)
+module _ (settings : LimitAndFirst) (log : List Entry) where
+  pub grows-acquire : (want : Want) (now : ℕ) → GrowsBy log (after_acquire settings log want now)
+  grows-acquire want now = grew log _ (adds_acquire SaysNothing (λ event before other. tt) log settings want now)
 
-  pub grows-give_back : (c : ℕ) (facts : Facts) (now : ℕ) → GrowsBy log (after_give_back terms log c facts now)
-  grows-give_back c facts now = grew log _ (adds_give_back SaysNothing (λ event before other. tt) log terms c facts now tt)
+  pub grows-give_back : (c : ℕ) (facts : Facts) (now : ℕ) → GrowsBy log (after_give_back settings log c facts now)
+  grows-give_back c facts now = grew log _ (adds_give_back SaysNothing (λ event before other. tt) log settings c facts now tt)
 
-  pub grows-abandon : (c now : ℕ) → GrowsBy log (after_abandon terms log c now)
-  grows-abandon c now = grew log _ (adds_abandon SaysNothing (λ event before other. tt) log terms c now)
+  pub grows-abandon : (c now : ℕ) → GrowsBy log (after_abandon settings log c now)
+  grows-abandon c now = grew log _ (adds_abandon SaysNothing (λ event before other. tt) log settings c now)
 
-  pub grows-withdraw : (transfer now : ℕ) → GrowsBy log (after_withdraw terms log transfer now)
-  grows-withdraw transfer now = grew log _ (adds_withdraw SaysNothing (λ event before other. tt) log terms transfer now)
+  pub grows-withdraw : (transfer now : ℕ) → GrowsBy log (after_withdraw settings log transfer now)
+  grows-withdraw transfer now = grew log _ (adds_withdraw SaysNothing (λ event before other. tt) log settings transfer now)
 
 pub grows-length : (by : ℕ) (old new : List Entry) → Grows by old new → length old ≤ length new
 grows-length by old new grows = rw grows.whole (omega (arith, length-append grows.added old))

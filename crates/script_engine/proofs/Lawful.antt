@@ -10,7 +10,7 @@ use Rattle.conn_log.specs.declared.entry.Entry.{Entry}
 use Rattle.conn_log.specs.Connections.{is_among, is_idle, holder_want, held_number, holds, came_back_persistent}
 use Rattle.conn_log.specs.Waiting.{waiting}
 use Rattle.conn_log.specs.Fit.{suits}
-use Rattle.conn_log.specs.Legal.{Terms, IsLegal, Allows, MayStartAmong}
+use Rattle.conn_log.specs.Legal.{LimitAndFirst, IsLegal, Allows, MayStartAmong}
 use Rattle.conn_log.proofs.Steps.{idle_open_unheld}
 use Rattle.conn_log.proofs.Soundness.{and_left, and_right, sound_empty}
 use Rattle.bundle.specs.declared.refusal.Refusal.{Refusal}
@@ -18,7 +18,7 @@ use Rattle.bundle.specs.Calls.{refusal, after_withdraw}
 use Rattle.bundle.specs.Laws.{IsSoundAndQuiet, AcquireKeepsSoundAndQuiet, GiveBackKeepsSoundAndQuiet, AbandonKeepsSoundAndQuiet, WithdrawKeepsSoundAndQuiet}
 use Rattle.script_text.specs.Lines.{lines}
 use Rattle.script_text.specs.Grammar.{reading}
-use Rattle.script_engine.specs.Meaning.{Run, start, step, terms_of, facts_of, leased_number, without_ticket, stranger, grown, get_at, get_unless, claim_at, claim_of, back_at, back_of, drop_at, drop_of, leave_at, look_at, at_host, at_no_host, answer_of, with_limits, add_site, with_url, with_command, are_good, site_of}
+use Rattle.script_engine.specs.Meaning.{Run, start, step, settings_of, facts_of_ending, claimed_number, without_ticket, stranger, grown, get_at, get_unless, claim_at, claim_of, back_at, back_of, drop_at, drop_of, leave_at, look_at, at_host, at_no_host, answer_of, with_limits, add_site, with_url, with_action, are_good}
 use Rattle.conn_key.specs.declared.site.Site.{Site}
 use Rattle.conn_key.specs.Sites.{with_site}
 use Rattle.script_text.specs.Site.{site_named}
@@ -26,6 +26,8 @@ use Rattle.script_engine.specs.Meaning.{has_site, is_one_too_many}
 use Rattle.script_engine.specs.Transcript.{line_step, line_step_of, LONGEST_SCRIPT}
 use Rattle.script_engine.specs.Law.{run_after, after_line, run_behind, log_behind, limits_of, IsLegalUnder, IsQuietUnder, WasFree, LeasesFree, EachLeaseWasFree, IsHead, StartsTheHead, EachStartIsOfTheHead, EveryLogIsLegal, EveryLogIsQuiet, EveryLeaseWasFree, EveryStartIsOfTheHead}
 use Rattle.script_text.specs.declared.command.Limits.{Limits}
+use Rattle.script_text.specs.declared.command.Action.{Action}
+use Rattle.script_text.specs.declared.command.Action.TheVariants as actions
 use Rattle.script_text.specs.declared.command.Command.{Command}
 use Rattle.script_text.specs.declared.command.Command.TheVariants as commands
 use Rattle.script_text.specs.declared.command.Ending.{Ending}
@@ -42,7 +44,7 @@ pub record CallsKeep : Type 0 where
 -- sound and quiet under these limits; without limits nothing happened
 abbrev pub SoundUnder : Option Limits → List Entry → Type 0
 SoundUnder None log = log ≡ []
-SoundUnder (Some limits) log = IsSoundAndQuiet (terms_of limits) log
+SoundUnder (Some limits) log = IsSoundAndQuiet (settings_of limits) log
 
 abbrev pub SoundRun : Run → Type 0
 SoundRun run = SoundUnder run.limits run.log
@@ -52,9 +54,9 @@ abbrev pub SoundStep : Result (Run × List ℕ) FaultKind → Type 0
 SoundStep (Err kind) = Unit {0}
 SoundStep (Ok next) = SoundRun next.0
 
-empty : (terms : Terms) → IsSoundAndQuiet terms []
-empty terms = record {
-  sound = sound_empty terms;
+empty : (settings : LimitAndFirst) → IsSoundAndQuiet settings []
+empty settings = record {
+  sound = sound_empty settings;
   quiet = record {
     none_idle = λ anyone. absurd anyone;
     no_room = λ anyone. absurd anyone;
@@ -67,93 +69,89 @@ pub held-where-leased : (waits : Bool) (held : Option ℕ) (c : ℕ) → cond wa
 held-where-leased true held c leased = cc
 held-where-leased false held c leased = leased
 
-module _ (keep : CallsKeep) (terms : Terms) (log : List Entry) (tickets : List ℕ) (sound : IsSoundAndQuiet terms log) where
-  sound_get : (want : Want) (moment : ℕ) → IsSoundAndQuiet terms (get_at terms want moment log tickets).log
+module _ (keep : CallsKeep) (settings : LimitAndFirst) (log : List Entry) (tickets : List ℕ) (sound : IsSoundAndQuiet settings log) where
+  sound_get : (want : Want) (moment : ℕ) → IsSoundAndQuiet settings (get_at settings want moment log tickets).log
   unfolding get_at
-  sound_get want moment = by_refusal (refusal terms log want) refl
+  sound_get want moment = by_refusal (refusal settings log want) refl
     where
-      by_refusal : (reason : Option Refusal) → refusal terms log want ≡ reason → IsSoundAndQuiet terms (get_unless terms want moment log tickets reason).log
+      by_refusal : (reason : Option Refusal) → refusal settings log want ≡ reason → IsSoundAndQuiet settings (get_unless settings want moment log tickets reason).log
       by_refusal (Some r) is = sound
-      by_refusal None is = keep.acquire terms log want moment sound is
+      by_refusal None is = keep.acquire settings log want moment sound is
 
-  sound_claim : (transfer : ℕ) → IsSoundAndQuiet terms (claim_at transfer log tickets).log
+  sound_claim : (transfer : ℕ) → IsSoundAndQuiet settings (claim_at transfer log tickets).log
   unfolding claim_at
   sound_claim transfer = by_ticket (is_among transfer tickets)
     where
-      by_held : (held : Option ℕ) → IsSoundAndQuiet terms (claim_of transfer log tickets held).log
+      by_held : (held : Option ℕ) → IsSoundAndQuiet settings (claim_of transfer log tickets held).log
       by_held None = sound
       by_held (Some c) = sound
 
-      by_ticket : (ticketed : Bool) → IsSoundAndQuiet terms (if ticketed then claim_of transfer log tickets (held_number log transfer) else stranger log tickets).log
+      by_ticket : (ticketed : Bool) → IsSoundAndQuiet settings (if ticketed then claim_of transfer log tickets (held_number log transfer) else stranger log tickets).log
       by_ticket true = by_held (held_number log transfer)
       by_ticket false = sound
 
-  sound_back : (transfer : ℕ) (ending : Ending) (moment : ℕ) → IsSoundAndQuiet terms (back_at terms transfer ending moment log tickets).log
+  sound_back : (transfer : ℕ) (ending : Ending) (moment : ℕ) → IsSoundAndQuiet settings (back_at settings transfer ending moment log tickets).log
   unfolding back_at
-  sound_back transfer ending moment = by_leased (leased_number log tickets transfer) refl
+  sound_back transfer ending moment = by_leased (claimed_number log tickets transfer) refl
     where
-      by_leased : (leased : Option ℕ) → leased_number log tickets transfer ≡ leased → IsSoundAndQuiet terms (back_of terms ending moment log tickets leased).log
+      by_leased : (leased : Option ℕ) → claimed_number log tickets transfer ≡ leased → IsSoundAndQuiet settings (back_of settings ending moment log tickets leased).log
       by_leased None is = sound
       by_leased (Some c) is =
-          keep.give_back terms log transfer c (facts_of ending) moment sound (held-where-leased (is_among transfer tickets) (held_number log transfer) c is)
+          keep.give_back settings log transfer c (facts_of_ending ending) moment sound (held-where-leased (is_among transfer tickets) (held_number log transfer) c is)
 
-  sound_drop : (transfer moment : ℕ) → IsSoundAndQuiet terms (drop_at terms transfer moment log tickets).log
+  sound_drop : (transfer moment : ℕ) → IsSoundAndQuiet settings (drop_at settings transfer moment log tickets).log
   unfolding drop_at
-  sound_drop transfer moment = by_leased (leased_number log tickets transfer) refl
+  sound_drop transfer moment = by_leased (claimed_number log tickets transfer) refl
     where
-      by_leased : (leased : Option ℕ) → leased_number log tickets transfer ≡ leased → IsSoundAndQuiet terms (drop_of terms moment log tickets leased).log
+      by_leased : (leased : Option ℕ) → claimed_number log tickets transfer ≡ leased → IsSoundAndQuiet settings (drop_of settings moment log tickets leased).log
       by_leased None is = sound
-      by_leased (Some c) is = keep.abandon terms log transfer c moment sound (held-where-leased (is_among transfer tickets) (held_number log transfer) c is)
+      by_leased (Some c) is = keep.abandon settings log transfer c moment sound (held-where-leased (is_among transfer tickets) (held_number log transfer) c is)
 
-  sound_leave : (transfer moment : ℕ) → IsSoundAndQuiet terms (leave_at terms transfer moment log tickets).log
+  sound_leave : (transfer moment : ℕ) → IsSoundAndQuiet settings (leave_at settings transfer moment log tickets).log
   unfolding leave_at
   sound_leave transfer moment = by_ticket (is_among transfer tickets)
     where
       left : List Entry
-      left = after_withdraw terms log transfer moment
+      left = after_withdraw settings log transfer moment
 
-      by_ticket : (ticketed : Bool) → IsSoundAndQuiet terms (if ticketed then grown log left (without_ticket transfer tickets) else stranger log tickets).log
-      by_ticket true = keep.withdraw terms log transfer moment sound
+      by_ticket : (ticketed : Bool) → IsSoundAndQuiet settings (if ticketed then grown log left (without_ticket transfer tickets) else stranger log tickets).log
+      by_ticket true = keep.withdraw settings log transfer moment sound
       by_ticket false = sound
 
-  sound_look : IsSoundAndQuiet terms (look_at log tickets).log
+  sound_look : IsSoundAndQuiet settings (look_at log tickets).log
   unfolding look_at
   sound_look = sound
 
-  sound_at_host : (command : Command) → IsSoundAndQuiet terms (at_host terms log tickets command).log
-  sound_at_host (commands.Limits limits) = sound
-  sound_at_host (commands.Site word) = sound
-  sound_at_host (commands.Get want site moment) = sound_get want moment
-  sound_at_host (commands.Claim transfer site) = sound_claim transfer
-  sound_at_host (commands.Back transfer site ending moment) = sound_back transfer ending moment
-  sound_at_host (commands.Drop transfer site moment) = sound_drop transfer moment
-  sound_at_host (commands.Leave transfer site moment) = sound_leave transfer moment
-  sound_at_host (commands.Look site) = sound_look
+  sound_at_host : (action : Action) → IsSoundAndQuiet settings (at_host settings log tickets action).log
+  sound_at_host (actions.Get want moment) = sound_get want moment
+  sound_at_host (actions.Claim transfer) = sound_claim transfer
+  sound_at_host (actions.Back transfer ending moment) = sound_back transfer ending moment
+  sound_at_host (actions.Drop transfer moment) = sound_drop transfer moment
+  sound_at_host (actions.Leave transfer moment) = sound_leave transfer moment
+  sound_at_host actions.Look = sound_look
 
-same_at_no_host : (log : List Entry) (tickets : List ℕ) (command : Command) → (at_no_host log tickets command).log ≡ log
-same_at_no_host log tickets (commands.Limits limits) = refl
-same_at_no_host log tickets (commands.Site word) = refl
-same_at_no_host log tickets (commands.Get want site moment) = refl
-same_at_no_host log tickets (commands.Claim transfer site) = refl
-same_at_no_host log tickets (commands.Back transfer site ending moment) = refl
-same_at_no_host log tickets (commands.Drop transfer site moment) = refl
-same_at_no_host log tickets (commands.Leave transfer site moment) = refl
-same_at_no_host log tickets (commands.Look site) = refl
+same_at_no_host : (log : List Entry) (tickets : List ℕ) (action : Action) → (at_no_host log tickets action).log ≡ log
+same_at_no_host log tickets (actions.Get want moment) = refl
+same_at_no_host log tickets (actions.Claim transfer) = refl
+same_at_no_host log tickets (actions.Back transfer ending moment) = refl
+same_at_no_host log tickets (actions.Drop transfer moment) = refl
+same_at_no_host log tickets (actions.Leave transfer moment) = refl
+same_at_no_host log tickets actions.Look = refl
 
 module _ (keep : CallsKeep) where
-  sound_answer : (limits : Limits) (there : Bool) (log : List Entry) (tickets : List ℕ) (command : Command) → IsSoundAndQuiet (terms_of limits) log → IsSoundAndQuiet (terms_of limits) (answer_of limits there log tickets command).log
-  sound_answer limits there log tickets command sound = by_test (there && (site_of command == 0))
+  sound_answer : (limits : Limits) (there : Bool) (log : List Entry) (tickets : List ℕ) (site : ℕ) (action : Action) → IsSoundAndQuiet (settings_of limits) log → IsSoundAndQuiet (settings_of limits) (answer_of limits there log tickets site action).log
+  sound_answer limits there log tickets site action sound = by_test (there && (site == 0))
     where
-      by_test : (here : Bool) → IsSoundAndQuiet (terms_of limits) (if here then at_host (terms_of limits) log tickets command else at_no_host log tickets command).log
-      by_test true = sound_at_host keep (terms_of limits) log tickets sound command
-      by_test false = subst (IsSoundAndQuiet (terms_of limits)) (sym (same_at_no_host log tickets command)) sound
+      by_test : (here : Bool) → IsSoundAndQuiet (settings_of limits) (if here then at_host (settings_of limits) log tickets action else at_no_host log tickets action).log
+      by_test true = sound_at_host keep (settings_of limits) log tickets sound action
+      by_test false = subst (IsSoundAndQuiet (settings_of limits)) (sym (same_at_no_host log tickets action)) sound
 
   sound_limits : (run : Run) (limits : Limits) (old : Option Limits) → SoundUnder old run.log → SoundStep (with_limits run limits old)
   sound_limits run limits (Some others) sound = tt
   sound_limits run limits None nothing = by_good (are_good limits)
     where
       by_good : (good : Bool) → SoundStep (if good then Ok (record run { limits = Some limits }, []) else Err BadLimits)
-      by_good true = subst (IsSoundAndQuiet (terms_of limits)) (sym nothing) (empty (terms_of limits))
+      by_good true = subst (IsSoundAndQuiet (settings_of limits)) (sym nothing) (empty (settings_of limits))
       by_good false = tt
 
   sound_named : (run : Run) (site : Option Site) → SoundRun run → SoundStep (add_site run site)
@@ -172,22 +170,17 @@ module _ (keep : CallsKeep) where
       by_test true = tt
       by_test false = sound_named run (site_named word) sound
 
-  sound_command : (run : Run) (command : Command) (old : Option Limits) → run.limits ≡ old → SoundUnder old run.log → SoundStep (with_command run command old)
-  sound_command run command None same sound = tt
-  sound_command run command (Some limits) same sound =
-      subst (λ l. SoundUnder l (answer_of limits (has_site run.sites) run.log run.tickets command).log) (sym same)
-      (sound_answer limits (has_site run.sites) run.log run.tickets command sound)
+  sound_command : (run : Run) (site : ℕ) (action : Action) (old : Option Limits) → run.limits ≡ old → SoundUnder old run.log → SoundStep (with_action run site action old)
+  sound_command run site action None same sound = tt
+  sound_command run site action (Some limits) same sound =
+      subst (λ l. SoundUnder l (answer_of limits (has_site run.sites) run.log run.tickets site action).log) (sym same)
+      (sound_answer limits (has_site run.sites) run.log run.tickets site action sound)
 
   sound_step : (run : Run) (command : Command) → SoundRun run → SoundStep (step run command)
   unfolding step
   sound_step run (commands.Limits limits) sound = sound_limits run limits run.limits sound
   sound_step run (commands.Site word) sound = sound_site run word run.limits sound
-  sound_step run (commands.Get want site moment) sound = sound_command run (commands.Get want site moment) run.limits refl sound
-  sound_step run (commands.Claim transfer site) sound = sound_command run (commands.Claim transfer site) run.limits refl sound
-  sound_step run (commands.Back transfer site ending moment) sound = sound_command run (commands.Back transfer site ending moment) run.limits refl sound
-  sound_step run (commands.Drop transfer site moment) sound = sound_command run (commands.Drop transfer site moment) run.limits refl sound
-  sound_step run (commands.Leave transfer site moment) sound = sound_command run (commands.Leave transfer site moment) run.limits refl sound
-  sound_step run (commands.Look site) sound = sound_command run (commands.Look site) run.limits refl sound
+  sound_step run (commands.At site action) sound = sound_command run site action run.limits refl sound
 
   pub sound_line : (run : Run) (line : List ℕ) → SoundRun run → SoundStep (line_step run line)
   unfolding line_step
@@ -243,45 +236,45 @@ free_if_fit before want moment c fit =
     nobody None e = refl
     nobody (Some v) e = absurd (cc)
 
-leases_free : (terms : Terms) (before : List Entry) (moment : ℕ) (event : Event) → Allows terms before moment event → LeasesFree before event
-leases_free terms before moment (Opened c want) allowed = tt
-leases_free terms before moment (Leased c want) allowed = free_if_fit before want moment c allowed.1.fit
-leases_free terms before moment (Returned c facts) allowed = tt
-leases_free terms before moment (Closed c cause) allowed = tt
-leases_free terms before moment (Waited want) allowed = tt
-leases_free terms before moment (Left transfer) allowed = tt
+leases_free : (settings : LimitAndFirst) (before : List Entry) (moment : ℕ) (event : Event) → Allows settings before moment event → LeasesFree before event
+leases_free settings before moment (Opened c want) allowed = tt
+leases_free settings before moment (Leased c want) allowed = free_if_fit before want moment c allowed.1.fit
+leases_free settings before moment (Returned c facts) allowed = tt
+leases_free settings before moment (Closed c cause) allowed = tt
+leases_free settings before moment (Waited want) allowed = tt
+leases_free settings before moment (Left transfer) allowed = tt
 
-each_lease : (terms : Terms) (log : List Entry) → IsLegal terms log → EachLeaseWasFree log
-each_lease terms [] legal = tt
-each_lease terms (e ∷ before) legal = (leases_free terms before e.moment e.event legal.1, each_lease terms before legal.2)
+each_lease : (settings : LimitAndFirst) (log : List Entry) → IsLegal settings log → EachLeaseWasFree log
+each_lease settings [] legal = tt
+each_lease settings (e ∷ before) legal = (leases_free settings before e.moment e.event legal.1, each_lease settings before legal.2)
 
 pub every_lease_was_free : EveryLogIsLegal → EveryLeaseWasFree
 every_lease_was_free each_legal script = under (limits_of script) (log_behind script) (each_legal script)
   where
     under : (limits : Option Limits) (log : List Entry) → IsLegalUnder limits log → EachLeaseWasFree log
     under None log nothing = subst EachLeaseWasFree (sym nothing) tt
-    under (Some limits) log legal = each_lease (terms_of limits) log legal
+    under (Some limits) log legal = each_lease (settings_of limits) log legal
 
 -- what may start is the head
 head-starts : (wants : List Want) (is_holding : Bool) (want : Want) → MayStartAmong wants is_holding want → IsHead wants want
 head-starts [] is_holding want may = tt
 head-starts (head ∷ others) is_holding want may = may
 
-starts_the_head : (terms : Terms) (before : List Entry) (moment : ℕ) (event : Event) → Allows terms before moment event → StartsTheHead before event
-starts_the_head terms before moment (Opened c want) allowed = head-starts (waiting before) (holds before want.transfer) want allowed.1.start
-starts_the_head terms before moment (Leased c want) allowed = head-starts (waiting before) (holds before want.transfer) want allowed.1.start
-starts_the_head terms before moment (Returned c facts) allowed = tt
-starts_the_head terms before moment (Closed c cause) allowed = tt
-starts_the_head terms before moment (Waited want) allowed = tt
-starts_the_head terms before moment (Left transfer) allowed = tt
+starts_the_head : (settings : LimitAndFirst) (before : List Entry) (moment : ℕ) (event : Event) → Allows settings before moment event → StartsTheHead before event
+starts_the_head settings before moment (Opened c want) allowed = head-starts (waiting before) (holds before want.transfer) want allowed.1.start
+starts_the_head settings before moment (Leased c want) allowed = head-starts (waiting before) (holds before want.transfer) want allowed.1.start
+starts_the_head settings before moment (Returned c facts) allowed = tt
+starts_the_head settings before moment (Closed c cause) allowed = tt
+starts_the_head settings before moment (Waited want) allowed = tt
+starts_the_head settings before moment (Left transfer) allowed = tt
 
-each_start : (terms : Terms) (log : List Entry) → IsLegal terms log → EachStartIsOfTheHead log
-each_start terms [] legal = tt
-each_start terms (e ∷ before) legal = (starts_the_head terms before e.moment e.event legal.1, each_start terms before legal.2)
+each_start : (settings : LimitAndFirst) (log : List Entry) → IsLegal settings log → EachStartIsOfTheHead log
+each_start settings [] legal = tt
+each_start settings (e ∷ before) legal = (starts_the_head settings before e.moment e.event legal.1, each_start settings before legal.2)
 
 pub every_start_is_of_the_head : EveryLogIsLegal → EveryStartIsOfTheHead
 every_start_is_of_the_head each_legal script = under (limits_of script) (log_behind script) (each_legal script)
   where
     under : (limits : Option Limits) (log : List Entry) → IsLegalUnder limits log → EachStartIsOfTheHead log
     under None log nothing = subst EachStartIsOfTheHead (sym nothing) tt
-    under (Some limits) log legal = each_start (terms_of limits) log legal
+    under (Some limits) log legal = each_start (settings_of limits) log legal

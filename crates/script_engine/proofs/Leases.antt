@@ -13,11 +13,13 @@ use Rattle.conn_log.specs.Connections.{is_among, is_held_by, holds, holder_want,
 use Rattle.conn_log.specs.Waiting.{waiting, waits}
 use Rattle.conn_log.specs.Sound.{IsSound, has_number}
 use Rattle.conn_log.proofs.Soundness.{holds_is}
-use Rattle.conn_log.specs.Legal.{Terms}
+use Rattle.conn_log.specs.Legal.{LimitAndFirst}
 use Rattle.bundle.specs.declared.refusal.Refusal.TheVariants as refusals
-use Rattle.bundle.specs.Calls.{refusal, is_exhausted, is_busy, Start, start_by, start_of, last_start}
-use Rattle.bundle.specs.Lease.{OneHost, is_unclaimed, leased_number, waiting_want, granted_want, ticket_want, is_same_want, stands}
-use Rattle.script_engine.specs.Meaning.{leased_number as leased_by_tickets}
+use Rattle.host_state.specs.Steps.{is_exhausted}
+use Rattle.bundle.specs.Calls.{refusal, is_busy, Start, start_by, start_of, last_start}
+use Rattle.host_state.specs.Queue.{waiting_want}
+use Rattle.bundle.specs.Lease.{HostShown, is_unclaimed, lease_number, granted_want, ticket_want, is_same_want, is_valid_ticket}
+use Rattle.script_engine.specs.Meaning.{claimed_number}
 use Rattle.script_engine.specs.Hosted.{kept_facts, leases_of, due_others}
 use Rattle.script_engine.proofs.Tickets.{at-key}
 
@@ -25,8 +27,8 @@ pub itself : (c : ℕ) → (c == c) ≡ true
 itself c = grind (arith, nat_tests)
 
 -- the connection that a transfer holds is held by it
-pub held-passes : (terms : Terms) (log : List Entry) → IsSound terms log → (t c : ℕ) → held_number log t ≡ Some c → is_held_by log t c ≡ true
-held-passes terms log sound t c e = sound.orderly.held_once c t ∙ ap (λ held. has_number held c) e ∙ itself c
+pub held-passes : (settings : LimitAndFirst) (log : List Entry) → IsSound settings log → (t c : ℕ) → held_number log t ≡ Some c → is_held_by log t c ≡ true
+held-passes settings log sound t c e = sound.orderly.held_once c t ∙ ap (λ held. has_number held c) e ∙ itself c
 
 -- a transfer that is not refused neither holds nor waits
 not-busy : (busy exhausted : Bool) → cond busy (Some refusals.TransferBusy) (cond exhausted (Some refusals.Exhausted) None) ≡ None → busy ≡ false
@@ -41,11 +43,11 @@ none-held : {A : Type 0} (held : Option A) → is_some held ≡ false → held �
 none-held None e = refl
 none-held (Some c) e = cc
 
-pub accepted-free : (terms : Terms) (log : List Entry) → IsSound terms log → (want : Want) → refusal terms log want ≡ None
+pub accepted-free : (settings : LimitAndFirst) (log : List Entry) → IsSound settings log → (want : Want) → refusal settings log want ≡ None
     → (held_number log want.transfer ≡ None) × (waits log want.transfer ≡ false)
-accepted-free terms log sound want e =
-    let free = neither (holds log want.transfer) (waits log want.transfer) (not-busy (is_busy log want.transfer) (is_exhausted terms log) e) in
-    (none-held (held_number log want.transfer) (sym (holds_is terms log sound.orderly want.transfer) ∙ free.0), free.1)
+accepted-free settings log sound want e =
+    let free = neither (holds log want.transfer) (waits log want.transfer) (not-busy (is_busy log want.transfer) (is_exhausted settings log) e) in
+    (none-held (held_number log want.transfer) (sym (holds_is settings log sound.orderly want.transfer) ∙ free.0), free.1)
 
 -- who waits, by its want
 pub waits-want : (wants : List Want) (t : ℕ) → is_some (waiting_want wants t) ≡ list_any (λ (want : Want). want.transfer == t) wants
@@ -65,7 +67,7 @@ own-wait (want ∷ others) t w e = by_first (want.transfer == t) refl e (own-wai
     by_first false is e' rest = rest e'
 
 -- what a transfer has a lease of, it holds
-pub leased-held : {S : Type 0} (host : OneHost S) (t c : ℕ) → leased_number host t ≡ Some c → held_number host.log t ≡ Some c
+pub leased-held : {S : Type 0} (host : HostShown S) (t c : ℕ) → lease_number host t ≡ Some c → held_number host.log t ≡ Some c
 leased-held host t c e = by_claim (is_unclaimed host t) e
   where
     by_claim : (unclaimed : Bool) → cond unclaimed None (held_number host.log t) ≡ Some c → held_number host.log t ≡ Some c
@@ -85,7 +87,7 @@ last-start-own (e ∷ before) t start is = by_start (start_by e.moment e.event) 
     by_start None is' rest = rest is'
     by_start (Some first) is' rest = by_first first (first.want.transfer == t) refl is' rest
 
-module _ {S : Type 0} (host : OneHost S) (sound : IsSound host.terms host.log) (t : ℕ) where
+module _ {S : Type 0} (host : HostShown S) (sound : IsSound host.settings host.log) (t : ℕ) where
   free-unheld : (w : Want) → waiting_want (waiting host.log) t ≡ Some w → held_number host.log t ≡ None
   free-unheld w e = sound.orderly.waiting_free t (sym (waits-want (waiting host.log) t) ∙ ap is_some e)
 
@@ -97,7 +99,7 @@ module _ {S : Type 0} (host : OneHost S) (sound : IsSound host.terms host.log) (
       by_want (Some w) is = let both : Some held ≡ None = sym e ∙ free-unheld w is in absurd (cc)
 
   holder-there : (c : ℕ) → held_number host.log t ≡ Some c → (want : Want) × (holder_want host.log c ≡ Some want) × (want.transfer ≡ t)
-  holder-there c e = by_want (holder_want host.log c) refl (held-passes host.terms host.log sound t c e)
+  holder-there c e = by_want (holder_want host.log c) refl (held-passes host.settings host.log sound t c e)
     where
       by_want : (want : Option Want) → holder_want host.log c ≡ want → option_map_or (λ (w : Want). w.transfer == t) want false ≡ true
           → (w : Want) × (want ≡ Some w) × (w.transfer ≡ t)
@@ -121,14 +123,14 @@ module _ {S : Type 0} (host : OneHost S) (sound : IsSound host.terms host.log) (
       by_claim false e' = own-wait (waiting host.log) t w e'
 
   -- a transfer with a lease has no ticket, and one with a ticket no lease
-  pub leased-no-ticket : (c : ℕ) → leased_number host t ≡ Some c → ticket_want host t ≡ None
+  pub leased-no-ticket : (c : ℕ) → lease_number host t ≡ Some c → ticket_want host t ≡ None
   leased-no-ticket c e = by_claim (is_unclaimed host t) e
     where
       by_claim : (unclaimed : Bool) → cond unclaimed None (held_number host.log t) ≡ Some c → cond unclaimed (granted_want host.log t) (waiting_want (waiting host.log) t) ≡ None
       by_claim true e' = cc
       by_claim false e' = unwanted c e'
 
-  pub ticket-no-lease : (w : Want) → ticket_want host t ≡ Some w → leased_number host t ≡ None
+  pub ticket-no-lease : (w : Want) → ticket_want host t ≡ Some w → lease_number host t ≡ None
   ticket-no-lease w e = by_claim (is_unclaimed host t) e
     where
       by_claim : (unclaimed : Bool) → cond unclaimed (granted_want host.log t) (waiting_want (waiting host.log) t) ≡ Some w → cond unclaimed None (held_number host.log t) ≡ None
@@ -140,7 +142,7 @@ module _ {S : Type 0} (host : OneHost S) (sound : IsSound host.terms host.log) (
   still-unheld w not e = free-unheld w (ap (λ b. cond b (granted_want host.log t) (waiting_want (waiting host.log) t)) (sym not) ∙ e)
 
   -- who neither holds nor waits has neither a lease nor a ticket
-  pub free-none : held_number host.log t ≡ None → waits host.log t ≡ false → (leased_number host t ≡ None) × (ticket_want host t ≡ None)
+  pub free-none : held_number host.log t ≡ None → waits host.log t ≡ false → (lease_number host t ≡ None) × (ticket_want host t ≡ None)
   free-none unheld waits_not = by_claim (is_unclaimed host t)
     where
       granted : granted_want host.log t ≡ None
@@ -151,7 +153,7 @@ module _ {S : Type 0} (host : OneHost S) (sound : IsSound host.terms host.log) (
       by_claim false = (unheld, none-held (waiting_want (waiting host.log) t) (waits-want (waiting host.log) t ∙ waits_not))
 
   -- what a transfer has a lease of, by the list of those that have a ticket
-  pub leased-by-tickets : (tickets : List ℕ) → is_among t tickets ≡ is_some (ticket_want host t) → leased_by_tickets host.log tickets t ≡ leased_number host t
+  pub leased-by-tickets : (tickets : List ℕ) → is_among t tickets ≡ is_some (ticket_want host t) → claimed_number host.log tickets t ≡ lease_number host t
   leased-by-tickets tickets same = ap (λ b. cond b None (held_number host.log t)) same ∙ by_claim (is_unclaimed host t)
     where
       by_held : (held : Option ℕ) → held_number host.log t ≡ held → cond (is_some (option_and_then (holder_want host.log) held)) None held ≡ None
@@ -176,8 +178,8 @@ same-itself w = by_tests w.fresh w.forbid_reuse
     by_tests false true = rw (itself w.transfer, itself w.lane, itself w.max_age, itself w.max_life) refl
     by_tests false false = rw (itself w.transfer, itself w.lane, itself w.max_age, itself w.max_life) refl
 
-pub kept-stands : {S : Type 0} (host : OneHost S) (t : ℕ) (w : Want) → ticket_want host t ≡ Some w → w.transfer ≡ t → stands host w ≡ true
-kept-stands host t w e own = ap (λ want. option_map_or (is_same_want w) want false) (ap (ticket_want host) own ∙ e) ∙ same-itself w
+pub kept-valid : {S : Type 0} (host : HostShown S) (t : ℕ) (w : Want) → ticket_want host t ≡ Some w → w.transfer ≡ t → is_valid_ticket host w ≡ true
+kept-valid host t w e own = ap (λ want. option_map_or (is_same_want w) want false) (ap (ticket_want host) own ∙ e) ∙ same-itself w
 
 -- what is kept, where that is what is due
 module _ {A B : Type 0} (facts : A → B) where
@@ -223,20 +225,20 @@ none-stays t due other none left q = by_key (t == q) refl (left q)
     by_key false is e = e
 
 -- the leases that are due, by the numbers that are leased
-module _ {S : Type 0} (old new : OneHost S) (t : ℕ) where
-  pub leases-left : ((q : ℕ) → leased_number new q ≡ cond (t == q) None (leased_number old q)) → (q : ℕ) → leases_of new q ≡ due_others t (leases_of old) q
+module _ {S : Type 0} (old new : HostShown S) (t : ℕ) where
+  pub leases-left : ((q : ℕ) → lease_number new q ≡ cond (t == q) None (lease_number old q)) → (q : ℕ) → leases_of new q ≡ due_others t (leases_of old) q
   leases-left left q = ap (option_map (kept_facts q)) (left q) ∙ by_key (t == q)
     where
-      by_key : (at : Bool) → option_map (kept_facts q) (cond at None (leased_number old q)) ≡ cond at None (leases_of old q)
+      by_key : (at : Bool) → option_map (kept_facts q) (cond at None (lease_number old q)) ≡ cond at None (leases_of old q)
       by_key true = refl
       by_key false = refl
 
-  pub leases-started : (c : ℕ) → ((q : ℕ) → leased_number new q ≡ cond (t == q) (Some c) (leased_number old q)) → (q : ℕ) → leases_of new q ≡ cond (t == q) (Some (kept_facts t c)) (leases_of old q)
+  pub leases-started : (c : ℕ) → ((q : ℕ) → lease_number new q ≡ cond (t == q) (Some c) (lease_number old q)) → (q : ℕ) → leases_of new q ≡ cond (t == q) (Some (kept_facts t c)) (leases_of old q)
   leases-started c started q = ap (option_map (kept_facts q)) (started q) ∙ by_key (t == q) refl
     where
-      by_key : (at : Bool) → (t == q) ≡ at → option_map (kept_facts q) (cond at (Some c) (leased_number old q)) ≡ cond at (Some (kept_facts t c)) (leases_of old q)
+      by_key : (at : Bool) → (t == q) ≡ at → option_map (kept_facts q) (cond at (Some c) (lease_number old q)) ≡ cond at (Some (kept_facts t c)) (leases_of old q)
       by_key true is = ap (λ k. Some (kept_facts k c)) (sym (eqb-true t q is))
       by_key false is = refl
 
-  pub leases-same : ((q : ℕ) → leased_number new q ≡ leased_number old q) → (q : ℕ) → leases_of new q ≡ leases_of old q
+  pub leases-same : ((q : ℕ) → lease_number new q ≡ lease_number old q) → (q : ℕ) → leases_of new q ≡ leases_of old q
   leases-same same q = ap (option_map (kept_facts q)) (same q)

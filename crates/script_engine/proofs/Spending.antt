@@ -7,17 +7,17 @@ use Rattle.std.specs.BTreeMap.{is_at}
 use Rattle.conn_log.specs.declared.entry.Want.{Want}
 use Rattle.conn_log.specs.Connections.{is_among, is_held_by}
 use Rattle.conn_log.specs.Sound.{IsSound}
-use Rattle.bundle.specs.Lease.{OneHost, Leasing, Ticketed, leased_number, ticket_want, Spends, GetsLease, GetsTicket}
-use Rattle.script_engine.specs.Meaning.{leased_number as leased_by_tickets}
+use Rattle.bundle.specs.Lease.{HostShown, Leasing, Ticketed, lease_number, ticket_want, Spends, GetsLease, GetsTicket}
+use Rattle.script_engine.specs.Meaning.{claimed_number}
 use Rattle.script_engine.specs.Hosted.{Keeps, KeepsLeases, KeepsTickets, lease_facts, kept_facts, leases_of, wanted, due_others}
 use Rattle.script_engine.proofs.Tickets.{among-keys}
 use Rattle.script_engine.proofs.Leases.{held-passes, leased-held, leased-no-ticket, ticket-no-lease, leased-by-tickets, own-ticket, kept-due, kept-removed, kept-awaits, none-stays, leases-left, leases-same, leases-started, itself}
 use Rattle.script_engine.proofs.Answering.{IsKeptFor}
 
-module _ {S : Type 0} (host : OneHost S) (sound : IsSound host.terms host.log) where
+module _ {S : Type 0} (host : HostShown S) (sound : IsSound host.settings host.log) where
   -- the connection of a kept lease is held by its transfer
   pub kept-held : (transfer : ℕ) (lease : Leasing S) → IsKeptFor host transfer lease → is_held_by host.log lease.start.want.transfer lease.start.number ≡ true
-  kept-held transfer lease kept = rw kept.own (held-passes host.terms host.log sound transfer lease.start.number (leased-held host transfer lease.start.number kept.leased))
+  kept-held transfer lease kept = rw kept.own (held-passes host.settings host.log sound transfer lease.start.number (leased-held host transfer lease.start.number kept.leased))
 
   -- who has a ticket, by the keys of those that are kept
   pub ticketed : (entries : List (ℕ × Ticketed)) → KeepsTickets (ticket_want host) (λ t. lookup (is_at (nat_cmp t)) entries) → (t : ℕ) → is_among t (keys_of entries) ≡ is_some (ticket_want host t)
@@ -28,7 +28,7 @@ module _ {S : Type 0} (host : OneHost S) (sound : IsSound host.terms host.log) w
       by_ticket (Some ticket) = refl
 
   -- who has a lease, by those keys
-  pub leased-by-keys : (entries : List (ℕ × Ticketed)) → KeepsTickets (ticket_want host) (λ t. lookup (is_at (nat_cmp t)) entries) → (t : ℕ) → leased_by_tickets host.log (keys_of entries) t ≡ leased_number host t
+  pub leased-by-keys : (entries : List (ℕ × Ticketed)) → KeepsTickets (ticket_want host) (λ t. lookup (is_at (nat_cmp t)) entries) → (t : ℕ) → claimed_number host.log (keys_of entries) t ≡ lease_number host t
   leased-by-keys entries keeps t = leased-by-tickets host sound t (keys_of entries) (ticketed entries keeps t)
 
   -- the ticket that is kept for a transfer
@@ -38,9 +38,9 @@ module _ {S : Type 0} (host : OneHost S) (sound : IsSound host.terms host.log) w
       let wants : ticket_want host transfer ≡ Some (wanted ticket) = sym (keeps transfer) ∙ ap (option_map wanted) (sym there) in
       (wants, own-ticket host sound transfer (wanted ticket) wants)
 
-module _ {S : Type 0} (old new : OneHost S) (sound : IsSound old.terms old.log) (transfer : ℕ) where
+module _ {S : Type 0} (old new : HostShown S) (sound : IsSound old.settings old.log) (transfer : ℕ) where
   -- the lease of the transfer was spent
-  pub lease-spent : (leases after : ℕ → Option (Leasing S)) (tickets : ℕ → Option Ticketed) (c : ℕ) → Keeps old leases tickets → leased_number old transfer ≡ Some c
+  pub lease-spent : (leases after : ℕ → Option (Leasing S)) (tickets : ℕ → Option Ticketed) (c : ℕ) → Keeps old leases tickets → lease_number old transfer ≡ Some c
       → ((q : ℕ) → after q ≡ cond (is_at (nat_cmp transfer) q) None (leases q)) → Spends old new transfer → Keeps new after tickets
   lease-spent leases after tickets c keeps leased taken spends = record {
     leases = kept-due lease_facts (due_others transfer (leases_of old)) (leases_of new) after
@@ -54,20 +54,20 @@ module _ {S : Type 0} (old new : OneHost S) (sound : IsSound old.terms old.log) 
       → ((q : ℕ) → after q ≡ cond (is_at (nat_cmp transfer) q) None (tickets q)) → Spends old new transfer → Keeps new leases after
   ticket-spent leases tickets after want keeps wants taken spends = record {
     leases = kept-due lease_facts (leases_of old) (leases_of new) leases keeps.leases
-        (leases-same old new transfer (none-stays transfer (leased_number old) (leased_number new) (ticket-no-lease old sound transfer want wants) spends.leases));
+        (leases-same old new transfer (none-stays transfer (lease_number old) (lease_number new) (ticket-no-lease old sound transfer want wants) spends.leases));
     tickets = kept-due wanted (due_others transfer (ticket_want old)) (ticket_want new) after
         (kept-removed wanted transfer (ticket_want old) tickets after keeps.tickets taken) spends.tickets;
   }
 
-module _ {S : Type 0} (old new : OneHost S) where
+module _ {S : Type 0} (old new : HostShown S) where
   -- a transfer that had none got a lease, which is not kept yet
-  pub lease-awaits : (transfer c : ℕ) (leases : ℕ → Option (Leasing S)) → KeepsLeases (leases_of old) leases → leased_number old transfer ≡ None → GetsLease old new transfer c
+  pub lease-awaits : (transfer c : ℕ) (leases : ℕ → Option (Leasing S)) → KeepsLeases (leases_of old) leases → lease_number old transfer ≡ None → GetsLease old new transfer c
       → KeepsLeases (due_others transfer (leases_of new)) leases
   lease-awaits transfer c leases keeps none gets =
       kept-awaits lease_facts transfer (Some (kept_facts transfer c)) (leases_of old) (leases_of new) leases keeps (ap (option_map (kept_facts transfer)) none) (leases-started old new transfer c gets.leases)
 
-  pub lease-own : (transfer c : ℕ) → GetsLease old new transfer c → leased_number new transfer ≡ Some c
-  lease-own transfer c gets = gets.leases transfer ∙ ap (λ b. cond b (Some c) (leased_number old transfer)) (itself transfer)
+  pub lease-own : (transfer c : ℕ) → GetsLease old new transfer c → lease_number new transfer ≡ Some c
+  lease-own transfer c gets = gets.leases transfer ∙ ap (λ b. cond b (Some c) (lease_number old transfer)) (itself transfer)
 
   pub lease-no-ticket : (transfer c : ℕ) → GetsLease old new transfer c → ticket_want new transfer ≡ None
   lease-no-ticket transfer c gets = gets.tickets transfer ∙ ap (λ b. cond b None (ticket_want old transfer)) (itself transfer)
@@ -81,7 +81,7 @@ module _ {S : Type 0} (old new : OneHost S) where
   ticket-own want gets = gets.tickets want.transfer ∙ ap (λ b. cond b (Some want) (ticket_want old want.transfer)) (itself want.transfer)
 
 -- a transfer got a lease, which was then kept or given up
-module _ {S : Type 0} (old new final : OneHost S) (transfer c : ℕ) (leases after : ℕ → Option (Leasing S)) (tickets : ℕ → Option Ticketed) where
+module _ {S : Type 0} (old new final : HostShown S) (transfer c : ℕ) (leases after : ℕ → Option (Leasing S)) (tickets : ℕ → Option Ticketed) where
   -- where it had no ticket
   pub started-kept : Keeps old leases tickets → ticket_want old transfer ≡ None → GetsLease old new transfer c → KeepsLeases (leases_of final) after
       → ((q : ℕ) → ticket_want final q ≡ ticket_want new q) → Keeps final after tickets

@@ -13,9 +13,10 @@ use Rattle.conn_log.specs.declared.entry.Entry.{Entry}
 use Rattle.conn_log.specs.Connections.{is_held_by, holder_want, held_number, unless_it_is}
 use Rattle.conn_log.specs.Waiting.{waiting, waits, without}
 use Rattle.conn_log.specs.Fit.{is_fit}
-use Rattle.conn_log.specs.Legal.{Terms, owed, owed_for, ends_use, ending_cause}
+use Rattle.conn_log.specs.Legal.{LimitAndFirst, owed, owed_for, ends_use, ending_cause}
 use Rattle.conn_log.specs.Sound.{IsSound}
-use Rattle.bundle.specs.Calls.{add, moment_at, next_number, start_new, open_for, unfit_cause, pass_to, settle, after_give_back, after_close, after_abandon, close_granted, after_withdraw}
+use Rattle.host_state.specs.Steps.{add, moment_at, next_number}
+use Rattle.bundle.specs.Calls.{start_new, open_for, unfit_cause, pass_to, settle, after_give_back, after_close, after_abandon, close_granted, after_withdraw}
 use Rattle.script_engine.specs.Law.{is_served}
 use Rattle.script_engine.proofs.Leases.{held-passes}
 use Rattle.script_engine.proofs.TicketLists.{no-both}
@@ -88,15 +89,15 @@ started t moment c want log new wants held = record {
         ∙ ap (λ b. b || is_some (held_number log u)) (ap (list_any (λ (x : Want). x.transfer == u)) wants ∙ any-others want.transfer u (waiting log) is)
         ∙ served
 
-opens : (t : ℕ) (terms : Terms) (want : Want) (moment : ℕ) (log : List Entry) → Moves t log (start_new terms want moment log)
-opens t terms want moment log = started t moment (next_number terms log) want log (start_new terms want moment log) refl (λ u. refl)
+opens : (t : ℕ) (settings : LimitAndFirst) (want : Want) (moment : ℕ) (log : List Entry) → Moves t log (start_new settings want moment log)
+opens t settings want moment log = started t moment (next_number settings log) want log (start_new settings want moment log) refl (λ u. refl)
 
 leases : (t moment c : ℕ) (want : Want) (log : List Entry) → Moves t log (add moment (Leased c want) log)
 leases t moment c want log = started t moment c want log (add moment (Leased c want) log) refl (λ u. refl)
 
-opens-for : (t : ℕ) (terms : Terms) (moment : ℕ) (log : List Entry) (wants : List Want) → Moves t log (open_for terms moment log wants)
-opens-for t terms moment log [] = still t log
-opens-for t terms moment log (head ∷ others) = opens t terms head moment log
+opens-for : (t : ℕ) (settings : LimitAndFirst) (moment : ℕ) (log : List Entry) (wants : List Want) → Moves t log (open_for settings moment log wants)
+opens-for t settings moment log [] = still t log
+opens-for t settings moment log (head ∷ others) = opens t settings head moment log
 
 -- a connection comes back or is closed, which no other transfer holds
 let_go : (t c : ℕ) (log new : List Entry) → waiting new ≡ waiting log → ((u : ℕ) → held_number new u ≡ unless_it_is c (held_number log u)) → ((u : ℕ) → (t == u) ≡ false → unless_it_is c (held_number log u) ≡ held_number log u) → Moves t log new
@@ -120,13 +121,13 @@ one-holder : (held : Option Want) (t u : ℕ) → option_map_or (λ (w : Want). 
 one-holder None t u a b = absurd (cc)
 one-holder (Some w) t u a b = ap (λ (k : ℕ). k == u) (sym (eqb-true w.transfer t a)) ∙ b
 
-apart-holder : (terms : Terms) (log : List Entry) → IsSound terms log → (t c : ℕ) → held_number log t ≡ Some c → (u : ℕ) → (t == u) ≡ false → unless_it_is c (held_number log u) ≡ held_number log u
-apart-holder terms log sound t c holds u other = by_held (held_number log u) refl
+apart-holder : (settings : LimitAndFirst) (log : List Entry) → IsSound settings log → (t c : ℕ) → held_number log t ≡ Some c → (u : ℕ) → (t == u) ≡ false → unless_it_is c (held_number log u) ≡ held_number log u
+apart-holder settings log sound t c holds u other = by_held (held_number log u) refl
   where
     by_same : (d : ℕ) → held_number log u ≡ Some d → (same : Bool) → (d == c) ≡ same → cond same None (Some d) ≡ Some d
     by_same d is true same =
-        let held : is_held_by log u c ≡ true = held-passes terms log sound u c (is ∙ ap Some (eqb-true d c same)) in
-        absurd (no-both (t == u) (one-holder (holder_want log c) t u (held-passes terms log sound t c holds) held) other)
+        let held : is_held_by log u c ≡ true = held-passes settings log sound u c (is ∙ ap Some (eqb-true d c same)) in
+        absurd (no-both (t == u) (one-holder (holder_want log c) t u (held-passes settings log sound t c holds) held) other)
     by_same d is false same = refl
 
     by_held : (held : Option ℕ) → held_number log u ≡ held → unless_it_is c held ≡ held
@@ -142,18 +143,18 @@ owed-own c facts (Some want) close e = by_end (ends_use facts want) e
     by_end true e' = let same : (c, ending_cause facts want) ≡ close = cc in ap (λ (p : ℕ × Cause). p.0) (sym same)
     by_end false e' = cc
 
-module _ (terms : Terms) (log : List Entry) (sound : IsSound terms log) (t c : ℕ) (holds : held_number log t ≡ Some c) where
-  closes : (cause : Cause) (now : ℕ) → Moves t log (after_close terms log c cause now)
+module _ (settings : LimitAndFirst) (log : List Entry) (sound : IsSound settings log) (t c : ℕ) (holds : held_number log t ≡ Some c) where
+  closes : (cause : Cause) (now : ℕ) → Moves t log (after_close settings log c cause now)
   closes cause now =
       let moment = moment_at log now in
       let closed = add moment (Closed c cause) log in
-      both t log closed (after_close terms log c cause now) (let_go t c log closed refl (λ u. refl) (apart-holder terms log sound t c holds)) (opens-for t terms moment closed (waiting closed))
+      both t log closed (after_close settings log c cause now) (let_go t c log closed refl (λ u. refl) (apart-holder settings log sound t c holds)) (opens-for t settings moment closed (waiting closed))
 
-  pub abandoned : (now : ℕ) → Moves t log (after_abandon terms log c now)
+  pub abandoned : (now : ℕ) → Moves t log (after_abandon settings log c now)
   abandoned now = closes causes.Dropped now
 
-  pub given-back : (facts : Facts) (now : ℕ) → Moves t log (after_give_back terms log c facts now)
-  given-back facts now = both t log returned (settle terms c moment returned (owed returned)) (let_go t c log returned refl (λ u. refl) (apart-holder terms log sound t c holds)) (by_owed (owed returned) refl)
+  pub given-back : (facts : Facts) (now : ℕ) → Moves t log (after_give_back settings log c facts now)
+  given-back facts now = both t log returned (settle settings c moment returned (owed returned)) (let_go t c log returned refl (λ u. refl) (apart-holder settings log sound t c holds)) (by_owed (owed returned) refl)
     where
       moment : ℕ
       moment = moment_at log now
@@ -164,24 +165,24 @@ module _ (terms : Terms) (log : List Entry) (sound : IsSound terms log) (t c : �
       apart : (u : ℕ) → (t == u) ≡ false → unless_it_is c (held_number returned u) ≡ held_number returned u
       apart = apart-after t c log returned (λ u. refl)
 
-      passed : (head : Want) (fits : Bool) (cause : Cause) → Moves t returned (cond fits (add moment (Leased c head) returned) (start_new terms head moment (add moment (Closed c cause) returned)))
+      passed : (head : Want) (fits : Bool) (cause : Cause) → Moves t returned (cond fits (add moment (Leased c head) returned) (start_new settings head moment (add moment (Closed c cause) returned)))
       passed head true cause = leases t moment c head returned
       passed head false cause =
           let closed = add moment (Closed c cause) returned in
-          both t returned closed (start_new terms head moment closed) (let_go t c returned closed refl (λ u. refl) apart) (opens t terms head moment closed)
+          both t returned closed (start_new settings head moment closed) (let_go t c returned closed refl (λ u. refl) apart) (opens t settings head moment closed)
 
-      by_waiting : (wants : List Want) → Moves t returned (pass_to terms c moment returned wants)
+      by_waiting : (wants : List Want) → Moves t returned (pass_to settings c moment returned wants)
       by_waiting [] = still t returned
-      by_waiting (head ∷ others) = passed head (is_fit returned head moment c) (unfit_cause terms returned head moment c)
+      by_waiting (head ∷ others) = passed head (is_fit returned head moment c) (unfit_cause settings returned head moment c)
 
-      by_owed : (close : Option (ℕ × Cause)) → owed returned ≡ close → Moves t returned (settle terms c moment returned close)
+      by_owed : (close : Option (ℕ × Cause)) → owed returned ≡ close → Moves t returned (settle settings c moment returned close)
       by_owed None is = by_waiting (waiting returned)
       by_owed (Some close) is =
           let same : close.0 ≡ c = owed-own c facts (holder_want log c) close is in
           let closed = add moment (Closed close.0 close.1) returned in
-          both t returned closed (open_for terms moment closed (waiting closed))
+          both t returned closed (open_for settings moment closed (waiting closed))
           (let_go t close.0 returned closed refl (λ u. refl) (λ u other. ap (λ (d : ℕ). unless_it_is d (held_number returned u)) same ∙ apart u other))
-          (opens-for t terms moment closed (waiting closed))
+          (opens-for t settings moment closed (waiting closed))
 
 -- who withdraws waits no more
 pub record Leaves (t : ℕ) (old new : List Entry) : Type 0 where
@@ -201,15 +202,15 @@ no-more : (b before : Bool) → before ≡ false → (b ≡ true → before ≡ 
 no-more true before e f = absurd (no-both before (f refl) e)
 no-more false before e f = refl
 
-pub withdrawn : (terms : Terms) (log : List Entry) → IsSound terms log → (t now : ℕ) → Leaves t log (after_withdraw terms log t now)
-withdrawn terms log sound t now = by_waits (waits log t) refl
+pub withdrawn : (settings : LimitAndFirst) (log : List Entry) → IsSound settings log → (t now : ℕ) → Leaves t log (after_withdraw settings log t now)
+withdrawn settings log sound t now = by_waits (waits log t) refl
   where
-    by_held : (held : Option ℕ) → held_number log t ≡ held → Moves t log (close_granted terms log held now)
+    by_held : (held : Option ℕ) → held_number log t ≡ held → Moves t log (close_granted settings log held now)
     by_held None is = still t log
-    by_held (Some c) is = closes terms log sound t c is causes.Withdrawn now
+    by_held (Some c) is = closes settings log sound t c is causes.Withdrawn now
 
-    by_waits : (waiting_now : Bool) → waits log t ≡ waiting_now → Leaves t log (cond waiting_now (add (moment_at log now) (Left t) log) (close_granted terms log (held_number log t) now))
+    by_waits : (waiting_now : Bool) → waits log t ≡ waiting_now → Leaves t log (cond waiting_now (add (moment_at log now) (Left t) log) (close_granted settings log (held_number log t) now))
     by_waits true is = left t (moment_at log now) log
     by_waits false is =
         let moved = by_held (held_number log t) refl in
-        record { moves = moved; gone = no-more (waits (close_granted terms log (held_number log t) now) t) (waits log t) is (moved.waits_less t) }
+        record { moves = moved; gone = no-more (waits (close_granted settings log (held_number log t) now) t) (waits log t) is (moved.waits_less t) }

@@ -4,14 +4,14 @@ use Rattle.std.specs.Prelude.{◌==◌, nat_lt, if◌then◌else◌, codes}
 use Rattle.conn_log.specs.declared.entry.Want.{Want}
 use Rattle.conn_log.specs.declared.entry.Entry.{Entry}
 use Rattle.conn_log.specs.Connections.{is_among, held_number}
-use Rattle.conn_log.specs.Legal.{Terms}
+use Rattle.conn_log.specs.Legal.{LimitAndFirst}
 use Rattle.bundle.specs.declared.refusal.Refusal.{Refusal}
 use Rattle.bundle.specs.declared.refusal.Refusal.TheVariants.{Memory, TransferBusy, Exhausted}
 use Rattle.bundle.specs.Calls.{refusal, after_acquire, after_give_back, after_abandon, after_withdraw}
 use Rattle.script_text.specs.Lines.{lines}
 use Rattle.script_text.specs.Printing.{refused}
 use Rattle.script_text.specs.Grammar.{reading}
-use Rattle.script_engine.specs.Meaning.{Run, Answer, start, step, terms_of, facts_of, refusal_word, leased_number, without_ticket, replied, grown, get_at, get_unless, claim_at, claim_of, back_at, back_of, drop_at, drop_of, leave_at, look_at, stranger, at_host, at_no_host, answer_of, with_limits, add_site, with_url, with_command, are_good, site_of}
+use Rattle.script_engine.specs.Meaning.{Run, Answer, start, step, settings_of, facts_of_ending, refusal_word, claimed_number, without_ticket, replied, grown, get_at, get_unless, claim_at, claim_of, back_at, back_of, drop_at, drop_of, leave_at, look_at, stranger, at_host, at_no_host, answer_of, with_limits, add_site, with_url, with_action, are_good}
 use Rattle.conn_key.specs.declared.site.Site.{Site}
 use Rattle.conn_key.specs.Sites.{with_site}
 use Rattle.script_text.specs.Site.{site_named}
@@ -20,6 +20,8 @@ use Rattle.script_engine.specs.Transcript.{Transcript, transcript, whole_text, t
 use Rattle.script_engine.specs.Law.{run_after, after_line, log_behind}
 use Rattle.script_engine.specs.TranscriptLines.{is_event_line, EveryEventIsTold}
 use Rattle.script_text.specs.declared.command.Limits.{Limits}
+use Rattle.script_text.specs.declared.command.Action.{Action}
+use Rattle.script_text.specs.declared.command.Action.TheVariants as actions
 use Rattle.script_text.specs.declared.command.Command.{Command}
 use Rattle.script_text.specs.declared.command.Command.TheVariants as commands
 use Rattle.script_text.specs.declared.command.Ending.{Ending}
@@ -45,14 +47,14 @@ tells-refusal log tickets Memory = tells-refused log (codes "memory") refl
 tells-refusal log tickets TransferBusy = tells-refused log (codes "busy") refl
 tells-refusal log tickets Exhausted = tells-refused log (codes "exhausted") refl
 
-module _ (terms : Terms) (log : List Entry) (tickets : List ℕ) where
-  tells-get : (want : Want) (moment : ℕ) → TellsAnswer log (get_at terms want moment log tickets)
+module _ (settings : LimitAndFirst) (log : List Entry) (tickets : List ℕ) where
+  tells-get : (want : Want) (moment : ℕ) → TellsAnswer log (get_at settings want moment log tickets)
   unfolding get_at
-  tells-get want moment = by_refusal (refusal terms log want)
+  tells-get want moment = by_refusal (refusal settings log want)
     where
-      by_refusal : (reason : Option Refusal) → TellsAnswer log (get_unless terms want moment log tickets reason)
+      by_refusal : (reason : Option Refusal) → TellsAnswer log (get_unless settings want moment log tickets reason)
       by_refusal (Some r) = tells-refusal log tickets r
-      by_refusal None = tells-grown log (after_acquire terms log want moment) (grows-acquire terms log want moment)
+      by_refusal None = tells-grown log (after_acquire settings log want moment) (grows-acquire settings log want moment)
 
   tells-claim : (transfer : ℕ) → TellsAnswer log (claim_at transfer log tickets)
   unfolding claim_at
@@ -66,64 +68,60 @@ module _ (terms : Terms) (log : List Entry) (tickets : List ℕ) where
       by_ticket true = by_held (held_number log transfer)
       by_ticket false = tells-stranger log tickets
 
-  tells-back : (transfer : ℕ) (ending : Ending) (moment : ℕ) → TellsAnswer log (back_at terms transfer ending moment log tickets)
+  tells-back : (transfer : ℕ) (ending : Ending) (moment : ℕ) → TellsAnswer log (back_at settings transfer ending moment log tickets)
   unfolding back_at
-  tells-back transfer ending moment = by_leased (leased_number log tickets transfer)
+  tells-back transfer ending moment = by_leased (claimed_number log tickets transfer)
     where
-      by_leased : (leased : Option ℕ) → TellsAnswer log (back_of terms ending moment log tickets leased)
+      by_leased : (leased : Option ℕ) → TellsAnswer log (back_of settings ending moment log tickets leased)
       by_leased None = tells-stranger log tickets
       by_leased (Some c) =
-          tells-grown log (after_give_back terms log c (facts_of ending) moment) (grows-give_back terms log c (facts_of ending) moment)
+          tells-grown log (after_give_back settings log c (facts_of_ending ending) moment) (grows-give_back settings log c (facts_of_ending ending) moment)
 
-  tells-drop : (transfer moment : ℕ) → TellsAnswer log (drop_at terms transfer moment log tickets)
+  tells-drop : (transfer moment : ℕ) → TellsAnswer log (drop_at settings transfer moment log tickets)
   unfolding drop_at
-  tells-drop transfer moment = by_leased (leased_number log tickets transfer)
+  tells-drop transfer moment = by_leased (claimed_number log tickets transfer)
     where
-      by_leased : (leased : Option ℕ) → TellsAnswer log (drop_of terms moment log tickets leased)
+      by_leased : (leased : Option ℕ) → TellsAnswer log (drop_of settings moment log tickets leased)
       by_leased None = tells-stranger log tickets
-      by_leased (Some c) = tells-grown log (after_abandon terms log c moment) (grows-abandon terms log c moment)
+      by_leased (Some c) = tells-grown log (after_abandon settings log c moment) (grows-abandon settings log c moment)
 
-  tells-leave : (transfer moment : ℕ) → TellsAnswer log (leave_at terms transfer moment log tickets)
+  tells-leave : (transfer moment : ℕ) → TellsAnswer log (leave_at settings transfer moment log tickets)
   unfolding leave_at
   tells-leave transfer moment = by_ticket (is_among transfer tickets)
     where
       left : List Entry
-      left = after_withdraw terms log transfer moment
+      left = after_withdraw settings log transfer moment
 
       by_ticket : (ticketed : Bool) → TellsAnswer log (if ticketed then grown log left (without_ticket transfer tickets) else stranger log tickets)
-      by_ticket true = tells-grown log left (grows-withdraw terms log transfer moment)
+      by_ticket true = tells-grown log left (grows-withdraw settings log transfer moment)
       by_ticket false = tells-stranger log tickets
 
   tells-looked : TellsAnswer log (look_at log tickets)
   unfolding look_at
   tells-looked = tells-look log 0 _ _ _ _ false
 
-  tells-at_host : (command : Command) → TellsAnswer log (at_host terms log tickets command)
-  tells-at_host (commands.Limits limits) = tells-nothing log
-  tells-at_host (commands.Site word) = tells-nothing log
-  tells-at_host (commands.Get want site moment) = tells-get want moment
-  tells-at_host (commands.Claim transfer site) = tells-claim transfer
-  tells-at_host (commands.Back transfer site ending moment) = tells-back transfer ending moment
-  tells-at_host (commands.Drop transfer site moment) = tells-drop transfer moment
-  tells-at_host (commands.Leave transfer site moment) = tells-leave transfer moment
-  tells-at_host (commands.Look site) = tells-looked
+  tells-at_host : (action : Action) → TellsAnswer log (at_host settings log tickets action)
+  tells-at_host (actions.Get want moment) = tells-get want moment
+  tells-at_host (actions.Claim transfer) = tells-claim transfer
+  tells-at_host (actions.Back transfer ending moment) = tells-back transfer ending moment
+  tells-at_host (actions.Drop transfer moment) = tells-drop transfer moment
+  tells-at_host (actions.Leave transfer moment) = tells-leave transfer moment
+  tells-at_host actions.Look = tells-looked
 
-tells-at_no_host : (log : List Entry) (tickets : List ℕ) (command : Command) → TellsAnswer log (at_no_host log tickets command)
-tells-at_no_host log tickets (commands.Limits limits) = tells-nothing log
-tells-at_no_host log tickets (commands.Site word) = tells-nothing log
-tells-at_no_host log tickets (commands.Get want site moment) = tells-refused log (codes "bad-site") refl
-tells-at_no_host log tickets (commands.Claim transfer site) = tells-stranger log tickets
-tells-at_no_host log tickets (commands.Back transfer site ending moment) = tells-stranger log tickets
-tells-at_no_host log tickets (commands.Drop transfer site moment) = tells-stranger log tickets
-tells-at_no_host log tickets (commands.Leave transfer site moment) = tells-stranger log tickets
-tells-at_no_host log tickets (commands.Look site) = tells-refused log (codes "bad-site") refl
+tells-at_no_host : (log : List Entry) (tickets : List ℕ) (action : Action) → TellsAnswer log (at_no_host log tickets action)
+tells-at_no_host log tickets (actions.Get want moment) = tells-refused log (codes "bad-site") refl
+tells-at_no_host log tickets (actions.Claim transfer) = tells-stranger log tickets
+tells-at_no_host log tickets (actions.Back transfer ending moment) = tells-stranger log tickets
+tells-at_no_host log tickets (actions.Drop transfer moment) = tells-stranger log tickets
+tells-at_no_host log tickets (actions.Leave transfer moment) = tells-stranger log tickets
+tells-at_no_host log tickets actions.Look = tells-refused log (codes "bad-site") refl
 
-tells-answer : (limits : Limits) (there : Bool) (log : List Entry) (tickets : List ℕ) (command : Command) → TellsAnswer log (answer_of limits there log tickets command)
-tells-answer limits there log tickets command = by_test (there && (site_of command == 0))
+tells-answer : (limits : Limits) (there : Bool) (log : List Entry) (tickets : List ℕ) (site : ℕ) (action : Action) → TellsAnswer log (answer_of limits there log tickets site action)
+tells-answer limits there log tickets site action = by_test (there && (site == 0))
   where
-    by_test : (here : Bool) → TellsAnswer log (if here then at_host (terms_of limits) log tickets command else at_no_host log tickets command)
-    by_test true = tells-at_host (terms_of limits) log tickets command
-    by_test false = tells-at_no_host log tickets command
+    by_test : (here : Bool) → TellsAnswer log (if here then at_host (settings_of limits) log tickets action else at_no_host log tickets action)
+    by_test true = tells-at_host (settings_of limits) log tickets action
+    by_test false = tells-at_no_host log tickets action
 
 tells-limits : (run : Run) (limits : Limits) (old : Option Limits) → TellsStep run.log (with_limits run limits old)
 tells-limits run limits (Some others) = tt
@@ -149,20 +147,15 @@ tells-site run word (Some limits) = by_test run.has_begun
     by_test true = tt
     by_test false = tells-named run (site_named word)
 
-tells-command : (run : Run) (command : Command) (old : Option Limits) → TellsStep run.log (with_command run command old)
-tells-command run command None = tt
-tells-command run command (Some limits) = tells-answer limits (has_site run.sites) run.log run.tickets command
+tells-command : (run : Run) (site : ℕ) (action : Action) (old : Option Limits) → TellsStep run.log (with_action run site action old)
+tells-command run site action None = tt
+tells-command run site action (Some limits) = tells-answer limits (has_site run.sites) run.log run.tickets site action
 
 tells-step : (run : Run) (command : Command) → TellsStep run.log (step run command)
 unfolding step
 tells-step run (commands.Limits limits) = tells-limits run limits run.limits
 tells-step run (commands.Site word) = tells-site run word run.limits
-tells-step run (commands.Get want site moment) = tells-command run (commands.Get want site moment) run.limits
-tells-step run (commands.Claim transfer site) = tells-command run (commands.Claim transfer site) run.limits
-tells-step run (commands.Back transfer site ending moment) = tells-command run (commands.Back transfer site ending moment) run.limits
-tells-step run (commands.Drop transfer site moment) = tells-command run (commands.Drop transfer site moment) run.limits
-tells-step run (commands.Leave transfer site moment) = tells-command run (commands.Leave transfer site moment) run.limits
-tells-step run (commands.Look site) = tells-command run (commands.Look site) run.limits
+tells-step run (commands.At site action) = tells-command run site action run.limits
 
 tells-line_step : (run : Run) (line : List ℕ) → TellsStep run.log (line_step run line)
 unfolding line_step

@@ -8,10 +8,11 @@ use Rattle.conn_log.specs.declared.entry.Entry.{Entry}
 use Rattle.conn_log.specs.Connections.{is_among, held_number}
 use Rattle.conn_log.specs.Waiting.{waiting, waits}
 use Rattle.conn_log.specs.Fit.{newest_fit}
-use Rattle.conn_log.specs.Legal.{Terms}
+use Rattle.conn_log.specs.Legal.{LimitAndFirst}
 use Rattle.conn_log.specs.Sound.{AreDistinct, IsSound}
 use Rattle.bundle.specs.declared.refusal.Refusal.{Refusal}
-use Rattle.bundle.specs.Calls.{refusal, after_acquire, after_withdraw, moment_at, without_too_old, with_host_room, is_full, next_number, start_on, start_unless, newest_start, Wait, newest_wait}
+use Rattle.host_state.specs.Steps.{moment_at, without_too_old, with_host_room, is_full, next_number}
+use Rattle.bundle.specs.Calls.{refusal, after_acquire, after_withdraw, start_on, start_unless, newest_start, Wait, newest_wait}
 use Rattle.bundle.proofs.Told.{told, Told}
 use Rattle.bundle.proofs.Acquired.{begun, Starts, Waits}
 use Rattle.conn_key.specs.declared.site.Site.{Site}
@@ -20,10 +21,12 @@ use Rattle.script_text.specs.Lines.{lines}
 use Rattle.script_text.specs.Grammar.{reading}
 use Rattle.script_text.specs.Site.{site_named}
 use Rattle.script_engine.specs.Meaning.{has_site, is_one_too_many}
-use Rattle.script_engine.specs.Meaning.{Run, start, step, terms_of, facts_of, with_ticket, without_ticket, leased_number, tickets_with, stranger, grown, get_at, get_unless, claim_at, claim_of, back_at, back_of, drop_at, drop_of, leave_at, look_at, at_host, at_no_host, with_limits, add_site, with_url, with_command, are_good, site_of}
+use Rattle.script_engine.specs.Meaning.{Run, start, step, settings_of, facts_of_ending, with_ticket, without_ticket, claimed_number, tickets_with, stranger, grown, get_at, get_unless, claim_at, claim_of, back_at, back_of, drop_at, drop_of, leave_at, look_at, at_host, at_no_host, with_limits, add_site, with_url, with_action, are_good}
 use Rattle.script_engine.specs.Transcript.{line_step, line_step_of, LONGEST_SCRIPT}
 use Rattle.script_engine.specs.Law.{run_after, after_line, is_served, TicketsStand, EveryTicketStands}
 use Rattle.script_text.specs.declared.command.Limits.{Limits}
+use Rattle.script_text.specs.declared.command.Action.{Action}
+use Rattle.script_text.specs.declared.command.Action.TheVariants as actions
 use Rattle.script_text.specs.declared.command.Command.{Command}
 use Rattle.script_text.specs.declared.command.Command.TheVariants as commands
 use Rattle.script_text.specs.declared.command.Ending.{Ending}
@@ -130,48 +133,48 @@ waits-there want log new tickets free unwaiting begins_to fits = record {
 abbrev IsEither : List Entry → Type 0
 IsEither log = newest_start log ≡ None → is_some (newest_wait log) ≡ true
 
-either-on : (terms : Terms) (want : Want) (moment : ℕ) (log : List Entry) (fit : Option ℕ) → IsEither (start_on terms want moment log fit)
-either-on terms want moment log None = by_room (is_full terms (with_host_room terms moment log))
+either-on : (settings : LimitAndFirst) (want : Want) (moment : ℕ) (log : List Entry) (fit : Option ℕ) → IsEither (start_on settings want moment log fit)
+either-on settings want moment log None = by_room (is_full settings (with_host_room settings moment log))
   where
     room : List Entry
-    room = with_host_room terms moment log
+    room = with_host_room settings moment log
 
-    by_room : (full : Bool) → IsEither (cond full (record { moment = moment; event = Waited want } ∷ room) (record { moment = moment; event = Opened (next_number terms room) want } ∷ room))
+    by_room : (full : Bool) → IsEither (cond full (record { moment = moment; event = Waited want } ∷ room) (record { moment = moment; event = Opened (next_number settings room) want } ∷ room))
     by_room true = λ none. refl
     by_room false = λ none. cc
-either-on terms want moment log (Some c) = λ none. cc
+either-on settings want moment log (Some c) = λ none. cc
 
-either-start : (terms : Terms) (log : List Entry) (want : Want) (now : ℕ) → IsEither (after_acquire terms log want now)
-either-start terms log want now = by_waiting (waiting log)
+either-start : (settings : LimitAndFirst) (log : List Entry) (want : Want) (now : ℕ) → IsEither (after_acquire settings log want now)
+either-start settings log want now = by_waiting (waiting log)
   where
     moment : ℕ
     moment = moment_at log now
 
-    by_waiting : (wants : List Want) → IsEither (start_unless wants terms want moment log)
-    by_waiting [] = let closed = without_too_old want moment log in either-on terms want moment closed (newest_fit closed want moment)
+    by_waiting : (wants : List Want) → IsEither (start_unless wants settings want moment log)
+    by_waiting [] = let closed = without_too_old want moment log in either-on settings want moment closed (newest_fit closed want moment)
     by_waiting (head ∷ others) = λ none. refl
 
-module _ (terms : Terms) (log : List Entry) (tickets : List ℕ) (sound : IsSound terms log) (fits : Fits log tickets) where
-  fits_get : (want : Want) (moment : ℕ) → let answer = get_at terms want moment log tickets in Fits answer.log answer.tickets
+module _ (settings : LimitAndFirst) (log : List Entry) (tickets : List ℕ) (sound : IsSound settings log) (fits : Fits log tickets) where
+  fits_get : (want : Want) (moment : ℕ) → let answer = get_at settings want moment log tickets in Fits answer.log answer.tickets
   unfolding get_at
-  fits_get want moment = by_refusal (refusal terms log want) refl
+  fits_get want moment = by_refusal (refusal settings log want) refl
     where
       new : List Entry
-      new = after_acquire terms log want moment
+      new = after_acquire settings log want moment
 
       by_wait : (wait : Option Wait) → is_some wait ≡ true → Fits new (with_ticket want.transfer tickets) → Fits new (tickets_with want.transfer tickets wait)
       by_wait (Some wait) there fits_new = fits_new
       by_wait None there fits_new = absurd (cc)
 
-      by_begin : refusal terms log want ≡ None → Starts want log new ⊎ Waits want log new → Fits new (tickets_with want.transfer tickets (newest_wait new))
+      by_begin : refusal settings log want ≡ None → Starts want log new ⊎ Waits want log new → Fits new (tickets_with want.transfer tickets (newest_wait new))
       by_begin is (inl starts) = subst (λ wait. Fits new (tickets_with want.transfer tickets wait)) (sym starts.no_wait) (begins want log new tickets starts fits)
       by_begin is (inr begins_to) =
-          let free = accepted-free terms log sound want is in
-          by_wait (newest_wait new) (either-start terms log want moment begins_to.no_start) (waits-there want log new tickets free.0 free.1 begins_to fits)
+          let free = accepted-free settings log sound want is in
+          by_wait (newest_wait new) (either-start settings log want moment begins_to.no_start) (waits-there want log new tickets free.0 free.1 begins_to fits)
 
-      by_refusal : (reason : Option Refusal) → refusal terms log want ≡ reason → let answer = get_unless terms want moment log tickets reason in Fits answer.log answer.tickets
+      by_refusal : (reason : Option Refusal) → refusal settings log want ≡ reason → let answer = get_unless settings want moment log tickets reason in Fits answer.log answer.tickets
       by_refusal (Some r) is = fits
-      by_refusal None is = by_begin is (begun terms log want moment sound is)
+      by_refusal None is = by_begin is (begun settings log want moment sound is)
 
   holder-unwaiting : (transfer c : ℕ) → held_number log transfer ≡ Some c → waits log transfer ≡ false
   holder-unwaiting transfer c held = by_waits (waits log transfer) refl
@@ -192,67 +195,63 @@ module _ (terms : Terms) (log : List Entry) (tickets : List ℕ) (sound : IsSoun
       by_ticket true = by_held (held_number log transfer) refl
       by_ticket false = fits
 
-  unticketed : (transfer c : ℕ) → leased_number log tickets transfer ≡ Some c → is_among transfer tickets ≡ false
+  unticketed : (transfer c : ℕ) → claimed_number log tickets transfer ≡ Some c → is_among transfer tickets ≡ false
   unticketed transfer c leased = by_ticket (is_among transfer tickets) leased
     where
       by_ticket : (ticketed : Bool) → cond ticketed None (held_number log transfer) ≡ Some c → ticketed ≡ false
       by_ticket true e = cc
       by_ticket false e = refl
 
-  fits_back : (transfer : ℕ) (ending : Ending) (moment : ℕ) → let answer = back_at terms transfer ending moment log tickets in Fits answer.log answer.tickets
+  fits_back : (transfer : ℕ) (ending : Ending) (moment : ℕ) → let answer = back_at settings transfer ending moment log tickets in Fits answer.log answer.tickets
   unfolding back_at
-  fits_back transfer ending moment = by_leased (leased_number log tickets transfer) refl
+  fits_back transfer ending moment = by_leased (claimed_number log tickets transfer) refl
     where
-      by_leased : (leased : Option ℕ) → leased_number log tickets transfer ≡ leased → let answer = back_of terms ending moment log tickets leased in Fits answer.log answer.tickets
+      by_leased : (leased : Option ℕ) → claimed_number log tickets transfer ≡ leased → let answer = back_of settings ending moment log tickets leased in Fits answer.log answer.tickets
       by_leased None is = fits
       by_leased (Some c) is =
           let held = held-where-leased (is_among transfer tickets) (held_number log transfer) c is in
-          moved transfer log _ tickets (given-back terms log sound transfer c held (facts_of ending) moment) (unticketed transfer c is) fits
+          moved transfer log _ tickets (given-back settings log sound transfer c held (facts_of_ending ending) moment) (unticketed transfer c is) fits
 
-  fits_drop : (transfer moment : ℕ) → let answer = drop_at terms transfer moment log tickets in Fits answer.log answer.tickets
+  fits_drop : (transfer moment : ℕ) → let answer = drop_at settings transfer moment log tickets in Fits answer.log answer.tickets
   unfolding drop_at
-  fits_drop transfer moment = by_leased (leased_number log tickets transfer) refl
+  fits_drop transfer moment = by_leased (claimed_number log tickets transfer) refl
     where
-      by_leased : (leased : Option ℕ) → leased_number log tickets transfer ≡ leased → let answer = drop_of terms moment log tickets leased in Fits answer.log answer.tickets
+      by_leased : (leased : Option ℕ) → claimed_number log tickets transfer ≡ leased → let answer = drop_of settings moment log tickets leased in Fits answer.log answer.tickets
       by_leased None is = fits
       by_leased (Some c) is =
           let held = held-where-leased (is_among transfer tickets) (held_number log transfer) c is in
-          moved transfer log _ tickets (abandoned terms log sound transfer c held moment) (unticketed transfer c is) fits
+          moved transfer log _ tickets (abandoned settings log sound transfer c held moment) (unticketed transfer c is) fits
 
-  fits_leave : (transfer moment : ℕ) → let answer = leave_at terms transfer moment log tickets in Fits answer.log answer.tickets
+  fits_leave : (transfer moment : ℕ) → let answer = leave_at settings transfer moment log tickets in Fits answer.log answer.tickets
   unfolding leave_at
   fits_leave transfer moment = by_ticket (is_among transfer tickets)
     where
       left : List Entry
-      left = after_withdraw terms log transfer moment
+      left = after_withdraw settings log transfer moment
 
       by_ticket : (ticketed : Bool) → let answer = (if ticketed then grown log left (without_ticket transfer tickets) else stranger log tickets) in Fits answer.log answer.tickets
-      by_ticket true = spent transfer log left tickets (withdrawn terms log sound transfer moment) fits
+      by_ticket true = spent transfer log left tickets (withdrawn settings log sound transfer moment) fits
       by_ticket false = fits
 
   fits_look : let answer = look_at log tickets in Fits answer.log answer.tickets
   unfolding look_at
   fits_look = fits
 
-  fits_at_host : (command : Command) → let answer = at_host terms log tickets command in Fits answer.log answer.tickets
-  fits_at_host (commands.Limits limits) = fits
-  fits_at_host (commands.Site word) = fits
-  fits_at_host (commands.Get want site moment) = fits_get want moment
-  fits_at_host (commands.Claim transfer site) = fits_claim transfer
-  fits_at_host (commands.Back transfer site ending moment) = fits_back transfer ending moment
-  fits_at_host (commands.Drop transfer site moment) = fits_drop transfer moment
-  fits_at_host (commands.Leave transfer site moment) = fits_leave transfer moment
-  fits_at_host (commands.Look site) = fits_look
+  fits_at_host : (action : Action) → let answer = at_host settings log tickets action in Fits answer.log answer.tickets
+  fits_at_host (actions.Get want moment) = fits_get want moment
+  fits_at_host (actions.Claim transfer) = fits_claim transfer
+  fits_at_host (actions.Back transfer ending moment) = fits_back transfer ending moment
+  fits_at_host (actions.Drop transfer moment) = fits_drop transfer moment
+  fits_at_host (actions.Leave transfer moment) = fits_leave transfer moment
+  fits_at_host actions.Look = fits_look
 
-fits_at_no_host : (log : List Entry) (tickets : List ℕ) → Fits log tickets → (command : Command) → let answer = at_no_host log tickets command in Fits answer.log answer.tickets
-fits_at_no_host log tickets fits (commands.Limits limits) = fits
-fits_at_no_host log tickets fits (commands.Site word) = fits
-fits_at_no_host log tickets fits (commands.Get want site moment) = fits
-fits_at_no_host log tickets fits (commands.Claim transfer site) = fits
-fits_at_no_host log tickets fits (commands.Back transfer site ending moment) = fits
-fits_at_no_host log tickets fits (commands.Drop transfer site moment) = fits
-fits_at_no_host log tickets fits (commands.Leave transfer site moment) = fits
-fits_at_no_host log tickets fits (commands.Look site) = fits
+fits_at_no_host : (log : List Entry) (tickets : List ℕ) → Fits log tickets → (action : Action) → let answer = at_no_host log tickets action in Fits answer.log answer.tickets
+fits_at_no_host log tickets fits (actions.Get want moment) = fits
+fits_at_no_host log tickets fits (actions.Claim transfer) = fits
+fits_at_no_host log tickets fits (actions.Back transfer ending moment) = fits
+fits_at_no_host log tickets fits (actions.Drop transfer moment) = fits
+fits_at_no_host log tickets fits (actions.Leave transfer moment) = fits
+fits_at_no_host log tickets fits actions.Look = fits
 
 -- a run's, and what a step makes
 abbrev FitRun : Run → Type 0
@@ -262,13 +261,13 @@ abbrev FitStep : Result (Run × List ℕ) FaultKind → Type 0
 FitStep (Err kind) = Unit {0}
 FitStep (Ok next) = FitRun next.0
 
-fits_command : (run : Run) (command : Command) (old : Option Limits) → SoundUnder old run.log → FitRun run → FitStep (with_command run command old)
-fits_command run command None sound fits = tt
-fits_command run command (Some limits) sound fits = by_test (has_site run.sites && (site_of command == 0))
+fits_command : (run : Run) (site : ℕ) (action : Action) (old : Option Limits) → SoundUnder old run.log → FitRun run → FitStep (with_action run site action old)
+fits_command run site action None sound fits = tt
+fits_command run site action (Some limits) sound fits = by_test (has_site run.sites && (site == 0))
   where
-    by_test : (here : Bool) → let answer = (if here then at_host (terms_of limits) run.log run.tickets command else at_no_host run.log run.tickets command) in Fits answer.log answer.tickets
-    by_test true = fits_at_host (terms_of limits) run.log run.tickets sound.sound fits command
-    by_test false = fits_at_no_host run.log run.tickets fits command
+    by_test : (here : Bool) → let answer = (if here then at_host (settings_of limits) run.log run.tickets action else at_no_host run.log run.tickets action) in Fits answer.log answer.tickets
+    by_test true = fits_at_host (settings_of limits) run.log run.tickets sound.sound fits action
+    by_test false = fits_at_no_host run.log run.tickets fits action
 
 fits_limits : (run : Run) (limits : Limits) (old : Option Limits) → FitRun run → FitStep (with_limits run limits old)
 fits_limits run limits (Some others) fits = tt
@@ -298,12 +297,7 @@ fits_step : (run : Run) (command : Command) → SoundRun run → FitRun run → 
 unfolding step
 fits_step run (commands.Limits limits) sound fits = fits_limits run limits run.limits fits
 fits_step run (commands.Site word) sound fits = fits_site run word run.limits fits
-fits_step run (commands.Get want site moment) sound fits = fits_command run (commands.Get want site moment) run.limits sound fits
-fits_step run (commands.Claim transfer site) sound fits = fits_command run (commands.Claim transfer site) run.limits sound fits
-fits_step run (commands.Back transfer site ending moment) sound fits = fits_command run (commands.Back transfer site ending moment) run.limits sound fits
-fits_step run (commands.Drop transfer site moment) sound fits = fits_command run (commands.Drop transfer site moment) run.limits sound fits
-fits_step run (commands.Leave transfer site moment) sound fits = fits_command run (commands.Leave transfer site moment) run.limits sound fits
-fits_step run (commands.Look site) sound fits = fits_command run (commands.Look site) run.limits sound fits
+fits_step run (commands.At site action) sound fits = fits_command run site action run.limits sound fits
 
 fits_line : (run : Run) (line : List ℕ) → SoundRun run → FitRun run → FitStep (line_step run line)
 unfolding line_step

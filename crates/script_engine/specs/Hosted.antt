@@ -3,13 +3,13 @@ use Rattle.std.specs.Prelude.{◌≡◌, ℕ, Bool, true, false, ◌==◌, nat_l
 use Rattle.std.specs.Option.{option_map}
 use Rattle.conn_log.specs.declared.entry.Entry.{Entry}
 use Rattle.conn_log.specs.declared.entry.Want.{Want}
-use Rattle.conn_log.specs.Legal.{Terms}
-use Rattle.bundle.specs.Lease.{OneHost, Leasing, Ticketed, leased_number, ticket_want}
+use Rattle.conn_log.specs.Legal.{LimitAndFirst}
+use Rattle.bundle.specs.Lease.{HostShown, Leasing, Ticketed, lease_number, ticket_want}
 use Rattle.script_engine.specs.Meaning.{with_ticket}
 
 pub record Hosted : Type 0 where
   pub log : List Entry
-  pub terms : Terms
+  pub settings : LimitAndFirst
   pub tickets : List ℕ
 
 -- a lease's connection and transfer, and whether it has its stream
@@ -21,8 +21,8 @@ abbrev pub kept_facts : ℕ → ℕ → ℕ × ℕ × Bool
 kept_facts transfer c = (c, transfer, true)
 
 -- of each transfer that has a lease, the lease that is due
-abbrev pub leases_of : {S : Type 0} → OneHost S → ℕ → Option (ℕ × ℕ × Bool)
-leases_of host transfer = option_map (kept_facts transfer) (leased_number host transfer)
+abbrev pub leases_of : {S : Type 0} → HostShown S → ℕ → Option (ℕ × ℕ × Bool)
+leases_of host transfer = option_map (kept_facts transfer) (lease_number host transfer)
 
 -- what a ticket was given for
 abbrev pub wanted : Ticketed → Want
@@ -35,7 +35,7 @@ KeepsLeases due lease_of = (t : ℕ) → option_map lease_facts (lease_of t) ≡
 abbrev pub KeepsTickets : (ℕ → Option Want) → (ℕ → Option Ticketed) → Type 0
 KeepsTickets due ticket_of = (t : ℕ) → option_map wanted (ticket_of t) ≡ due t
 
-pub record Keeps {S : Type 0} (host : OneHost S) (lease_of : ℕ → Option (Leasing S)) (ticket_of : ℕ → Option Ticketed) : Type 0 where
+pub record Keeps {S : Type 0} (host : HostShown S) (lease_of : ℕ → Option (Leasing S)) (ticket_of : ℕ → Option Ticketed) : Type 0 where
   pub leases : KeepsLeases (leases_of host) lease_of
   pub tickets : KeepsTickets (ticket_want host) ticket_of
 

@@ -8,7 +8,7 @@ use Rattle.conn_log.specs.Connections.{is_among, is_open, holder, held_number, c
 use Rattle.conn_log.specs.Waiting.{waiting, waits}
 use Rattle.conn_log.specs.Legal.{IsLegal, IsQuiet}
 use Rattle.script_text.specs.Lines.{lines}
-use Rattle.script_engine.specs.Meaning.{Run, start, terms_of}
+use Rattle.script_engine.specs.Meaning.{Run, start, settings_of}
 use Rattle.script_engine.specs.Transcript.{line_step, LONGEST_SCRIPT}
 use Rattle.script_text.specs.declared.command.Limits.{Limits}
 use Rattle.script_text.specs.declared.fault.FaultKind.{FaultKind}
@@ -37,12 +37,12 @@ limits_of script = (run_behind script).limits
 -- legal under these limits; without limits nothing happened
 abbrev pub IsLegalUnder : Option Limits → List Entry → Type 0
 IsLegalUnder None log = log ≡ []
-IsLegalUnder (Some limits) log = IsLegal (terms_of limits) log
+IsLegalUnder (Some limits) log = IsLegal (settings_of limits) log
 
 -- quiet under these limits: where anyone waits nothing is idle, and the host is at its limit
 abbrev pub IsQuietUnder : Option Limits → List Entry → Type 0
 IsQuietUnder None log = log ≡ []
-IsQuietUnder (Some limits) log = IsQuiet (terms_of limits) false log
+IsQuietUnder (Some limits) log = IsQuiet (settings_of limits) false log
 
 -- what a leased connection was: open, held by nobody, and last given back whole and persistent
 pub record WasFree (before : List Entry) (c : ℕ) : Type 0 where

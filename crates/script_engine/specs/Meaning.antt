@@ -5,7 +5,7 @@ use Rattle.persistence.specs.declared.facts.Version.TheVariants.{V10, V11}
 use Rattle.persistence.specs.declared.facts.Framing.TheVariants.{Counted, UntilClose}
 use Rattle.conn_log.specs.declared.entry.Entry.{Entry}
 use Rattle.conn_log.specs.declared.entry.Want.{Want}
-use Rattle.conn_log.specs.Legal.{Terms}
+use Rattle.conn_log.specs.Legal.{LimitAndFirst}
 use Rattle.conn_log.specs.Connections.{is_among, open_connections, idle_connections, held_number}
 use Rattle.conn_log.specs.Waiting.{waiting}
 use Rattle.bundle.specs.declared.refusal.Refusal.{Refusal}
@@ -18,6 +18,8 @@ use Rattle.script_text.specs.Site.{site_named}
 use Rattle.script_text.specs.declared.command.Limits.{Limits}
 use Rattle.script_text.specs.declared.command.Ending.{Ending}
 use Rattle.script_text.specs.declared.command.Ending.TheVariants.{Keep, Close, Old, OldKeep, Eof, Cut, Surplus}
+use Rattle.script_text.specs.declared.command.Action.{Action}
+use Rattle.script_text.specs.declared.command.Action.TheVariants as actions
 use Rattle.script_text.specs.declared.command.Command.{Command}
 use Rattle.script_text.specs.declared.command.Command.TheVariants as commands
 use Rattle.script_text.specs.declared.fault.FaultKind.{FaultKind}
@@ -28,18 +30,18 @@ abbrev pub plain : Facts
 plain = record { version = V11; close = false; keep_alive = false; request_close = false; framing = Counted; both_lengths = false; upgraded = false; whole = true; surplus = false }
 
 -- the facts of a response, by how it ended
-abbrev pub facts_of : Ending → Facts
-facts_of Keep = plain
-facts_of Close = record plain { close = true }
-facts_of Old = record plain { version = V10 }
-facts_of OldKeep = record plain { version = V10; keep_alive = true }
-facts_of Eof = record plain { framing = UntilClose }
-facts_of Cut = record plain { whole = false }
-facts_of Surplus = record plain { surplus = true }
+abbrev pub facts_of_ending : Ending → Facts
+facts_of_ending Keep = plain
+facts_of_ending Close = record plain { close = true }
+facts_of_ending Old = record plain { version = V10 }
+facts_of_ending OldKeep = record plain { version = V10; keep_alive = true }
+facts_of_ending Eof = record plain { framing = UntilClose }
+facts_of_ending Cut = record plain { whole = false }
+facts_of_ending Surplus = record plain { surplus = true }
 
 -- the terms of the one host
-abbrev pub terms_of : Limits → Terms
-terms_of limits = record { limit = limits.host; first = 1 }
+abbrev pub settings_of : Limits → LimitAndFirst
+settings_of limits = record { limit = limits.host; first = 1 }
 
 -- tickets: the transfers that have a ticket which they have not claimed, in ascending order
 abbrev pub with_ticket : ℕ → List ℕ → List ℕ
@@ -53,8 +55,8 @@ without_ticket transfer [] = []
 without_ticket transfer (other ∷ others) = if transfer == other then others else other ∷ without_ticket transfer others
 
 -- the connection that a transfer has a lease of: the one that it holds, unless it has yet to claim it
-abbrev pub leased_number : List Entry → List ℕ → ℕ → Option ℕ
-leased_number log tickets transfer = if is_among transfer tickets then None else held_number log transfer
+abbrev pub claimed_number : List Entry → List ℕ → ℕ → Option ℕ
+claimed_number log tickets transfer = if is_among transfer tickets then None else held_number log transfer
 
 -- the log after a command, the tickets, and the lines that tell of it
 pub record Answer : Type 0 where
@@ -82,30 +84,30 @@ tickets_with transfer tickets (Some wait) = with_ticket transfer tickets
 abbrev pub acquired : Want → List Entry → List ℕ → List Entry → Answer
 acquired want log tickets new = grown log new (tickets_with want.transfer tickets (newest_wait new))
 
-abbrev pub get_unless : Terms → Want → ℕ → List Entry → List ℕ → Option Refusal → Answer
-get_unless terms want moment log tickets None = acquired want log tickets (after_acquire terms log want moment)
-get_unless terms want moment log tickets (Some r) = replied log tickets (refused (refusal_word r))
+abbrev pub get_unless : LimitAndFirst → Want → ℕ → List Entry → List ℕ → Option Refusal → Answer
+get_unless settings want moment log tickets None = acquired want log tickets (after_acquire settings log want moment)
+get_unless settings want moment log tickets (Some r) = replied log tickets (refused (refusal_word r))
 
-unfoldable pub get_at : Terms → Want → ℕ → List Entry → List ℕ → Answer
-get_at terms want moment log tickets = get_unless terms want moment log tickets (refusal terms log want)
+unfoldable pub get_at : LimitAndFirst → Want → ℕ → List Entry → List ℕ → Answer
+get_at settings want moment log tickets = get_unless settings want moment log tickets (refusal settings log want)
 
 -- a stranger: back and drop need a lease, claim and leave a ticket
 abbrev pub stranger : List Entry → List ℕ → Answer
 stranger log tickets = replied log tickets (refused (codes "stranger"))
 
-abbrev pub back_of : Terms → Ending → ℕ → List Entry → List ℕ → Option ℕ → Answer
-back_of terms ending moment log tickets None = stranger log tickets
-back_of terms ending moment log tickets (Some c) = grown log (after_give_back terms log c (facts_of ending) moment) tickets
+abbrev pub back_of : LimitAndFirst → Ending → ℕ → List Entry → List ℕ → Option ℕ → Answer
+back_of settings ending moment log tickets None = stranger log tickets
+back_of settings ending moment log tickets (Some c) = grown log (after_give_back settings log c (facts_of_ending ending) moment) tickets
 
-unfoldable pub back_at : Terms → ℕ → Ending → ℕ → List Entry → List ℕ → Answer
-back_at terms transfer ending moment log tickets = back_of terms ending moment log tickets (leased_number log tickets transfer)
+unfoldable pub back_at : LimitAndFirst → ℕ → Ending → ℕ → List Entry → List ℕ → Answer
+back_at settings transfer ending moment log tickets = back_of settings ending moment log tickets (claimed_number log tickets transfer)
 
-abbrev pub drop_of : Terms → ℕ → List Entry → List ℕ → Option ℕ → Answer
-drop_of terms moment log tickets None = stranger log tickets
-drop_of terms moment log tickets (Some c) = grown log (after_abandon terms log c moment) tickets
+abbrev pub drop_of : LimitAndFirst → ℕ → List Entry → List ℕ → Option ℕ → Answer
+drop_of settings moment log tickets None = stranger log tickets
+drop_of settings moment log tickets (Some c) = grown log (after_abandon settings log c moment) tickets
 
-unfoldable pub drop_at : Terms → ℕ → ℕ → List Entry → List ℕ → Answer
-drop_at terms transfer moment log tickets = drop_of terms moment log tickets (leased_number log tickets transfer)
+unfoldable pub drop_at : LimitAndFirst → ℕ → ℕ → List Entry → List ℕ → Answer
+drop_at settings transfer moment log tickets = drop_of settings moment log tickets (claimed_number log tickets transfer)
 
 -- claim: the transfer gets what it was granted, and has spent its ticket; or it still waits
 abbrev pub claim_of : ℕ → List Entry → List ℕ → Option ℕ → Answer
@@ -116,46 +118,35 @@ unfoldable pub claim_at : ℕ → List Entry → List ℕ → Answer
 claim_at transfer log tickets = if is_among transfer tickets then claim_of transfer log tickets (held_number log transfer) else stranger log tickets
 
 -- leave: the transfer gives its ticket up
-unfoldable pub leave_at : Terms → ℕ → ℕ → List Entry → List ℕ → Answer
-leave_at terms transfer moment log tickets =
-    if is_among transfer tickets then grown log (after_withdraw terms log transfer moment) (without_ticket transfer tickets) else stranger log tickets
+unfoldable pub leave_at : LimitAndFirst → ℕ → ℕ → List Entry → List ℕ → Answer
+leave_at settings transfer moment log tickets =
+    if is_among transfer tickets then grown log (after_withdraw settings log transfer moment) (without_ticket transfer tickets) else stranger log tickets
 
 -- look counts
 unfoldable pub look_at : List Entry → List ℕ → Answer
 look_at log tickets = let alive = length (open_connections log) in let idle = length (idle_connections log) in
     replied log tickets (look_line 0 alive idle (alive - idle) (length (waiting log)) false)
 
--- a command at a site that is there, and at one that is not
-abbrev pub at_host : Terms → List Entry → List ℕ → Command → Answer
-at_host terms log tickets (commands.Get want site moment) = get_at terms want moment log tickets
-at_host terms log tickets (commands.Claim transfer site) = claim_at transfer log tickets
-at_host terms log tickets (commands.Back transfer site ending moment) = back_at terms transfer ending moment log tickets
-at_host terms log tickets (commands.Drop transfer site moment) = drop_at terms transfer moment log tickets
-at_host terms log tickets (commands.Leave transfer site moment) = leave_at terms transfer moment log tickets
-at_host terms log tickets (commands.Look site) = look_at log tickets
-at_host terms log tickets _ = replied log tickets []
+-- an action at a site that is there, and at one that is not
+abbrev pub at_host : LimitAndFirst → List Entry → List ℕ → Action → Answer
+at_host settings log tickets (actions.Get want moment) = get_at settings want moment log tickets
+at_host settings log tickets (actions.Claim transfer) = claim_at transfer log tickets
+at_host settings log tickets (actions.Back transfer ending moment) = back_at settings transfer ending moment log tickets
+at_host settings log tickets (actions.Drop transfer moment) = drop_at settings transfer moment log tickets
+at_host settings log tickets (actions.Leave transfer moment) = leave_at settings transfer moment log tickets
+at_host settings log tickets actions.Look = look_at log tickets
 
-abbrev pub at_no_host : List Entry → List ℕ → Command → Answer
-at_no_host log tickets (commands.Get want site moment) = replied log tickets (refused (codes "bad-site"))
-at_no_host log tickets (commands.Look site) = replied log tickets (refused (codes "bad-site"))
-at_no_host log tickets (commands.Claim transfer site) = stranger log tickets
-at_no_host log tickets (commands.Back transfer site ending moment) = stranger log tickets
-at_no_host log tickets (commands.Drop transfer site moment) = stranger log tickets
-at_no_host log tickets (commands.Leave transfer site moment) = stranger log tickets
-at_no_host log tickets _ = replied log tickets []
+abbrev pub at_no_host : List Entry → List ℕ → Action → Answer
+at_no_host log tickets (actions.Get want moment) = replied log tickets (refused (codes "bad-site"))
+at_no_host log tickets actions.Look = replied log tickets (refused (codes "bad-site"))
+at_no_host log tickets (actions.Claim transfer) = stranger log tickets
+at_no_host log tickets (actions.Back transfer ending moment) = stranger log tickets
+at_no_host log tickets (actions.Drop transfer moment) = stranger log tickets
+at_no_host log tickets (actions.Leave transfer moment) = stranger log tickets
 
-abbrev pub site_of : Command → ℕ
-site_of (commands.Get want site moment) = site
-site_of (commands.Claim transfer site) = site
-site_of (commands.Back transfer site ending moment) = site
-site_of (commands.Drop transfer site moment) = site
-site_of (commands.Leave transfer site moment) = site
-site_of (commands.Look site) = site
-site_of _ = 0
-
-abbrev pub answer_of : Limits → Bool → List Entry → List ℕ → Command → Answer
-answer_of limits there log tickets command =
-    if there && (site_of command == 0) then at_host (terms_of limits) log tickets command else at_no_host log tickets command
+abbrev pub answer_of : Limits → Bool → List Entry → List ℕ → ℕ → Action → Answer
+answer_of limits there log tickets site action =
+    if there && (site == 0) then at_host (settings_of limits) log tickets action else at_no_host log tickets action
 
 -- a run so far: the limits, the sites by host and port, whether a command came after these, the log, and
 -- the tickets
@@ -198,16 +189,16 @@ with_url run word (Some limits) = if run.has_begun then Err Place else add_site 
 abbrev pub after_answer : Run → Answer → Run × List ℕ
 after_answer run answer = (record run { has_begun = true; log = answer.log; tickets = answer.tickets }, answer.text)
 
-abbrev pub with_command : Run → Command → Option Limits → Result (Run × List ℕ) FaultKind
-with_command run command None = Err Place
-with_command run command (Some limits) = Ok (after_answer run (answer_of limits (has_site run.sites) run.log run.tickets command))
+abbrev pub with_action : Run → ℕ → Action → Option Limits → Result (Run × List ℕ) FaultKind
+with_action run site action None = Err Place
+with_action run site action (Some limits) = Ok (after_answer run (answer_of limits (has_site run.sites) run.log run.tickets site action))
 
 -- the script's end: where limits are given the run has begun by then
-abbrev pub at_end : Run → Option Limits → Run
-at_end run None = run
-at_end run (Some limits) = record run { has_begun = true }
+abbrev pub at_script_end : Run → Option Limits → Run
+at_script_end run None = run
+at_script_end run (Some limits) = record run { has_begun = true }
 
 unfoldable pub step : Run → Command → Result (Run × List ℕ) FaultKind
 step run (commands.Limits limits) = with_limits run limits run.limits
 step run (commands.Site word) = with_url run word run.limits
-step run command = with_command run command run.limits
+step run (commands.At site action) = with_action run site action run.limits

@@ -81,15 +81,15 @@ pub record StopsWithin (transcript : Transcript) (line : ℕ) (written : List �
   pub short : IsProperFront written (text_up_to line transcript)
 
 -- how a run ends that has this transcript and wrote that
-abbrev pub EndsBy : Transcript → ScriptFault → List ℕ → FaultKind → Type 0
-EndsBy transcript fault written Memory = StopsBefore transcript fault.line written ⊎ StopsApart transcript fault.line written
-EndsBy transcript fault written Write = StopsWithin transcript fault.line written
-EndsBy transcript fault written Read = (fault.line ≡ 0) × (written ≡ [])
-EndsBy transcript fault written _ = (written ≡ whole_text transcript) × (transcript.fault ≡ Some fault)
+abbrev pub EndsByFault : Transcript → ScriptFault → List ℕ → FaultKind → Type 0
+EndsByFault transcript fault written Memory = StopsBefore transcript fault.line written ⊎ StopsApart transcript fault.line written
+EndsByFault transcript fault written Write = StopsWithin transcript fault.line written
+EndsByFault transcript fault written Read = (fault.line ≡ 0) × (written ≡ [])
+EndsByFault transcript fault written _ = (written ≡ whole_text transcript) × (transcript.fault ≡ Some fault)
 
 abbrev pub Ends : {A : Type 0} → Transcript → Result A ScriptFault → List ℕ → Type 0
 Ends transcript (Ok done) written = (written ≡ whole_text transcript) × (transcript.fault ≡ None)
-Ends transcript (Err fault) written = EndsBy transcript fault written fault.kind
+Ends transcript (Err fault) written = EndsByFault transcript fault written fault.kind
 
 -- what a machine answers to a command that means this, and the run after it
 abbrev pub FailsBy : Result (Run × List ℕ) FaultKind → FaultKind → Type 0

@@ -9,11 +9,11 @@ use Rattle.script_engine.specs.TranscriptLines.{event_lines, leased_lines}
 abbrev pub Tells : List ℕ → List ℕ → Option ScriptFault → Type 0
 Tells script text fault = (whole_text (transcript script) ≡ text) × ((transcript script).fault ≡ fault)
 
-abbrev pub reuse_then_drop : List ℕ
-reuse_then_drop = codes "limits 1 0 4\nsite http://a.test/\nget 1 0 0 at 0\nback 1 0 keep at 2\nget 2 0 0 at 3\ndrop 2 0 at 4\nlook 0\n"
+abbrev pub reuse_then_drop_script : List ℕ
+reuse_then_drop_script = codes "limits 1 0 4\nsite http://a.test/\nget 1 0 0 at 0\nback 1 0 keep at 2\nget 2 0 0 at 3\ndrop 2 0 at 4\nlook 0\n"
 
 abbrev pub TellsReuseThenDrop : Type 0
-TellsReuseThenDrop = Tells reuse_then_drop (codes "opened 0.1 for 1 at 0\nreturned 0.1 by 1 at 2\nleased 0.1 to 2 at 3\nclosed 0.1 dropped at 4\nhost 0 open 0 idle 0 leased 0 waiting 0 queued no\n") None
+TellsReuseThenDrop = Tells reuse_then_drop_script (codes "opened 0.1 for 1 at 0\nreturned 0.1 by 1 at 2\nleased 0.1 to 2 at 3\nclosed 0.1 dropped at 4\nhost 0 open 0 idle 0 leased 0 waiting 0 queued no\n") None
 
 abbrev pub TellsBusyAndNoSuchSite : Type 0
 TellsBusyAndNoSuchSite = Tells (codes "limits 4 0 4\nsite http://a.test/\nget 1 0 0 at 0\nget 1 0 0 at 1\nget 1 7 0 at 1\nlook 7\n") (codes "opened 0.1 for 1 at 0\nrefused busy\nrefused bad-site\nrefused bad-site\n") None
@@ -93,7 +93,7 @@ TellsLineTooLongByOne = Tells (replicate 2305 35) [] (Some (record { line = 1; k
 
 -- the lines of the log behind a script
 abbrev pub TellsEvents : Type 0
-TellsEvents = event_lines (log_behind reuse_then_drop) ≡ codes "opened 0.1 for 1 at 0" ∷ codes "returned 0.1 by 1 at 2" ∷ codes "leased 0.1 to 2 at 3" ∷ codes "closed 0.1 dropped at 4" ∷ []
+TellsEvents = event_lines (log_behind reuse_then_drop_script) ≡ codes "opened 0.1 for 1 at 0" ∷ codes "returned 0.1 by 1 at 2" ∷ codes "leased 0.1 to 2 at 3" ∷ codes "closed 0.1 dropped at 4" ∷ []
 
 abbrev pub TellsLeases : Type 0
-TellsLeases = leased_lines (log_behind reuse_then_drop) ≡ codes "leased 0.1 to 2 at 3" ∷ []
+TellsLeases = leased_lines (log_behind reuse_then_drop_script) ≡ codes "leased 0.1 to 2 at 3" ∷ []

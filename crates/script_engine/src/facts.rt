@@ -1,7 +1,7 @@
 //! What a response's ending says of its connection.
 
 ghost use Rattle.std.specs.Prelude.{◌≡◌};
-ghost use Rattle.script_engine.specs.Meaning.{facts_of};
+ghost use Rattle.script_engine.specs.Meaning.{facts_of_ending};
 
 use persistence::{Facts, Framing, Version};
 use script_text::Ending;
@@ -20,8 +20,8 @@ const PLAIN: Facts = Facts {
 };
 
 /// The facts of a response that ended so.
-pub fn facts_of(ending: Ending) -> Facts
-    ensures { result ≡ facts_of ending }
+pub fn facts_of_ending(ending: Ending) -> Facts
+    ensures { result ≡ facts_of_ending ending }
 {
     let mut facts = PLAIN;
     match ending {

@@ -1,17 +1,17 @@
 //! The leases and tickets that a host keeps for its transfers, until they are spent.
 
-ghost use Rattle.std.specs.Prelude.{◌≡◌, ◌+◌, ◌<◌, ℕ, OnOk, IfErr, IsSome, Some, None, true, ◌∷◌};
+ghost use Rattle.std.specs.Prelude.{◌≡◌, ◌+◌, ◌<◌, ℕ, OnOk, OnErr, IfErr, IsSome, Some, None, true, ◌∷◌};
 ghost use Rattle.std.specs.Ordering.{nat_cmp};
 ghost use Rattle.std.specs.BTreeMap.{get, keys, btree_map_len, IsOrdered};
 ghost use Rattle.conn_log.specs.Connections.{is_held_by, held_number};
 ghost use Rattle.conn_log.specs.Sound.{IsSound};
 ghost use Rattle.bundle.specs.Calls.{after_give_back, after_abandon, after_withdraw};
-ghost use Rattle.bundle.specs.Lease.{Spends, leased_number, ticket_want, stands};
-ghost use Rattle.script_engine.specs.Meaning.{with_ticket, without_ticket, facts_of};
+ghost use Rattle.bundle.specs.Lease.{Spends, lease_number, ticket_want, is_valid_ticket};
+ghost use Rattle.script_engine.specs.Meaning.{with_ticket, without_ticket, facts_of_ending};
 ghost use Rattle.script_engine.specs.Ending.{after_dropping, after_giving_up, IsEnding};
 ghost use Rattle.script_engine.specs.Hosted.{Keeps, KeepsLeases, KeepsTickets, leases_of, due_others, lease_facts, is_ticket_first, merged};
 
-use crate::facts::facts_of;
+use crate::facts::facts_of_ending;
 use bundle::{Bundle, Lease, Ticket};
 use script_text::{Ending, FaultKind};
 use std::alloc::AllocError;
@@ -20,20 +20,20 @@ use std::collections::BTreeMap;
 /// Gives a lease back. A lease that is not the bundle's own is scrapped.
 pub fn give_back(bundle: &mut Bundle<()>, lease: Lease<()>, ending: Ending, moment: u64)
     requires { IsSome lease.stream }
-    ensures log { is_held_by bundle.old.log lease.start.want.transfer lease.start.number ≡ true → bundle.new.log ≡ after_give_back bundle.old.terms bundle.old.log lease.start.number (facts_of ending) moment }
+    ensures log { is_held_by bundle.old.log lease.start.want.transfer lease.start.number ≡ true → bundle.new.log ≡ after_give_back bundle.old.settings bundle.old.log lease.start.number (facts_of_ending ending) moment }
     ensures spends { is_held_by bundle.old.log lease.start.want.transfer lease.start.number ≡ true → Spends bundle.old bundle.new lease.start.want.transfer }
-    ensures terms { bundle.new.terms ≡ bundle.old.terms }
+    ensures settings { bundle.new.settings ≡ bundle.old.settings }
 {
-    if let Err(stray) = bundle.give_back(lease, facts_of(ending), moment) {
+    if let Err(stray) = bundle.give_back(lease, facts_of_ending(ending), moment) {
         stray.scrap();
     }
 }
 
 /// Abandons a lease. A lease that is not the bundle's own is scrapped.
 pub fn abandon(bundle: &mut Bundle<()>, lease: Lease<()>, moment: u64)
-    ensures log { is_held_by bundle.old.log lease.start.want.transfer lease.start.number ≡ true → bundle.new.log ≡ after_abandon bundle.old.terms bundle.old.log lease.start.number moment }
+    ensures log { is_held_by bundle.old.log lease.start.want.transfer lease.start.number ≡ true → bundle.new.log ≡ after_abandon bundle.old.settings bundle.old.log lease.start.number moment }
     ensures spends { is_held_by bundle.old.log lease.start.want.transfer lease.start.number ≡ true → Spends bundle.old bundle.new lease.start.want.transfer }
-    ensures terms { bundle.new.terms ≡ bundle.old.terms }
+    ensures settings { bundle.new.settings ≡ bundle.old.settings }
 {
     if let Err(stray) = bundle.abandon(lease, moment) {
         stray.scrap();
@@ -42,9 +42,9 @@ pub fn abandon(bundle: &mut Bundle<()>, lease: Lease<()>, moment: u64)
 
 /// Withdraws a ticket. A ticket that is not the bundle's own is scrapped.
 pub fn withdraw(bundle: &mut Bundle<()>, ticket: Ticket, moment: u64)
-    ensures log { stands bundle.old ticket.wait.want ≡ true → bundle.new.log ≡ after_withdraw bundle.old.terms bundle.old.log ticket.wait.want.transfer moment }
-    ensures spends { stands bundle.old ticket.wait.want ≡ true → Spends bundle.old bundle.new ticket.wait.want.transfer }
-    ensures terms { bundle.new.terms ≡ bundle.old.terms }
+    ensures log { is_valid_ticket bundle.old ticket.wait.want ≡ true → bundle.new.log ≡ after_withdraw bundle.old.settings bundle.old.log ticket.wait.want.transfer moment }
+    ensures spends { is_valid_ticket bundle.old ticket.wait.want ≡ true → Spends bundle.old bundle.new ticket.wait.want.transfer }
+    ensures settings { bundle.new.settings ≡ bundle.old.settings }
 {
     if let Err(stray) = bundle.withdraw(ticket, moment) {
         stray.scrap();
@@ -62,19 +62,21 @@ fn with_stream(lease: Lease<()>) -> Lease<()>
     lease
 }
 
-/// Keeps a lease for its transfer, with an empty stream. Where memory is short, it is abandoned.
+/// Keeps a lease for its transfer, with an empty stream. Where memory is short, it is abandoned at
+/// moment 0.
 pub fn keep_lease(
     bundle: &mut Bundle<()>,
     leases: &mut BTreeMap<u64, Lease<()>>,
     lease: Lease<()>,
 ) -> Result<(), FaultKind>
-    requires sound { IsSound bundle.old.terms bundle.old.log }
-    requires own { leased_number bundle.old lease.start.want.transfer ≡ Some lease.start.number }
+    requires sound { IsSound bundle.old.settings bundle.old.log }
+    requires own { lease_number bundle.old lease.start.want.transfer ≡ Some lease.start.number }
     requires spent { ticket_want bundle.old lease.start.want.transfer ≡ None }
     requires others { KeepsLeases (due_others lease.start.want.transfer (leases_of bundle.old)) (get nat_cmp leases.old) }
     ensures ok { OnOk result (bundle.new ≡ bundle.old) }
     ensures err { IfErr result (λ kind. kind ≡ FaultKind.Memory) }
-    ensures terms { bundle.new.terms ≡ bundle.old.terms }
+    ensures abandoned { OnErr result (bundle.new.log ≡ after_abandon bundle.old.settings bundle.old.log lease.start.number 0) }
+    ensures settings { bundle.new.settings ≡ bundle.old.settings }
     ensures leases { KeepsLeases (leases_of bundle.new) (get nat_cmp leases.new) }
     ensures tickets { (t : ℕ) → ticket_want bundle.new t ≡ ticket_want bundle.old t }
 {
@@ -93,20 +95,21 @@ pub fn keep_lease(
     }
 }
 
-/// Keeps a ticket for its transfer. Where memory is short, it is withdrawn.
+/// Keeps a ticket for its transfer. Where memory is short, it is withdrawn at moment 0.
 pub fn keep_ticket(
     bundle: &mut Bundle<()>,
     tickets: &mut BTreeMap<u64, Ticket>,
     ticket: Ticket,
 ) -> Result<(), FaultKind>
     requires own { ticket_want bundle.old ticket.wait.want.transfer ≡ Some ticket.wait.want }
-    requires unleased { leased_number bundle.old ticket.wait.want.transfer ≡ None }
+    requires unleased { lease_number bundle.old ticket.wait.want.transfer ≡ None }
     requires others { KeepsTickets (due_others ticket.wait.want.transfer (ticket_want bundle.old)) (get nat_cmp tickets.old) }
     ensures ok { OnOk result (bundle.new ≡ bundle.old) }
     ensures transfers { OnOk result (keys tickets.new ≡ with_ticket ticket.wait.want.transfer (keys tickets.old)) }
     ensures err { IfErr result (λ kind. kind ≡ FaultKind.Memory) }
-    ensures terms { bundle.new.terms ≡ bundle.old.terms }
-    ensures leases { (t : ℕ) → leased_number bundle.new t ≡ leased_number bundle.old t }
+    ensures withdrawn { OnErr result (bundle.new.log ≡ after_withdraw bundle.old.settings bundle.old.log ticket.wait.want.transfer 0) }
+    ensures settings { bundle.new.settings ≡ bundle.old.settings }
+    ensures leases { (t : ℕ) → lease_number bundle.new t ≡ lease_number bundle.old t }
     ensures tickets { KeepsTickets (ticket_want bundle.new) (get nat_cmp tickets.new) }
     ensures ordered { IsOrdered nat_cmp tickets.new }
 {
@@ -132,10 +135,10 @@ pub fn spend_all(
     tickets: BTreeMap<u64, Ticket>,
 )
     requires keeps { Keeps bundle.old (get nat_cmp leases) (get nat_cmp tickets) }
-    ensures log { IsEnding bundle.old.terms bundle.old.log (keys tickets) bundle.new.log }
-    ensures leases { (t : ℕ) → leased_number bundle.new t ≡ None }
+    ensures log { IsEnding bundle.old.settings bundle.old.log (keys tickets) bundle.new.log }
+    ensures leases { (t : ℕ) → lease_number bundle.new t ≡ None }
     ensures tickets { (t : ℕ) → ticket_want bundle.new t ≡ None }
-    ensures terms { bundle.new.terms ≡ bundle.old.terms }
+    ensures settings { bundle.new.settings ≡ bundle.old.settings }
 {
     // The log is sound, and the keys of a map ascend.
     let _log = bundle.log();
@@ -164,8 +167,8 @@ fn spend_first(
     ensures first { merged (keys leases.old) (keys tickets.old) ≡ result ∷ merged (keys leases.new) (keys tickets.new) }
     ensures less { btree_map_len leases.new + btree_map_len tickets.new + 1 ≡ btree_map_len leases.old + btree_map_len tickets.old }
     ensures tickets { keys tickets.new ≡ without_ticket result (keys tickets.old) }
-    ensures log { bundle.new.log ≡ after_giving_up bundle.old.terms bundle.old.log (keys tickets.old) result }
-    ensures terms { bundle.new.terms ≡ bundle.old.terms }
+    ensures log { bundle.new.log ≡ after_giving_up bundle.old.settings bundle.old.log (keys tickets.old) result }
+    ensures settings { bundle.new.settings ≡ bundle.old.settings }
     ensures keeps { Keeps bundle.new (get nat_cmp leases.new) (get nat_cmp tickets.new) }
     ensures ordered { IsOrdered nat_cmp leases.new × IsOrdered nat_cmp tickets.new }
 {
@@ -185,9 +188,9 @@ fn withdraw_first(bundle: &mut Bundle<()>, tickets: &mut BTreeMap<u64, Ticket>) 
     ensures own { IsSome (ticket_want bundle.old result) }
     ensures first { keys tickets.old ≡ result ∷ keys tickets.new }
     ensures less { btree_map_len tickets.new + 1 ≡ btree_map_len tickets.old }
-    ensures log { bundle.new.log ≡ after_withdraw bundle.old.terms bundle.old.log result 0 }
+    ensures log { bundle.new.log ≡ after_withdraw bundle.old.settings bundle.old.log result 0 }
     ensures spends { Spends bundle.old bundle.new result }
-    ensures terms { bundle.new.terms ≡ bundle.old.terms }
+    ensures settings { bundle.new.settings ≡ bundle.old.settings }
     ensures keeps { KeepsTickets (ticket_want bundle.new) (get nat_cmp tickets.new) }
     ensures ordered { IsOrdered nat_cmp tickets.new }
 {
@@ -206,12 +209,12 @@ fn withdraw_first(bundle: &mut Bundle<()>, tickets: &mut BTreeMap<u64, Ticket>) 
 fn abandon_first(bundle: &mut Bundle<()>, leases: &mut BTreeMap<u64, Lease<()>>) -> u64
     requires some { 0 < btree_map_len leases.old }
     requires keeps { KeepsLeases (leases_of bundle.old) (get nat_cmp leases.old) }
-    ensures own { IsSome (leased_number bundle.old result) }
+    ensures own { IsSome (lease_number bundle.old result) }
     ensures first { keys leases.old ≡ result ∷ keys leases.new }
     ensures less { btree_map_len leases.new + 1 ≡ btree_map_len leases.old }
-    ensures log { bundle.new.log ≡ after_dropping bundle.old.terms bundle.old.log (held_number bundle.old.log result) }
+    ensures log { bundle.new.log ≡ after_dropping bundle.old.settings bundle.old.log (held_number bundle.old.log result) }
     ensures spends { Spends bundle.old bundle.new result }
-    ensures terms { bundle.new.terms ≡ bundle.old.terms }
+    ensures settings { bundle.new.settings ≡ bundle.old.settings }
     ensures keeps { KeepsLeases (leases_of bundle.new) (get nat_cmp leases.new) }
     ensures ordered { IsOrdered nat_cmp leases.new }
 {

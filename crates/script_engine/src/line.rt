@@ -9,7 +9,11 @@ use std::alloc::Global;
 
 /// Does what a line says, and gives the lines that tell of it.
 #[tactic(auto, unfolding(crate::specs::Transcript::line_step))]
-pub fn line_text<M: Machine>(alloc: Global, machine: &mut M, line: &[u8]) -> Result<String, FaultKind>
+pub fn line_text<M: Machine>(
+    alloc: Global,
+    machine: &mut M,
+    line: &[u8],
+) -> Result<String, FaultKind>
     ensures { Answers string_bytes (line_step (M.run machine.old) line.now) result (M.run machine.new) }
 {
     match read_line(line) {

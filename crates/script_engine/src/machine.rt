@@ -1,7 +1,7 @@
 //! What a script's commands do, one after another.
 
 ghost use Rattle.std.specs.Prelude.{◌≡◌, ℕ, List, [], ◌∷◌, IfErr, IfOk, OnOk, OnErr, IfSome, IsSome, Some, None, true, ◌&&◌, string_bytes};
-ghost use Rattle.script_engine.specs.Meaning.{Run, start, step, with_limits, with_url, with_command, at_end, at_host, at_no_host, site_of, are_good, terms_of};
+ghost use Rattle.script_engine.specs.Meaning.{Run, start, step, with_limits, with_url, with_action, at_script_end, at_host, at_no_host, are_good, settings_of};
 ghost use Rattle.script_engine.specs.Meaning.{has_site};
 ghost use Rattle.script_engine.specs.Ending.{IsEnding};
 ghost use Rattle.script_engine.specs.Transcript.{Answers, Gives};
@@ -11,7 +11,7 @@ ghost use Rattle.script_text.specs.declared.command.Limits.{Limits};
 use crate::host::OneHost;
 use bundle::Bundle;
 use conn_key::Sites;
-use script_text::{Command, FaultKind, Limits, SiteWord, reply};
+use script_text::{Action, Command, FaultKind, Limits, SiteWord, reply};
 use std::alloc::Global;
 use std::marker::Model;
 use std::mem;
@@ -30,7 +30,7 @@ pub trait Machine {
     /// What is due at the script's end: where limits are given the host is made by then, also where
     /// no command came. The only error is `Memory`.
     fn end_of_script(&mut self) -> Result<(), FaultKind>
-        ensures ok { OnOk result (run self.new ≡ at_end (run self.old) (run self.old).limits) }
+        ensures ok { OnOk result (run self.new ≡ at_script_end (run self.old) (run self.old).limits) }
         ensures err { IfErr result (λ kind. kind ≡ FaultKind.Memory) };
 }
 
@@ -47,7 +47,7 @@ impl Model for Engine {
     ghost use Rattle.std.specs.Prelude.{◌≡◌, None, false, ◌&&◌, if◌then◌else◌};
     ghost use Rattle.std.specs.Option.{option_map, option_map_or};
     ghost use Rattle.script_engine.specs.Hosted.{Hosted};
-    ghost use Rattle.script_engine.specs.Meaning.{Run, terms_of};
+    ghost use Rattle.script_engine.specs.Meaning.{Run, settings_of};
     ghost use Rattle.script_engine.specs.Meaning.{has_site};
     ghost use Rattle.std.specs.Prelude.{[]};
 
@@ -55,7 +55,7 @@ impl Model for Engine {
 
     ghost view = { λ e. record { limits = e.limits; sites = e.sites; has_begun = e.has_begun; log = option_map_or (λ (h : Hosted). h.log) e.host []; tickets = option_map_or (λ (h : Hosted). h.tickets) e.host [] } };
 
-    ghost invariant = { λ e. (option_map (λ (h : Hosted). h.terms) e.host ≡ (if e.has_begun && has_site e.sites then option_map terms_of e.limits else None)) × (e.limits ≡ None → e.has_begun ≡ false) };
+    ghost invariant = { λ e. (option_map (λ (h : Hosted). h.settings) e.host ≡ (if e.has_begun && has_site e.sites then option_map settings_of e.limits else None)) × (e.limits ≡ None → e.has_begun ≡ false) };
 }
 
 impl Machine for Engine {
@@ -66,12 +66,7 @@ impl Machine for Engine {
         match command {
             Command::Limits(limits) => self.set_limits(limits),
             Command::Site(word) => self.add_site(&word),
-            Command::Get { .. } => self.ask(command),
-            Command::Claim { .. } => self.ask(command),
-            Command::Back { .. } => self.ask(command),
-            Command::Drop { .. } => self.ask(command),
-            Command::Leave { .. } => self.ask(command),
-            Command::Look { .. } => self.ask(command),
+            Command::At { site, action } => self.ask(site, action),
         }
     }
 
@@ -104,8 +99,8 @@ impl Engine {
     /// Abandons the leases that are left, and withdraws the tickets, by transfer, at moment 0; gives
     /// the bundle that is left, where a host was made.
     pub fn end(self) -> Option<Bundle<()>>
-        ensures ending { IfSome result (λ bundle. IsEnding bundle.terms self.log self.tickets bundle.log) }
-        ensures terms { (limits : Limits) → self.limits ≡ Some limits → IfSome result (λ bundle. bundle.terms ≡ terms_of limits) }
+        ensures ending { IfSome result (λ bundle. IsEnding bundle.settings self.log self.tickets bundle.log) }
+        ensures settings { (limits : Limits) → self.limits ≡ Some limits → IfSome result (λ bundle. bundle.settings ≡ settings_of limits) }
         ensures host { (self.has_begun && has_site self.sites) ≡ true → IsSome self.limits → IsSome result }
     {
         let Engine {
@@ -150,15 +145,15 @@ impl Engine {
         }
     }
 
-    /// The other commands.
-    fn ask(&mut self, command: Command<'_>) -> Result<String, FaultKind>
-        ensures { Answers string_bytes (with_command self.old command.entry self.old.limits) result self.new }
+    /// An action at a site: after the limits.
+    fn ask(&mut self, site: u32, action: Action) -> Result<String, FaultKind>
+        ensures { Answers string_bytes (with_action self.old site action self.old.limits) result self.new }
     {
         let Some(limits) = self.limits else {
             return Err(FaultKind::Place);
         };
         self.begin(limits)?;
-        self.ask_host(limits, command)
+        self.ask_host(limits, site, action)
     }
 
     /// Makes the host, where there is a site, at the first command after the sites.
@@ -178,20 +173,20 @@ impl Engine {
         Ok(())
     }
 
-    /// Hands the command to the host, where it is for the host.
-    fn ask_host(&mut self, limits: Limits, command: Command<'_>) -> Result<String, FaultKind>
+    /// Hands the action to the host, where the site is there.
+    fn ask_host(&mut self, limits: Limits, site: u32, action: Action) -> Result<String, FaultKind>
         requires begun { self.old.has_begun ≡ true }
         requires limits { self.old.limits ≡ Some limits }
-        ensures { Answers string_bytes (with_command self.old command.entry (Some limits)) result self.new }
+        ensures { Answers string_bytes (with_action self.old site action (Some limits)) result self.new }
     {
         let alloc = self.alloc;
-        if site_of(&command) != 0 {
-            return answer_without_host(alloc, command);
+        if site != 0 {
+            return answer_without_host(alloc, action);
         }
         let Some(host) = &mut self.host else {
-            return answer_without_host(alloc, command);
+            return answer_without_host(alloc, action);
         };
-        answer_at(host, alloc, command)
+        answer_at(host, alloc, action)
     }
 }
 
@@ -203,65 +198,36 @@ fn are_good(limits: Limits) -> bool
     limits.total == 0 && 1 <= limits.host && limits.host <= limits.kept && limits.kept <= 65_535
 }
 
-/// The site that a command names.
-fn site_of(command: &Command<'_>) -> u32
-    ensures { result ≡ site_of command.now }
-{
-    match command {
-        Command::Limits(_) => 0,
-        Command::Site(_) => 0,
-        Command::Get { site, .. } => *site,
-        Command::Claim { site, .. } => *site,
-        Command::Back { site, .. } => *site,
-        Command::Drop { site, .. } => *site,
-        Command::Leave { site, .. } => *site,
-        Command::Look { site } => *site,
-    }
-}
-
 /// What the host answers.
-fn answer_at(host: &mut OneHost, alloc: Global, command: Command<'_>) -> Result<String, FaultKind>
-    ensures answer { Gives string_bytes (at_host host.old.terms host.old.log host.old.tickets command.entry) result host.new.log host.new.tickets }
-    ensures terms { host.new.terms ≡ host.old.terms }
+fn answer_at(host: &mut OneHost, alloc: Global, action: Action) -> Result<String, FaultKind>
+    ensures answer { Gives string_bytes (at_host host.old.settings host.old.log host.old.tickets action) result host.new.log host.new.tickets }
+    ensures settings { host.new.settings ≡ host.old.settings }
 {
-    match command {
-        Command::Limits(_) => Ok(String::new(alloc)),
-        Command::Site(_) => Ok(String::new(alloc)),
-        Command::Get { want, moment, .. } => host.get(alloc, want, moment),
-        Command::Claim { transfer, .. } => host.claim(alloc, transfer),
-        Command::Back {
+    match action {
+        Action::Get { want, moment } => host.get(alloc, want, moment),
+        Action::Claim { transfer } => host.claim(alloc, transfer),
+        Action::Back {
             transfer,
             ending,
             moment,
-            ..
         } => host.back(alloc, transfer, ending, moment),
-        Command::Drop {
-            transfer,
-            moment,
-            ..
-        } => host.abandon(alloc, transfer, moment),
-        Command::Leave {
-            transfer,
-            moment,
-            ..
-        } => host.leave(alloc, transfer, moment),
-        Command::Look { .. } => host.look(alloc),
+        Action::Drop { transfer, moment } => host.abandon(alloc, transfer, moment),
+        Action::Leave { transfer, moment } => host.leave(alloc, transfer, moment),
+        Action::Look => host.look(alloc),
     }
 }
 
 /// The answer at a site that is not there.
-fn answer_without_host(alloc: Global, command: Command<'_>) -> Result<String, FaultKind>
-    ensures { (log : List Entry) (tickets : List ℕ) → Gives string_bytes (at_no_host log tickets command.entry) result log tickets }
+fn answer_without_host(alloc: Global, action: Action) -> Result<String, FaultKind>
+    ensures { (log : List Entry) (tickets : List ℕ) → Gives string_bytes (at_no_host log tickets action) result log tickets }
 {
-    match command {
-        Command::Limits(_) => Ok(String::new(alloc)),
-        Command::Site(_) => Ok(String::new(alloc)),
-        Command::Get { .. } => reply(alloc, "bad-site"),
-        Command::Claim { .. } => reply(alloc, "stranger"),
-        Command::Back { .. } => reply(alloc, "stranger"),
-        Command::Drop { .. } => reply(alloc, "stranger"),
-        Command::Leave { .. } => reply(alloc, "stranger"),
-        Command::Look { .. } => reply(alloc, "bad-site"),
+    match action {
+        Action::Get { .. } => reply(alloc, "bad-site"),
+        Action::Claim { .. } => reply(alloc, "stranger"),
+        Action::Back { .. } => reply(alloc, "stranger"),
+        Action::Drop { .. } => reply(alloc, "stranger"),
+        Action::Leave { .. } => reply(alloc, "stranger"),
+        Action::Look => reply(alloc, "bad-site"),
     }
 }
 
@@ -275,7 +241,7 @@ fn put_host(place: &mut Option<OneHost>, host: OneHost)
 /// Ends a host, where there is one; gives its bundle.
 fn end_host(host: Option<OneHost>) -> Option<Bundle<()>>
     ensures none { host ≡ None → result ≡ None }
-    ensures ending { IfSome host (λ h. IfSome result (λ bundle. IsEnding h.terms h.log h.tickets bundle.log × (bundle.terms ≡ h.terms))) }
+    ensures ending { IfSome host (λ h. IfSome result (λ bundle. IsEnding h.settings h.log h.tickets bundle.log × (bundle.settings ≡ h.settings))) }
     ensures some { IsSome host → IsSome result }
 {
     match host {

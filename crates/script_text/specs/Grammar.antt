@@ -9,6 +9,7 @@ use Rattle.script_text.specs.declared.command.Ending.{Ending}
 use Rattle.script_text.specs.declared.command.Ending.TheVariants.{Keep, Close, Old, OldKeep, Eof, Cut, Surplus}
 use Rattle.script_text.specs.declared.command.Command.{Command}
 use Rattle.script_text.specs.declared.command.Command.TheVariants as commands
+use Rattle.script_text.specs.declared.command.Action.TheVariants as actions
 use Rattle.script_text.specs.declared.fault.FaultKind.{FaultKind}
 use Rattle.script_text.specs.declared.fault.FaultKind.TheVariants.{LineTooLong, Unknown, Form}
 
@@ -34,8 +35,8 @@ ending_first [] = None
 ending_first (word ∷ others) = option_map (λ ending. (ending, others)) (ending_of word)
 
 -- no word is left
-abbrev pub at_end : List (List ℕ) → Command → Option Command
-at_end rest command = if is_none_left rest then Some command else None
+abbrev pub if_none_left : List (List ℕ) → Command → Option Command
+if_none_left rest command = if is_none_left rest then Some command else None
 
 -- limits H T C
 unfoldable pub limits_form : List (List ℕ) → Option Command
@@ -43,12 +44,12 @@ limits_form rest = do
   host ← number_first (2 ^ 32) rest
   total ← number_first (2 ^ 32) host.1
   kept ← number_first (2 ^ 32) total.1
-  at_end kept.1 (commands.Limits (record { host = host.0; total = total.0; kept = kept.0 }))
+  if_none_left kept.1 (commands.Limits (record { host = host.0; total = total.0; kept = kept.0 }))
 
 -- site URL
 unfoldable pub site_form : List (List ℕ) → Option Command
 site_form [] = None
-site_form (word ∷ rest) = at_end rest (commands.Site word)
+site_form (word ∷ rest) = if_none_left rest (commands.Site word)
 
 -- no option of get is given yet
 abbrev pub no_options : Options
@@ -111,14 +112,14 @@ get_form rest = do
   at ← text_first (codes "at") lane.1
   moment ← number_first (2 ^ 64) at
   options ← options_of no_options moment.1
-  Some (commands.Get (want_of transfer.0 lane.0 options) site.0 moment.0)
+  Some (commands.At site.0 (actions.Get (want_of transfer.0 lane.0 options) moment.0))
 
 -- claim T S
 unfoldable pub claim_form : List (List ℕ) → Option Command
 claim_form rest = do
   transfer ← number_first (2 ^ 64) rest
   site ← number_first (2 ^ 32) transfer.1
-  at_end site.1 (commands.Claim transfer.0 site.0)
+  if_none_left site.1 (commands.At site.0 (actions.Claim transfer.0))
 
 -- back T S KIND at M
 unfoldable pub back_form : List (List ℕ) → Option Command
@@ -128,7 +129,7 @@ back_form rest = do
   ending ← ending_first site.1
   at ← text_first (codes "at") ending.1
   moment ← number_first (2 ^ 64) at
-  at_end moment.1 (commands.Back transfer.0 site.0 ending.0 moment.0)
+  if_none_left moment.1 (commands.At site.0 (actions.Back transfer.0 ending.0 moment.0))
 
 -- drop T S at M
 unfoldable pub drop_form : List (List ℕ) → Option Command
@@ -137,7 +138,7 @@ drop_form rest = do
   site ← number_first (2 ^ 32) transfer.1
   at ← text_first (codes "at") site.1
   moment ← number_first (2 ^ 64) at
-  at_end moment.1 (commands.Drop transfer.0 site.0 moment.0)
+  if_none_left moment.1 (commands.At site.0 (actions.Drop transfer.0 moment.0))
 
 -- leave T S at M
 unfoldable pub leave_form : List (List ℕ) → Option Command
@@ -146,13 +147,13 @@ leave_form rest = do
   site ← number_first (2 ^ 32) transfer.1
   at ← text_first (codes "at") site.1
   moment ← number_first (2 ^ 64) at
-  at_end moment.1 (commands.Leave transfer.0 site.0 moment.0)
+  if_none_left moment.1 (commands.At site.0 (actions.Leave transfer.0 moment.0))
 
 -- look S
 unfoldable pub look_form : List (List ℕ) → Option Command
 look_form rest = do
   site ← number_first (2 ^ 32) rest
-  at_end site.1 (commands.Look site.0)
+  if_none_left site.1 (commands.At site.0 actions.Look)
 
 -- a known command has its form, or else it is wrong
 abbrev pub formed : Option Command → Result Command FaultKind

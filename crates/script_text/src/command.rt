@@ -38,38 +38,38 @@ pub enum Command<'a> {
     Limits(Limits),
     /// Adds a host, which the word names.
     Site(SiteWord<'a>),
+    /// Asks that of the site's host. Sites are counted from 0.
+    At { site: u32, action: Action },
+}
+
+/// What a command asks of one host.
+#[derive(Clone, Copy, Debug, PartialEq, Eq)]
+pub enum Action {
     /// A transfer acquires a connection.
     Get {
         want: Want,
-        site: u32,
         moment: u64,
     },
     /// A transfer claims the connection that it waits for.
     Claim {
         transfer: u64,
-        site: u32,
     },
     /// A transfer gives its connection back.
     Back {
         transfer: u64,
-        site: u32,
         ending: Ending,
         moment: u64,
     },
     /// A transfer abandons its connection.
     Drop {
         transfer: u64,
-        site: u32,
         moment: u64,
     },
     /// A transfer leaves where it waits.
     Leave {
         transfer: u64,
-        site: u32,
         moment: u64,
     },
-    /// Asks what a host's connections do.
-    Look {
-        site: u32,
-    },
+    /// Asks what the host's connections do.
+    Look,
 }

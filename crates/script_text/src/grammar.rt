@@ -1,9 +1,9 @@
 ghost use Rattle.std.specs.Prelude.{◌≡◌, ℕ, List, [], ◌∷◌};
 ghost use Rattle.script_text.specs.Words.{words};
-ghost use Rattle.script_text.specs.Grammar.{ending_of, ending_first, at_end, limits_form, site_form, get_form, claim_form, back_form, drop_form, leave_form, look_form, command_of, reading};
+ghost use Rattle.script_text.specs.Grammar.{ending_of, ending_first, if_none_left, limits_form, site_form, get_form, claim_form, back_form, drop_form, leave_form, look_form, command_of, reading};
 ghost use Rattle.std.specs.Option.{option_map};
 
-use crate::command::{Command, Ending, Limits};
+use crate::command::{Action, Command, Ending, Limits};
 use crate::fault::FaultKind;
 use crate::options::{read_options, want_of};
 use crate::site::SiteWord;
@@ -50,7 +50,7 @@ fn limits_form(line: &[u8]) -> Option<Command<'_>>
     let (host, line) = u32_first(line)?;
     let (total, line) = u32_first(line)?;
     let (kept, line) = u32_first(line)?;
-    at_end(line, Command::Limits(Limits { host, total, kept }))
+    if_none_left(line, Command::Limits(Limits { host, total, kept }))
 }
 
 /// `site URL`.
@@ -59,7 +59,7 @@ fn site_form(line: &[u8]) -> Option<Command<'_>>
     ensures { result ≡ site_form (words line.now) }
 {
     let (word, line) = first_word(line)?;
-    at_end(line, Command::Site(SiteWord::new(word)))
+    if_none_left(line, Command::Site(SiteWord::new(word)))
 }
 
 /// `get T S L at M`, and options.
@@ -73,11 +73,9 @@ fn get_form(line: &[u8]) -> Option<Command<'_>>
     let line = text_first("at", line)?;
     let (moment, line) = u64_first(line)?;
     let options = read_options(line)?;
-    Some(Command::Get {
-        want: want_of(transfer, lane, options),
-        site,
-        moment,
-    })
+    let want = want_of(transfer, lane, options);
+    let action = Action::Get { want, moment };
+    Some(Command::At { site, action })
 }
 
 /// `claim T S`.
@@ -87,7 +85,8 @@ fn claim_form(line: &[u8]) -> Option<Command<'_>>
 {
     let (transfer, line) = u64_first(line)?;
     let (site, line) = u32_first(line)?;
-    at_end(line, Command::Claim { transfer, site })
+    let action = Action::Claim { transfer };
+    if_none_left(line, Command::At { site, action })
 }
 
 /// `back T S KIND at M`.
@@ -100,15 +99,12 @@ fn back_form(line: &[u8]) -> Option<Command<'_>>
     let (ending, line) = ending_first(line)?;
     let line = text_first("at", line)?;
     let (moment, line) = u64_first(line)?;
-    at_end(
-        line,
-        Command::Back {
-            transfer,
-            site,
-            ending,
-            moment,
-        },
-    )
+    let action = Action::Back {
+        transfer,
+        ending,
+        moment,
+    };
+    if_none_left(line, Command::At { site, action })
 }
 
 /// `drop T S at M`.
@@ -120,14 +116,8 @@ fn drop_form(line: &[u8]) -> Option<Command<'_>>
     let (site, line) = u32_first(line)?;
     let line = text_first("at", line)?;
     let (moment, line) = u64_first(line)?;
-    at_end(
-        line,
-        Command::Drop {
-            transfer,
-            site,
-            moment,
-        },
-    )
+    let action = Action::Drop { transfer, moment };
+    if_none_left(line, Command::At { site, action })
 }
 
 /// `leave T S at M`.
@@ -139,14 +129,8 @@ fn leave_form(line: &[u8]) -> Option<Command<'_>>
     let (site, line) = u32_first(line)?;
     let line = text_first("at", line)?;
     let (moment, line) = u64_first(line)?;
-    at_end(
-        line,
-        Command::Leave {
-            transfer,
-            site,
-            moment,
-        },
-    )
+    let action = Action::Leave { transfer, moment };
+    if_none_left(line, Command::At { site, action })
 }
 
 /// `look S`.
@@ -155,12 +139,13 @@ fn look_form(line: &[u8]) -> Option<Command<'_>>
     ensures { result ≡ look_form (words line.now) }
 {
     let (site, line) = u32_first(line)?;
-    at_end(line, Command::Look { site })
+    let action = Action::Look;
+    if_none_left(line, Command::At { site, action })
 }
 
 /// The command, where no word is left.
-fn at_end<'a>(line: &[u8], command: Command<'a>) -> Option<Command<'a>>
-    ensures { result ≡ at_end (words line.now) command.entry }
+fn if_none_left<'a>(line: &[u8], command: Command<'a>) -> Option<Command<'a>>
+    ensures { result ≡ if_none_left (words line.now) command.entry }
 {
     if is_blank(line) { Some(command) } else { None }
 }

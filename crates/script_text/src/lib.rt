@@ -12,7 +12,7 @@ mod replies;
 mod site;
 mod words;
 
-pub use command::{Command, Ending, Limits};
+pub use command::{Action, Command, Ending, Limits};
 pub use fault::{FaultKind, ScriptFault};
 pub use grammar::read_line;
 pub use lines::first_line;

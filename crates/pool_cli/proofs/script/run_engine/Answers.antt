@@ -2,12 +2,12 @@ use Rattle.std.proofs.Common.{sym, ◌∙◌, ap, subst}
 use Rattle.script_text.specs.Lines.{lines}
 use Rattle.script_engine.specs.Meaning.{Run}
 use Rattle.script_engine.specs.Transcript.{Transcript, told}
-use Rattle.pool_cli.specs.Running.{RunsLines}
+use Rattle.pool_cli.specs.Running.{RunsWithoutReading}
 use Rattle.pool_cli.proofs.Running.{short-script}
 use Rattle.pool_cli.proofs.script.run_engine.Goals as goal
 
 pub returns : goal.returns
 returns g c =
-    let contents = g.W.Write.contents in
-    let is = ap (λ (run : Run). told run 1 (lines c.args.script.now)) c.in-Ok.ensures.ok ∙ sym (short-script c.args.script.now c.requires) in
-    subst (λ (meant : Transcript). RunsLines (contents c.args.writer.now) (contents c.run_lines-result.new.writer) meant c.run_lines-result.result) is c.run_lines-result.ensures
+    let sink = g.W.Sink.sink in
+    let is = ap (λ (run : Run). told run 1 (lines c.args.script.now)) c.in-Ok.ensures.ok ∙ sym (short-script c.args.script.now c.requires.short) in
+    subst (λ (meant : Transcript). RunsWithoutReading (sink c.args.writer.now) (sink c.run_lines-result.new.writer) meant c.run_lines-result.result) is c.run_lines-result.ensures

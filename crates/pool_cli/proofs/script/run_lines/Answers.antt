@@ -8,36 +8,36 @@ use Rattle.pool_cli.proofs.script.run_lines.Goals as goal
 pub loop-rest-preserved : goal.loop-rest-preserved
 loop-rest-preserved g c =
     let run = g.M.Machine.run in
-    let contents = g.W.Write.contents in
+    let sink = g.W.Sink.sink in
     let all = told (run c.args.machine.now) 1 (lines c.args.script.now) in
     let n = c.loop-rest.line + 1 in
-    let before = subst (λ left. RunSoFar (contents c.args.writer.now) (contents c.loop-rest.writer) all (told (run c.loop-rest.machine) n left) c.loop-rest.line) c.first_line.ensures.first c.loop-rest.invariant.so_far in
+    let before = subst (λ left. RunSoFar (sink c.args.writer.now) (sink c.loop-rest.writer) all (told (run c.loop-rest.machine) n left) c.loop-rest.line) c.first_line.ensures.first c.loop-rest.invariant.so_far in
     record {
       count = omega arith;
-      so_far = run-more (contents c.args.writer.now) (contents c.loop-rest.writer) (contents c.run_line.new.writer) all (run c.loop-rest.machine) (run c.run_line.new.machine) c.loop-rest.line n
-          c.first_line.result.0.now c.in-Ok.ensures.0 (lines c.first_line.result.1.now) before c.in-Ok.ensures.1 c.in-Ok.ensures.2;
+      so_far = run-more (sink c.args.writer.now) (sink c.loop-rest.writer) (sink c.run_line.new.writer) all (run c.loop-rest.machine) (run c.run_line.new.machine) c.loop-rest.line n
+          c.first_line.result.0.now c.in-Ok.ensures.0 (lines c.first_line.result.1.now) before c.in-Ok.ensures.1 c.in-Ok.ensures.2 c.in-Ok.ensures.3;
     }
 
 pub returns-in-Err : goal.returns-in-Err
 returns-in-Err g c =
     let run = g.M.Machine.run in
-    let contents = g.W.Write.contents in
+    let sink = g.W.Sink.sink in
     let all = told (run c.args.machine.now) 1 (lines c.args.script.now) in
     let n = c.loop-rest.line + 1 in
-    let before = subst (λ left. RunSoFar (contents c.args.writer.now) (contents c.loop-rest.writer) all (told (run c.loop-rest.machine) n left) c.loop-rest.line) c.first_line.ensures.first c.loop-rest.invariant.so_far in
-    run-fails (contents c.args.writer.now) (contents c.loop-rest.writer) (contents c.run_line.new.writer) all (run c.loop-rest.machine) c.loop-rest.line n
+    let before = subst (λ left. RunSoFar (sink c.args.writer.now) (sink c.loop-rest.writer) all (told (run c.loop-rest.machine) n left) c.loop-rest.line) c.first_line.ensures.first c.loop-rest.invariant.so_far in
+    run-fails (sink c.args.writer.now) (sink c.loop-rest.writer) (sink c.run_line.new.writer) all (run c.loop-rest.machine) c.loop-rest.line n
     c.first_line.result.0.now (lines c.first_line.result.1.now) c.in-Err.kind refl before c.in-Err.ensures
 
 pub returns-in-Ok-end_of_script : goal.returns-in-Ok-end_of_script
 returns-in-Ok-end_of_script g c =
     let run = g.M.Machine.run in
-    let contents = g.W.Write.contents in
-    run-end (contents c.args.writer.now) (contents c.loop-rest.writer) (told (run c.args.machine.now) 1 (lines c.args.script.now)) (run c.loop-rest.machine) c.loop-rest.line (c.loop-rest.line + 1)
+    let sink = g.W.Sink.sink in
+    run-end (sink c.args.writer.now) (sink c.loop-rest.writer) (told (run c.args.machine.now) 1 (lines c.args.script.now)) (run c.loop-rest.machine) c.loop-rest.line (c.loop-rest.line + 1)
     (lines c.loop-rest.rest.now) _ (no-lines c.loop-rest.rest.now (grind (arith, nat_tests))) c.loop-rest.invariant.so_far
 
 pub returns-in-Err-end_of_script : goal.returns-in-Err-end_of_script
 returns-in-Err-end_of_script g c =
     let run = g.M.Machine.run in
-    let contents = g.W.Write.contents in
-    run-short (contents c.args.writer.now) (contents c.loop-rest.writer) (told (run c.args.machine.now) 1 (lines c.args.script.now)) (run c.loop-rest.machine) c.loop-rest.line (c.loop-rest.line + 1)
+    let sink = g.W.Sink.sink in
+    run-short (sink c.args.writer.now) (sink c.loop-rest.writer) (told (run c.args.machine.now) 1 (lines c.args.script.now)) (run c.loop-rest.machine) c.loop-rest.line (c.loop-rest.line + 1)
     (lines c.loop-rest.rest.now) c.in-Err-end_of_script.kind (no-lines c.loop-rest.rest.now (grind (arith, nat_tests))) c.in-Err-end_of_script.ensures.err c.loop-rest.invariant.so_far

@@ -7,10 +7,10 @@ use Rattle.pool_cli.proofs.script.run_lines.Given as goal
 abbrev pub invariant-loop-rest : goal.invariant-loop-rest
 invariant-loop-rest g l =
     let run = g.M.Machine.run in
-    let contents = g.W.Write.contents in
+    let sink = g.W.Sink.sink in
     record {
       count : l.line + length l.rest ≤ 1048576;
-      so_far : RunSoFar (contents l.fn.writer) (contents l.writer) (told (run l.fn.machine) 1 (lines l.script)) (told (run l.machine) (l.line + 1) (lines l.rest)) l.line;
+      so_far : RunSoFar (sink l.fn.writer) (sink l.writer) (told (run l.fn.machine) 1 (lines l.script)) (told (run l.machine) (l.line + 1) (lines l.rest)) l.line;
     }
 
 abbrev pub decreases-loop-rest : goal.decreases-loop-rest

@@ -25,7 +25,7 @@ returns-clause-log c =
     let lease = c.in-Some.first in
     let kept = kept-lease host transfer lease (ap (option_map lease_facts) (sym c.in-Some.ensures.value) ∙ c.requires.keeps transfer) in
     let held : is_held_by host.log lease.start.want.transfer lease.start.number ≡ true = kept-held host c.log-log.ensures.sound transfer lease kept in
-    c.abandon.ensures.log held ∙ ap (after_dropping host.terms host.log) (sym (leased-held host transfer lease.start.number kept.leased))
+    c.abandon.ensures.log held ∙ ap (after_dropping host.settings host.log) (sym (leased-held host transfer lease.start.number kept.leased))
 
 pub returns-clause-spends : goal.returns-clause-spends
 returns-clause-spends c =

@@ -16,5 +16,5 @@ returns-clause-log c =
       transfers = merged holders waiters;
       ascending = IsStrictlyIncreasing-from_sorted (merged holders waiters) (sorted-merged holders waiters c.len-holders.ensures.ordered);
       each = λ t. each-left host c.log-log.ensures.sound t c.args.leases.entries c.args.tickets.entries c.requires.keeps.leases c.requires.keeps.tickets;
-      log = sym (none-left c.loop-tickets.bundle.terms c.loop-tickets.bundle.log c.loop-tickets.leases.entries c.loop-tickets.tickets.entries no_lease no_ticket) ∙ c.loop-tickets.invariant.due;
+      log = sym (none-left c.loop-tickets.bundle.settings c.loop-tickets.bundle.log c.loop-tickets.leases.entries c.loop-tickets.tickets.entries no_lease no_ticket) ∙ c.loop-tickets.invariant.due;
     }

@@ -11,9 +11,9 @@ invariant-loop-tickets l =
     record {
       keeps : Keeps l.bundle (get nat_cmp l.leases) (get nat_cmp l.tickets);
       waiters : IsOrdered nat_cmp l.tickets;
-      terms : l.bundle.terms ≡ l.fn.bundle.terms;
-      due : after_all l.bundle.terms l.bundle.log (keys l.tickets) (merged (keys l.leases) (keys l.tickets))
-          ≡ after_all l.fn.bundle.terms l.fn.bundle.log (keys l.fn.tickets) (merged (keys l.fn.leases) (keys l.fn.tickets));
+      settings : l.bundle.settings ≡ l.fn.bundle.settings;
+      due : after_all l.bundle.settings l.bundle.log (keys l.tickets) (merged (keys l.leases) (keys l.tickets))
+          ≡ after_all l.fn.bundle.settings l.fn.bundle.log (keys l.fn.tickets) (merged (keys l.fn.leases) (keys l.fn.tickets));
     }
 
 abbrev pub decreases-loop-tickets : goal.decreases-loop-tickets

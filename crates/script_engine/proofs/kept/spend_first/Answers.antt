@@ -3,7 +3,7 @@ use Rattle.std.specs.Ordering.{nat_cmp}
 use Rattle.std.specs.BTreeMap.{get, keys}
 use Rattle.conn_log.specs.Connections.{is_among, held_number}
 use Rattle.bundle.specs.Calls.{after_withdraw}
-use Rattle.bundle.specs.Lease.{leased_number, ticket_want}
+use Rattle.bundle.specs.Lease.{lease_number, ticket_want}
 use Rattle.script_engine.specs.Hosted.{lease_facts, leases_of, wanted}
 use Rattle.script_engine.specs.Ending.{after_dropping}
 use Rattle.script_engine.proofs.Leases.{kept-due, none-stays, leases-same}
@@ -24,7 +24,7 @@ returns-then-is_ticket_first-clause-keeps c =
     let unleased = waiter-unleased host c.log-log.ensures.sound t c.withdraw_first.ensures.own in
     record {
       leases = kept-due lease_facts (leases_of host) (leases_of new) (get nat_cmp c.args.leases.now) c.requires.keeps.leases
-          (leases-same host new t (none-stays t (leased_number host) (leased_number new) unleased c.withdraw_first.ensures.spends.leases));
+          (leases-same host new t (none-stays t (lease_number host) (lease_number new) unleased c.withdraw_first.ensures.spends.leases));
       tickets = c.withdraw_first.ensures.keeps;
     }
 
@@ -51,7 +51,7 @@ returns-else-is_ticket_first-clause-log c =
     let t = c.abandon_first.result in
     let none = holder-unticketed host c.log-log.ensures.sound t c.abandon_first.ensures.own in
     let apart : is_among t (keys c.args.tickets.now) ≡ false = ticketed host c.log-log.ensures.sound c.args.tickets.now.entries c.requires.keeps.tickets t ∙ ap is_some none in
-    c.abandon_first.ensures.log ∙ ap (λ b. cond b (after_withdraw host.terms host.log t 0) (after_dropping host.terms host.log (held_number host.log t))) (sym apart)
+    c.abandon_first.ensures.log ∙ ap (λ b. cond b (after_withdraw host.settings host.log t 0) (after_dropping host.settings host.log (held_number host.log t))) (sym apart)
 
 pub returns-else-is_ticket_first-clause-keeps : goal.returns-else-is_ticket_first-clause-keeps
 returns-else-is_ticket_first-clause-keeps c =

@@ -4,7 +4,7 @@ use Rattle.std.specs.Ordering.{nat_cmp}
 use Rattle.std.specs.BTreeMap.{get, keys}
 use Rattle.conn_log.specs.declared.entry.Entry.{Entry}
 use Rattle.conn_log.specs.Connections.{is_held_by}
-use Rattle.bundle.specs.Lease.{leased_number, Spends}
+use Rattle.bundle.specs.Lease.{lease_number, Spends}
 use Rattle.bundle.specs.Calls.{after_abandon}
 use Rattle.script_engine.specs.Hosted.{Hosted, lease_facts}
 use Rattle.script_engine.specs.Meaning.{grown, drop_at}
@@ -21,8 +21,8 @@ lines_since-requires c =
     let lease = c.in-Some.lease in
     let kept = kept-lease host c.args.transfer lease (ap (option_map lease_facts) (sym c.in-Some.is ∙ c.remove.ensures.value) ∙ c.self.invariant.1.leases c.args.transfer) in
     let held : is_held_by host.log lease.start.want.transfer lease.start.number ≡ true = kept-held host c.log.ensures.sound c.args.transfer lease kept in
-    let same : new.log ≡ after_abandon host.terms host.log lease.start.number c.args.moment = c.abandon.ensures.log held in
-    let grows : Grows c.args.transfer host.log new.log = subst (λ (log : List Entry). Grows c.args.transfer host.log log) (sym same) (abandoned-grows c.args.transfer host.terms host.log lease.start.number c.args.moment) in
+    let same : new.log ≡ after_abandon host.settings host.log lease.start.number c.args.moment = c.abandon.ensures.log held in
+    let grows : Grows c.args.transfer host.log new.log = subst (λ (log : List Entry). Grows c.args.transfer host.log log) (sym same) (abandoned-grows c.args.transfer host.settings host.log lease.start.number c.args.moment) in
     rw (c.len-place.ensures ∙ ap length c.log.ensures.entries, c.log-in-Some.ensures.entries) (grows-length c.args.transfer host.log new.log grows)
 
 pub invariant_of-self : goal.invariant_of-self
@@ -32,7 +32,7 @@ invariant_of-self c =
     let lease = c.in-Some.lease in
     let kept = kept-lease host c.args.transfer lease (ap (option_map lease_facts) (sym c.in-Some.is ∙ c.remove.ensures.value) ∙ c.self.invariant.1.leases c.args.transfer) in
     let spends = c.abandon.ensures.spends (kept-held host c.log.ensures.sound c.args.transfer lease kept) in (
-      ap (λ t. t.first) c.abandon.ensures.terms ∙ c.self.invariant.0,
+      ap (λ t. t.first) c.abandon.ensures.settings ∙ c.self.invariant.0,
       lease-spent host new c.log.ensures.sound c.args.transfer (get nat_cmp c.self.inside.leases) (get nat_cmp c.remove.new.self) (get nat_cmp c.self.inside.tickets) lease.start.number
           c.self.invariant.1 kept.leased c.remove.ensures.updates.0 (subst (Spends host new) kept.own spends),
       c.self.invariant.2,
@@ -45,22 +45,22 @@ returns-in-Some-clause-answer c =
     let lease = c.in-Some.lease in
     let kept = kept-lease host c.args.transfer lease (ap (option_map lease_facts) (sym c.in-Some.is ∙ c.remove.ensures.value) ∙ c.self.invariant.1.leases c.args.transfer) in
     let held : is_held_by host.log lease.start.want.transfer lease.start.number ≡ true = kept-held host c.log.ensures.sound c.args.transfer lease kept in
-    let same : new.log ≡ after_abandon host.terms host.log lease.start.number c.args.moment = c.abandon.ensures.log held in
-    let grows : Grows c.args.transfer host.log new.log = subst (λ (log : List Entry). Grows c.args.transfer host.log log) (sym same) (abandoned-grows c.args.transfer host.terms host.log lease.start.number c.args.moment) in
+    let same : new.log ≡ after_abandon host.settings host.log lease.start.number c.args.moment = c.abandon.ensures.log held in
+    let grows : Grows c.args.transfer host.log new.log = subst (λ (log : List Entry). Grows c.args.transfer host.log log) (sym same) (abandoned-grows c.args.transfer host.settings host.log lease.start.number c.args.moment) in
     let tickets = keys c.self.inside.tickets in
     let leased = leased-by-keys host c.log.ensures.sound c.self.inside.tickets.entries c.self.invariant.1.tickets c.args.transfer ∙ kept.leased in
-    subst (λ (h : Hosted). Gives string_bytes (drop_at h.terms c.args.transfer c.args.moment h.log h.tickets) c.lines_since.result new.log tickets) c.self.view_is
-    (gives-grown string_bytes (drop_at host.terms c.args.transfer c.args.moment host.log tickets) c.args.transfer host.log new.log tickets c.len-place.result c.lines_since.result
-    (drop-taken host.terms c.args.transfer c.args.moment host.log tickets lease.start.number leased ∙ ap (λ log. grown host.log log tickets) (sym same))
+    subst (λ (h : Hosted). Gives string_bytes (drop_at h.settings c.args.transfer c.args.moment h.log h.tickets) c.lines_since.result new.log tickets) c.self.view_is
+    (gives-grown string_bytes (drop_at host.settings c.args.transfer c.args.moment host.log tickets) c.args.transfer host.log new.log tickets c.len-place.result c.lines_since.result
+    (drop-taken host.settings c.args.transfer c.args.moment host.log tickets lease.start.number leased ∙ ap (λ log. grown host.log log tickets) (sym same))
     (c.len-place.ensures ∙ ap length c.log.ensures.entries) grows (rw c.log-in-Some.ensures.entries at c.lines_since.ensures))
 
 pub returns-in-None-clause-answer : goal.returns-in-None-clause-answer
 returns-in-None-clause-answer c =
     let host = c.self.inside.bundle in
     let tickets = keys c.self.inside.tickets in
-    let none : leased_number host c.args.transfer ≡ None =
+    let none : lease_number host c.args.transfer ≡ None =
     kept-none host c.args.transfer (ap (option_map lease_facts) (sym c.in-None.is ∙ c.remove.ensures.value) ∙ c.self.invariant.1.leases c.args.transfer) in
     let unleased = leased-by-keys host c.log.ensures.sound c.self.inside.tickets.entries c.self.invariant.1.tickets c.args.transfer ∙ none in
-    subst (λ (h : Hosted). Gives string_bytes (drop_at h.terms c.args.transfer c.args.moment h.log h.tickets) c.reply.result host.log tickets) c.self.view_is
-    (gives-answer string_bytes (drop_at host.terms c.args.transfer c.args.moment host.log tickets) host.log tickets _ c.reply.result
-    (drop-stranger host.terms c.args.transfer c.args.moment host.log tickets unleased) c.reply.ensures)
+    subst (λ (h : Hosted). Gives string_bytes (drop_at h.settings c.args.transfer c.args.moment h.log h.tickets) c.reply.result host.log tickets) c.self.view_is
+    (gives-answer string_bytes (drop_at host.settings c.args.transfer c.args.moment host.log tickets) host.log tickets _ c.reply.result
+    (drop-stranger host.settings c.args.transfer c.args.moment host.log tickets unleased) c.reply.ensures)

@@ -4,13 +4,13 @@ use Rattle.std.specs.Map.{keys_of}
 use Rattle.std.specs.BTreeMap.{get, keys}
 use Rattle.conn_log.specs.declared.entry.Entry.{Entry}
 use Rattle.conn_log.specs.Connections.{is_among, held_number}
-use Rattle.bundle.specs.Lease.{OneHost, Ticketed, GetsLease, is_unclaimed, leased_number, ticket_want}
+use Rattle.bundle.specs.Lease.{HostShown, Ticketed, GetsLease, is_unclaimed, lease_number, ticket_want}
 use Rattle.script_engine.specs.Hosted.{Hosted, KeepsLeases, KeepsTickets, leases_of, wanted, due_others}
 use Rattle.script_text.specs.Printing.{claimed_line, still_line}
 use Rattle.script_engine.specs.Meaning.{claim_at, replied, with_ticket, without_ticket}
 use Rattle.script_engine.specs.Transcript.{Gives}
 use Rattle.script_engine.proofs.Tickets.{among-keys, keys-removed, put-back}
-use Rattle.script_engine.proofs.Leases.{kept-stands, kept-removed, leased-held, last-start-own, ticket-no-lease, still-unheld}
+use Rattle.script_engine.proofs.Leases.{kept-valid, kept-removed, leased-held, last-start-own, ticket-no-lease, still-unheld}
 use Rattle.script_engine.proofs.Answering.{gives-answer, claim-stranger, claim-still, claim-granted}
 use Rattle.script_engine.proofs.Spending.{kept-ticket, ticketed, lease-awaits, lease-own, lease-no-ticket, claimed-kept}
 use Rattle.script_engine.proofs.host.OneHost.claim.Goals as goal
@@ -32,7 +32,7 @@ keep_lease-requires-clause-own c =
     let transfer = c.in-Some.ticket.wait.want.transfer in
     let gets : GetsLease host new transfer lease.start.number = rw c.in-Ok-Lease.field-0-is at c.in-Ok-Lease.ensures.gets_lease in
     let own : lease.start.want.transfer ≡ transfer = last-start-own host.log transfer lease.start (rw c.in-Ok-Lease.field-0-is at c.in-Ok-Lease.ensures.lease).1 in
-    subst (λ (t : ℕ). leased_number new t ≡ Some lease.start.number) (sym own) (lease-own host new transfer lease.start.number gets)
+    subst (λ (t : ℕ). lease_number new t ≡ Some lease.start.number) (sym own) (lease-own host new transfer lease.start.number gets)
 
 pub keep_lease-requires-clause-spent : goal.keep_lease-requires-clause-spent
 keep_lease-requires-clause-spent c =
@@ -51,7 +51,7 @@ keep_lease-requires-clause-others c =
     let lease = c.in-Ok-Lease.lease in
     let want = c.in-Some.ticket.wait.want in
     let kept = kept-ticket host c.log-log.ensures.sound c.self.inside.tickets.entries c.args.transfer c.in-Some.ticket c.self.invariant.1.tickets (sym c.in-Some.is ∙ c.remove.ensures.value) in
-    let none : leased_number host want.transfer ≡ None = ap (leased_number host) kept.1 ∙ ticket-no-lease host c.log-log.ensures.sound c.args.transfer want kept.0 in
+    let none : lease_number host want.transfer ≡ None = ap (lease_number host) kept.1 ∙ ticket-no-lease host c.log-log.ensures.sound c.args.transfer want kept.0 in
     let gets : GetsLease host new want.transfer lease.start.number = rw c.in-Ok-Lease.field-0-is at c.in-Ok-Lease.ensures.gets_lease in
     let own : lease.start.want.transfer ≡ want.transfer = last-start-own host.log want.transfer lease.start (rw c.in-Ok-Lease.field-0-is at c.in-Ok-Lease.ensures.lease).1 in
     subst (λ (t : ℕ). KeepsLeases (due_others t (leases_of new)) (get nat_cmp c.self.inside.leases)) (sym own)
@@ -64,7 +64,7 @@ invariant_of-self-in_err-keep_lease-in-Ok-Lease c =
     let kept = kept-ticket host c.log-log.ensures.sound c.self.inside.tickets.entries c.args.transfer c.in-Some.ticket c.self.invariant.1.tickets (sym c.in-Some.is ∙ c.remove.ensures.value) in
     let number = c.in-Ok-Lease.lease.start.number in
     let gets : GetsLease host new c.args.transfer number = subst (λ (t : ℕ). GetsLease host new t number) kept.1 (rw c.in-Ok-Lease.field-0-is at c.in-Ok-Lease.ensures.gets_lease) in (
-      ap (λ t. t.first) (c.keep_lease.ensures.terms ∙ c.claim.ensures.same.terms) ∙ c.self.invariant.0,
+      ap (λ t. t.first) (c.keep_lease.ensures.settings ∙ c.claim.ensures.same.settings) ∙ c.self.invariant.0,
       claimed-kept host new c.keep_lease.new.bundle c.args.transfer number (get nat_cmp c.self.inside.leases) (get nat_cmp c.keep_lease.new.leases) (get nat_cmp c.self.inside.tickets) (get nat_cmp c.remove.new.self)
           c.self.invariant.1 c.remove.ensures.updates.0 gets c.keep_lease.ensures.leases c.keep_lease.ensures.tickets,
       c.remove.ensures.ordered,
@@ -77,7 +77,7 @@ invariant_of-self-in-Ok-Lease c =
     let kept = kept-ticket host c.log-log.ensures.sound c.self.inside.tickets.entries c.args.transfer c.in-Some.ticket c.self.invariant.1.tickets (sym c.in-Some.is ∙ c.remove.ensures.value) in
     let number = c.in-Ok-Lease.lease.start.number in
     let gets : GetsLease host new c.args.transfer number = subst (λ (t : ℕ). GetsLease host new t number) kept.1 (rw c.in-Ok-Lease.field-0-is at c.in-Ok-Lease.ensures.gets_lease) in (
-      ap (λ t. t.first) (c.keep_lease.ensures.terms ∙ c.claim.ensures.same.terms) ∙ c.self.invariant.0,
+      ap (λ t. t.first) (c.keep_lease.ensures.settings ∙ c.claim.ensures.same.settings) ∙ c.self.invariant.0,
       claimed-kept host new c.keep_lease.new.bundle c.args.transfer number (get nat_cmp c.self.inside.leases) (get nat_cmp c.keep_lease.new.leases) (get nat_cmp c.self.inside.tickets) (get nat_cmp c.remove.new.self)
           c.self.invariant.1 c.remove.ensures.updates.0 gets c.keep_lease.ensures.leases c.keep_lease.ensures.tickets,
       c.remove.ensures.ordered,
@@ -89,9 +89,9 @@ keep_ticket-requires-clause-unleased c =
     let want = c.in-Some.ticket.wait.want in
     let kept = kept-ticket host c.log-log.ensures.sound c.self.inside.tickets.entries c.args.transfer c.in-Some.ticket c.self.invariant.1.tickets (sym c.in-Some.is ∙ c.remove.ensures.value) in
     let still = rw c.in-Ok-Still.field-0-is at c.in-Ok-Still.ensures.still in
-    let none : leased_number host want.transfer ≡ None = ap (leased_number host) kept.1 ∙ ticket-no-lease host c.log-log.ensures.sound c.args.transfer want kept.0 in
-    ap (λ (h : OneHost (Unit {0})). leased_number h c.in-Ok-Still.ticket.wait.want.transfer) still.2
-    ∙ ap (λ (t : Ticketed). leased_number host t.wait.want.transfer) still.1 ∙ none
+    let none : lease_number host want.transfer ≡ None = ap (lease_number host) kept.1 ∙ ticket-no-lease host c.log-log.ensures.sound c.args.transfer want kept.0 in
+    ap (λ (h : HostShown (Unit {0})). lease_number h c.in-Ok-Still.ticket.wait.want.transfer) still.2
+    ∙ ap (λ (t : Ticketed). lease_number host t.wait.want.transfer) still.1 ∙ none
 
 pub keep_ticket-requires-clause-others : goal.keep_ticket-requires-clause-others
 keep_ticket-requires-clause-others c =
@@ -101,7 +101,7 @@ keep_ticket-requires-clause-others c =
     let still = rw c.in-Ok-Still.field-0-is at c.in-Ok-Still.ensures.still in
     let own : c.args.transfer ≡ c.in-Ok-Still.ticket.wait.want.transfer = sym (ap (λ (t : Ticketed). t.wait.want.transfer) still.1 ∙ kept.1) in
     let after = get nat_cmp c.remove.new.self in
-    subst (λ (h : OneHost (Unit {0})). KeepsTickets (due_others c.in-Ok-Still.ticket.wait.want.transfer (ticket_want h)) after) (sym still.2)
+    subst (λ (h : HostShown (Unit {0})). KeepsTickets (due_others c.in-Ok-Still.ticket.wait.want.transfer (ticket_want h)) after) (sym still.2)
     (subst (λ (t : ℕ). KeepsTickets (due_others t (ticket_want host)) after) own
     (kept-removed wanted c.args.transfer (ticket_want host) (get nat_cmp c.self.inside.tickets) after c.self.invariant.1.tickets c.remove.ensures.updates.0))
 
@@ -110,7 +110,7 @@ invariant_of-self-in-Err c =
     let host = c.self.inside.bundle in
     let want = c.in-Some.ticket.wait.want in
     let kept = kept-ticket host c.log-log.ensures.sound c.self.inside.tickets.entries c.args.transfer c.in-Some.ticket c.self.invariant.1.tickets (sym c.in-Some.is ∙ c.remove.ensures.value) in
-    let both : true ≡ false = sym (kept-stands host c.args.transfer want kept.0 kept.1) ∙ c.in-Err.ensures.strange.0 in
+    let both : true ≡ false = sym (kept-valid host c.args.transfer want kept.0 kept.1) ∙ c.in-Err.ensures.strange.0 in
     let none : ⊥ = cc in
     absurd none
 
@@ -125,7 +125,7 @@ returns-in_ok-keep_lease-in-Ok-Lease-clause-answer c =
     let gets : GetsLease host c.claim.new.self transfer number = subst (λ (t : ℕ). GetsLease host c.claim.new.self t number) kept.1 (rw c.in-Ok-Lease.field-0-is at c.in-Ok-Lease.ensures.gets_lease) in
     let held : held_number host.log transfer ≡ Some number =
     ap (λ (log : List Entry). held_number log transfer) (sym c.claim.ensures.log) ∙ leased-held c.claim.new.self transfer number (lease-own host c.claim.new.self transfer number gets) in
-    let same : new.log ≡ host.log = ap (λ (h : OneHost (Unit {0})). h.log) c.in_ok-keep_lease-in-Ok-Lease.ensures.ok ∙ c.claim.ensures.log in
+    let same : new.log ≡ host.log = ap (λ (h : HostShown (Unit {0})). h.log) c.in_ok-keep_lease-in-Ok-Lease.ensures.ok ∙ c.claim.ensures.log in
     let left : keys c.remove.new.self ≡ without_ticket transfer tickets = ap keys_of c.remove.ensures.entries ∙ keys-removed c.self.inside.tickets.entries transfer in
     let among : is_among transfer tickets ≡ true = ticketed host c.log-log.ensures.sound c.self.inside.tickets.entries c.self.invariant.1.tickets transfer ∙ ap is_some kept.0 in
     let line : claimed_line 0 number ≡ claimed_line 0 c.number-number.result = ap (claimed_line 0) (sym c.number-number.ensures) in
@@ -147,7 +147,7 @@ returns-in_ok-keep_ticket-in-Ok-Still-clause-answer c =
     let among : is_among transfer tickets ≡ true = ticketed host c.log-log.ensures.sound c.self.inside.tickets.entries c.self.invariant.1.tickets transfer ∙ ap is_some kept.0 in
     let unclaimed : is_unclaimed host transfer ≡ false = ap (is_unclaimed host) (sym kept.1) ∙ still.0 in
     let held : held_number host.log transfer ≡ None = still-unheld host c.log-log.ensures.sound transfer want unclaimed kept.0 in
-    let same : new.log ≡ host.log = ap (λ (h : OneHost (Unit {0})). h.log) c.in_ok-keep_ticket-in-Ok-Still.ensures.ok ∙ c.claim.ensures.log in
+    let same : new.log ≡ host.log = ap (λ (h : HostShown (Unit {0})). h.log) c.in_ok-keep_ticket-in-Ok-Still.ensures.ok ∙ c.claim.ensures.log in
     let own : c.in-Ok-Still.ticket.wait.want.transfer ≡ transfer = ap (λ (t : Ticketed). t.wait.want.transfer) still.1 ∙ kept.1 in
     let left : keys c.remove.new.self ≡ without_ticket transfer tickets = ap keys_of c.remove.ensures.entries ∙ keys-removed c.self.inside.tickets.entries transfer in
     let put : keys c.keep_ticket.new.tickets ≡ tickets =
@@ -163,6 +163,6 @@ returns-in-Err-clause-answer c =
     let host = c.self.inside.bundle in
     let want = c.in-Some.ticket.wait.want in
     let kept = kept-ticket host c.log-log.ensures.sound c.self.inside.tickets.entries c.args.transfer c.in-Some.ticket c.self.invariant.1.tickets (sym c.in-Some.is ∙ c.remove.ensures.value) in
-    let both : true ≡ false = sym (kept-stands host c.args.transfer want kept.0 kept.1) ∙ c.in-Err.ensures.strange.0 in
+    let both : true ≡ false = sym (kept-valid host c.args.transfer want kept.0 kept.1) ∙ c.in-Err.ensures.strange.0 in
     let none : ⊥ = cc in
     absurd none

@@ -7,7 +7,7 @@ use Rattle.conn_log.specs.declared.entry.Want.{Want}
 use Rattle.bundle.specs.declared.refusal.Refusal.{Refusal}
 use Rattle.bundle.specs.declared.refusal.Refusal.TheVariants as refusals
 use Rattle.bundle.specs.Calls.{after_acquire, refusal, newest_start, newest_wait}
-use Rattle.bundle.specs.Lease.{OneHost, GetsLease, GetsTicket, leased_number, ticket_want}
+use Rattle.bundle.specs.Lease.{HostShown, GetsLease, GetsTicket, lease_number, ticket_want}
 use Rattle.script_engine.specs.Hosted.{Hosted, KeepsLeases, KeepsTickets, leases_of, due_others}
 use Rattle.script_engine.specs.Meaning.{get_at, grown, with_ticket}
 use Rattle.script_engine.specs.Transcript.{Gives}
@@ -25,8 +25,8 @@ keep_lease-requires-clause-own c =
     let lease = c.in-Ok-Lease.lease in
     let started : newest_start new.log ≡ Some lease.start = (rw c.in-Ok-Lease.field-0-is at c.in-Ok-Lease.ensures.lease).0 in
     let gets : GetsLease host new want.transfer lease.start.number = rw c.in-Ok-Lease.field-0-is at c.in-Ok-Lease.ensures.gets_lease in
-    let own : lease.start.want ≡ want = (acquired-of host.terms host.log want c.args.moment).0 lease.start (ap newest_start (sym c.in-Ok-Lease.ensures.log) ∙ started) in
-    subst (λ (w : Want). leased_number new w.transfer ≡ Some lease.start.number) (sym own) (lease-own host new want.transfer lease.start.number gets)
+    let own : lease.start.want ≡ want = (acquired-of host.settings host.log want c.args.moment).0 lease.start (ap newest_start (sym c.in-Ok-Lease.ensures.log) ∙ started) in
+    subst (λ (w : Want). lease_number new w.transfer ≡ Some lease.start.number) (sym own) (lease-own host new want.transfer lease.start.number gets)
 
 pub keep_lease-requires-clause-spent : goal.keep_lease-requires-clause-spent
 keep_lease-requires-clause-spent c =
@@ -36,7 +36,7 @@ keep_lease-requires-clause-spent c =
     let lease = c.in-Ok-Lease.lease in
     let started : newest_start new.log ≡ Some lease.start = (rw c.in-Ok-Lease.field-0-is at c.in-Ok-Lease.ensures.lease).0 in
     let gets : GetsLease host new want.transfer lease.start.number = rw c.in-Ok-Lease.field-0-is at c.in-Ok-Lease.ensures.gets_lease in
-    let own : lease.start.want ≡ want = (acquired-of host.terms host.log want c.args.moment).0 lease.start (ap newest_start (sym c.in-Ok-Lease.ensures.log) ∙ started) in
+    let own : lease.start.want ≡ want = (acquired-of host.settings host.log want c.args.moment).0 lease.start (ap newest_start (sym c.in-Ok-Lease.ensures.log) ∙ started) in
     subst (λ (w : Want). ticket_want new w.transfer ≡ None) (sym own) (lease-no-ticket host new want.transfer lease.start.number gets)
 
 pub keep_lease-requires-clause-others : goal.keep_lease-requires-clause-others
@@ -47,9 +47,9 @@ keep_lease-requires-clause-others c =
     let lease = c.in-Ok-Lease.lease in
     let started : newest_start new.log ≡ Some lease.start = (rw c.in-Ok-Lease.field-0-is at c.in-Ok-Lease.ensures.lease).0 in
     let gets : GetsLease host new want.transfer lease.start.number = rw c.in-Ok-Lease.field-0-is at c.in-Ok-Lease.ensures.gets_lease in
-    let own : lease.start.want ≡ want = (acquired-of host.terms host.log want c.args.moment).0 lease.start (ap newest_start (sym c.in-Ok-Lease.ensures.log) ∙ started) in
-    let only : refusal host.terms host.log want ≡ None = accepted c.in-Ok-Lease.field-0 (refusal host.terms host.log want) c.in-Ok-Lease.ensures.refused in
-    let free = accepted-free host.terms host.log c.log.ensures.sound want only in
+    let own : lease.start.want ≡ want = (acquired-of host.settings host.log want c.args.moment).0 lease.start (ap newest_start (sym c.in-Ok-Lease.ensures.log) ∙ started) in
+    let only : refusal host.settings host.log want ≡ None = accepted c.in-Ok-Lease.field-0 (refusal host.settings host.log want) c.in-Ok-Lease.ensures.refused in
+    let free = accepted-free host.settings host.log c.log.ensures.sound want only in
     let none = free-none host c.log.ensures.sound want.transfer free.0 free.1 in
     subst (λ (w : Want). KeepsLeases (due_others w.transfer (leases_of new)) (get nat_cmp c.self.inside.leases)) (sym own)
     (lease-awaits host new want.transfer lease.start.number (get nat_cmp c.self.inside.leases) c.self.invariant.1.leases none.0 gets)
@@ -60,10 +60,10 @@ invariant_of-self c =
     let new = c.acquire.new.self in
     let want = c.args.want in
     let gets : GetsLease host new want.transfer c.in-Ok-Lease.lease.start.number = rw c.in-Ok-Lease.field-0-is at c.in-Ok-Lease.ensures.gets_lease in
-    let only : refusal host.terms host.log want ≡ None = accepted c.in-Ok-Lease.field-0 (refusal host.terms host.log want) c.in-Ok-Lease.ensures.refused in
-    let free = accepted-free host.terms host.log c.log.ensures.sound want only in
+    let only : refusal host.settings host.log want ≡ None = accepted c.in-Ok-Lease.field-0 (refusal host.settings host.log want) c.in-Ok-Lease.ensures.refused in
+    let free = accepted-free host.settings host.log c.log.ensures.sound want only in
     let none = free-none host c.log.ensures.sound want.transfer free.0 free.1 in (
-      ap (λ t. t.first) (c.keep_lease.ensures.terms ∙ c.acquire.ensures.same.terms) ∙ c.self.invariant.0,
+      ap (λ t. t.first) (c.keep_lease.ensures.settings ∙ c.acquire.ensures.same.settings) ∙ c.self.invariant.0,
       started-kept host new c.keep_lease.new.bundle want.transfer c.in-Ok-Lease.lease.start.number (get nat_cmp c.self.inside.leases) (get nat_cmp c.keep_lease.new.leases) (get nat_cmp c.self.inside.tickets)
           c.self.invariant.1 none.1 gets c.keep_lease.ensures.leases c.keep_lease.ensures.tickets,
       c.self.invariant.2,
@@ -75,10 +75,10 @@ invariant_of-self-in-Ok-Lease c =
     let new = c.acquire.new.self in
     let want = c.args.want in
     let gets : GetsLease host new want.transfer c.in-Ok-Lease.lease.start.number = rw c.in-Ok-Lease.field-0-is at c.in-Ok-Lease.ensures.gets_lease in
-    let only : refusal host.terms host.log want ≡ None = accepted c.in-Ok-Lease.field-0 (refusal host.terms host.log want) c.in-Ok-Lease.ensures.refused in
-    let free = accepted-free host.terms host.log c.log.ensures.sound want only in
+    let only : refusal host.settings host.log want ≡ None = accepted c.in-Ok-Lease.field-0 (refusal host.settings host.log want) c.in-Ok-Lease.ensures.refused in
+    let free = accepted-free host.settings host.log c.log.ensures.sound want only in
     let none = free-none host c.log.ensures.sound want.transfer free.0 free.1 in (
-      ap (λ t. t.first) (c.keep_lease.ensures.terms ∙ c.acquire.ensures.same.terms) ∙ c.self.invariant.0,
+      ap (λ t. t.first) (c.keep_lease.ensures.settings ∙ c.acquire.ensures.same.settings) ∙ c.self.invariant.0,
       started-kept host new c.keep_lease.new.bundle want.transfer c.in-Ok-Lease.lease.start.number (get nat_cmp c.self.inside.leases) (get nat_cmp c.keep_lease.new.leases) (get nat_cmp c.self.inside.tickets)
           c.self.invariant.1 none.1 gets c.keep_lease.ensures.leases c.keep_lease.ensures.tickets,
       c.self.invariant.2,
@@ -92,7 +92,7 @@ keep_ticket-requires-clause-own c =
     let ticket = c.in-Ok-Wait.ticket in
     let waited : newest_wait new.log ≡ Some ticket.wait = (rw c.in-Ok-Wait.field-0-is at c.in-Ok-Wait.ensures.ticket).0 in
     let gets : GetsTicket host new want = rw c.in-Ok-Wait.field-0-is at c.in-Ok-Wait.ensures.gets_ticket in
-    let own : ticket.wait.want ≡ want = (acquired-of host.terms host.log want c.args.moment).1 ticket.wait (ap newest_wait (sym c.in-Ok-Wait.ensures.log) ∙ waited) in
+    let own : ticket.wait.want ≡ want = (acquired-of host.settings host.log want c.args.moment).1 ticket.wait (ap newest_wait (sym c.in-Ok-Wait.ensures.log) ∙ waited) in
     subst (λ (w : Want). ticket_want new w.transfer ≡ Some w) (sym own) (ticket-own host new want gets)
 
 pub keep_ticket-requires-clause-unleased : goal.keep_ticket-requires-clause-unleased
@@ -103,11 +103,11 @@ keep_ticket-requires-clause-unleased c =
     let ticket = c.in-Ok-Wait.ticket in
     let waited : newest_wait new.log ≡ Some ticket.wait = (rw c.in-Ok-Wait.field-0-is at c.in-Ok-Wait.ensures.ticket).0 in
     let gets : GetsTicket host new want = rw c.in-Ok-Wait.field-0-is at c.in-Ok-Wait.ensures.gets_ticket in
-    let own : ticket.wait.want ≡ want = (acquired-of host.terms host.log want c.args.moment).1 ticket.wait (ap newest_wait (sym c.in-Ok-Wait.ensures.log) ∙ waited) in
-    let only : refusal host.terms host.log want ≡ None = accepted c.in-Ok-Wait.field-0 (refusal host.terms host.log want) c.in-Ok-Wait.ensures.refused in
-    let free = accepted-free host.terms host.log c.log.ensures.sound want only in
+    let own : ticket.wait.want ≡ want = (acquired-of host.settings host.log want c.args.moment).1 ticket.wait (ap newest_wait (sym c.in-Ok-Wait.ensures.log) ∙ waited) in
+    let only : refusal host.settings host.log want ≡ None = accepted c.in-Ok-Wait.field-0 (refusal host.settings host.log want) c.in-Ok-Wait.ensures.refused in
+    let free = accepted-free host.settings host.log c.log.ensures.sound want only in
     let none = free-none host c.log.ensures.sound want.transfer free.0 free.1 in
-    subst (λ (w : Want). leased_number new w.transfer ≡ None) (sym own) (gets.leases want.transfer ∙ none.0)
+    subst (λ (w : Want). lease_number new w.transfer ≡ None) (sym own) (gets.leases want.transfer ∙ none.0)
 
 pub keep_ticket-requires-clause-others : goal.keep_ticket-requires-clause-others
 keep_ticket-requires-clause-others c =
@@ -117,9 +117,9 @@ keep_ticket-requires-clause-others c =
     let ticket = c.in-Ok-Wait.ticket in
     let waited : newest_wait new.log ≡ Some ticket.wait = (rw c.in-Ok-Wait.field-0-is at c.in-Ok-Wait.ensures.ticket).0 in
     let gets : GetsTicket host new want = rw c.in-Ok-Wait.field-0-is at c.in-Ok-Wait.ensures.gets_ticket in
-    let own : ticket.wait.want ≡ want = (acquired-of host.terms host.log want c.args.moment).1 ticket.wait (ap newest_wait (sym c.in-Ok-Wait.ensures.log) ∙ waited) in
-    let only : refusal host.terms host.log want ≡ None = accepted c.in-Ok-Wait.field-0 (refusal host.terms host.log want) c.in-Ok-Wait.ensures.refused in
-    let free = accepted-free host.terms host.log c.log.ensures.sound want only in
+    let own : ticket.wait.want ≡ want = (acquired-of host.settings host.log want c.args.moment).1 ticket.wait (ap newest_wait (sym c.in-Ok-Wait.ensures.log) ∙ waited) in
+    let only : refusal host.settings host.log want ≡ None = accepted c.in-Ok-Wait.field-0 (refusal host.settings host.log want) c.in-Ok-Wait.ensures.refused in
+    let free = accepted-free host.settings host.log c.log.ensures.sound want only in
     let none = free-none host c.log.ensures.sound want.transfer free.0 free.1 in
     subst (λ (w : Want). KeepsTickets (due_others w.transfer (ticket_want new)) (get nat_cmp c.self.inside.tickets)) (sym own)
     (ticket-awaits host new want (get nat_cmp c.self.inside.tickets) c.self.invariant.1.tickets none.1 gets)
@@ -132,15 +132,15 @@ returns-in_ok-keep_lease-in-Ok-Lease-clause-answer c =
     let tickets = keys c.self.inside.tickets in
     let lease = c.in-Ok-Lease.lease in
     let text = c.lines_since-text.result in
-    let kept : new.log ≡ c.acquire.new.self.log = ap (λ (h : OneHost (Unit {0})). h.log) c.in_ok-keep_lease-in-Ok-Lease.ensures.ok in
+    let kept : new.log ≡ c.acquire.new.self.log = ap (λ (h : HostShown (Unit {0})). h.log) c.in_ok-keep_lease-in-Ok-Lease.ensures.ok in
     let started : newest_start new.log ≡ Some lease.start = ap newest_start kept ∙ (rw c.in-Ok-Lease.field-0-is at c.in-Ok-Lease.ensures.lease).0 in
-    let only : refusal host.terms host.log want ≡ None = accepted c.in-Ok-Lease.field-0 (refusal host.terms host.log want) c.in-Ok-Lease.ensures.refused in
-    let same : new.log ≡ after_acquire host.terms host.log want c.args.moment = kept ∙ c.in-Ok-Lease.ensures.log in
-    let grows : Grows want.transfer host.log new.log = subst (λ (log : List Entry). Grows want.transfer host.log log) (sym same) (acquired-grows want.transfer host.terms host.log want c.args.moment) in
+    let only : refusal host.settings host.log want ≡ None = accepted c.in-Ok-Lease.field-0 (refusal host.settings host.log want) c.in-Ok-Lease.ensures.refused in
+    let same : new.log ≡ after_acquire host.settings host.log want c.args.moment = kept ∙ c.in-Ok-Lease.ensures.log in
+    let grows : Grows want.transfer host.log new.log = subst (λ (log : List Entry). Grows want.transfer host.log log) (sym same) (acquired-grows want.transfer host.settings host.log want c.args.moment) in
     let entries : c.log-in-Ok-Lease.result.now.entries ≡ new.log = c.log-in-Ok-Lease.ensures.entries ∙ sym kept in
-    subst (λ (h : Hosted). Gives string_bytes (get_at h.terms want c.args.moment h.log h.tickets) text new.log tickets) c.self.view_is
-    (gives-grown string_bytes (get_at host.terms want c.args.moment host.log tickets) want.transfer host.log new.log tickets c.len-place.result text
-    (get-started host.terms want c.args.moment host.log new.log tickets lease.start only same started)
+    subst (λ (h : Hosted). Gives string_bytes (get_at h.settings want c.args.moment h.log h.tickets) text new.log tickets) c.self.view_is
+    (gives-grown string_bytes (get_at host.settings want c.args.moment host.log tickets) want.transfer host.log new.log tickets c.len-place.result text
+    (get-started host.settings want c.args.moment host.log new.log tickets lease.start only same started)
     (c.len-place.ensures ∙ ap length c.log.ensures.entries) grows (rw entries at c.lines_since-text.ensures))
 
 pub returns-in_ok-keep_ticket-in-Ok-Wait-clause-answer : goal.returns-in_ok-keep_ticket-in-Ok-Wait-clause-answer
@@ -151,17 +151,17 @@ returns-in_ok-keep_ticket-in-Ok-Wait-clause-answer c =
     let tickets = keys c.self.inside.tickets in
     let ticket = c.in-Ok-Wait.ticket in
     let text = c.lines_since-text-in-Ok-Wait.result in
-    let kept : new.log ≡ c.acquire.new.self.log = ap (λ (h : OneHost (Unit {0})). h.log) c.in_ok-keep_ticket-in-Ok-Wait.ensures.ok in
+    let kept : new.log ≡ c.acquire.new.self.log = ap (λ (h : HostShown (Unit {0})). h.log) c.in_ok-keep_ticket-in-Ok-Wait.ensures.ok in
     let waited : newest_wait new.log ≡ Some ticket.wait = ap newest_wait kept ∙ (rw c.in-Ok-Wait.field-0-is at c.in-Ok-Wait.ensures.ticket).0 in
-    let only : refusal host.terms host.log want ≡ None = accepted c.in-Ok-Wait.field-0 (refusal host.terms host.log want) c.in-Ok-Wait.ensures.refused in
-    let same : new.log ≡ after_acquire host.terms host.log want c.args.moment = kept ∙ c.in-Ok-Wait.ensures.log in
-    let own : ticket.wait.want ≡ want = (acquired-of host.terms host.log want c.args.moment).1 ticket.wait (ap newest_wait (sym same) ∙ waited) in
-    let grows : Grows want.transfer host.log new.log = subst (λ (log : List Entry). Grows want.transfer host.log log) (sym same) (acquired-grows want.transfer host.terms host.log want c.args.moment) in
+    let only : refusal host.settings host.log want ≡ None = accepted c.in-Ok-Wait.field-0 (refusal host.settings host.log want) c.in-Ok-Wait.ensures.refused in
+    let same : new.log ≡ after_acquire host.settings host.log want c.args.moment = kept ∙ c.in-Ok-Wait.ensures.log in
+    let own : ticket.wait.want ≡ want = (acquired-of host.settings host.log want c.args.moment).1 ticket.wait (ap newest_wait (sym same) ∙ waited) in
+    let grows : Grows want.transfer host.log new.log = subst (λ (log : List Entry). Grows want.transfer host.log log) (sym same) (acquired-grows want.transfer host.settings host.log want c.args.moment) in
     let entries : c.log-in-Ok-Wait.result.now.entries ≡ new.log = c.log-in-Ok-Wait.ensures.entries ∙ sym kept in
     let put : keys c.keep_ticket.new.tickets ≡ with_ticket want.transfer tickets = c.in_ok-keep_ticket-in-Ok-Wait.ensures.transfers ∙ ap (λ (w : Want). with_ticket w.transfer tickets) own in
-    subst (λ (h : Hosted). Gives string_bytes (get_at h.terms want c.args.moment h.log h.tickets) text new.log (keys c.keep_ticket.new.tickets)) c.self.view_is
-    (gives-grown string_bytes (get_at host.terms want c.args.moment host.log tickets) want.transfer host.log new.log (keys c.keep_ticket.new.tickets) c.len-place.result text
-    (get-waited host.terms want c.args.moment host.log new.log tickets ticket.wait only same waited ∙ ap (grown host.log new.log) (sym put))
+    subst (λ (h : Hosted). Gives string_bytes (get_at h.settings want c.args.moment h.log h.tickets) text new.log (keys c.keep_ticket.new.tickets)) c.self.view_is
+    (gives-grown string_bytes (get_at host.settings want c.args.moment host.log tickets) want.transfer host.log new.log (keys c.keep_ticket.new.tickets) c.len-place.result text
+    (get-waited host.settings want c.args.moment host.log new.log tickets ticket.wait only same waited ∙ ap (grown host.log new.log) (sym put))
     (c.len-place.ensures ∙ ap length c.log.ensures.entries) grows (rw entries at c.lines_since-text-in-Ok-Wait.ensures))
 
 -- a refusal other than for memory is that of the log
@@ -176,12 +176,12 @@ returns-in-Err-TransferBusy-clause-answer c =
     let tickets = keys c.self.inside.tickets in
     let why = c.in-Err-TransferBusy.ensures in
     let it = c.in-Err-TransferBusy.field-0-is in
-    let refused : refusal host.terms host.log want ≡ Some refusals.TransferBusy =
-    shown c.in-Err-TransferBusy.field-0 (refusal host.terms host.log want) why.else_memory (λ memory. cc) ∙ ap Some it in
-    subst (λ (h : Hosted). Gives string_bytes (get_at h.terms want c.args.moment h.log h.tickets) c.reply.result c.acquire.new.self.log tickets) c.self.view_is
-    (rw (ap (λ (b : OneHost (Unit {0})). b.log) why.err)
-    (gives-answer string_bytes (get_at host.terms want c.args.moment host.log tickets) host.log tickets _ c.reply.result
-    (get-refused host.terms want c.args.moment host.log tickets refusals.TransferBusy refused) c.reply.ensures))
+    let refused : refusal host.settings host.log want ≡ Some refusals.TransferBusy =
+    shown c.in-Err-TransferBusy.field-0 (refusal host.settings host.log want) why.else_memory (λ memory. cc) ∙ ap Some it in
+    subst (λ (h : Hosted). Gives string_bytes (get_at h.settings want c.args.moment h.log h.tickets) c.reply.result c.acquire.new.self.log tickets) c.self.view_is
+    (rw (ap (λ (b : HostShown (Unit {0})). b.log) why.err)
+    (gives-answer string_bytes (get_at host.settings want c.args.moment host.log tickets) host.log tickets _ c.reply.result
+    (get-refused host.settings want c.args.moment host.log tickets refusals.TransferBusy refused) c.reply.ensures))
 
 pub returns-in-Err-Exhausted-clause-answer : goal.returns-in-Err-Exhausted-clause-answer
 returns-in-Err-Exhausted-clause-answer c =
@@ -190,9 +190,9 @@ returns-in-Err-Exhausted-clause-answer c =
     let tickets = keys c.self.inside.tickets in
     let why = c.in-Err-Exhausted.ensures in
     let it = c.in-Err-Exhausted.field-0-is in
-    let refused : refusal host.terms host.log want ≡ Some refusals.Exhausted =
-    shown c.in-Err-Exhausted.field-0 (refusal host.terms host.log want) why.else_memory (λ memory. cc) ∙ ap Some it in
-    subst (λ (h : Hosted). Gives string_bytes (get_at h.terms want c.args.moment h.log h.tickets) c.reply-in-Err-Exhausted.result c.acquire.new.self.log tickets) c.self.view_is
-    (rw (ap (λ (b : OneHost (Unit {0})). b.log) why.err)
-    (gives-answer string_bytes (get_at host.terms want c.args.moment host.log tickets) host.log tickets _ c.reply-in-Err-Exhausted.result
-    (get-refused host.terms want c.args.moment host.log tickets refusals.Exhausted refused) c.reply-in-Err-Exhausted.ensures))
+    let refused : refusal host.settings host.log want ≡ Some refusals.Exhausted =
+    shown c.in-Err-Exhausted.field-0 (refusal host.settings host.log want) why.else_memory (λ memory. cc) ∙ ap Some it in
+    subst (λ (h : Hosted). Gives string_bytes (get_at h.settings want c.args.moment h.log h.tickets) c.reply-in-Err-Exhausted.result c.acquire.new.self.log tickets) c.self.view_is
+    (rw (ap (λ (b : HostShown (Unit {0})). b.log) why.err)
+    (gives-answer string_bytes (get_at host.settings want c.args.moment host.log tickets) host.log tickets _ c.reply-in-Err-Exhausted.result
+    (get-refused host.settings want c.args.moment host.log tickets refusals.Exhausted refused) c.reply-in-Err-Exhausted.ensures))

@@ -1,7 +1,0 @@
-use Rattle.pool_cli.proofs.Streaming.{put-more}
-use Rattle.pool_cli.proofs.streams.put.Goals as goal
-
-pub loop-rest-preserved : goal.loop-rest-preserved
-loop-rest-preserved g c =
-    rw c.split_at.ensures.back (put-more (g.W.Write.contents c.args.writer.now) (g.W.Write.contents c.loop-rest.writer) (g.W.Write.contents c.write.new.self)
-    c.args.bytes.now c.loop-rest.rest.now c.in-Ok.count c.loop-rest.invariant c.in-Ok.ensures.bytes)
