@@ -19,7 +19,7 @@ use Rattle.script_engine.specs.Meaning.{Run, start, step, with_limits, add_site,
 use Rattle.script_text.specs.Site.{site_named}
 use Rattle.conn_key.specs.declared.site.Site.{Site}
 use Rattle.script_engine.specs.Transcript.{Transcript, whole_text, text_up_to, text_before, IsRun, told, before_others, line_step, line_step_of, Ends, EndsByFault, FailsBy, transcript}
-use Rattle.pool_cli.specs.Running.{RunsLines, LineFails, RunsScript, RunsWithoutReading, ReadsAll, ReadsOn, WritesNothing, IsOfNoStream, read_failures, write_failures, failed_reads}
+use Rattle.pool_cli.specs.Running.{RunsLines, LineFails, RunsScript, RunsWithoutReading, ReadsAll, ReadsOn, WritesNothing, IsOfNoStream, read_failures, write_failures}
 use Rattle.pool_cli.specs.Streams.{Stream, ReadFails, SameFailures, in_memory}
 use Rattle.pool_cli.proofs.Streaming.{proper-front}
 use Rattle.std.proofs.lemmas.Bool.{le-ltb, lt-ltb}

@@ -90,3 +90,22 @@ abbrev pub RunsProgram : Kinds → Stream → Stream → Stream → Stream → �
 RunsProgram faults unread left old new status =
     RunsAsked faults unread left old new status ⊎ (TellsHelp faults unread left old new status
     ⊎ (RefusesWords faults unread left old new status ⊎ LacksMemory unread left old new status))
+
+-- small command lines
+abbrev pub faults_after : List (List ℕ) → Kinds
+faults_after words = fault_of curlpool (codes "curlpool" ∷ words)
+
+abbrev pub TakesScript : Type 0
+TakesScript = faults_after (codes "script" ∷ []) ≡ []
+
+abbrev pub WantsSubcommand : Type 0
+WantsSubcommand = faults_after [] ≡ kinds.MissingSubcommand ∷ []
+
+abbrev pub TellsHelpOnHelp : Type 0
+TellsHelpOnHelp = faults_after (codes "--help" ∷ []) ≡ kinds.DisplayHelp ∷ []
+
+abbrev pub TellsVersionOnVersion : Type 0
+TellsVersionOnVersion = faults_after (codes "--version" ∷ []) ≡ kinds.DisplayVersion ∷ []
+
+abbrev pub RefusesAnotherWord : Type 0
+RefusesAnotherWord = faults_after (codes "script" ∷ codes "again" ∷ []) ≡ kinds.UnknownArgument ∷ []

@@ -9,6 +9,7 @@ mod script;
 mod streams;
 #[cfg(test)]
 mod tests;
+mod worked;
 
 use program::run_program;
 use request::Words;

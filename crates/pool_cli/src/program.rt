@@ -24,8 +24,8 @@ const NO_MEMORY: u8 = 4;
 
 /// Does what the words ask for, and answers the status with which the program ends: 0 where it did
 /// so, 2 where the words are refused, 3 where the script has a fault, and 4 where memory ran out
-/// while reading words. What goes wrong is told on `errors`; on `output` stands the transcript or the
-/// help that was asked for, and nothing else.
+/// while reading words. What goes wrong is told on `errors`; on `output` stands the transcript or
+/// the help that was asked for, and nothing else.
 pub fn run_program<R: Source, W: Sink, E: Write>(
     alloc: Global,
     words: Words,
@@ -35,7 +35,8 @@ pub fn run_program<R: Source, W: Sink, E: Write>(
 ) -> u8
     requires input { CanCount (R.source input.old) }
     requires output { CanCount (W.sink output.old) }
-    ensures { RunsProgram (word_faults words) (R.source input.old) (R.source input.new) (W.sink output.old) (W.sink output.new) result }
+    ensures { RunsProgram (word_faults words) (R.source input.old) (R.source input.new)
+        (W.sink output.old) (W.sink output.new) result }
 {
     match asked_by(alloc, words) {
         Request::Script => match run_script(alloc, input, output) {

@@ -1,9 +1,10 @@
 //! A script, from its bytes to its transcript.
 
-ghost use Rattle.std.specs.Prelude.{◌≡◌, ◌≤◌, ℕ, length, IfErr};
+ghost use Rattle.std.specs.Prelude.{◌≤◌, length, IfErr};
 ghost use Rattle.script_text.specs.Lines.{lines};
 ghost use Rattle.script_engine.specs.Transcript.{told, line_step, transcript};
-ghost use Rattle.pool_cli.specs.Running.{IsOfNoStream, RunsLine, RunsLines, RunsScript, RunsWithoutReading};
+ghost use Rattle.pool_cli.specs.Running.{IsOfNoStream, RunsLine, RunsLines, RunsScript};
+ghost use Rattle.pool_cli.specs.Running.{RunsWithoutReading};
 ghost use Rattle.pool_cli.specs.Streams.{CanCount, in_memory};
 
 use crate::streams::{Sink, Source, read_script};
@@ -13,7 +14,8 @@ use std::alloc::Global;
 
 /// Runs the script that the reader gives, and writes its transcript: the lines of each event and
 /// reply, in order. The fault says at which line the script ended, and why. What was written before
-/// a fault stays: what the lines before that line write, and where writing failed a part of its own.
+/// a fault stays: what the lines before that line write, and where writing failed a part of its
+/// own.
 pub fn run_script<R: Source, W: Sink>(
     alloc: Global,
     reader: &mut R,
@@ -21,7 +23,8 @@ pub fn run_script<R: Source, W: Sink>(
 ) -> Result<(), ScriptFault>
     requires reader { CanCount (R.source reader.old) }
     requires writer { CanCount (W.sink writer.old) }
-    ensures { RunsScript (R.source reader.old) (R.source reader.new) (W.sink writer.old) (W.sink writer.new) result }
+    ensures { RunsScript (R.source reader.old) (R.source reader.new) (W.sink writer.old)
+        (W.sink writer.new) result }
 {
     match read_script(alloc, reader) {
         Ok(script) => run_engine(alloc, script.as_slice(), writer),
@@ -32,7 +35,8 @@ pub fn run_script<R: Source, W: Sink>(
 /// Runs a script that lies in memory. Its transcript goes to the end of `out`. No fault is a read's
 /// or a write's: where `out` can't grow, the fault is `Memory`.
 pub fn run_bytes(alloc: Global, script: &[u8], out: &mut Vec<u8>) -> Result<(), ScriptFault>
-    ensures lines { RunsLines (in_memory out.old.items) (in_memory out.new.items) (transcript script.now) result }
+    ensures lines { RunsLines (in_memory out.old.items) (in_memory out.new.items)
+        (transcript script.now) result }
     ensures streams { IfErr result IsOfNoStream }
 {
     let mut reader = script;
@@ -43,7 +47,8 @@ pub fn run_bytes(alloc: Global, script: &[u8], out: &mut Vec<u8>) -> Result<(), 
 fn run_engine<W: Sink>(alloc: Global, script: &[u8], writer: &mut W) -> Result<(), ScriptFault>
     requires short { length script.now ≤ 1048576 }
     requires writer { CanCount (W.sink writer.old) }
-    ensures { RunsWithoutReading (W.sink writer.old) (W.sink writer.new) (transcript script.now) result }
+    ensures { RunsWithoutReading (W.sink writer.old) (W.sink writer.new)
+        (transcript script.now) result }
 {
     let mut engine = match Engine::new(alloc) {
         Ok(engine) => engine,
@@ -63,7 +68,8 @@ fn run_lines<M: Machine, W: Sink>(
 ) -> Result<(), ScriptFault>
     requires short { length script.now ≤ 1048576 }
     requires writer { CanCount (W.sink writer.old) }
-    ensures { RunsWithoutReading (W.sink writer.old) (W.sink writer.new) (told (M.run machine.old) 1 (lines script.now)) result }
+    ensures { RunsWithoutReading (W.sink writer.old) (W.sink writer.new)
+        (told (M.run machine.old) 1 (lines script.now)) result }
 {
     let mut rest = script;
     let mut line: u32 = 0;
@@ -89,7 +95,8 @@ fn run_line<M: Machine, W: Sink>(
     writer: &mut W,
 ) -> Result<(), FaultKind>
     requires { CanCount (W.sink writer.old) }
-    ensures { RunsLine (W.sink writer.old) (W.sink writer.new) (line_step (M.run machine.old) line.now) (M.run machine.new) result }
+    ensures { RunsLine (W.sink writer.old) (W.sink writer.new)
+        (line_step (M.run machine.old) line.now) (M.run machine.new) result }
 {
     match line_text(alloc, machine, line) {
         Ok(text) => writer.put(text.as_bytes()),

@@ -29,7 +29,8 @@ pub struct WriteFailed;
 pub trait Source {
     ghost use Rattle.pool_cli.specs.Streams.{Stream};
 
-    /// The bytes that reads will give from here on, where they are known, and how many reads failed.
+    /// The bytes that reads will give from here on, where they are known, and how many reads
+    /// failed.
     ghost source: { Self → Stream };
 
     /// Reads some bytes into the front of `buf`, and tells how many: none only at the end, or where
@@ -37,7 +38,8 @@ pub trait Source {
     fn read_some(&mut self, buf: &mut [u8]) -> Result<usize, ReadFailed>
         requires { CanCount (source self.old) }
         ensures bound { ReadsAtMost result buf.new }
-        ensures bytes { ReadConsumes (source self.old).bytes (source self.new).bytes result buf.new }
+        ensures bytes { ReadConsumes (source self.old).bytes
+            (source self.new).bytes result buf.new }
         ensures failures { CountsFailure (source self.old) (source self.new) result };
 }
 
@@ -118,8 +120,10 @@ impl<W: Write> Watched<W> {
         requires room { self.old.failures < 2 ^ 64 - 1 }
         ensures bound { WritesAtMost result bytes.now }
         ensures some { IfOk result (λ count. 0 < count) }
-        ensures bytes { WriteAppends (W.contents self.old.stream) (W.contents self.new.stream) result bytes.now }
-        ensures failures { CountsFailure (watched W.contents self.old) (watched W.contents self.new) result }
+        ensures bytes { WriteAppends (W.contents self.old.stream)
+            (W.contents self.new.stream) result bytes.now }
+        ensures failures { CountsFailure (watched W.contents self.old)
+            (watched W.contents self.new) result }
     {
         match self.stream.write(bytes) {
             Ok(0) => {

@@ -1,5 +1,5 @@
-//! What no clause says: that scripts run in ample memory, the worked ones among them, what words ask
-//! for, and what reader, writer and memory leave that fail.
+//! What no clause says: that scripts run in ample memory, the worked ones among them, what words
+//! ask for, and what reader, writer and memory leave that fail.
 
 use crate::program::run_program;
 use crate::request::Words;
@@ -14,68 +14,94 @@ use std::test::Fail;
 /// Scripts that run to their end, with their transcripts.
 const GOOD: [(&str, &str); 38] = [
     (
-        "limits 4 0 4\nsite http://a.test/\nget 1 0 0 at 0\nget 1 0 0 at 1\nget 1 7 0 at 1\nlook 7\n",
+        "limits 4 0 4\nsite http://a.test/\nget 1 0 0 at 0\nget 1 0 0 at 1\nget 1 7 0 at 1\n\
+            look 7\n",
         "opened 0.1 for 1 at 0\nrefused busy\nrefused bad-site\nrefused bad-site\n",
     ),
     ("limits 4 0 4\n", ""),
     (
-        "limits 4 0 4\nsite http://a.test/\nget 1 0 0 at 0\nget 2 0 0 at 0\nback 1 0 keep at 5\nback 2 0 keep at 9\nget 3 0 0 at 9\n",
-        "opened 0.1 for 1 at 0\nopened 0.2 for 2 at 0\nreturned 0.1 by 1 at 5\nreturned 0.2 by 2 at 9\nleased 0.2 to 3 at 9\n",
+        "limits 4 0 4\nsite http://a.test/\nget 1 0 0 at 0\nget 2 0 0 at 0\nback 1 0 keep at 5\n\
+            back 2 0 keep at 9\nget 3 0 0 at 9\n",
+        "opened 0.1 for 1 at 0\nopened 0.2 for 2 at 0\nreturned 0.1 by 1 at 5\n\
+            returned 0.2 by 2 at 9\nleased 0.2 to 3 at 9\n",
     ),
     (
-        "limits 1 0 4\nsite http://a.test/\nget 1 0 0 at 0\nget 2 0 0 at 1\nback 1 0 close at 2\nlook 0\n",
-        "opened 0.1 for 1 at 0\nwaits 2 host 0 at 1\nreturned 0.1 by 1 at 2\nclosed 0.1 not-persistent at 2\nopened 0.2 for 2 at 2\nhost 0 open 1 idle 0 leased 1 waiting 0 queued no\n",
+        "limits 1 0 4\nsite http://a.test/\nget 1 0 0 at 0\nget 2 0 0 at 1\nback 1 0 close at 2\n\
+            look 0\n",
+        "opened 0.1 for 1 at 0\nwaits 2 host 0 at 1\nreturned 0.1 by 1 at 2\n\
+            closed 0.1 not-persistent at 2\nopened 0.2 for 2 at 2\n\
+            host 0 open 1 idle 0 leased 1 waiting 0 queued no\n",
     ),
     (
-        "limits 1 0 4\nsite http://a.test/\nget 1 0 0 at 0\nback 1 0 keep at 2\nget 2 0 0 at 3\ndrop 2 0 at 4\nlook 0\n",
-        "opened 0.1 for 1 at 0\nreturned 0.1 by 1 at 2\nleased 0.1 to 2 at 3\nclosed 0.1 dropped at 4\nhost 0 open 0 idle 0 leased 0 waiting 0 queued no\n",
+        "limits 1 0 4\nsite http://a.test/\nget 1 0 0 at 0\nback 1 0 keep at 2\nget 2 0 0 at 3\n\
+            drop 2 0 at 4\nlook 0\n",
+        "opened 0.1 for 1 at 0\nreturned 0.1 by 1 at 2\nleased 0.1 to 2 at 3\n\
+            closed 0.1 dropped at 4\nhost 0 open 0 idle 0 leased 0 waiting 0 queued no\n",
     ),
     (
-        "limits 4 0 4\nsite http://a.test/\nget 1 0 0 at 0\nback 1 0 keep at 10\nget 2 0 0 at 128\n",
+        "limits 4 0 4\nsite http://a.test/\nget 1 0 0 at 0\nback 1 0 keep at 10\n\
+            get 2 0 0 at 128\n",
         "opened 0.1 for 1 at 0\nreturned 0.1 by 1 at 10\nleased 0.1 to 2 at 128\n",
     ),
     (
-        "limits 4 0 4\nsite http://a.test/\nget 1 0 0 at 0\nback 1 0 keep at 10\nget 2 0 0 at 129\n",
-        "opened 0.1 for 1 at 0\nreturned 0.1 by 1 at 10\nclosed 0.1 too-old at 129\nopened 0.2 for 2 at 129\n",
+        "limits 4 0 4\nsite http://a.test/\nget 1 0 0 at 0\nback 1 0 keep at 10\n\
+            get 2 0 0 at 129\n",
+        "opened 0.1 for 1 at 0\nreturned 0.1 by 1 at 10\nclosed 0.1 too-old at 129\n\
+            opened 0.2 for 2 at 129\n",
     ),
     (
-        "limits 4 0 4\nsite http://a.test/\nget 1 0 0 at 0\nback 1 0 keep at 60\nget 2 0 0 at 60 life 60\n",
+        "limits 4 0 4\nsite http://a.test/\nget 1 0 0 at 0\nback 1 0 keep at 60\n\
+            get 2 0 0 at 60 life 60\n",
         "opened 0.1 for 1 at 0\nreturned 0.1 by 1 at 60\nleased 0.1 to 2 at 60\n",
     ),
     (
-        "limits 4 0 4\nsite http://a.test/\nget 1 0 0 at 0\nback 1 0 keep at 60\nget 2 0 0 at 61 life 60\n",
-        "opened 0.1 for 1 at 0\nreturned 0.1 by 1 at 60\nclosed 0.1 too-old at 61\nopened 0.2 for 2 at 61\n",
+        "limits 4 0 4\nsite http://a.test/\nget 1 0 0 at 0\nback 1 0 keep at 60\n\
+            get 2 0 0 at 61 life 60\n",
+        "opened 0.1 for 1 at 0\nreturned 0.1 by 1 at 60\nclosed 0.1 too-old at 61\n\
+            opened 0.2 for 2 at 61\n",
     ),
     (
         "limits 1 0 4\nsite http://a.test/\nget 1 0 0 at 0\nback 1 0 keep at 2\nget 2 0 1 at 3\n",
-        "opened 0.1 for 1 at 0\nreturned 0.1 by 1 at 2\nclosed 0.1 host-room at 3\nopened 0.2 for 2 at 3\n",
+        "opened 0.1 for 1 at 0\nreturned 0.1 by 1 at 2\nclosed 0.1 host-room at 3\n\
+            opened 0.2 for 2 at 3\n",
     ),
     (
-        "limits 4 0 4\nsite http://a.test/\nget 1 0 0 at 0 forbid\nback 1 0 keep at 1\nget 2 0 0 at 2\nback 2 0 cut at 3\n",
-        "opened 0.1 for 1 at 0\nreturned 0.1 by 1 at 1\nclosed 0.1 forbidden at 1\nopened 0.2 for 2 at 2\nreturned 0.2 by 2 at 3\nclosed 0.2 cut at 3\n",
+        "limits 4 0 4\nsite http://a.test/\nget 1 0 0 at 0 forbid\nback 1 0 keep at 1\n\
+            get 2 0 0 at 2\nback 2 0 cut at 3\n",
+        "opened 0.1 for 1 at 0\nreturned 0.1 by 1 at 1\nclosed 0.1 forbidden at 1\n\
+            opened 0.2 for 2 at 2\nreturned 0.2 by 2 at 3\nclosed 0.2 cut at 3\n",
     ),
     (
-        "limits 4 0 4\nsite http://a.test/\nget 1 0 0 at 0\nback 1 0 keep at 20\nget 2 0 0 at 15 age 0\n",
+        "limits 4 0 4\nsite http://a.test/\nget 1 0 0 at 0\nback 1 0 keep at 20\n\
+            get 2 0 0 at 15 age 0\n",
         "opened 0.1 for 1 at 0\nreturned 0.1 by 1 at 20\nleased 0.1 to 2 at 20\n",
     ),
     (
-        "limits 4 0 4\nsite http://a.test/\nget 1 0 3 at 0\nback 1 0 keep at 1\nget 2 0 3 at 2 forbid life 60 fresh age 9\nback 2 0 keep at 3\n",
-        "opened 0.1 for 1 at 0\nreturned 0.1 by 1 at 1\nopened 0.2 for 2 at 2\nreturned 0.2 by 2 at 3\nclosed 0.2 forbidden at 3\n",
+        "limits 4 0 4\nsite http://a.test/\nget 1 0 3 at 0\nback 1 0 keep at 1\n\
+            get 2 0 3 at 2 forbid life 60 fresh age 9\nback 2 0 keep at 3\n",
+        "opened 0.1 for 1 at 0\nreturned 0.1 by 1 at 1\nopened 0.2 for 2 at 2\n\
+            returned 0.2 by 2 at 3\nclosed 0.2 forbidden at 3\n",
     ),
     (
-        "limits 4 0 4\nsite http://a.test/\nget 1 0 4294967295 at 0\nback 1 0 keep at 5\nget 2 0 4294967295 at 1005 age 18446744073709551615\n",
+        "limits 4 0 4\nsite http://a.test/\nget 1 0 4294967295 at 0\nback 1 0 keep at 5\n\
+            get 2 0 4294967295 at 1005 age 18446744073709551615\n",
         "opened 0.1 for 1 at 0\nreturned 0.1 by 1 at 5\nleased 0.1 to 2 at 1005\n",
     ),
     (
-        "limits 4 0 4\nsite http://a.test/\nget 1 0 0 at 0\nback 1 0 keep at 10\nget 2 0 0 at 1000 fresh\nlook 0\n",
-        "opened 0.1 for 1 at 0\nreturned 0.1 by 1 at 10\nopened 0.2 for 2 at 1000\nhost 0 open 2 idle 1 leased 1 waiting 0 queued no\n",
+        "limits 4 0 4\nsite http://a.test/\nget 1 0 0 at 0\nback 1 0 keep at 10\n\
+            get 2 0 0 at 1000 fresh\nlook 0\n",
+        "opened 0.1 for 1 at 0\nreturned 0.1 by 1 at 10\nopened 0.2 for 2 at 1000\n\
+            host 0 open 2 idle 1 leased 1 waiting 0 queued no\n",
     ),
     (
-        "limits 4 0 4\nsite http://a.test/\nget 1 0 1 at 0\nback 1 0 keep at 0\nget 2 0 0 at 500\nget 3 0 1 at 500\n",
-        "opened 0.1 for 1 at 0\nreturned 0.1 by 1 at 0\nopened 0.2 for 2 at 500\nclosed 0.1 too-old at 500\nopened 0.3 for 3 at 500\n",
+        "limits 4 0 4\nsite http://a.test/\nget 1 0 1 at 0\nback 1 0 keep at 0\nget 2 0 0 at 500\n\
+            get 3 0 1 at 500\n",
+        "opened 0.1 for 1 at 0\nreturned 0.1 by 1 at 0\nopened 0.2 for 2 at 500\n\
+            closed 0.1 too-old at 500\nopened 0.3 for 3 at 500\n",
     ),
     (
-        "limits 4 0 4\nsite http://a.test/\nsite HTTP://A.test:080/other?query\nsite http://user@a.test/#part\nget 1 0 0 at 0\nlook 1\n",
+        "limits 4 0 4\nsite http://a.test/\nsite HTTP://A.test:080/other?query\n\
+            site http://user@a.test/#part\nget 1 0 0 at 0\nlook 1\n",
         "opened 0.1 for 1 at 0\nrefused bad-site\n",
     ),
     (
@@ -87,7 +113,8 @@ const GOOD: [(&str, &str); 38] = [
         "opened 0.1 for 1 at 7\n",
     ),
     (
-        "limits 65535 0 65535\nsite http://a.test/\nget 18446744073709551615 0 0 at 18446744073709551615\nlook 4294967295\n",
+        "limits 65535 0 65535\nsite http://a.test/\n\
+            get 18446744073709551615 0 0 at 18446744073709551615\nlook 4294967295\n",
         "opened 0.1 for 18446744073709551615 at 18446744073709551615\nrefused bad-site\n",
     ),
     (
@@ -95,60 +122,99 @@ const GOOD: [(&str, &str); 38] = [
         "refused bad-site\nrefused bad-site\nrefused stranger\nrefused stranger\n",
     ),
     (
-        "limits 4 0 4\nsite http://a.test/\nget 1 0 0 at 0\nback 1 0 old-keep at 1\nget 1 0 0 at 2\nback 1 0 old at 3\n",
-        "opened 0.1 for 1 at 0\nreturned 0.1 by 1 at 1\nleased 0.1 to 1 at 2\nreturned 0.1 by 1 at 3\nclosed 0.1 not-persistent at 3\n",
+        "limits 4 0 4\nsite http://a.test/\nget 1 0 0 at 0\nback 1 0 old-keep at 1\n\
+            get 1 0 0 at 2\nback 1 0 old at 3\n",
+        "opened 0.1 for 1 at 0\nreturned 0.1 by 1 at 1\nleased 0.1 to 1 at 2\n\
+            returned 0.1 by 1 at 3\nclosed 0.1 not-persistent at 3\n",
     ),
     (
-        "limits 4 0 4\nsite http://a.test/\nget 1 0 0 at 0\nback 1 0 eof at 1\nget 1 0 0 at 1\nback 1 0 surplus at 1\n",
-        "opened 0.1 for 1 at 0\nreturned 0.1 by 1 at 1\nclosed 0.1 not-persistent at 1\nopened 0.2 for 1 at 1\nreturned 0.2 by 1 at 1\nclosed 0.2 not-persistent at 1\n",
+        "limits 4 0 4\nsite http://a.test/\nget 1 0 0 at 0\nback 1 0 eof at 1\nget 1 0 0 at 1\n\
+            back 1 0 surplus at 1\n",
+        "opened 0.1 for 1 at 0\nreturned 0.1 by 1 at 1\nclosed 0.1 not-persistent at 1\n\
+            opened 0.2 for 1 at 1\nreturned 0.2 by 1 at 1\nclosed 0.2 not-persistent at 1\n",
     ),
     (
         "limits 4 0 4\nsite http://a.test/\nget 1 0 0 at 0\nback 1 0 cut at 1\nlook 0\n",
-        "opened 0.1 for 1 at 0\nreturned 0.1 by 1 at 1\nclosed 0.1 cut at 1\nhost 0 open 0 idle 0 leased 0 waiting 0 queued no\n",
+        "opened 0.1 for 1 at 0\nreturned 0.1 by 1 at 1\nclosed 0.1 cut at 1\n\
+            host 0 open 0 idle 0 leased 0 waiting 0 queued no\n",
     ),
     (
         "limits 4 0 4\nsite http://a.test/\nget 1 0 0 at 9\nget 2 0 0 at 3\nlook 0\n",
-        "opened 0.1 for 1 at 9\nopened 0.2 for 2 at 9\nhost 0 open 2 idle 0 leased 2 waiting 0 queued no\n",
+        "opened 0.1 for 1 at 9\nopened 0.2 for 2 at 9\n\
+            host 0 open 2 idle 0 leased 2 waiting 0 queued no\n",
     ),
     (
-        "limits 4 0 4\nsite http://a.test/\nback 1 0 keep at 1\ndrop 1 0 at 1\nget 1 0 0 at 0\ndrop 1 7 at 1\ndrop 1 0 at 1\ndrop 1 0 at 1\n",
-        "refused stranger\nrefused stranger\nopened 0.1 for 1 at 0\nrefused stranger\nclosed 0.1 dropped at 1\nrefused stranger\n",
+        "limits 4 0 4\nsite http://a.test/\nback 1 0 keep at 1\ndrop 1 0 at 1\nget 1 0 0 at 0\n\
+            drop 1 7 at 1\ndrop 1 0 at 1\ndrop 1 0 at 1\n",
+        "refused stranger\nrefused stranger\nopened 0.1 for 1 at 0\nrefused stranger\n\
+            closed 0.1 dropped at 1\nrefused stranger\n",
     ),
     (
-        "limits 1 0 4\nsite http://a.test/\nget 1 0 0 at 0\nget 2 0 0 at 5\nback 1 0 keep at 10\nclaim 2 0\nlook 0\n",
-        "opened 0.1 for 1 at 0\nwaits 2 host 0 at 5\nreturned 0.1 by 1 at 10\nleased 0.1 to 2 at 10\nclaimed 0.1\nhost 0 open 1 idle 0 leased 1 waiting 0 queued no\n",
+        "limits 1 0 4\nsite http://a.test/\nget 1 0 0 at 0\nget 2 0 0 at 5\nback 1 0 keep at 10\n\
+            claim 2 0\nlook 0\n",
+        "opened 0.1 for 1 at 0\nwaits 2 host 0 at 5\nreturned 0.1 by 1 at 10\n\
+            leased 0.1 to 2 at 10\nclaimed 0.1\n\
+            host 0 open 1 idle 0 leased 1 waiting 0 queued no\n",
     ),
     (
-        "limits 1 0 4\nsite http://a.test/\nget 1 0 0 at 0\nget 2 0 0 at 1\nget 3 0 0 at 2\nback 1 0 keep at 3\nleave 2 0 at 4\nback 1 0 keep at 5\nclaim 2 0\n",
-        "opened 0.1 for 1 at 0\nwaits 2 host 0 at 1\nwaits 3 host 0 at 2\nreturned 0.1 by 1 at 3\nleased 0.1 to 2 at 3\nclosed 0.1 withdrawn at 4\nopened 0.2 for 3 at 4\nrefused stranger\nrefused stranger\n",
+        "limits 1 0 4\nsite http://a.test/\nget 1 0 0 at 0\nget 2 0 0 at 1\nget 3 0 0 at 2\n\
+            back 1 0 keep at 3\nleave 2 0 at 4\nback 1 0 keep at 5\nclaim 2 0\n",
+        "opened 0.1 for 1 at 0\nwaits 2 host 0 at 1\nwaits 3 host 0 at 2\nreturned 0.1 by 1 at 3\n\
+            leased 0.1 to 2 at 3\nclosed 0.1 withdrawn at 4\nopened 0.2 for 3 at 4\n\
+            refused stranger\nrefused stranger\n",
     ),
     (
-        "limits 1 0 4\nsite http://a.test/\nget 1 0 0 at 9\nget 2 0 0 at 3\ndrop 1 0 at 1\nleave 2 0 at 0\nlook 0\n",
-        "opened 0.1 for 1 at 9\nwaits 2 host 0 at 9\nclosed 0.1 dropped at 9\nopened 0.2 for 2 at 9\nclosed 0.2 withdrawn at 9\nhost 0 open 0 idle 0 leased 0 waiting 0 queued no\n",
+        "limits 1 0 4\nsite http://a.test/\nget 1 0 0 at 9\nget 2 0 0 at 3\ndrop 1 0 at 1\n\
+            leave 2 0 at 0\nlook 0\n",
+        "opened 0.1 for 1 at 9\nwaits 2 host 0 at 9\nclosed 0.1 dropped at 9\n\
+            opened 0.2 for 2 at 9\nclosed 0.2 withdrawn at 9\n\
+            host 0 open 0 idle 0 leased 0 waiting 0 queued no\n",
     ),
     (
-        "limits 1 0 4\nsite http://a.test/\nget 1 0 0 at 0\nget 2 0 0 at 1\nget 2 0 0 at 1\nclaim 2 0\nclaim 1 0\nclaim 2 7\ndrop 2 0 at 2\nleave 1 0 at 2\nback 1 0 keep at 3\nback 2 0 keep at 4\nclaim 2 0\nclaim 2 0\nleave 2 0 at 4\nback 2 0 keep at 5\n",
-        "opened 0.1 for 1 at 0\nwaits 2 host 0 at 1\nrefused busy\nstill waiting\nrefused stranger\nrefused stranger\nrefused stranger\nrefused stranger\nreturned 0.1 by 1 at 3\nleased 0.1 to 2 at 3\nrefused stranger\nclaimed 0.1\nrefused stranger\nrefused stranger\nreturned 0.1 by 2 at 5\n",
+        "limits 1 0 4\nsite http://a.test/\nget 1 0 0 at 0\nget 2 0 0 at 1\nget 2 0 0 at 1\n\
+            claim 2 0\nclaim 1 0\nclaim 2 7\ndrop 2 0 at 2\nleave 1 0 at 2\nback 1 0 keep at 3\n\
+            back 2 0 keep at 4\nclaim 2 0\nclaim 2 0\nleave 2 0 at 4\nback 2 0 keep at 5\n",
+        "opened 0.1 for 1 at 0\nwaits 2 host 0 at 1\nrefused busy\nstill waiting\n\
+            refused stranger\nrefused stranger\nrefused stranger\nrefused stranger\n\
+            returned 0.1 by 1 at 3\nleased 0.1 to 2 at 3\nrefused stranger\nclaimed 0.1\n\
+            refused stranger\nrefused stranger\nreturned 0.1 by 2 at 5\n",
     ),
     (
-        "limits 1 0 4\nsite http://a.test/\nget 1 0 0 at 0\nget 2 0 1 at 1\nget 3 0 0 at 2 life 3\nget 4 0 1 at 3\nleave 4 0 at 4\nback 1 0 keep at 5\nlook 0\nclaim 3 0\nclaim 2 0\nback 2 0 keep at 6\nclaim 3 0\n",
-        "opened 0.1 for 1 at 0\nwaits 2 host 0 at 1\nwaits 3 host 0 at 2\nwaits 4 host 0 at 3\nleft 4 host 0 at 4\nreturned 0.1 by 1 at 5\nclosed 0.1 host-room at 5\nopened 0.2 for 2 at 5\nhost 0 open 1 idle 0 leased 1 waiting 1 queued no\nstill waiting\nclaimed 0.2\nreturned 0.2 by 2 at 6\nclosed 0.2 host-room at 6\nopened 0.3 for 3 at 6\nclaimed 0.3\n",
+        "limits 1 0 4\nsite http://a.test/\nget 1 0 0 at 0\nget 2 0 1 at 1\n\
+            get 3 0 0 at 2 life 3\nget 4 0 1 at 3\nleave 4 0 at 4\nback 1 0 keep at 5\nlook 0\n\
+            claim 3 0\nclaim 2 0\nback 2 0 keep at 6\nclaim 3 0\n",
+        "opened 0.1 for 1 at 0\nwaits 2 host 0 at 1\nwaits 3 host 0 at 2\nwaits 4 host 0 at 3\n\
+            left 4 host 0 at 4\nreturned 0.1 by 1 at 5\nclosed 0.1 host-room at 5\n\
+            opened 0.2 for 2 at 5\nhost 0 open 1 idle 0 leased 1 waiting 1 queued no\n\
+            still waiting\nclaimed 0.2\nreturned 0.2 by 2 at 6\nclosed 0.2 host-room at 6\n\
+            opened 0.3 for 3 at 6\nclaimed 0.3\n",
     ),
     (
         "limits 4 0 4\nclaim 1 0\nleave 1 0 at 0\n",
         "refused stranger\nrefused stranger\n",
     ),
     (
-        "limits 1 0 4\nsite http://a.test/\nget 1 0 0 at 0\nget 2 0 0 at 1 life 1\nback 1 0 keep at 2\nclaim 2 0\nback 2 0 keep at 3\nlook 0\n",
-        "opened 0.1 for 1 at 0\nwaits 2 host 0 at 1\nreturned 0.1 by 1 at 2\nclosed 0.1 too-old at 2\nopened 0.2 for 2 at 2\nclaimed 0.2\nreturned 0.2 by 2 at 3\nhost 0 open 1 idle 1 leased 0 waiting 0 queued no\n",
+        "limits 1 0 4\nsite http://a.test/\nget 1 0 0 at 0\nget 2 0 0 at 1 life 1\n\
+            back 1 0 keep at 2\nclaim 2 0\nback 2 0 keep at 3\nlook 0\n",
+        "opened 0.1 for 1 at 0\nwaits 2 host 0 at 1\nreturned 0.1 by 1 at 2\n\
+            closed 0.1 too-old at 2\nopened 0.2 for 2 at 2\nclaimed 0.2\nreturned 0.2 by 2 at 3\n\
+            host 0 open 1 idle 1 leased 0 waiting 0 queued no\n",
     ),
     (
-        "limits 2 0 4\nsite http://a.test/\nget 1 0 0 at 0\nget 2 0 0 at 0\nget 3 0 0 at 1\nget 4 0 0 at 2\nlook 0\ndrop 1 0 at 3\nback 2 0 keep at 4\nlook 0\nleave 3 0 at 5\nclaim 4 0\nlook 0\n",
-        "opened 0.1 for 1 at 0\nopened 0.2 for 2 at 0\nwaits 3 host 0 at 1\nwaits 4 host 0 at 2\nhost 0 open 2 idle 0 leased 2 waiting 2 queued no\nclosed 0.1 dropped at 3\nopened 0.3 for 3 at 3\nreturned 0.2 by 2 at 4\nleased 0.2 to 4 at 4\nhost 0 open 2 idle 0 leased 2 waiting 0 queued no\nclosed 0.3 withdrawn at 5\nclaimed 0.2\nhost 0 open 1 idle 0 leased 1 waiting 0 queued no\n",
+        "limits 2 0 4\nsite http://a.test/\nget 1 0 0 at 0\nget 2 0 0 at 0\nget 3 0 0 at 1\n\
+            get 4 0 0 at 2\nlook 0\ndrop 1 0 at 3\nback 2 0 keep at 4\nlook 0\nleave 3 0 at 5\n\
+            claim 4 0\nlook 0\n",
+        "opened 0.1 for 1 at 0\nopened 0.2 for 2 at 0\nwaits 3 host 0 at 1\nwaits 4 host 0 at 2\n\
+            host 0 open 2 idle 0 leased 2 waiting 2 queued no\nclosed 0.1 dropped at 3\n\
+            opened 0.3 for 3 at 3\nreturned 0.2 by 2 at 4\nleased 0.2 to 4 at 4\n\
+            host 0 open 2 idle 0 leased 2 waiting 0 queued no\nclosed 0.3 withdrawn at 5\n\
+            claimed 0.2\nhost 0 open 1 idle 0 leased 1 waiting 0 queued no\n",
     ),
     (
-        "limits 1 0 4\nsite http://a.test/\nget 1 0 0 at 0\nget 2 0 0 at 1\nleave 2 0 at 2\nget 2 0 0 at 3\nback 1 0 keep at 4\nclaim 02 00\nget 3 0 0 at 5\n",
-        "opened 0.1 for 1 at 0\nwaits 2 host 0 at 1\nleft 2 host 0 at 2\nwaits 2 host 0 at 3\nreturned 0.1 by 1 at 4\nleased 0.1 to 2 at 4\nclaimed 0.1\nwaits 3 host 0 at 5\n",
+        "limits 1 0 4\nsite http://a.test/\nget 1 0 0 at 0\nget 2 0 0 at 1\nleave 2 0 at 2\n\
+            get 2 0 0 at 3\nback 1 0 keep at 4\nclaim 02 00\nget 3 0 0 at 5\n",
+        "opened 0.1 for 1 at 0\nwaits 2 host 0 at 1\nleft 2 host 0 at 2\nwaits 2 host 0 at 3\n\
+            returned 0.1 by 1 at 4\nleased 0.1 to 2 at 4\nclaimed 0.1\nwaits 3 host 0 at 5\n",
     ),
     ("", ""),
     ("\n", ""),
@@ -158,7 +224,8 @@ const GOOD: [(&str, &str); 38] = [
 /// Scripts with a fault: what they write before it, its line and kind.
 const FAULTY: [(&str, &str, u32, FaultKind); 60] = [
     (
-        "limits 4 0 4\nsite http://a.test/\nget 1 0 0 at 0\nget 1 0 0 at 1\nget 1 7 0 at 1\nlook 7\nget x\n",
+        "limits 4 0 4\nsite http://a.test/\nget 1 0 0 at 0\nget 1 0 0 at 1\nget 1 7 0 at 1\n\
+            look 7\nget x\n",
         "opened 0.1 for 1 at 0\nrefused busy\nrefused bad-site\nrefused bad-site\n",
         7,
         FaultKind::Form,
@@ -365,14 +432,20 @@ const FAULTY: [(&str, &str, u32, FaultKind); 60] = [
 ];
 
 const REUSE_THEN_DROP: (&str, &str) = (
-    "limits 1 0 4\nsite http://a.test/\nget 1 0 0 at 0\nback 1 0 keep at 2\nget 2 0 0 at 3\ndrop 2 0 at 4\nlook 0\n",
-    "opened 0.1 for 1 at 0\nreturned 0.1 by 1 at 2\nleased 0.1 to 2 at 3\nclosed 0.1 dropped at 4\nhost 0 open 0 idle 0 leased 0 waiting 0 queued no\n",
+    "limits 1 0 4\nsite http://a.test/\nget 1 0 0 at 0\nback 1 0 keep at 2\nget 2 0 0 at 3\n\
+        drop 2 0 at 4\nlook 0\n",
+    "opened 0.1 for 1 at 0\nreturned 0.1 by 1 at 2\nleased 0.1 to 2 at 3\n\
+        closed 0.1 dropped at 4\nhost 0 open 0 idle 0 leased 0 waiting 0 queued no\n",
 );
 
 /// Transfers that wait, claim and leave; two tickets are left at the script's end.
 const WAITING: (&str, &str) = (
-    "limits 1 0 4\nsite http://a.test/\nget 1 0 0 at 0\nget 2 0 0 at 1\nget 3 0 0 at 2\nget 4 0 0 at 3\nclaim 2 0\nback 1 0 keep at 4\nclaim 2 0\nleave 3 0 at 5\ndrop 2 0 at 6\nget 5 0 0 at 7\n",
-    "opened 0.1 for 1 at 0\nwaits 2 host 0 at 1\nwaits 3 host 0 at 2\nwaits 4 host 0 at 3\nstill waiting\nreturned 0.1 by 1 at 4\nleased 0.1 to 2 at 4\nclaimed 0.1\nleft 3 host 0 at 5\nclosed 0.1 dropped at 6\nopened 0.2 for 4 at 6\nwaits 5 host 0 at 7\n",
+    "limits 1 0 4\nsite http://a.test/\nget 1 0 0 at 0\nget 2 0 0 at 1\nget 3 0 0 at 2\n\
+        get 4 0 0 at 3\nclaim 2 0\nback 1 0 keep at 4\nclaim 2 0\nleave 3 0 at 5\ndrop 2 0 at 6\n\
+        get 5 0 0 at 7\n",
+    "opened 0.1 for 1 at 0\nwaits 2 host 0 at 1\nwaits 3 host 0 at 2\nwaits 4 host 0 at 3\n\
+        still waiting\nreturned 0.1 by 1 at 4\nleased 0.1 to 2 at 4\nclaimed 0.1\n\
+        left 3 host 0 at 5\nclosed 0.1 dropped at 6\nopened 0.2 for 4 at 6\nwaits 5 host 0 at 7\n",
 );
 
 #[test]

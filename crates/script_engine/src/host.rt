@@ -1,11 +1,10 @@
 //! The one host of a script: its bundle, and the leases and tickets that its transfers have.
 
 ghost use Rattle.std.specs.Prelude.{◌≡◌, IfOk, IfErr, string_bytes, []};
-ghost use Rattle.script_engine.specs.Meaning.{settings_of, get_at, claim_at, back_at, drop_at, leave_at, look_at};
+ghost use Rattle.script_engine.specs.Meaning.{settings_of, get_at, claim_at, back_at, drop_at};
+ghost use Rattle.script_engine.specs.Meaning.{leave_at, look_at};
 ghost use Rattle.script_engine.specs.Ending.{IsEnding};
-ghost use Rattle.script_text.specs.Printing.{entry_line, refused, claimed_line, still_line};
 ghost use Rattle.script_engine.specs.Transcript.{Gives};
-ghost use Rattle.script_text.specs.Printing.{GivesText};
 
 use crate::kept::{abandon, give_back, keep_lease, keep_ticket, spend_all, withdraw};
 use bundle::{Bundle, Claimed, Got, Lease, Refusal, Snapshot, Ticket};
@@ -39,15 +38,25 @@ impl Model for OneHost {
 
     ghost Value = { Hosted };
 
-    ghost view = { λ h. record { log = h.bundle.log; settings = h.bundle.settings; tickets = keys h.tickets } };
+    ghost view = { λ h. record {
+      log = h.bundle.log;
+      settings = h.bundle.settings;
+      tickets = keys h.tickets;
+    } };
 
-    ghost invariant = { λ h. (h.bundle.settings.first ≡ 1) × Keeps h.bundle (get nat_cmp h.leases) (get nat_cmp h.tickets) × IsOrdered nat_cmp h.tickets };
+    ghost invariant = { λ h. (h.bundle.settings.first ≡ 1)
+        × Keeps h.bundle (get nat_cmp h.leases) (get nat_cmp h.tickets)
+        × IsOrdered nat_cmp h.tickets };
 }
 
 impl OneHost {
     /// A host without connections.
     pub fn new(alloc: Global, limits: Limits) -> Result<OneHost, FaultKind>
-        ensures ok { IfOk result (λ h. h ≡ record { log = []; settings = settings_of limits; tickets = [] }) }
+        ensures ok { IfOk result (λ h. h ≡ record {
+          log = [];
+          settings = settings_of limits;
+          tickets = [];
+        }) }
         ensures err { IfErr result (λ kind. kind ≡ FaultKind.Memory) }
     {
         match Bundle::new(alloc, limits.host, HOST, FIRST) {
@@ -62,7 +71,8 @@ impl OneHost {
 
     /// The transfer acquires a connection, or begins to wait for one.
     pub fn get(&mut self, alloc: Global, want: Want, moment: u64) -> Result<String, FaultKind>
-        ensures answer { Gives string_bytes (get_at self.old.settings want moment self.old.log self.old.tickets) result self.new.log self.new.tickets }
+        ensures answer { Gives string_bytes (get_at self.old.settings want moment self.old.log
+            self.old.tickets) result self.new.log self.new.tickets }
         ensures settings { self.new.settings ≡ self.old.settings }
     {
         let place = self.bundle.log().len();
@@ -85,7 +95,8 @@ impl OneHost {
 
     /// The transfer claims the connection that it waits for.
     pub fn claim(&mut self, alloc: Global, transfer: u64) -> Result<String, FaultKind>
-        ensures answer { Gives string_bytes (claim_at transfer self.old.log self.old.tickets) result self.new.log self.new.tickets }
+        ensures answer { Gives string_bytes (claim_at transfer self.old.log self.old.tickets) result
+            self.new.log self.new.tickets }
         ensures settings { self.new.settings ≡ self.old.settings }
     {
         // The log is sound: who waits holds nothing.
@@ -118,7 +129,8 @@ impl OneHost {
         ending: Ending,
         moment: u64,
     ) -> Result<String, FaultKind>
-        ensures answer { Gives string_bytes (back_at self.old.settings transfer ending moment self.old.log self.old.tickets) result self.new.log self.new.tickets }
+        ensures answer { Gives string_bytes (back_at self.old.settings transfer ending moment
+            self.old.log self.old.tickets) result self.new.log self.new.tickets }
         ensures settings { self.new.settings ≡ self.old.settings }
     {
         let place = self.bundle.log().len();
@@ -138,7 +150,8 @@ impl OneHost {
         transfer: u64,
         moment: u64,
     ) -> Result<String, FaultKind>
-        ensures answer { Gives string_bytes (drop_at self.old.settings transfer moment self.old.log self.old.tickets) result self.new.log self.new.tickets }
+        ensures answer { Gives string_bytes (drop_at self.old.settings transfer moment self.old.log
+            self.old.tickets) result self.new.log self.new.tickets }
         ensures settings { self.new.settings ≡ self.old.settings }
     {
         let place = self.bundle.log().len();
@@ -153,7 +166,8 @@ impl OneHost {
 
     /// The transfer leaves where it waits.
     pub fn leave(&mut self, alloc: Global, transfer: u64, moment: u64) -> Result<String, FaultKind>
-        ensures answer { Gives string_bytes (leave_at self.old.settings transfer moment self.old.log self.old.tickets) result self.new.log self.new.tickets }
+        ensures answer { Gives string_bytes (leave_at self.old.settings transfer moment self.old.log
+            self.old.tickets) result self.new.log self.new.tickets }
         ensures settings { self.new.settings ≡ self.old.settings }
     {
         let place = self.bundle.log().len();
@@ -168,7 +182,8 @@ impl OneHost {
 
     /// What the connections do.
     pub fn look(&self, alloc: Global) -> Result<String, FaultKind>
-        ensures { Gives string_bytes (look_at self.now.log self.now.tickets) result self.now.log self.now.tickets }
+        ensures { Gives string_bytes (look_at self.now.log self.now.tickets) result self.now.log
+            self.now.tickets }
     {
         let Snapshot {
             alive,
@@ -191,8 +206,8 @@ impl OneHost {
         }
     }
 
-    /// Abandons the leases and withdraws the tickets, by transfer, at moment 0; gives the bundle that
-    /// is left.
+    /// Abandons the leases and withdraws the tickets, by transfer, at moment 0; gives the bundle
+    /// that is left.
     pub fn end(self) -> Bundle<()>
         ensures ending { IsEnding self.settings self.log self.tickets result.log }
         ensures settings { result.settings ≡ self.settings }

@@ -1,6 +1,7 @@
 //! The leases and tickets that a host keeps for its transfers, until they are spent.
 
-ghost use Rattle.std.specs.Prelude.{◌≡◌, ◌+◌, ◌<◌, ℕ, OnOk, OnErr, IfErr, IsSome, Some, None, true, ◌∷◌};
+ghost use Rattle.std.specs.Prelude.{◌≡◌, ◌+◌, ◌<◌, ℕ, OnOk, OnErr, IfErr, IsSome, Some, None, true};
+ghost use Rattle.std.specs.Prelude.{◌∷◌};
 ghost use Rattle.std.specs.Ordering.{nat_cmp};
 ghost use Rattle.std.specs.BTreeMap.{get, keys, btree_map_len, IsOrdered};
 ghost use Rattle.conn_log.specs.Connections.{is_held_by, held_number};
@@ -9,7 +10,8 @@ ghost use Rattle.bundle.specs.Calls.{after_give_back, after_abandon, after_withd
 ghost use Rattle.bundle.specs.Lease.{Spends, lease_number, ticket_want, is_valid_ticket};
 ghost use Rattle.script_engine.specs.Meaning.{with_ticket, without_ticket, facts_of_ending};
 ghost use Rattle.script_engine.specs.Ending.{after_dropping, after_giving_up, IsEnding};
-ghost use Rattle.script_engine.specs.Hosted.{Keeps, KeepsLeases, KeepsTickets, leases_of, due_others, lease_facts, is_ticket_first, merged};
+ghost use Rattle.script_engine.specs.Hosted.{Keeps, KeepsLeases, KeepsTickets, leases_of};
+ghost use Rattle.script_engine.specs.Hosted.{due_others, lease_facts, is_ticket_first, merged};
 
 use crate::facts::facts_of_ending;
 use bundle::{Bundle, Lease, Ticket};
@@ -20,8 +22,11 @@ use std::collections::BTreeMap;
 /// Gives a lease back. A lease that is not the bundle's own is scrapped.
 pub fn give_back(bundle: &mut Bundle<()>, lease: Lease<()>, ending: Ending, moment: u64)
     requires { IsSome lease.stream }
-    ensures log { is_held_by bundle.old.log lease.start.want.transfer lease.start.number ≡ true → bundle.new.log ≡ after_give_back bundle.old.settings bundle.old.log lease.start.number (facts_of_ending ending) moment }
-    ensures spends { is_held_by bundle.old.log lease.start.want.transfer lease.start.number ≡ true → Spends bundle.old bundle.new lease.start.want.transfer }
+    ensures log { is_held_by bundle.old.log lease.start.want.transfer lease.start.number ≡ true
+        → bundle.new.log ≡ after_give_back bundle.old.settings bundle.old.log lease.start.number
+        (facts_of_ending ending) moment }
+    ensures spends { is_held_by bundle.old.log lease.start.want.transfer lease.start.number ≡ true
+        → Spends bundle.old bundle.new lease.start.want.transfer }
     ensures settings { bundle.new.settings ≡ bundle.old.settings }
 {
     if let Err(stray) = bundle.give_back(lease, facts_of_ending(ending), moment) {
@@ -31,8 +36,11 @@ pub fn give_back(bundle: &mut Bundle<()>, lease: Lease<()>, ending: Ending, mome
 
 /// Abandons a lease. A lease that is not the bundle's own is scrapped.
 pub fn abandon(bundle: &mut Bundle<()>, lease: Lease<()>, moment: u64)
-    ensures log { is_held_by bundle.old.log lease.start.want.transfer lease.start.number ≡ true → bundle.new.log ≡ after_abandon bundle.old.settings bundle.old.log lease.start.number moment }
-    ensures spends { is_held_by bundle.old.log lease.start.want.transfer lease.start.number ≡ true → Spends bundle.old bundle.new lease.start.want.transfer }
+    ensures log { is_held_by bundle.old.log lease.start.want.transfer lease.start.number ≡ true
+        → bundle.new.log ≡ after_abandon bundle.old.settings bundle.old.log lease.start.number
+        moment }
+    ensures spends { is_held_by bundle.old.log lease.start.want.transfer lease.start.number ≡ true
+        → Spends bundle.old bundle.new lease.start.want.transfer }
     ensures settings { bundle.new.settings ≡ bundle.old.settings }
 {
     if let Err(stray) = bundle.abandon(lease, moment) {
@@ -42,8 +50,11 @@ pub fn abandon(bundle: &mut Bundle<()>, lease: Lease<()>, moment: u64)
 
 /// Withdraws a ticket. A ticket that is not the bundle's own is scrapped.
 pub fn withdraw(bundle: &mut Bundle<()>, ticket: Ticket, moment: u64)
-    ensures log { is_valid_ticket bundle.old ticket.wait.want ≡ true → bundle.new.log ≡ after_withdraw bundle.old.settings bundle.old.log ticket.wait.want.transfer moment }
-    ensures spends { is_valid_ticket bundle.old ticket.wait.want ≡ true → Spends bundle.old bundle.new ticket.wait.want.transfer }
+    ensures log { is_valid_ticket bundle.old ticket.wait.want ≡ true
+        → bundle.new.log ≡ after_withdraw bundle.old.settings bundle.old.log
+        ticket.wait.want.transfer moment }
+    ensures spends { is_valid_ticket bundle.old ticket.wait.want ≡ true
+        → Spends bundle.old bundle.new ticket.wait.want.transfer }
     ensures settings { bundle.new.settings ≡ bundle.old.settings }
 {
     if let Err(stray) = bundle.withdraw(ticket, moment) {
@@ -72,10 +83,12 @@ pub fn keep_lease(
     requires sound { IsSound bundle.old.settings bundle.old.log }
     requires own { lease_number bundle.old lease.start.want.transfer ≡ Some lease.start.number }
     requires spent { ticket_want bundle.old lease.start.want.transfer ≡ None }
-    requires others { KeepsLeases (due_others lease.start.want.transfer (leases_of bundle.old)) (get nat_cmp leases.old) }
+    requires others { KeepsLeases (due_others lease.start.want.transfer (leases_of bundle.old))
+        (get nat_cmp leases.old) }
     ensures ok { OnOk result (bundle.new ≡ bundle.old) }
     ensures err { IfErr result (λ kind. kind ≡ FaultKind.Memory) }
-    ensures abandoned { OnErr result (bundle.new.log ≡ after_abandon bundle.old.settings bundle.old.log lease.start.number 0) }
+    ensures abandoned { OnErr result (bundle.new.log
+        ≡ after_abandon bundle.old.settings bundle.old.log lease.start.number 0) }
     ensures settings { bundle.new.settings ≡ bundle.old.settings }
     ensures leases { KeepsLeases (leases_of bundle.new) (get nat_cmp leases.new) }
     ensures tickets { (t : ℕ) → ticket_want bundle.new t ≡ ticket_want bundle.old t }
@@ -103,11 +116,14 @@ pub fn keep_ticket(
 ) -> Result<(), FaultKind>
     requires own { ticket_want bundle.old ticket.wait.want.transfer ≡ Some ticket.wait.want }
     requires unleased { lease_number bundle.old ticket.wait.want.transfer ≡ None }
-    requires others { KeepsTickets (due_others ticket.wait.want.transfer (ticket_want bundle.old)) (get nat_cmp tickets.old) }
+    requires others { KeepsTickets (due_others ticket.wait.want.transfer (ticket_want bundle.old))
+        (get nat_cmp tickets.old) }
     ensures ok { OnOk result (bundle.new ≡ bundle.old) }
-    ensures transfers { OnOk result (keys tickets.new ≡ with_ticket ticket.wait.want.transfer (keys tickets.old)) }
+    ensures transfers { OnOk result (keys tickets.new
+        ≡ with_ticket ticket.wait.want.transfer (keys tickets.old)) }
     ensures err { IfErr result (λ kind. kind ≡ FaultKind.Memory) }
-    ensures withdrawn { OnErr result (bundle.new.log ≡ after_withdraw bundle.old.settings bundle.old.log ticket.wait.want.transfer 0) }
+    ensures withdrawn { OnErr result (bundle.new.log
+        ≡ after_withdraw bundle.old.settings bundle.old.log ticket.wait.want.transfer 0) }
     ensures settings { bundle.new.settings ≡ bundle.old.settings }
     ensures leases { (t : ℕ) → lease_number bundle.new t ≡ lease_number bundle.old t }
     ensures tickets { KeepsTickets (ticket_want bundle.new) (get nat_cmp tickets.new) }
@@ -164,10 +180,13 @@ fn spend_first(
     requires keeps { Keeps bundle.old (get nat_cmp leases.old) (get nat_cmp tickets.old) }
     requires holders { IsOrdered nat_cmp leases.old }
     requires waiters { IsOrdered nat_cmp tickets.old }
-    ensures first { merged (keys leases.old) (keys tickets.old) ≡ result ∷ merged (keys leases.new) (keys tickets.new) }
-    ensures less { btree_map_len leases.new + btree_map_len tickets.new + 1 ≡ btree_map_len leases.old + btree_map_len tickets.old }
+    ensures first { merged (keys leases.old) (keys tickets.old)
+        ≡ result ∷ merged (keys leases.new) (keys tickets.new) }
+    ensures less { btree_map_len leases.new + btree_map_len tickets.new + 1
+        ≡ btree_map_len leases.old + btree_map_len tickets.old }
     ensures tickets { keys tickets.new ≡ without_ticket result (keys tickets.old) }
-    ensures log { bundle.new.log ≡ after_giving_up bundle.old.settings bundle.old.log (keys tickets.old) result }
+    ensures log { bundle.new.log ≡ after_giving_up bundle.old.settings bundle.old.log
+        (keys tickets.old) result }
     ensures settings { bundle.new.settings ≡ bundle.old.settings }
     ensures keeps { Keeps bundle.new (get nat_cmp leases.new) (get nat_cmp tickets.new) }
     ensures ordered { IsOrdered nat_cmp leases.new × IsOrdered nat_cmp tickets.new }
@@ -212,7 +231,8 @@ fn abandon_first(bundle: &mut Bundle<()>, leases: &mut BTreeMap<u64, Lease<()>>)
     ensures own { IsSome (lease_number bundle.old result) }
     ensures first { keys leases.old ≡ result ∷ keys leases.new }
     ensures less { btree_map_len leases.new + 1 ≡ btree_map_len leases.old }
-    ensures log { bundle.new.log ≡ after_dropping bundle.old.settings bundle.old.log (held_number bundle.old.log result) }
+    ensures log { bundle.new.log ≡ after_dropping bundle.old.settings bundle.old.log
+        (held_number bundle.old.log result) }
     ensures spends { Spends bundle.old bundle.new result }
     ensures settings { bundle.new.settings ≡ bundle.old.settings }
     ensures keeps { KeepsLeases (leases_of bundle.new) (get nat_cmp leases.new) }

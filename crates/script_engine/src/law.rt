@@ -1,14 +1,16 @@
 //! Laws of every script, whatever its bytes.
 
-ghost use Rattle.script_engine.specs.Law.{EveryLogIsLegal, EveryLogIsQuiet, EveryLeaseWasFree, EveryStartIsOfTheHead, EveryTicketStands};
-ghost use Rattle.script_engine.specs.TranscriptLines.{EveryEventIsTold, EveryLeaseIsTold, EveryLeasedLineWasFree};
+ghost use Rattle.script_engine.specs.Law.{EveryLogIsLegal, EveryLogIsQuiet, EveryLeaseWasFree};
+ghost use Rattle.script_engine.specs.Law.{EveryStartIsOfTheHead, EveryTicketStands};
+ghost use Rattle.script_engine.specs.TranscriptLines.{EveryEventIsTold, EveryLeaseIsTold};
+ghost use Rattle.script_engine.specs.TranscriptLines.{EveryLeasedLineWasFree};
 
 use bundle::laws::calls_keep_logs_sound_and_quiet;
 
 /// The log behind a script's transcript is legal and quiet; what is leased in it was opened before,
 /// came back whole and persistent, and is held by nobody at that place; transfers are served in the
-/// order in which they began to wait; whoever waits has a ticket, and whoever has one waits or holds
-/// what it has yet to claim.
+/// order in which they began to wait; whoever waits has a ticket, and whoever has one waits or
+/// holds what it has yet to claim.
 pub fn scripts_keep_the_law()
     ensures legal { EveryLogIsLegal }
     ensures quiet { EveryLogIsQuiet }

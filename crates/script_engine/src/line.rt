@@ -14,7 +14,8 @@ pub fn line_text<M: Machine>(
     machine: &mut M,
     line: &[u8],
 ) -> Result<String, FaultKind>
-    ensures { Answers string_bytes (line_step (M.run machine.old) line.now) result (M.run machine.new) }
+    ensures { Answers string_bytes (line_step (M.run machine.old) line.now) result
+        (M.run machine.new) }
 {
     match read_line(line) {
         Ok(Some(command)) => machine.answer(command),

@@ -1,7 +1,10 @@
 //! What a script's commands do, one after another.
 
-ghost use Rattle.std.specs.Prelude.{◌≡◌, ℕ, List, [], ◌∷◌, IfErr, IfOk, OnOk, OnErr, IfSome, IsSome, Some, None, true, ◌&&◌, string_bytes};
-ghost use Rattle.script_engine.specs.Meaning.{Run, start, step, with_limits, with_url, with_action, at_script_end, at_host, at_no_host, are_good, settings_of};
+ghost use Rattle.std.specs.Prelude.{◌≡◌, ℕ, List, [], IfErr, IfOk, OnOk, IfSome};
+ghost use Rattle.std.specs.Prelude.{IsSome, Some, None, true, ◌&&◌, string_bytes};
+ghost use Rattle.script_engine.specs.Meaning.{Run, start, step, with_limits, with_url, with_action};
+ghost use Rattle.script_engine.specs.Meaning.{at_script_end, at_host, at_no_host, are_good};
+ghost use Rattle.script_engine.specs.Meaning.{settings_of};
 ghost use Rattle.script_engine.specs.Meaning.{has_site};
 ghost use Rattle.script_engine.specs.Ending.{IsEnding};
 ghost use Rattle.script_engine.specs.Transcript.{Answers, Gives};
@@ -30,7 +33,8 @@ pub trait Machine {
     /// What is due at the script's end: where limits are given the host is made by then, also where
     /// no command came. The only error is `Memory`.
     fn end_of_script(&mut self) -> Result<(), FaultKind>
-        ensures ok { OnOk result (run self.new ≡ at_script_end (run self.old) (run self.old).limits) }
+        ensures ok { OnOk result (run self.new ≡ at_script_end (run self.old)
+            (run self.old).limits) }
         ensures err { IfErr result (λ kind. kind ≡ FaultKind.Memory) };
 }
 
@@ -53,9 +57,17 @@ impl Model for Engine {
 
     ghost Value = { Run };
 
-    ghost view = { λ e. record { limits = e.limits; sites = e.sites; has_begun = e.has_begun; log = option_map_or (λ (h : Hosted). h.log) e.host []; tickets = option_map_or (λ (h : Hosted). h.tickets) e.host [] } };
+    ghost view = { λ e. record {
+      limits = e.limits;
+      sites = e.sites;
+      has_begun = e.has_begun;
+      log = option_map_or (λ (h : Hosted). h.log) e.host [];
+      tickets = option_map_or (λ (h : Hosted). h.tickets) e.host [];
+    } };
 
-    ghost invariant = { λ e. (option_map (λ (h : Hosted). h.settings) e.host ≡ (if e.has_begun && has_site e.sites then option_map settings_of e.limits else None)) × (e.limits ≡ None → e.has_begun ≡ false) };
+    ghost invariant = { λ e. (option_map (λ (h : Hosted). h.settings) e.host
+        ≡ (if e.has_begun && has_site e.sites then option_map settings_of e.limits else None))
+        × (e.limits ≡ None → e.has_begun ≡ false) };
 }
 
 impl Machine for Engine {
@@ -96,12 +108,15 @@ impl Engine {
         }
     }
 
-    /// Abandons the leases that are left, and withdraws the tickets, by transfer, at moment 0; gives
-    /// the bundle that is left, where a host was made.
+    /// Abandons the leases that are left, and withdraws the tickets, by transfer, at moment 0;
+    /// gives the bundle that is left, where a host was made.
     pub fn end(self) -> Option<Bundle<()>>
-        ensures ending { IfSome result (λ bundle. IsEnding bundle.settings self.log self.tickets bundle.log) }
-        ensures settings { (limits : Limits) → self.limits ≡ Some limits → IfSome result (λ bundle. bundle.settings ≡ settings_of limits) }
-        ensures host { (self.has_begun && has_site self.sites) ≡ true → IsSome self.limits → IsSome result }
+        ensures ending { IfSome result (λ bundle. IsEnding bundle.settings self.log self.tickets
+            bundle.log) }
+        ensures settings { (limits : Limits) → self.limits ≡ Some limits
+            → IfSome result (λ bundle. bundle.settings ≡ settings_of limits) }
+        ensures host { (self.has_begun && has_site self.sites) ≡ true → IsSome self.limits
+            → IsSome result }
     {
         let Engine {
             alloc: _,
@@ -115,7 +130,8 @@ impl Engine {
 
     /// `limits`: once, before all others.
     fn set_limits(&mut self, limits: Limits) -> Result<String, FaultKind>
-        ensures { Answers string_bytes (with_limits self.old limits self.old.limits) result self.new }
+        ensures { Answers string_bytes (with_limits self.old limits self.old.limits) result
+            self.new }
     {
         if self.limits.is_some() {
             return Err(FaultKind::Place);
@@ -129,7 +145,8 @@ impl Engine {
 
     /// `site`: after the limits, before all others.
     fn add_site(&mut self, word: &SiteWord<'_>) -> Result<String, FaultKind>
-        ensures { Answers string_bytes (with_url self.old word.now self.old.limits) result self.new }
+        ensures { Answers string_bytes (with_url self.old word.now self.old.limits) result
+            self.new }
     {
         if self.limits.is_none() || self.has_begun {
             return Err(FaultKind::Place);
@@ -147,7 +164,8 @@ impl Engine {
 
     /// An action at a site: after the limits.
     fn ask(&mut self, site: u32, action: Action) -> Result<String, FaultKind>
-        ensures { Answers string_bytes (with_action self.old site action self.old.limits) result self.new }
+        ensures { Answers string_bytes (with_action self.old site action self.old.limits) result
+            self.new }
     {
         let Some(limits) = self.limits else {
             return Err(FaultKind::Place);
@@ -177,7 +195,8 @@ impl Engine {
     fn ask_host(&mut self, limits: Limits, site: u32, action: Action) -> Result<String, FaultKind>
         requires begun { self.old.has_begun ≡ true }
         requires limits { self.old.limits ≡ Some limits }
-        ensures { Answers string_bytes (with_action self.old site action (Some limits)) result self.new }
+        ensures { Answers string_bytes (with_action self.old site action
+            (Some limits)) result self.new }
     {
         let alloc = self.alloc;
         if site != 0 {
@@ -200,7 +219,8 @@ fn are_good(limits: Limits) -> bool
 
 /// What the host answers.
 fn answer_at(host: &mut OneHost, alloc: Global, action: Action) -> Result<String, FaultKind>
-    ensures answer { Gives string_bytes (at_host host.old.settings host.old.log host.old.tickets action) result host.new.log host.new.tickets }
+    ensures answer { Gives string_bytes (at_host host.old.settings host.old.log host.old.tickets
+        action) result host.new.log host.new.tickets }
     ensures settings { host.new.settings ≡ host.old.settings }
 {
     match action {
@@ -219,7 +239,8 @@ fn answer_at(host: &mut OneHost, alloc: Global, action: Action) -> Result<String
 
 /// The answer at a site that is not there.
 fn answer_without_host(alloc: Global, action: Action) -> Result<String, FaultKind>
-    ensures { (log : List Entry) (tickets : List ℕ) → Gives string_bytes (at_no_host log tickets action) result log tickets }
+    ensures { (log : List Entry) (tickets : List ℕ)
+        → Gives string_bytes (at_no_host log tickets action) result log tickets }
 {
     match action {
         Action::Get { .. } => reply(alloc, "bad-site"),
@@ -241,7 +262,9 @@ fn put_host(place: &mut Option<OneHost>, host: OneHost)
 /// Ends a host, where there is one; gives its bundle.
 fn end_host(host: Option<OneHost>) -> Option<Bundle<()>>
     ensures none { host ≡ None → result ≡ None }
-    ensures ending { IfSome host (λ h. IfSome result (λ bundle. IsEnding h.settings h.log h.tickets bundle.log × (bundle.settings ≡ h.settings))) }
+    ensures ending { IfSome host (λ h. IfSome result
+        (λ bundle. IsEnding h.settings h.log h.tickets bundle.log
+        × (bundle.settings ≡ h.settings))) }
     ensures some { IsSome host → IsSome result }
 {
     match host {

@@ -1,10 +1,24 @@
-//! Small scripts whose transcripts are known, against which the definition of a transcript was tried.
+//! Small scripts whose transcripts are known, against which the definition of a transcript was
+//! tried.
 
-ghost use Rattle.script_engine.specs.Worked.{TellsReuseThenDrop, TellsBusyAndNoSuchSite, TellsNotPersistentAtTheLimit, TellsGetWithAMissingWord, TellsNoRoomToKeep, TellsIdleAsLongAsTheAge, TellsIdleLongerThanTheAge, TellsAsOldAsTheLifetime, TellsOlderThanTheLifetime, TellsAnotherLaneAtTheHostLimit, TellsForbiddenAndCut, TellsMomentGoesBack, TellsOptionsInAnotherOrder, TellsOneSiteInTwoSpellings, TellsWaitThenClaim, TellsWithdrawAGrant, TellsMomentsClampedPerHost, TellsTicketsAreNoLeases, TellsServedInOrder, TellsAnOptionTwice, TellsUnknownCommand, TellsSecondLimits, TellsBadSite, TellsTwoSites, TellsLongestLine, TellsLineTooLongByOne, TellsEvents, TellsLeases};
+ghost use Rattle.script_engine.specs.Worked.{TellsReuseThenDrop, TellsBusyAndNoSuchSite};
+ghost use Rattle.script_engine.specs.Worked.{TellsNotPersistentAtTheLimit};
+ghost use Rattle.script_engine.specs.Worked.{TellsGetWithAMissingWord, TellsNoRoomToKeep};
+ghost use Rattle.script_engine.specs.Worked.{TellsIdleAsLongAsTheAge, TellsIdleLongerThanTheAge};
+ghost use Rattle.script_engine.specs.Worked.{TellsAsOldAsTheLifetime, TellsOlderThanTheLifetime};
+ghost use Rattle.script_engine.specs.Worked.{TellsAnotherLaneAtTheHostLimit, TellsForbiddenAndCut};
+ghost use Rattle.script_engine.specs.Worked.{TellsMomentGoesBack, TellsOptionsInAnotherOrder};
+ghost use Rattle.script_engine.specs.Worked.{TellsOneSiteInTwoSpellings, TellsWaitThenClaim};
+ghost use Rattle.script_engine.specs.Worked.{TellsWithdrawAGrant, TellsMomentsClampedPerHost};
+ghost use Rattle.script_engine.specs.Worked.{TellsTicketsAreNoLeases, TellsServedInOrder};
+ghost use Rattle.script_engine.specs.Worked.{TellsAnOptionTwice, TellsUnknownCommand};
+ghost use Rattle.script_engine.specs.Worked.{TellsSecondLimits, TellsBadSite, TellsTwoSites};
+ghost use Rattle.script_engine.specs.Worked.{TellsLongestLine, TellsLineTooLongByOne, TellsEvents};
+ghost use Rattle.script_engine.specs.Worked.{TellsLeases};
 
-/// The transcripts of small scripts, by computation: twelve of the worked ones, three more of transfers
-/// that wait, the options of `get` in another order, one site in two spellings, and one script of each
-/// fault that a line can have; and of one the lines of the log behind it.
+/// The transcripts of small scripts, by computation: twelve of the worked ones, three more of
+/// transfers that wait, the options of `get` in another order, one site in two spellings, and one
+/// script of each fault that a line can have; and of one the lines of the log behind it.
 pub fn worked_scripts()
     ensures reuse_then_drop { TellsReuseThenDrop }
     ensures busy_and_no_such_site { TellsBusyAndNoSuchSite }

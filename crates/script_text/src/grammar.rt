@@ -1,6 +1,8 @@
-ghost use Rattle.std.specs.Prelude.{◌≡◌, ℕ, List, [], ◌∷◌};
+ghost use Rattle.std.specs.Prelude.{◌≡◌};
 ghost use Rattle.script_text.specs.Words.{words};
-ghost use Rattle.script_text.specs.Grammar.{ending_of, ending_first, if_none_left, limits_form, site_form, get_form, claim_form, back_form, drop_form, leave_form, look_form, command_of, reading};
+ghost use Rattle.script_text.specs.Grammar.{ending_of, ending_first, if_none_left, limits_form};
+ghost use Rattle.script_text.specs.Grammar.{site_form, get_form, claim_form, back_form, drop_form};
+ghost use Rattle.script_text.specs.Grammar.{leave_form, look_form, command_of, reading};
 ghost use Rattle.std.specs.Option.{option_map};
 
 use crate::command::{Action, Command, Ending, Limits};
@@ -11,7 +13,8 @@ use crate::words::{first_word, is_blank, is_word, text_first, u32_first, u64_fir
 
 /// How the response ended, and the line after it.
 fn ending_first(line: &[u8]) -> Option<(Ending, &[u8])>
-    ensures { option_map (λ found. (found.0, words found.1.now)) result ≡ ending_first (words line.now) }
+    ensures { option_map (λ found. (found.0, words found.1.now)) result
+        ≡ ending_first (words line.now) }
 {
     let (word, others) = first_word(line)?;
     let ending = ending_of(word)?;

@@ -3,7 +3,9 @@
 ghost use Rattle.std.specs.Prelude.{◌≡◌, ◌≤◌, ◌∷◌, length, MatchOption, None};
 ghost use Rattle.conn_log.specs.declared.entry.Want.{Want};
 ghost use Rattle.script_text.specs.Words.{words};
-ghost use Rattle.script_text.specs.Grammar.{no_options, options_of, takes_number, with_age, with_life, with_number, with_fresh, with_forbid, with_word, want_of};
+ghost use Rattle.script_text.specs.Grammar.{no_options, options_of, takes_number, with_age};
+ghost use Rattle.script_text.specs.Grammar.{with_life, with_number, with_fresh, with_forbid};
+ghost use Rattle.script_text.specs.Grammar.{with_word, want_of};
 
 use crate::words::{first_word, is_word, u64_first};
 use conn_log::Want;
@@ -52,7 +54,10 @@ pub fn read_options(line: &[u8]) -> Option<Options>
 
 /// The options with the one of that name, and the line after it.
 fn with_option<'a>(options: Options, name: &[u8], line: &'a [u8]) -> Option<(Options, &'a [u8])>
-    ensures { MatchOption result (options_of options (name.now ∷ words line.now) ≡ None) (λ found. (options_of options (name.now ∷ words line.now) ≡ options_of found.0 (words found.1.now)) × (length (words found.1.now) ≤ length (words line.now))) }
+    ensures { MatchOption result (options_of options (name.now ∷ words line.now)
+        ≡ None) (λ found. (options_of options (name.now ∷ words line.now)
+        ≡ options_of found.0 (words found.1.now)) ×
+        (length (words found.1.now) ≤ length (words line.now))) }
 {
     if takes_number(name) {
         let (number, others) = u64_first(line)?;

@@ -106,7 +106,8 @@ pub struct LookLine {
 }
 
 impl fmt::Display for LookLine {
-    ghost output = { λ line. Some (look_line line.host line.alive line.idle line.leased line.waiting line.queued) };
+    ghost output = { λ line. Some (look_line line.host line.alive line.idle line.leased line.waiting
+        line.queued) };
 
     fn fmt<W: fmt::Write>(&self, f: &mut fmt::Formatter<W>) -> fmt::Result {
         let LookLine {
@@ -120,7 +121,8 @@ impl fmt::Display for LookLine {
         let queued = if queued { "yes" } else { "no" };
         write!(
             f,
-            "host {host} open {alive} idle {idle} leased {leased} waiting {waiting} queued {queued}\n"
+            "host {host} open {alive} idle {idle} leased {leased} \
+            waiting {waiting} queued {queued}\n"
         )
     }
 }

@@ -1,7 +1,8 @@
 //! The replies of a transcript, and its lines of events, as texts.
 
 ghost use Rattle.std.specs.Prelude.{◌≤◌, flat_map, string_bytes, length, reverse, drop};
-ghost use Rattle.script_text.specs.Printing.{entry_line, refused, claimed_line, still_line, GivesText};
+ghost use Rattle.script_text.specs.Printing.{entry_line, refused, claimed_line, still_line};
+ghost use Rattle.script_text.specs.Printing.{GivesText};
 
 use crate::fault::FaultKind;
 use crate::printing::EntryLine;
@@ -47,7 +48,8 @@ pub fn lines_since(
     by: u64,
 ) -> Result<String, FaultKind>
     requires { place ≤ length log.now.entries }
-    ensures { GivesText string_bytes (flat_map (entry_line host by) (drop place (reverse log.now.entries))) result }
+    ensures { GivesText string_bytes (flat_map (entry_line host by)
+        (drop place (reverse log.now.entries))) result }
 {
     let mut text = String::new(alloc);
     for entry in log.since(place) {

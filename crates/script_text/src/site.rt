@@ -34,11 +34,12 @@ impl<'a> SiteWord<'a> {
 
     /// The target that the word leads to.
     ///
-    /// Errors: `BadSite` where the word isn't UTF-8 or isn't an `http` URL of at most 2,048 bytes, and
-    /// `Memory`.
+    /// Errors: `BadSite` where the word isn't UTF-8 or isn't an `http` URL of at most 2,048 bytes,
+    /// and `Memory`.
     pub fn target(&self, alloc: Global) -> Result<Target, FaultKind>
         ensures ok { IfOk result (λ target. site_named self.now ≡ Some (site_of target)) }
-        ensures err { IfErr result (λ kind. (kind ≡ FaultKind.Memory) ⊎ ((kind ≡ FaultKind.BadSite) × (site_named self.now ≡ None))) }
+        ensures err { IfErr result (λ kind. (kind ≡ FaultKind.Memory)
+            ⊎ ((kind ≡ FaultKind.BadSite) × (site_named self.now ≡ None))) }
     {
         let Ok(text) = str::from_utf8(self.bytes) else {
             return Err(FaultKind::BadSite);

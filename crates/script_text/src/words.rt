@@ -1,4 +1,5 @@
-ghost use Rattle.std.specs.Prelude.{◌≡◌, ◌≢◌, ℕ, ◌^◌, ◌==◌, ◌≤◌, position, List, [], ◌∷◌, length, MatchOption, OnSome, Some, slice_index, not};
+ghost use Rattle.std.specs.Prelude.{◌≡◌, ◌≢◌, ◌^◌, ◌==◌, ◌≤◌, position, [], ◌∷◌, length};
+ghost use Rattle.std.specs.Prelude.{MatchOption, Some, slice_index};
 ghost use Rattle.std.specs.Option.{option_map};
 ghost use Rattle.std.specs.List.{list_all, position_or_len};
 ghost use Rattle.std.specs.Char.{is_ascii_digit};
@@ -40,7 +41,8 @@ fn without_spaces(line: &[u8]) -> &[u8]
 
 /// The first word of a line, and the line after it.
 pub fn first_word(line: &[u8]) -> Option<(&[u8], &[u8])>
-    ensures { MatchOption result (words line.now ≡ []) (λ found. words line.now ≡ found.0.now ∷ words found.1.now) }
+    ensures { MatchOption result (words line.now ≡ []) (λ found. words line.now
+        ≡ found.0.now ∷ words found.1.now) }
 {
     let text = without_spaces(line);
     if text.is_empty() {
@@ -89,7 +91,8 @@ fn small_number_of(word: &[u8]) -> Option<u32>
 
 /// A number of 64 bits, and the line after it.
 pub fn u64_first(line: &[u8]) -> Option<(u64, &[u8])>
-    ensures { option_map (λ found. (found.0, words found.1.now)) result ≡ number_first (2 ^ 64) (words line.now) }
+    ensures { option_map (λ found. (found.0, words found.1.now)) result
+        ≡ number_first (2 ^ 64) (words line.now) }
 {
     let (word, others) = first_word(line)?;
     let number = number_of(word)?;
@@ -98,7 +101,8 @@ pub fn u64_first(line: &[u8]) -> Option<(u64, &[u8])>
 
 /// A number of 32 bits, and the line after it.
 pub fn u32_first(line: &[u8]) -> Option<(u32, &[u8])>
-    ensures { option_map (λ found. (found.0, words found.1.now)) result ≡ number_first (2 ^ 32) (words line.now) }
+    ensures { option_map (λ found. (found.0, words found.1.now)) result
+        ≡ number_first (2 ^ 32) (words line.now) }
 {
     let (word, others) = first_word(line)?;
     let number = small_number_of(word)?;
@@ -107,7 +111,8 @@ pub fn u32_first(line: &[u8]) -> Option<(u32, &[u8])>
 
 /// The line after a word that is that text.
 pub fn text_first<'a>(text: &str, line: &'a [u8]) -> Option<&'a [u8]>
-    ensures { option_map (λ others. words others.now) result ≡ text_first text.now (words line.now) }
+    ensures { option_map (λ others. words others.now) result
+        ≡ text_first text.now (words line.now) }
 {
     let (word, others) = first_word(line)?;
     if is_word(word, text) {
