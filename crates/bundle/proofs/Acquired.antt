@@ -8,7 +8,7 @@ use Rattle.conn_log.specs.declared.entry.Event.TheVariants.{Leased, Closed, Wait
 use Rattle.conn_log.specs.declared.entry.Entry.{Entry}
 use Rattle.conn_log.specs.Connections.{idle_connections, is_idle, holds, holder_want, held_number}
 use Rattle.conn_log.specs.Waiting.{waiting, waits, without}
-use Rattle.conn_log.specs.Fit.{suits, is_earlier, first_by, newest_fit, is_too_old_in_lane, oldest_too_old, oldest}
+use Rattle.conn_log.specs.Fit.{suits, is_idle_longer, first_by, newest_fit, is_too_old_in_lane, oldest_too_old, oldest}
 use Rattle.conn_log.specs.Legal.{LimitAndFirst}
 use Rattle.conn_log.specs.Sound.{IsOrderly, IsSound}
 use Rattle.conn_log.proofs.Numbers.{is_among-filter}
@@ -57,7 +57,7 @@ closing_tells settings want moment transfer (suc n) log before u = by_first (old
     by_first : (first : Option ℕ) → oldest_too_old log want moment ≡ first → ((c : ℕ) → AfterClosing settings moment transfer (add moment (Closed c TooOld) log) → told (close_too_old n want moment (add moment (Closed c TooOld) log)) u ≡ told (add moment (Closed c TooOld) log) u) → told (close_before moment log first (close_too_old n want moment)) u ≡ told log u
     by_first None is rest = refl
     by_first (Some c) is rest =
-        let idle = among_idle (is_earlier log) (is_too_old_in_lane log want moment) c is in
+        let idle = among_idle (is_idle_longer log) (is_too_old_in_lane log want moment) c is in
         let none = unheld_idle log c idle in
         let same = told_unheld settings log before.sound.orderly c none (add moment (Closed c TooOld) log) (freed_closed moment c TooOld log) u in
         let closed : AfterClosing settings moment transfer (add moment (Closed c TooOld) log) = record { sound = sound_close settings log before.sound moment before.later c TooOld (before.sound.settled, idle) idle; later = omega arith; free = rw before.free refl; nobody = before.nobody } in
@@ -97,7 +97,7 @@ begun_start settings log want m young same before = by_fit (newest_fit young wan
     with_room false first first_is = starts_new young same before.sound before.nobody before.free (is_full settings young)
     with_room true None first_is = starts_new young same before.sound before.nobody before.free (is_full settings young)
     with_room true (Some c) first_is =
-        let idle = first_among (is_earlier young) (idle_connections young) c first_is in
+        let idle = first_among (is_idle_longer young) (idle_connections young) c first_is in
         let roomy = add m (Closed c HostRoom) young in
         let sound = sound_close settings young before.sound m before.later c HostRoom (before.sound.settled, idle) idle in
         let same' = λ (u : ℕ). told_unheld settings young before.sound.orderly c (unheld_idle young c idle) roomy (freed_closed m c HostRoom young) u ∙ same u in

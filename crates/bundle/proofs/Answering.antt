@@ -1,7 +1,7 @@
 -- What the calls of a bundle leave: who has a lease or a ticket, and the streams that are kept.
 use Rattle.std.proofs.Common.{◌≡◌, ℕ, ◌⊎◌, Bool, true, false, not, ◌&&◌, List, [], ◌∷◌, ◌++◌, Option, Some, None, is_some, refl, sym, ap, subst, inl, inr, ◌∙◌, arith}
 use Rattle.std.specs.Prelude.{◌==◌, if◌then◌else◌}
-use Rattle.std.specs.Option.{option_map, option_map_or, option_or}
+use Rattle.std.specs.Option.{option_map, option_map_or, option_or, IsSome, IfSome, IfNone}
 use mathlib.Core.Bool.{false≢true, beq}
 use Rattle.std.proofs.lemmas.Bool.Decides.{nat_tests, eqb_tells}
 use Rattle.persistence.specs.declared.facts.Facts.{Facts}
@@ -28,7 +28,7 @@ use Rattle.host_state.specs.Queue.{waiting_want}
 use Rattle.bundle.specs.Lease.{HostShown, Leasing, Ticketed, granted_want, is_same_want, GetsLease, GetsTicket, Spends}
 use Rattle.bundle.specs.Grants.{grant_of, without_grant, grant_transfers, with_stream, grant_streams, GrantsKept, with_new, with_passed, IsAlone}
 use Rattle.bundle.specs.Replies.{GivesLease, GivesTicket}
-use Rattle.host_state.specs.State.{facts_of_held}
+use Rattle.host_state.specs.State.{HostState, ComesBack, facts_of_held}
 use Rattle.bundle.proofs.KeptSound.{held_want, only_idle}
 use Rattle.bundle.proofs.Told.{Told, apart_held, holder_awaits_nothing, told_left_others, awaited_none, awaited_waits}
 use Rattle.bundle.proofs.Granting.{leased, ticketed, leased_same, ticketed_same, kept_at, granted_none, kept_others, kept_without, among_without, not_without, is_some-grant_of, Freed, no_stream, stream_of-append, stream_of-push, stream_of-pushed, stream_of-without, stream_of-granted}
@@ -364,3 +364,22 @@ came_back_alone settings log kept transfer held m facts is persists anyone =
     let holder = held_want settings log kept.sound transfer held.number it.number in
     let alone = only_idle settings log kept held.number (ap is_some holder.1) m facts anyone persists in
     record { only = alone.only; lane = it.lane; born = it.born; since = grind (arith, nat_tests) }
+
+-- what is looked up is there, where it would be false that it is not
+pub there_where : {A : Type 0} (found : Option A) (b : Bool) → IfNone found (b ≡ false) → b ≡ true → IsSome found
+there_where None b none is = absurd (false≢true (sym none ∙ is))
+there_where (Some x) b none is = refl
+
+-- what was looked up, and is there, is what the log shows
+pub held_told : (log : List Entry) (t : ℕ) (found : Option Held) (held : Held) → found ≡ Some held → IfSome found (λ (h : Held). held_facts log t ≡ Some (facts_of_held h)) → held_facts log t ≡ Some (facts_of_held held)
+held_told log t found held is told = subst (λ (o : Option Held). IfSome o (λ (h : Held). held_facts log t ≡ Some (facts_of_held h))) is told
+
+-- what is told of what came back, and of nothing
+pub back_told : {S : Type 0} (old new : HostState S) (t : ℕ) (facts : Facts) (stream : S) (m : ℕ) (kept : Option Held) (held : Held) → kept ≡ Some held → IfSome kept (λ (h : Held). ComesBack old new t h facts stream m) → ComesBack old new t held facts stream m
+back_told old new t facts stream m kept held is told = subst (λ (o : Option Held). IfSome o (λ (h : Held). ComesBack old new t h facts stream m)) is told
+
+pub number_told : (c : ℕ) (kept : Option Held) (held : Held) → kept ≡ Some held → IfSome kept (λ (h : Held). h.number ≡ c) → held.number ≡ c
+number_told c kept held is told = subst (λ (o : Option Held). IfSome o (λ (h : Held). h.number ≡ c)) is told
+
+pub none_told : {A P : Type 0} (kept : Option A) → kept ≡ None → IfNone kept P → P
+none_told {A} {P} kept is told = subst (λ (o : Option A). IfNone o P) is told

@@ -14,7 +14,7 @@ use Rattle.conn_log.specs.declared.entry.Event.TheVariants.{Leased, Returned, Cl
 use Rattle.conn_log.specs.declared.entry.Entry.{Entry}
 use Rattle.conn_log.specs.Connections.{last_moment, open_connections, idle_connections, is_among, is_idle, holds, holder_want, held_number}
 use Rattle.conn_log.specs.Waiting.{waiting, waits, without}
-use Rattle.conn_log.specs.Fit.{suits, is_fit, is_earlier, first_by, newest_fit, is_too_old_in_lane, oldest_too_old, oldest}
+use Rattle.conn_log.specs.Fit.{suits, is_fit, is_idle_longer, first_by, newest_fit, is_too_old_in_lane, oldest_too_old, oldest}
 use Rattle.conn_log.specs.Legal.{LimitAndFirst, ends_use, ending_cause, owed, IsAnyone, IsQuiet}
 use Rattle.conn_log.specs.Sound.{IsSound, IsNextAmong, IsNext, is_of_holder, is_of_idle, has_number}
 use Rattle.conn_log.proofs.Numbers.{is_among-filter}
@@ -100,7 +100,7 @@ module _ (settings : LimitAndFirst) (log : List Entry) (sound : IsSound settings
       nothing (Some c) e = absurd (cc)
 
   pub newest_is_fit : (want : Want) (moment c : ℕ) → newest_fit log want moment ≡ Some c → is_fit log want moment c ≡ true
-  newest_is_fit want moment c is = sym (is_among-filter (suits log want moment) c (idle_connections log)) ∙ first_among (λ c d. is_earlier log d c) (filter (suits log want moment) (idle_connections log)) c is
+  newest_is_fit want moment c is = sym (is_among-filter (suits log want moment) c (idle_connections log)) ∙ first_among (λ c d. is_idle_longer log d c) (filter (suits log want moment) (idle_connections log)) c is
 
   -- there is room once an idle one has made it
   not_full_after : (moment c : ℕ) (cause : Cause) → is_idle log c ≡ true → is_full settings (add moment (Closed c cause) log) ≡ false
@@ -159,7 +159,7 @@ closing_keeps settings want moment transfer (suc n) log before = by_first (oldes
 
     by_first : (first : Option ℕ) → oldest_too_old log want moment ≡ first → ((c : ℕ) → is_idle log c ≡ true → AfterClosing settings moment transfer (close_too_old n want moment (add moment (Closed c TooOld) log))) → AfterClosing settings moment transfer (close_before moment log first (close_too_old n want moment))
     by_first None is rest = before
-    by_first (Some c) is rest = rest c (among_idle (is_earlier log) (is_too_old_in_lane log want moment) c is)
+    by_first (Some c) is rest = rest c (among_idle (is_idle_longer log) (is_too_old_in_lane log want moment) c is)
 
 -- the log after a start where nobody waited
 pub nobody_after : (settings : LimitAndFirst) (after : List Entry) → IsSound settings after → waiting after ≡ [] → IsSoundAndQuiet settings after
@@ -184,11 +184,11 @@ kept_start settings want m log before new = by_fit (newest_fit log want m) refl
     with_room : (full : Bool) → is_full settings log ≡ full → (first : Option ℕ) → oldest log ≡ first → IsSoundAndQuiet settings (start_or_wait settings want m (if full then close_for_room m log first else log))
     with_room false is first first_is = starts_new log before.sound before.later before.nobody before.free is
     with_room true is None none =
-        let no_idle = none_first (is_earlier log) (idle_connections log) none in
+        let no_idle = none_first (is_idle_longer log) (idle_connections log) none in
         let after = sound_wait settings log before.sound m before.later want before.free new no_idle in
         or_else settings (is_full settings log) (add m (Waited want) log) (start_new settings want m log) is (record { sound = after; quiet = quiet_full settings (add m (Waited want) log) no_idle (full_is (length (open_connections log)) settings.limit is) after.settled })
     with_room true is (Some c) first_is =
-        let idle = first_among (is_earlier log) (idle_connections log) c first_is in
+        let idle = first_among (is_idle_longer log) (idle_connections log) c first_is in
         starts_new (add m (Closed c HostRoom) log) (sound_close settings log before.sound m before.later c HostRoom (before.sound.settled, idle) idle) (omega arith) before.nobody (still_free settings log before.sound m c HostRoom want.transfer idle before.free) (not_full_after settings log before.sound m c HostRoom idle)
 
     by_fit : (fit : Option ℕ) → newest_fit log want m ≡ fit → IsSoundAndQuiet settings (start_on settings want m log fit)

@@ -1,15 +1,16 @@
 -- What transfers were granted and have not claimed.
-use Rattle.std.specs.Prelude.{◌≡◌, ℕ, ◌<◌, true, false, ◌==◌, if◌then◌else◌, List, [], ◌∷◌, ◌++◌, length, slice_index_or, map, Option, Some, None, is_some}
+use Rattle.std.specs.Prelude.{◌≡◌, ℕ, ◌+◌, ◌<◌, ◌≤◌, true, false, ◌==◌, if◌then◌else◌, List, [], ◌∷◌, ◌++◌, length, slice_index_or, map, Option, Some, None, is_some}
 use Rattle.conn_log.specs.declared.entry.Want.{Want}
 use Rattle.conn_log.specs.declared.entry.Entry.{Entry}
 use Rattle.conn_log.specs.Connections.{is_among, held_number, idle_connections, lane, born, since}
+use Rattle.conn_log.specs.Waiting.{waiting}
 use Rattle.conn_log.specs.Fit.{is_fit}
 use Rattle.conn_log.specs.Legal.{LimitAndFirst}
 use Rattle.bundle.specs.declared.grant.Grant.{Grant}
 use Rattle.host_state.specs.declared.held.Held.{Held}
 use Rattle.host_state.specs.Steps.{next_number}
 use Rattle.bundle.specs.Calls.{last_start}
-use Rattle.bundle.specs.Lease.{granted_want}
+use Rattle.bundle.specs.Lease.{Leasing, granted_want}
 
 -- what a transfer was granted
 abbrev pub grant_of : {S : Type 0} → List (Grant S) → ℕ → Option (Grant S)
@@ -22,10 +23,18 @@ pub record IsPlaceOf {S : Type 0} (transfer : ℕ) (grants : List (Grant S)) (pl
   pub here : (d : Grant S) → ((slice_index_or grants place d).want.transfer == transfer) ≡ true
   pub none_before : (k : ℕ) (d : Grant S) → k < place → ((slice_index_or grants k d).want.transfer == transfer) ≡ false
 
+-- at no place stands what the transfer was granted
+abbrev pub HasNoGrant : {S : Type 0} → ℕ → List (Grant S) → Type 0
+HasNoGrant {S} transfer grants = (k : ℕ) (d : Grant S) → k < length grants → ((slice_index_or grants k d).want.transfer == transfer) ≡ false
+
 -- what the others were granted
 abbrev pub without_grant : {S : Type 0} → ℕ → List (Grant S) → List (Grant S)
 without_grant transfer [] = []
 without_grant transfer (grant ∷ others) = if grant.want.transfer == transfer then others else grant ∷ without_grant transfer others
+
+-- the lease of it, once it is claimed
+abbrev pub granted_lease : {S : Type 0} → ℕ → Grant S → Leasing S
+granted_lease host grant = record { site = host; start = record { number = grant.number; want = grant.want; moment = grant.moment; reused = is_some grant.stream }; stream = grant.stream }
 
 -- the transfers
 abbrev pub grant_transfers : {S : Type 0} → List (Grant S) → List ℕ
@@ -70,3 +79,7 @@ pub record IsAlone (log : List Entry) (held : Held) (moment : ℕ) : Type 0 wher
   pub lane : lane log held.number ≡ held.lane
   pub born : born log held.number ≡ held.born
   pub since : since log held.number ≡ moment
+
+-- room for what the transfers that wait may be granted
+abbrev pub HasSpare : List Entry → ℕ → ℕ → Type 0
+HasSpare log granted capacity = length (waiting log) + granted ≤ capacity

@@ -1,15 +1,15 @@
 -- A lease, a ticket, and what a host shows to those who use its bundle.
-use Rattle.std.specs.Prelude.{◌≡◌, ℕ, ◌-◌, Bool, true, false, ◌==◌, ◌&&◌, if◌then◌else◌, List, length, Option, Some, None}
+use Rattle.std.specs.Prelude.{◌≡◌, ℕ, ◌-◌, Bool, true, false, ◌==◌, ◌&&◌, if◌then◌else◌, List, [], length, Option, Some, None}
 use Rattle.std.specs.Option.{option_map_or, option_and_then}
 use Rattle.std.specs.Bool.{beq}
 use Rattle.conn_log.specs.declared.entry.Want.{Want}
 use Rattle.conn_log.specs.declared.entry.Entry.{Entry}
-use Rattle.conn_log.specs.Connections.{is_among, is_open, open_connections, idle_connections, held_number, holder_want}
+use Rattle.conn_log.specs.Connections.{is_among, is_open, is_held_by, open_connections, idle_connections, held_number, holder_want}
 use Rattle.conn_log.specs.Waiting.{waiting}
 use Rattle.conn_log.specs.Legal.{LimitAndFirst}
 use Rattle.host_state.specs.Queue.{waiting_want}
 use Rattle.bundle.specs.declared.snapshot.Snapshot.{Snapshot}
-use Rattle.bundle.specs.Calls.{Start, Wait}
+use Rattle.bundle.specs.Calls.{Start, Wait, newest_start, newest_wait, last_start}
 use Rattle.host_state.specs.Idle.{stream_of}
 
 -- a lease tells of its host's index and of its start, and may have its connection's stream
@@ -17,6 +17,13 @@ pub record Leasing (S : Type 0) : Type 0 where
   pub site : ℕ
   pub start : Start
   pub stream : Option S
+
+-- on a new connection, which has no stream yet; and on one that was idle, with its stream
+abbrev pub new_lease : {S : Type 0} → ℕ → ℕ → Want → ℕ → Leasing S
+new_lease host number want moment = record { site = host; start = record { number = number; want = want; moment = moment; reused = false }; stream = None }
+
+abbrev pub reusing_lease : {S : Type 0} → ℕ → ℕ → Want → ℕ → S → Leasing S
+reusing_lease host number want moment stream = record { site = host; start = record { number = number; want = want; moment = moment; reused = true }; stream = Some stream }
 
 -- a ticket tells of its host's index and of its wait
 pub record Ticketed : Type 0 where
@@ -55,6 +62,37 @@ is_same_want x y = (x.transfer == y.transfer) && (x.lane == y.lane) && (x.max_ag
 -- a ticket is no stranger where its transfer waits with its want, or has yet to claim what it was granted for it
 abbrev pub is_valid_ticket : {S : Type 0} → HostShown S → Want → Bool
 is_valid_ticket host want = option_map_or (is_same_want want) (ticket_want host want.transfer) false
+
+-- a host without connections
+abbrev pub IsNewHost : {S : Type 0} → ℕ → ℕ → ℕ → HostShown S → Type 0
+IsNewHost limit index first bundle = bundle ≡ record { log = []; settings = record { limit = limit; first = first }; host = index; streams = []; unclaimed = [] }
+
+-- the transfer holds the lease's connection, as the log shows
+abbrev pub is_held_lease : {S : Type 0} → HostShown S → Leasing S → Bool
+is_held_lease host lease = is_held_by host.log lease.start.want.transfer lease.start.number
+
+-- the lease, or the ticket, that the newest entry of a log tells of, at the host of that index
+abbrev pub IsLeaseOf : {S : Type 0} → ℕ → List Entry → Leasing S → Type 0
+IsLeaseOf host log lease = (newest_start log ≡ Some lease.start) × (lease.site ≡ host)
+
+abbrev pub IsTicketOf : ℕ → List Entry → Ticketed → Type 0
+IsTicketOf host log ticket = (newest_wait log ≡ Some ticket.wait) × (ticket.site ≡ host)
+
+-- the lease of what the transfer was granted and has yet to claim
+abbrev pub WasGranted : {S : Type 0} → HostShown S → ℕ → Leasing S → Type 0
+WasGranted host transfer lease = (is_unclaimed host transfer ≡ true) × (last_start host.log transfer ≡ Some lease.start) × (lease.site ≡ host.host)
+
+-- where its connection was idle before, the lease has the stream that was kept under its number; else none
+abbrev pub HasItsStream : {S : Type 0} → List (ℕ × S) → Leasing S → Type 0
+HasItsStream streams lease = lease.stream ≡ (if lease.start.reused then stream_of streams lease.start.number else None)
+
+-- where the lease's connection is still open, the host has the lease's stream under its number
+abbrev pub KeepsItsStream : {S : Type 0} → HostShown S → Leasing S → Type 0
+KeepsItsStream host lease = is_open host.log lease.start.number ≡ true → stream_of host.streams lease.start.number ≡ lease.stream
+
+-- every connection that is still open keeps its stream
+abbrev pub KeepsStreams : {S : Type 0} → HostShown S → HostShown S → Type 0
+KeepsStreams old new = (d : ℕ) → is_open new.log d ≡ true → stream_of new.streams d ≡ stream_of old.streams d
 
 -- every other connection that is still open keeps its stream
 abbrev pub KeepsOthers : {S : Type 0} → ℕ → HostShown S → HostShown S → Type 0

@@ -5,7 +5,7 @@ use crate::ticket::Ticket;
 pub enum Got<S> {
     /// A connection.
     Lease(Lease<S>),
-    /// A place among those that wait at the host.
+    /// A ticket: the transfer waits at the host.
     Wait(Ticket),
 }
 

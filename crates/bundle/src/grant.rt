@@ -2,7 +2,7 @@ ghost use Rattle.std.specs.Prelude.{◌≡◌, ◌==◌, ℕ, ◌+◌, ◌<◌, 
 ghost use Rattle.std.specs.Option.{option_map};
 ghost use Rattle.bundle.specs.declared.grant.Grant.{Grant};
 ghost use Rattle.conn_log.specs.declared.entry.Want.{Want};
-ghost use Rattle.bundle.specs.Grants.{grant_of, without_grant, IsPlaceOf};
+ghost use Rattle.bundle.specs.Grants.{grant_of, without_grant, IsPlaceOf, HasNoGrant};
 
 use conn_log::Want;
 
@@ -48,7 +48,7 @@ pub(crate) fn take_grant<S>(grants: &mut Vec<Grant<S>>, transfer: u64) -> Option
 #[inline(always)]
 fn place_of<S>(grants: &[Grant<S>], transfer: u64) -> Option<usize>
     ensures some { IfSome result (λ place. IsPlaceOf transfer grants.now place) }
-    ensures none { IfNone result ((k : ℕ) (d : Grant S) → k < length grants.now → ((slice_index_or grants.now k d).want.transfer == transfer) ≡ false) }
+    ensures none { IfNone result (HasNoGrant transfer grants.now) }
 {
     let mut place = 0;
     while place < grants.len() {

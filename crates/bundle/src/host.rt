@@ -8,7 +8,8 @@ ghost use Rattle.conn_log.specs.Sound.{IsSound};
 ghost use Rattle.host_state.specs.Steps.{is_exhausted};
 ghost use Rattle.bundle.specs.Calls.{after_acquire, after_give_back, after_abandon, after_withdraw, newest_start, newest_wait, last_start, refusal, GrowsBy};
 ghost use Rattle.host_state.specs.Idle.{stream_of};
-ghost use Rattle.bundle.specs.Lease.{HostShown, is_unclaimed, is_valid_ticket, is_same_want, KeepsOthers, GetsLease, GetsTicket, Spends, StaysThere, snapshot_of};
+ghost use Rattle.bundle.specs.Lease.{HostShown, is_unclaimed, is_valid_ticket, is_same_want, IsNewHost, is_held_lease, IsLeaseOf, IsTicketOf, WasGranted, HasItsStream, KeepsItsStream, KeepsStreams, KeepsOthers, GetsLease, GetsTicket, Spends, StaysThere, snapshot_of};
+ghost use Rattle.host_state.specs.State.{HasRoomToSpend};
 ghost use Rattle.bundle.specs.Replies.{IfLeased, IfWaits, IfClaimed, IfStill};
 
 use crate::answers::{Claimed, Got};
@@ -20,7 +21,7 @@ use crate::snapshot::Snapshot;
 use crate::ticket::Ticket;
 use conn_log::{Cause, Log, Stamp, Want};
 use host_state::State;
-use persistence::{Facts, persists};
+use persistence::Facts;
 use std::alloc::Global;
 use std::marker::Model;
 
@@ -36,17 +37,23 @@ impl<S: Drop> Model for Bundle<S> {
     ghost use Rattle.conn_log.specs.Waiting.{waiting};
     ghost use Rattle.bundle.specs.Laws.{IsSoundAndQuiet};
     ghost use Rattle.bundle.specs.Lease.{HostShown};
-    ghost use Rattle.bundle.specs.Grants.{grant_streams, grant_transfers, GrantsKept};
+    ghost use Rattle.bundle.specs.Grants.{grant_streams, grant_transfers, GrantsKept, HasSpare};
 
     ghost Value = { HostShown S };
 
-    ghost view = { λ bundle. record { log = bundle.state.log; settings = bundle.state.settings; host = bundle.state.host; streams = grant_streams bundle.grants.items ++ bundle.state.streams; unclaimed = grant_transfers bundle.grants.items } };
+    ghost view = { λ bundle. record {
+      log = bundle.state.log;
+      settings = bundle.state.settings;
+      host = bundle.state.host;
+      streams = grant_streams bundle.grants.items ++ bundle.state.streams;
+      unclaimed = grant_transfers bundle.grants.items;
+    } };
 
     ghost invariant = { λ bundle. record {
       booked : bundle.state.booked ≡ 0;
       settled : IsSoundAndQuiet bundle.state.settings bundle.state.log;
       grants : GrantsKept bundle.state.log bundle.grants.items;
-      room : length (waiting bundle.state.log) + vec_len bundle.grants ≤ vec_capacity bundle.grants;
+      spare : HasSpare bundle.state.log (vec_len bundle.grants) (vec_capacity bundle.grants);
     } };
 }
 
@@ -57,7 +64,7 @@ impl<S: Drop> Bundle<S> {
     /// The only refusal is [`Refusal::Memory`].
     pub fn new(alloc: Global, host_limit: u32, host: u32, first: u32) -> Result<Self, Refusal>
         requires { 0 < first }
-        ensures ok { IfOk result (λ bundle. bundle ≡ record { log = []; settings = record { limit = host_limit; first = first }; host = host; streams = []; unclaimed = [] }) }
+        ensures ok { IfOk result (λ bundle. IsNewHost host_limit host first bundle) }
         ensures err { IfErr result (λ refusal. refusal ≡ Refusal.Memory) }
     {
         Ok(Bundle {
@@ -81,7 +88,7 @@ impl<S: Drop> Bundle<S> {
         ensures sound { IsSound self.now.settings self.now.log }
         ensures legal { IsLegal self.now.settings self.now.log }
         ensures quiet { IsQuiet self.now.settings false self.now.log }
-        ensures room { let leased = length (open_connections self.now.log) - length (idle_connections self.now.log) in 3 * length (waiting self.now.log) + 2 * leased + length (idle_connections self.now.log) ≤ result.now.room }
+        ensures room { HasRoomToSpend self.now.log result.now.room }
     {
         self.state.log()
     }
@@ -107,9 +114,10 @@ impl<S: Drop> Bundle<S> {
     }
 
     /// Leases a connection to the transfer: the newest idle one that fits its want, else a new one,
-    /// for which the oldest idle one is closed where the host is at its limit. Before that, idle ones
-    /// of its lane that are too old for it are closed, unless it wants a new one. Where others wait
-    /// here, or the host is at its limit with nothing idle, the transfer waits. `now` is in seconds.
+    /// for which the oldest idle one is closed where the host is at its limit. Before that, idle
+    /// ones of its lane that are too old for it are closed, unless it wants a new one. Where others
+    /// wait here, or the host is at its limit with nothing idle, the transfer waits. `now` is in
+    /// seconds.
     ///
     /// All memory that the lease or ticket and its end will need is taken first. Refused, in this
     /// order, with [`Refusal::TransferBusy`] where the transfer holds a connection or waits here,
@@ -117,22 +125,27 @@ impl<S: Drop> Bundle<S> {
     /// waiting transfers may need, and with [`Refusal::Memory`] where memory runs out.
     #[inline(always)]
     pub fn acquire(&mut self, want: Want, now: u64) -> Result<Got<S>, Refusal>
-        ensures log { OnOk result (self.new.log ≡ after_acquire self.old.settings self.old.log want now) }
-        ensures lease { IfLeased result (λ lease. (newest_start self.new.log ≡ Some lease.start) × (lease.site ≡ self.old.host)) }
-        ensures ticket { IfWaits result (λ ticket. (newest_wait self.new.log ≡ Some ticket.wait) × (ticket.site ≡ self.old.host)) }
+        ensures log { OnOk result
+            (self.new.log ≡ after_acquire self.old.settings self.old.log want now) }
+        ensures lease { IfLeased result (IsLeaseOf self.old.host self.new.log) }
+        ensures ticket { IfWaits result (IsTicketOf self.old.host self.new.log) }
         ensures has_stream { IfLeased result (λ lease. is_some lease.stream ≡ lease.start.reused) }
-        ensures stream { IfLeased result (λ lease. lease.stream ≡ (if lease.start.reused then stream_of self.old.streams lease.start.number else None)) }
-        ensures streams { IfLeased result (λ lease. KeepsOthers lease.start.number self.old self.new) }
-        ensures kept { IfWaits result (λ ticket. (d : ℕ) → is_open self.new.log d ≡ true → stream_of self.new.streams d ≡ stream_of self.old.streams d) }
+        ensures stream { IfLeased result (HasItsStream self.old.streams) }
+        ensures streams { IfLeased result
+            (λ lease. KeepsOthers lease.start.number self.old self.new) }
+        ensures kept { IfWaits result (λ ticket. KeepsStreams self.old self.new) }
 
         // Each refusal comes exactly where the log gives it; else only memory can be short.
-        ensures refused { IfSome (refusal self.old.settings self.old.log want) (λ reason. result ≡ Err reason) }
-        ensures else_memory { IfErr result (λ reason. (refusal self.old.settings self.old.log want ≡ Some reason) ⊎ (reason ≡ Refusal.Memory)) }
+        ensures refused { IfSome (refusal self.old.settings self.old.log want)
+            (λ reason. result ≡ Err reason) }
+        ensures else_memory { let due = refusal self.old.settings self.old.log want in
+            IfErr result (λ reason. (due ≡ Some reason) ⊎ (reason ≡ Refusal.Memory)) }
         ensures err { OnErr result (self.new ≡ self.old) }
 
         // For those above: who has a lease or a ticket after the call, that the log only grew, and
         // that the host stays.
-        ensures gets_lease { IfLeased result (λ lease. GetsLease self.old self.new want.transfer lease.start.number) }
+        ensures gets_lease { IfLeased result
+            (λ lease. GetsLease self.old self.new want.transfer lease.start.number) }
         ensures gets_ticket { IfWaits result (λ ticket. GetsTicket self.old self.new want) }
         ensures grew { OnOk result (GrowsBy self.old.log self.new.log) }
         ensures same { StaysThere self.old self.new }
@@ -175,16 +188,21 @@ impl<S: Drop> Bundle<S> {
     /// yet to claim what it was granted for that want.
     pub fn claim(&mut self, ticket: Ticket) -> Result<Claimed<S>, Stray<Ticket>>
         ensures ok { OnOk result (is_valid_ticket self.old ticket.wait.want ≡ true) }
-        ensures strange { IfErr result (λ stray. (is_valid_ticket self.old ticket.wait.want ≡ false) × (stray ≡ ticket)) }
+        ensures strange { IfErr result (λ stray.
+            (is_valid_ticket self.old ticket.wait.want ≡ false) × (stray ≡ ticket)) }
         ensures log { self.new.log ≡ self.old.log }
-        ensures lease { IfClaimed result (λ lease. (is_unclaimed self.old ticket.wait.want.transfer ≡ true) × (last_start self.old.log ticket.wait.want.transfer ≡ Some lease.start) × (lease.site ≡ self.old.host)) }
+        ensures lease { IfClaimed result (WasGranted self.old ticket.wait.want.transfer) }
         ensures want { IfClaimed result (λ lease. lease.start.want ≡ ticket.wait.want) }
         ensures has_stream { IfClaimed result (λ lease. is_some lease.stream ≡ lease.start.reused) }
-        ensures stream { IfClaimed result (λ lease. lease.stream ≡ (if lease.start.reused then stream_of self.old.streams lease.start.number else None)) }
-        ensures streams { IfClaimed result (λ lease. KeepsOthers lease.start.number self.old self.new) }
-        ensures still { IfStill result (λ same. (is_unclaimed self.old ticket.wait.want.transfer ≡ false) × (same ≡ ticket) × (self.new ≡ self.old)) }
+        ensures stream { IfClaimed result (HasItsStream self.old.streams) }
+        ensures streams { IfClaimed result
+            (λ lease. KeepsOthers lease.start.number self.old self.new) }
+        ensures still { IfStill result (λ same.
+            (is_unclaimed self.old ticket.wait.want.transfer ≡ false)
+            × (same ≡ ticket) × (self.new ≡ self.old)) }
         ensures err { OnErr result (self.new ≡ self.old) }
-        ensures gets_lease { IfClaimed result (λ lease. GetsLease self.old self.new ticket.wait.want.transfer lease.start.number) }
+        ensures gets_lease { IfClaimed result (λ lease.
+            GetsLease self.old self.new ticket.wait.want.transfer lease.start.number) }
         ensures same { StaysThere self.old self.new }
     {
         let want = ticket.want();
@@ -198,11 +216,11 @@ impl<S: Drop> Bundle<S> {
         Ok(Claimed::Lease(Lease::granted(self.state.host(), grant)))
     }
 
-    /// Takes a connection back with the facts of its response. Where it persists and its want allows
-    /// reuse, it goes to the first transfer that waits, or is idle from then on, with its stream;
-    /// where that transfer's want does not fit it, it is closed, and one is opened for that transfer.
-    /// Else it is closed, and one is opened for the first transfer that waits. `now` is in seconds.
-    /// It takes no memory.
+    /// Takes a connection back with the facts of its response. Where it persists and its want
+    /// allows reuse, it goes to the first transfer that waits, or is idle from then on, with its
+    /// stream; where that transfer's want does not fit it, it is closed, and one is opened for that
+    /// transfer. Else it is closed, and one is opened for the first transfer that waits. `now` is
+    /// in seconds. It takes no memory.
     ///
     /// A lease that this host's log does not show comes back in a [`Stray`].
     #[inline(always)]
@@ -213,31 +231,44 @@ impl<S: Drop> Bundle<S> {
         now: u64,
     ) -> Result<(), Stray<Lease<S>>>
         requires { IsSome lease.stream }
-        ensures ok { OnOk result (is_held_by self.old.log lease.start.want.transfer lease.start.number ≡ true) }
-        ensures strange { IfErr result (λ stray. (is_held_by self.old.log lease.start.want.transfer lease.start.number ≡ false) × (stray ≡ lease)) }
-        ensures log { OnOk result (self.new.log ≡ after_give_back self.old.settings self.old.log lease.start.number facts now) }
-        ensures stream { OnOk result (is_open self.new.log lease.start.number ≡ true → stream_of self.new.streams lease.start.number ≡ lease.stream) }
+        ensures ok { OnOk result (is_held_lease self.old lease ≡ true) }
+        ensures strange { IfErr result
+            (λ stray. (is_held_lease self.old lease ≡ false) × (stray ≡ lease)) }
+        ensures log { let number = lease.start.number in
+            OnOk result
+            (self.new.log ≡ after_give_back self.old.settings self.old.log number facts now) }
+        ensures stream { OnOk result (KeepsItsStream self.new lease) }
         ensures streams { OnOk result (KeepsOthers lease.start.number self.old self.new) }
         ensures err { OnErr result (self.new ≡ self.old) }
         ensures spends { OnOk result (Spends self.old self.new lease.start.want.transfer) }
         ensures grew { OnOk result (GrowsBy self.old.log self.new.log) }
         ensures same { StaysThere self.old self.new }
     {
-        let transfer = lease.transfer();
-        let Some(held) = self.state.held(transfer, lease.number()) else {
-            return Err(Stray::new(lease));
-        };
+        let mut lease = lease;
+        let (transfer, number) = (lease.transfer(), lease.number());
         let moment = self.state.moment(now);
-        let stream = lease.into_stream().unwrap();
-        let _ = take_grant(&mut self.grants, transfer);
-        if persists(&facts) && !held.forbids_reuse {
-            self.state.come_back(transfer, held, facts, stream, moment);
-            pass_to_head(&mut self.state, &mut self.grants, &held, moment);
-            return Ok(());
+        let stream = lease.detach();
+        match self
+            .state
+            .give_back(transfer, number, facts, stream, moment)
+        {
+            Ok(Some(held)) => {
+                let _ = lease.into_stream();
+                let _ = take_grant(&mut self.grants, transfer);
+                pass_to_head(&mut self.state, &mut self.grants, &held, moment);
+                Ok(())
+            }
+            Ok(None) => {
+                let _ = lease.into_stream();
+                let _ = take_grant(&mut self.grants, transfer);
+                open_for_head(&mut self.state, &mut self.grants, moment);
+                Ok(())
+            }
+            Err(stream) => {
+                lease.attach(stream);
+                Err(Stray::new(lease))
+            }
         }
-        self.state.end_use(transfer, held, facts, moment);
-        open_for_head(&mut self.state, &mut self.grants, moment);
-        Ok(())
     }
 
     /// Closes a leased connection without a response, and opens one for the first transfer that
@@ -245,9 +276,11 @@ impl<S: Drop> Bundle<S> {
     ///
     /// A lease that this host's log does not show comes back in a [`Stray`].
     pub fn abandon(&mut self, lease: Lease<S>, now: u64) -> Result<(), Stray<Lease<S>>>
-        ensures ok { OnOk result (is_held_by self.old.log lease.start.want.transfer lease.start.number ≡ true) }
-        ensures strange { IfErr result (λ stray. (is_held_by self.old.log lease.start.want.transfer lease.start.number ≡ false) × (stray ≡ lease)) }
-        ensures log { OnOk result (self.new.log ≡ after_abandon self.old.settings self.old.log lease.start.number now) }
+        ensures ok { OnOk result (is_held_lease self.old lease ≡ true) }
+        ensures strange { IfErr result
+            (λ stray. (is_held_lease self.old lease ≡ false) × (stray ≡ lease)) }
+        ensures log { let number = lease.start.number in
+            OnOk result (self.new.log ≡ after_abandon self.old.settings self.old.log number now) }
         ensures streams { OnOk result (KeepsOthers lease.start.number self.old self.new) }
         ensures err { OnErr result (self.new ≡ self.old) }
         ensures spends { OnOk result (Spends self.old self.new lease.start.want.transfer) }
@@ -268,16 +301,19 @@ impl<S: Drop> Bundle<S> {
     }
 
     /// Takes a ticket back: its transfer waits no more, or the connection that it was granted is
-    /// closed, and one is opened for the first transfer that waits. `now` is in seconds. It takes no
-    /// memory.
+    /// closed, and one is opened for the first transfer that waits. `now` is in seconds. It takes
+    /// no memory.
     ///
     /// A ticket comes back in a [`Stray`] where its transfer neither waits with its want nor has
     /// yet to claim what it was granted for that want.
     pub fn withdraw(&mut self, ticket: Ticket, now: u64) -> Result<(), Stray<Ticket>>
         ensures ok { OnOk result (is_valid_ticket self.old ticket.wait.want ≡ true) }
-        ensures strange { IfErr result (λ stray. (is_valid_ticket self.old ticket.wait.want ≡ false) × (stray ≡ ticket)) }
-        ensures log { OnOk result (self.new.log ≡ after_withdraw self.old.settings self.old.log ticket.wait.want.transfer now) }
-        ensures streams { OnOk result ((d : ℕ) → is_open self.new.log d ≡ true → stream_of self.new.streams d ≡ stream_of self.old.streams d) }
+        ensures strange { IfErr result (λ stray.
+            (is_valid_ticket self.old ticket.wait.want ≡ false) × (stray ≡ ticket)) }
+        ensures log { let transfer = ticket.wait.want.transfer in
+            OnOk result
+            (self.new.log ≡ after_withdraw self.old.settings self.old.log transfer now) }
+        ensures streams { OnOk result (KeepsStreams self.old self.new) }
         ensures err { OnErr result (self.new ≡ self.old) }
         ensures spends { OnOk result (Spends self.old self.new ticket.wait.want.transfer) }
         ensures grew { OnOk result (GrowsBy self.old.log self.new.log) }
@@ -294,9 +330,7 @@ impl<S: Drop> Bundle<S> {
             self.state.leave(transfer, moment);
             return Ok(());
         };
-        let Some(held) = self.state.held(transfer, grant.number) else {
-            unreachable!();
-        };
+        let held = self.state.held(transfer, grant.number).unwrap();
         self.state
             .close_held(transfer, held, Cause::Withdrawn, moment);
         open_for_head(&mut self.state, &mut self.grants, moment);

@@ -2,7 +2,8 @@
 
 ghost use Rattle.bundle.specs.Laws.{AcquireKeepsSoundAndQuiet, GiveBackKeepsSoundAndQuiet, AbandonKeepsSoundAndQuiet, WithdrawKeepsSoundAndQuiet};
 
-/// A sound and quiet log stays so, and so legal, by each call that is not refused, whatever the log.
+/// A sound and quiet log stays so, and so legal, by each call that is not refused, whatever the
+/// log.
 pub fn calls_keep_logs_sound_and_quiet()
     ensures acquire { AcquireKeepsSoundAndQuiet }
     ensures give_back { GiveBackKeepsSoundAndQuiet }

@@ -1,5 +1,6 @@
-ghost use Rattle.std.specs.Prelude.{◌≡◌, is_some, None, Some, true, false};
-ghost use Rattle.bundle.specs.Lease.{Leasing};
+ghost use Rattle.std.specs.Prelude.{◌≡◌, is_some, IsSome, None, Some, true, false};
+ghost use Rattle.bundle.specs.Lease.{Leasing, new_lease, reusing_lease};
+ghost use Rattle.bundle.specs.Grants.{granted_lease};
 
 use crate::grant::Grant;
 use crate::ticket::Ticket;
@@ -22,14 +23,23 @@ impl<S> Model for Lease<S> {
 
     ghost Value = { Leasing S };
 
-    ghost view = { λ lease. record { site = lease.host; start = record { number = lease.number; want = lease.wanted; moment = lease.moment; reused = lease.reused }; stream = lease.stream } };
+    ghost view = { λ lease. record {
+      site = lease.host;
+      start = record {
+        number = lease.number;
+        want = lease.wanted;
+        moment = lease.moment;
+        reused = lease.reused;
+      };
+      stream = lease.stream;
+    } };
 }
 
 impl<S> Lease<S> {
     // A lease on a new connection, which has no stream yet.
     #[inline(always)]
     pub(crate) fn opened(host: u32, number: u32, want: Want, moment: u64) -> Self
-        ensures { result ≡ record { site = host; start = record { number = number; want = want; moment = moment; reused = false }; stream = None } }
+        ensures { result ≡ new_lease host number want moment }
     {
         Lease {
             host,
@@ -44,7 +54,7 @@ impl<S> Lease<S> {
     // A lease on a connection that was idle, with its stream.
     #[inline(always)]
     pub(crate) fn reusing(host: u32, number: u32, want: Want, moment: u64, stream: S) -> Self
-        ensures { result ≡ record { site = host; start = record { number = number; want = want; moment = moment; reused = true }; stream = Some stream } }
+        ensures { result ≡ reusing_lease host number want moment stream }
     {
         Lease {
             host,
@@ -58,7 +68,7 @@ impl<S> Lease<S> {
 
     // A lease on what a transfer was granted.
     pub(crate) fn granted(host: u32, grant: Grant<S>) -> Self
-        ensures { result ≡ record { site = host; start = record { number = grant.number; want = grant.want; moment = grant.moment; reused = is_some grant.stream }; stream = grant.stream } }
+        ensures { result ≡ granted_lease host grant }
     {
         Lease {
             host,
@@ -68,6 +78,16 @@ impl<S> Lease<S> {
             reused: grant.stream.is_some(),
             stream: grant.stream,
         }
+    }
+
+    // Takes its stream out.
+    #[inline(always)]
+    pub(crate) fn detach(&mut self) -> S
+        requires { IsSome self.old.stream }
+        ensures stream { self.old.stream ≡ Some result }
+        ensures rest { self.new ≡ record self.old { stream = None } }
+    {
+        self.stream.take().unwrap()
     }
 
     // The stream, once the lease is spent.

@@ -10,8 +10,8 @@ pub enum Refusal {
     /// The transfer holds a connection of this host already, or waits for one.
     #[error("busy")]
     TransferBusy,
-    /// The connection numbers that are left, up to 4,294,967,295, are those that the waiting transfers
-    /// may need.
+    /// The connection numbers that are left, up to 4,294,967,295, are those that the waiting
+    /// transfers may need.
     #[error("exhausted")]
     Exhausted,
 }

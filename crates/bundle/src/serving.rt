@@ -7,10 +7,11 @@ ghost use Rattle.conn_log.specs.Fit.{is_older};
 ghost use Rattle.conn_log.specs.Legal.{IsAnyone};
 ghost use Rattle.host_state.specs.Steps.{add, is_full};
 ghost use Rattle.bundle.specs.Calls.{start_unless, pass_to, open_for_head, newest_start, newest_wait};
-ghost use Rattle.bundle.specs.Grants.{with_new, with_passed, IsAlone};
+ghost use Rattle.bundle.specs.Grants.{with_new, with_passed, IsAlone, HasSpare};
+ghost use Rattle.bundle.specs.Lease.{IsLeaseOf, IsTicketOf, HasItsStream};
 ghost use Rattle.host_state.specs.Idle.{stream_of};
 ghost use Rattle.bundle.specs.Replies.{GivesLease, GivesTicket};
-ghost use Rattle.host_state.specs.State.{IsSameHost};
+ghost use Rattle.host_state.specs.State.{IsSameHost, KeepsOpen, KeepsOpenBut};
 
 use crate::answers::Got;
 use crate::grant::Grant;
@@ -27,13 +28,15 @@ pub(crate) fn start_or_wait<S: Drop>(state: &mut State<S>, want: Want, moment: u
     requires free { held_number state.old.log want.transfer ≡ None }
     requires once { waits state.old.log want.transfer ≡ false }
     requires quiet { IsAnyone (waiting state.old.log) → idle_connections state.old.log ≡ [] }
-    ensures log { state.new.log ≡ start_unless (waiting state.old.log) state.old.settings want moment state.old.log }
-    ensures lease { GivesLease result (λ lease. (newest_start state.new.log ≡ Some lease.start) × (lease.site ≡ state.old.host)) }
-    ensures ticket { GivesTicket result (λ ticket. (newest_wait state.new.log ≡ Some ticket.wait) × (ticket.site ≡ state.old.host)) }
+    ensures log { let wants = waiting state.old.log in
+        state.new.log ≡ start_unless wants state.old.settings want moment state.old.log }
+    ensures lease { GivesLease result (IsLeaseOf state.old.host state.new.log) }
+    ensures ticket { GivesTicket result (IsTicketOf state.old.host state.new.log) }
     ensures has_stream { GivesLease result (λ lease. is_some lease.stream ≡ lease.start.reused) }
-    ensures stream { GivesLease result (λ lease. lease.stream ≡ (if lease.start.reused then stream_of state.old.streams lease.start.number else None)) }
-    ensures others { GivesLease result (λ lease. (d : ℕ) → (lease.start.number == d) ≡ false → is_open state.new.log d ≡ true → stream_of state.new.streams d ≡ stream_of state.old.streams d) }
-    ensures all { GivesTicket result (λ ticket. (d : ℕ) → is_open state.new.log d ≡ true → stream_of state.new.streams d ≡ stream_of state.old.streams d) }
+    ensures stream { GivesLease result (HasItsStream state.old.streams) }
+    ensures others { GivesLease result
+        (λ lease. KeepsOpenBut lease.start.number state.old state.new) }
+    ensures all { GivesTicket result (λ ticket. KeepsOpen state.old state.new) }
     ensures booked { state.new.booked ≡ 0 }
     ensures same { IsSameHost state.old state.new }
 {
@@ -60,7 +63,10 @@ fn wait_last<S: Drop>(state: &mut State<S>, want: Want, moment: u64) -> Ticket
     requires once { waits state.old.log want.transfer ≡ false }
     requires none_idle { idle_connections state.old.log ≡ [] }
     ensures log { state.new.log ≡ add moment (Waited want) state.old.log }
-    ensures ticket { result ≡ record { site = state.old.host; wait = record { want = want; moment = moment } } }
+    ensures ticket { result ≡ record {
+      site = state.old.host;
+      wait = record { want = want; moment = moment };
+    } }
     ensures streams { state.new.streams ≡ state.old.streams }
     ensures booked { state.new.booked ≡ 0 }
     ensures same { IsSameHost state.old state.new }
@@ -74,11 +80,14 @@ fn wait_last<S: Drop>(state: &mut State<S>, want: Want, moment: u64) -> Ticket
 pub(crate) fn open_for_head<S: Drop>(state: &mut State<S>, grants: &mut Vec<Grant<S>>, moment: u64)
     requires booked { state.old.booked ≡ 0 }
     requires later { last_moment state.old.log ≤ moment }
-    requires room { IsAnyone (waiting state.old.log) → is_full state.old.settings state.old.log ≡ false }
-    requires places { length (waiting state.old.log) + vec_len grants.old ≤ vec_capacity grants.old }
+    requires room { IsAnyone (waiting state.old.log) →
+        is_full state.old.settings state.old.log ≡ false }
+    requires spare { HasSpare state.old.log (vec_len grants.old) (vec_capacity grants.old) }
     ensures log { state.new.log ≡ open_for_head state.old.settings moment state.old.log }
-    ensures grants { grants.new.items ≡ with_new state.old.settings moment state.old.log (waiting state.old.log) grants.old.items }
-    ensures places { length (waiting state.new.log) + vec_len grants.new ≤ vec_capacity grants.new }
+    ensures grants { let log = state.old.log in
+        let wants = waiting state.old.log in
+        grants.new.items ≡ with_new state.old.settings moment log wants grants.old.items }
+    ensures spare { HasSpare state.new.log (vec_len grants.new) (vec_capacity grants.new) }
     ensures streams { state.new.streams ≡ state.old.streams }
     ensures booked { state.new.booked ≡ 0 }
     ensures same { IsSameHost state.old state.new }
@@ -107,11 +116,17 @@ pub(crate) fn pass_to_head<S: Drop>(
     requires booked { state.old.booked ≡ 0 }
     requires later { last_moment state.old.log ≤ moment }
     requires alone { IsAnyone (waiting state.old.log) → IsAlone state.old.log held.now moment }
-    requires places { length (waiting state.old.log) + vec_len grants.old ≤ vec_capacity grants.old }
-    ensures log { state.new.log ≡ pass_to state.old.settings held.now.number moment state.old.log (waiting state.old.log) }
-    ensures grants { grants.new.items ≡ with_passed state.old.settings held.now.number moment (stream_of state.old.streams held.now.number) state.old.log (waiting state.old.log) grants.old.items }
-    ensures places { length (waiting state.new.log) + vec_len grants.new ≤ vec_capacity grants.new }
-    ensures others { (d : ℕ) → (held.now.number == d) ≡ false → is_open state.new.log d ≡ true → stream_of state.new.streams d ≡ stream_of state.old.streams d }
+    requires spare { HasSpare state.old.log (vec_len grants.old) (vec_capacity grants.old) }
+    ensures log { let log = state.old.log in
+        let wants = waiting state.old.log in
+        state.new.log ≡ pass_to state.old.settings held.now.number moment log wants }
+    ensures grants { let log = state.old.log in
+        let wants = waiting state.old.log in
+        let stream = stream_of state.old.streams held.now.number in
+        let passed = with_passed state.old.settings held.now.number moment stream log wants in
+        grants.new.items ≡ passed grants.old.items }
+    ensures spare { HasSpare state.new.log (vec_len grants.new) (vec_capacity grants.new) }
+    ensures others { KeepsOpenBut held.now.number state.old state.new }
     ensures nobody { waiting state.old.log ≡ [] → state.new.streams ≡ state.old.streams }
     ensures booked { state.new.booked ≡ 0 }
     ensures same { IsSameHost state.old state.new }
@@ -136,7 +151,11 @@ pub(crate) fn pass_to_head<S: Drop>(
 // Why a connection that has just come back is closed where it does not fit the want: it is open for
 // longer than the want allows, or it makes room.
 fn unfit_cause(held: &Held, want: &Want, is_full: bool, moment: u64) -> Cause
-    ensures { result ≡ (if (held.now.lane == want.now.lane) && not want.now.fresh && is_older moment held.now.born want.now.max_age want.now.max_life moment then TooOld else (if is_full then HostRoom else TotalRoom)) }
+    ensures { let born = held.now.born in
+        let too_old = is_older moment born want.now.max_age want.now.max_life moment in
+        let room = if is_full then HostRoom else TotalRoom in
+        let same_lane = held.now.lane == want.now.lane in
+        result ≡ (if same_lane && not want.now.fresh && too_old then TooOld else room) }
 {
     let open_for = moment.saturating_sub(held.born);
     let is_too_old = want.max_life != 0 && open_for > want.max_life;

@@ -4,7 +4,7 @@ ghost use Rattle.bundle.specs.Lease.{Ticketed};
 use conn_log::Want;
 use std::marker::Model;
 
-/// One transfer's place among those that wait at a host. It has to be spent: claimed until it gives
+/// What a transfer has that waits at a host. It has to be spent: claimed until it gives
 /// a lease, or withdrawn.
 pub struct Ticket {
     host: u32,
@@ -17,7 +17,10 @@ impl Model for Ticket {
 
     ghost Value = { Ticketed };
 
-    ghost view = { λ ticket. record { site = ticket.host; wait = record { want = ticket.wanted; moment = ticket.began } } };
+    ghost view = { λ ticket. record {
+      site = ticket.host;
+      wait = record { want = ticket.wanted; moment = ticket.began };
+    } };
 }
 
 impl Ticket {

@@ -2,8 +2,8 @@
 
 ghost use Rattle.bundle.specs.Worked.{BusyAndNoSuchSiteCalls, ReuseThenDropCalls, NewestIsReusedCalls, NotPersistentAtTheLimitCalls, IdleAsLongAsTheAgeCalls, IdleLongerThanTheAgeCalls, AsOldAsTheLifetimeCalls, OlderThanTheLifetimeCalls, AnotherLaneAtTheHostLimitCalls, ForbiddenAndCutCalls, MomentGoesBackCalls, MomentsClampedPerHostCalls, WaitThenClaimCalls, WithdrawAGrantCalls, WhatDoesNotFit, NumbersRunOut};
 
-/// What calls answer on small logs, by computation: each clause is named for the script of its log, or
-/// for what its logs show.
+/// What calls answer on small logs, by computation: each clause is named for the script of its log,
+/// or for what its logs show.
 pub fn worked_calls()
     ensures busy_and_no_such_site { BusyAndNoSuchSiteCalls }
     ensures reuse_then_drop { ReuseThenDropCalls }

@@ -37,6 +37,23 @@ pub extern "C" fn warm_rounds(alloc: Global, idle: u32, rounds: u64) -> u64
     use_often(&mut host, rounds)
 }
 
+/// Leaves so many connections idle at a host that may have no more, then opens another one and
+/// gives it back so many times, for which the oldest is closed each time. What is wanted is a new
+/// connection, or else one of a lane that none of them is of, so that they are all searched.
+/// Answers how many were opened: all, unless memory ran out.
+#[unsafe(no_mangle)]
+pub extern "C" fn closing_rounds(alloc: Global, idle: u32, rounds: u32, is_new_wanted: bool) -> u64
+    ensures { result ≤ rounds }
+{
+    let Ok(mut host) = Bundle::new(alloc, idle, 0, 1) else {
+        return 0;
+    };
+    let mut leases = Vec::new(alloc);
+    open_all(&mut host, &mut leases, idle, u64::from(rounds));
+    give_back_all(&mut host, leases);
+    open_often(&mut host, rounds, is_new_wanted)
+}
+
 /// Opens so many connections, each for a transfer of its own.
 fn open_all(host: &mut Bundle<()>, leases: &mut Vec<Lease<()>>, count: u32, max_age: u64) {
     for transfer in 0..count {
@@ -59,11 +76,33 @@ fn use_often(host: &mut Bundle<()>, rounds: u64) -> u64
 {
     let mut reused = 0;
     for round in 0..rounds {
-        if use_once(host, want_of(round, rounds), round) {
+        if let Some(true) = use_once(host, want_of(round, rounds), round) {
             reused += 1;
         }
     }
     reused
+}
+
+/// Acquires a new connection so many times, each of a lane of its own, and gives it back. Answers
+/// how often one was opened.
+fn open_often(host: &mut Bundle<()>, rounds: u32, fresh: bool) -> u64
+    ensures { result ≤ rounds }
+{
+    let mut opened = 0;
+    for round in 0..rounds {
+        let want = Want {
+            transfer: u64::from(round),
+            lane: round.saturating_add(1),
+            max_age: u64::from(rounds),
+            max_life: 0,
+            fresh,
+            forbid_reuse: false,
+        };
+        if let Some(false) = use_once(host, want, u64::from(round)) {
+            opened += 1;
+        }
+    }
+    opened
 }
 
 /// Opens a connection for the transfer of that want.
@@ -79,19 +118,19 @@ fn open_one(host: &mut Bundle<()>, leases: &mut Vec<Lease<()>>, want: Want) {
     }
 }
 
-/// Acquires a connection and gives it back; whether it was idle before.
-fn use_once(host: &mut Bundle<()>, want: Want, moment: u64) -> bool {
+/// Acquires a connection and gives it back. Answers whether it was idle before, if there was one.
+fn use_once(host: &mut Bundle<()>, want: Want, moment: u64) -> Option<bool> {
     match host.acquire(want, moment) {
         Ok(Got::Lease(lease)) => {
             let reused = lease.reused();
             give_back(host, lease, moment);
-            reused
+            Some(reused)
         }
         Ok(Got::Wait(ticket)) => {
             leave(host, ticket, moment);
-            false
+            None
         }
-        Err(_) => false,
+        Err(_) => None,
     }
 }
 

@@ -7,7 +7,7 @@ use Rattle.std.proofs.lemmas.Bool.Decides.{nat_tests, eqb_tells}
 use Rattle.conn_log.specs.declared.entry.Want.{Want}
 use Rattle.conn_log.specs.declared.entry.Entry.{Entry}
 use Rattle.conn_log.specs.Connections.{is_among, idle_connections, is_idle}
-use Rattle.conn_log.specs.Fit.{first_by, is_earlier, suits, newest_fit, is_too_old_in_lane, oldest_too_old, oldest}
+use Rattle.conn_log.specs.Fit.{first_by, is_idle_longer, suits, newest_fit, is_too_old_in_lane, oldest_too_old, oldest}
 use Rattle.conn_log.proofs.Numbers.{is_among-filter}
 
 module _ (goes_before : ℕ → ℕ → Bool) where
@@ -50,7 +50,7 @@ none_left p (x ∷ xs) none =
     rw here (none_left p xs (λ c there. none c (grind (arith, nat_tests, there))))
 
 module _ (log : List Entry) where
-  one_way : (d e : ℕ) → is_earlier log d e ≡ true → is_earlier log e d ≡ false
+  one_way : (d e : ℕ) → is_idle_longer log d e ≡ true → is_idle_longer log e d ≡ false
   one_way d e earlier = grind (arith, nat_tests, earlier)
 
   both : {a b : Bool} → a ≡ true → b ≡ true → (a && b) ≡ true
@@ -67,17 +67,17 @@ module _ (log : List Entry) where
       (among c (idle_connections log) ∙ both idle passes)
       (λ d there other. let parts = split (is_idle log d) (test d) (sym (among d (idle_connections log)) ∙ there) in before d parts.0 parts.1 other)
 
-  pub newest_is : (want : Want) (moment c : ℕ) → is_idle log c ≡ true → suits log want moment c ≡ true → ((d : ℕ) → is_idle log d ≡ true → suits log want moment d ≡ true → (c == d) ≡ false → is_earlier log d c ≡ true) → newest_fit log want moment ≡ Some c
-  newest_is want moment c idle suited before = first_that (λ d e. is_earlier log e d) (λ d e. one_way e d) (suits log want moment) c idle suited before
+  pub newest_is : (want : Want) (moment c : ℕ) → is_idle log c ≡ true → suits log want moment c ≡ true → ((d : ℕ) → is_idle log d ≡ true → suits log want moment d ≡ true → (c == d) ≡ false → is_idle_longer log d c ≡ true) → newest_fit log want moment ≡ Some c
+  newest_is want moment c idle suited before = first_that (λ d e. is_idle_longer log e d) (λ d e. one_way e d) (suits log want moment) c idle suited before
 
   pub newest_none : (want : Want) (moment : ℕ) → ((d : ℕ) → is_idle log d ≡ true → suits log want moment d ≡ false) → newest_fit log want moment ≡ None
   newest_none want moment none = rw (none_left (suits log want moment) (idle_connections log) none) refl
 
-  pub oldest_too_old_is : (want : Want) (moment c : ℕ) → is_idle log c ≡ true → is_too_old_in_lane log want moment c ≡ true → ((d : ℕ) → is_idle log d ≡ true → is_too_old_in_lane log want moment d ≡ true → (c == d) ≡ false → is_earlier log c d ≡ true) → oldest_too_old log want moment ≡ Some c
-  oldest_too_old_is want moment c idle old before = first_that (is_earlier log) one_way (is_too_old_in_lane log want moment) c idle old before
+  pub oldest_too_old_is : (want : Want) (moment c : ℕ) → is_idle log c ≡ true → is_too_old_in_lane log want moment c ≡ true → ((d : ℕ) → is_idle log d ≡ true → is_too_old_in_lane log want moment d ≡ true → (c == d) ≡ false → is_idle_longer log c d ≡ true) → oldest_too_old log want moment ≡ Some c
+  oldest_too_old_is want moment c idle old before = first_that (is_idle_longer log) one_way (is_too_old_in_lane log want moment) c idle old before
 
   pub none_too_old : (want : Want) (moment : ℕ) → ((d : ℕ) → is_idle log d ≡ true → is_too_old_in_lane log want moment d ≡ false) → oldest_too_old log want moment ≡ None
   none_too_old want moment none = rw (none_left (is_too_old_in_lane log want moment) (idle_connections log) none) refl
 
-  pub oldest_is : (c : ℕ) → is_idle log c ≡ true → ((d : ℕ) → is_idle log d ≡ true → (c == d) ≡ false → is_earlier log c d ≡ true) → oldest log ≡ Some c
-  oldest_is c idle before = first_by_is (is_earlier log) one_way c (idle_connections log) idle before
+  pub oldest_is : (c : ℕ) → is_idle log c ≡ true → ((d : ℕ) → is_idle log d ≡ true → (c == d) ≡ false → is_idle_longer log c d ≡ true) → oldest log ≡ Some c
+  oldest_is c idle before = first_by_is (is_idle_longer log) one_way c (idle_connections log) idle before

@@ -23,9 +23,17 @@ suits log want moment c = (lane log c == want.lane) && not want.fresh && not (is
 abbrev pub is_fit : List Entry → Want → ℕ → ℕ → Bool
 is_fit log want moment c = is_idle log c && suits log want moment c
 
--- idle for longer: by the moment since which they are idle, then by number
-abbrev pub is_earlier : List Entry → ℕ → ℕ → Bool
-is_earlier log c d = nat_lt (since log c) (since log d) || ((since log c == since log d) && nat_lt c d)
+-- a connection's stamp: the moment since which it is idle, its host's index, and its number
+abbrev pub stamp_of : List Entry → ℕ → ℕ → Stamp
+stamp_of log host c = record { since = since log c; host = host; number = c }
+
+-- earlier: by the moment, then by the host, then by the number
+abbrev pub is_earlier : Stamp → Stamp → Bool
+is_earlier x y = nat_lt x.since y.since || ((x.since == y.since) && (nat_lt x.host y.host || ((x.host == y.host) && nat_lt x.number y.number)))
+
+-- idle for longer: its stamp is earlier, whichever host both are at
+abbrev pub is_idle_longer : List Entry → ℕ → ℕ → Bool
+is_idle_longer log c d = is_earlier (stamp_of log 0 c) (stamp_of log 0 d)
 
 -- the one that goes before each other one
 abbrev pub first_by : (ℕ → ℕ → Bool) → List ℕ → Option ℕ
@@ -34,11 +42,11 @@ first_by goes_before (c ∷ numbers) = Some (option_map_or (λ d. if goes_before
 
 -- newest fit: of the fit ones the one idle for the shortest
 abbrev pub newest_fit : List Entry → Want → ℕ → Option ℕ
-newest_fit log want moment = first_by (λ c d. is_earlier log d c) (filter (suits log want moment) (idle_connections log))
+newest_fit log want moment = first_by (λ c d. is_idle_longer log d c) (filter (suits log want moment) (idle_connections log))
 
 -- oldest: the one idle for the longest
 abbrev pub oldest : List Entry → Option ℕ
-oldest log = first_by (is_earlier log) (idle_connections log)
+oldest log = first_by (is_idle_longer log) (idle_connections log)
 
 -- too old in its lane: of the want's lane, where the want is not for a new one, and too old for it
 abbrev pub is_too_old_in_lane : List Entry → Want → ℕ → ℕ → Bool
@@ -46,11 +54,8 @@ is_too_old_in_lane log want moment c = (lane log c == want.lane) && not want.fre
 
 -- oldest too old: of those that are too old in their lane the one idle for the longest
 abbrev pub oldest_too_old : List Entry → Want → ℕ → Option ℕ
-oldest_too_old log want moment = first_by (is_earlier log) (filter (is_too_old_in_lane log want moment) (idle_connections log))
+oldest_too_old log want moment = first_by (is_idle_longer log) (filter (is_too_old_in_lane log want moment) (idle_connections log))
 
--- the same as a stamp, by which the hosts' oldest are compared
-abbrev pub stamp_of : List Entry → ℕ → ℕ → Stamp
-stamp_of log host c = record { since = since log c; host = host; number = c }
-
+-- the oldest's stamp, by which the hosts' oldest are compared
 abbrev pub oldest_stamp : List Entry → ℕ → Option Stamp
 oldest_stamp log host = option_map (stamp_of log host) (oldest log)

@@ -37,7 +37,10 @@ impl Model for Log {
 
     ghost Value = { Recorded };
 
-    ghost view = { λ log. record { entries = reverse log.entries.items; room = vec_capacity log.entries - vec_len log.entries } };
+    ghost view = { λ log. record {
+      entries = reverse log.entries.items;
+      room = vec_capacity log.entries - vec_len log.entries;
+    } };
 }
 
 impl Log {
@@ -104,7 +107,9 @@ impl Log {
     pub fn since(&self, place: usize) -> &[Entry]
         requires { place ≤ length self.now.entries }
         ensures from { result.now ≡ drop place (reverse self.now.entries) }
-        ensures added { (added before : List Entry) → self.now.entries ≡ added ++ before → place ≡ length before → result.now ≡ reverse added }
+        ensures added { (added before : List Entry) →
+            self.now.entries ≡ added ++ before → place ≡ length before →
+            result.now ≡ reverse added }
     {
         &self.entries[place..]
     }

@@ -41,7 +41,7 @@ pub fn idle_oldest(log: &Log, host: u32) -> Option<Stamp>
                     number: connection,
                 };
                 oldest = Some(match oldest {
-                    Some(earlier) if earlier < stamp => earlier,
+                    Some(earlier) if earlier.is_earlier(&stamp) => earlier,
                     _ => stamp,
                 });
             }

@@ -202,18 +202,6 @@ fn readers_scan_the_log(rt: HostRuntime) -> Result<(), Fail> {
 }
 
 #[test]
-fn stamps_compare_by_moment_then_host_then_number(rt: HostRuntime) {
-    let stamps = [(4, 9, 9), (5, 0, 9), (5, 1, 1), (5, 1, 2)].map(|(since, host, number)| Stamp {
-        since,
-        host,
-        number,
-    });
-    for pair in stamps.windows(2) {
-        assert!(rt; pair[0] < pair[1], "{pair:?}");
-    }
-}
-
-#[test]
 fn faults_are_printed(rt: HostRuntime) -> Result<(), Fail> {
     assert_eq!(rt;
         LogFault::Memory.to_string(rt.alloc())?.as_str(),

@@ -8,7 +8,7 @@ use Rattle.std.proofs.lemmas.List.{get_or_default}
 use Rattle.conn_log.specs.declared.entry.Want.{Want}
 use Rattle.conn_log.specs.declared.entry.Entry.{Entry}
 use Rattle.conn_log.specs.Connections.{is_idle, is_held_by, holds, holder_want, held_number, born, since, lane, came_back_persistent}
-use Rattle.conn_log.specs.Fit.{is_earlier, suits, newest_fit, is_too_old_in_lane, oldest_too_old, oldest, oldest_stamp}
+use Rattle.conn_log.specs.Fit.{is_idle_longer, suits, newest_fit, is_too_old_in_lane, oldest_too_old, oldest, oldest_stamp}
 use Rattle.conn_log.specs.Legal.{LimitAndFirst}
 use Rattle.conn_log.specs.Sound.{has_number, IdleFacts, HeldFacts, facts_if_idle, facts_if_held, held_facts}
 use Rattle.conn_log.proofs.Steps.{idle_open_unheld}
@@ -17,7 +17,7 @@ use Rattle.conn_log.proofs.Firsts.{newest_is, newest_none, oldest_too_old_is, no
 use Rattle.host_state.specs.declared.idle.Idle.{Idle}
 use Rattle.host_state.specs.declared.held.Held.{Held}
 use Rattle.host_state.specs.Idle.{find_number, facts_of_idle, item_before, item_suits, item_too_old, LastSuits, NoneSuits, FirstTooOld, NoneTooOld}
-use Rattle.host_state.specs.State.{Replays, facts_of_held}
+use Rattle.host_state.specs.State.{Replays, facts_of_held, is_that}
 use Rattle.host_state.proofs.Kept.{find_number_place, place_of}
 
 -- two options that agree in a view are there alike
@@ -62,6 +62,13 @@ module _ {S : Type 0} {settings : LimitAndFirst} {log : List Entry} {greatest_us
 
   pub table_other : (transfer c : ℕ) (h : Held) → held transfer ≡ Some h → (h.number == c) ≡ false → is_held_by log transfer c ≡ false
   table_other transfer c h is other = r.sound.orderly.held_once c transfer ∙ ap (λ n. has_number n c) (table_number transfer h is) ∙ other
+
+  pub table_strange : (transfer c : ℕ) → is_that c (held transfer) ≡ false → is_held_by log transfer c ≡ false
+  table_strange transfer c none = by_entry (held transfer) refl none
+    where
+      by_entry : (x : Option Held) → held transfer ≡ x → is_that c x ≡ false → is_held_by log transfer c ≡ false
+      by_entry None is e = table_none transfer c is
+      by_entry (Some h) is e = table_other transfer c h is e
 
   pub table_held : (transfer : ℕ) (h : Held) → held transfer ≡ Some h → is_held_by log transfer h.number ≡ true
   table_held transfer h is = r.sound.orderly.held_once h.number transfer ∙ ap (λ n. has_number n h.number) (table_number transfer h is) ∙ grind (arith, nat_tests)
@@ -109,7 +116,7 @@ module _ {S : Type 0} {settings : LimitAndFirst} {log : List Entry} {greatest_us
   at_place place x within is = subst (λ (y : Idle S). find_number idle y.number ≡ Some y) (sym is) (find_number_place idle place x r.idle_distinct within)
 
   -- the order of places is that of the log
-  pub order_told : (x y : Idle S) → find_number idle x.number ≡ Some x → find_number idle y.number ≡ Some y → item_before x y ≡ true → is_earlier log x.number y.number ≡ true
+  pub order_told : (x y : Idle S) → find_number idle x.number ≡ Some x → find_number idle y.number ≡ Some y → item_before x y ≡ true → is_idle_longer log x.number y.number ≡ true
   order_told x y x_there y_there before =
       let x_since : since log x.number ≡ x.since = sym (ap (λ (f : IdleFacts). f.since) (found_idle x.number x x_there).1) in
       let y_since : since log y.number ≡ y.since = sym (ap (λ (f : IdleFacts). f.since) (found_idle y.number y y_there).1) in
@@ -128,7 +135,7 @@ module _ {S : Type 0} {settings : LimitAndFirst} {log : List Entry} {greatest_us
       let equal : x.number ≡ d = ap (λ (z : Idle S). z.number) same ∙ where_it_is.3 in
       false≢true (sym other ∙ grind (arith, nat_tests, equal)) in
       let before : item_before x y ≡ true = subst (λ (z : Idle S). item_before z y ≡ true) (sym (is ∙ get_or_default idle 0 x y some)) (subst (λ (z : Idle S). item_before (get_or idle 0 y) z ≡ true) (sym where_it_is.2) (r.idle_in_order 0 where_it_is.0 y (omega arith) where_it_is.1)) in
-      subst (λ (n : ℕ). is_earlier log x.number n ≡ true) where_it_is.3 (order_told x y x_there y_there before))
+      subst (λ (n : ℕ). is_idle_longer log x.number n ≡ true) where_it_is.3 (order_told x y x_there y_there before))
 
   -- the one that was read first is the oldest, as its stamp says
   pub oldest_read : (host : ℕ) (x : Idle S) → 0 < length idle → x ≡ get_or idle 0 x → Some (record { since = x.since; host = host; number = x.number }) ≡ oldest_stamp log host
@@ -176,7 +183,7 @@ module _ {S : Type 0} {settings : LimitAndFirst} {log : List Entry} {greatest_us
       let equal : x.number ≡ d = ap (λ (z : Idle S). z.number) same ∙ where_it_is.3 in
       false≢true (sym other ∙ grind (arith, nat_tests, equal)) in
       let before : item_before x y ≡ true = subst (λ (z : Idle S). item_before z y ≡ true) (sym (is ∙ get_or_default idle place x y first.in_range)) (subst (λ (z : Idle S). item_before (get_or idle place y) z ≡ true) (sym where_it_is.2) (r.idle_in_order place where_it_is.0 y (omega (arith, not_before, apart)) where_it_is.1)) in
-      subst (λ (n : ℕ). is_earlier log x.number n ≡ true) where_it_is.3 (order_told x y x_there y_there before))
+      subst (λ (n : ℕ). is_idle_longer log x.number n ≡ true) where_it_is.3 (order_told x y x_there y_there before))
 
   pub none_too_old_read : (want : Want) (moment : ℕ) → NoneTooOld want moment idle → oldest_too_old log want moment ≡ None
   none_too_old_read want moment none = none_too_old log want moment (λ d d_idle.
@@ -203,7 +210,7 @@ module _ {S : Type 0} {settings : LimitAndFirst} {log : List Entry} {greatest_us
       let equal : x.number ≡ d = ap (λ (z : Idle S). z.number) same ∙ where_it_is.3 in
       false≢true (sym other ∙ grind (arith, nat_tests, equal)) in
       let before : item_before y x ≡ true = subst (λ (z : Idle S). item_before z x ≡ true) (sym (where_it_is.2 ∙ get_or_default idle where_it_is.0 y x where_it_is.1)) (subst (λ (z : Idle S). item_before (get_or idle where_it_is.0 x) z ≡ true) (sym is) (r.idle_in_order where_it_is.0 place x (omega (arith, not_after, apart)) last.in_range)) in
-      subst (λ (n : ℕ). is_earlier log n x.number ≡ true) where_it_is.3 (order_told y x y_there x_there before))
+      subst (λ (n : ℕ). is_idle_longer log n x.number ≡ true) where_it_is.3 (order_told y x y_there x_there before))
 
   pub newest_read_none : (want : Want) (moment : ℕ) → NoneSuits want moment idle → newest_fit log want moment ≡ None
   newest_read_none want moment none = newest_none log want moment (λ d d_idle.

@@ -1,5 +1,5 @@
 -- What each transfer that waits wants.
-use Rattle.std.proofs.Common.{◌≡◌, ℕ, ◌+◌, ◌*◌, ◌<◌, ◌≤◌, false, List, [], ◌∷◌, ◌++◌, length, drop, get_or, Option, Some, None, is_some, Bor, refl, sym, ap, subst, inl, inr, ◌∙◌, arith}
+use Rattle.std.proofs.Common.{◌≡◌, ℕ, ◌+◌, ◌*◌, ◌<◌, ◌≤◌, false, List, [], ◌∷◌, ◌++◌, length, drop, get_or, Option, Some, None, is_some, Result, Ok, OnOk, Bor, refl, sym, ap, subst, inl, inr, ◌∙◌, arith}
 use Rattle.std.specs.Prelude.{◌==◌, if◌then◌else◌}
 use Rattle.std.specs.Option.{IsSome, IfSome, option_copied}
 use Rattle.std.proofs.lemmas.Bool.Decides.{nat_tests, eqb_tells}
@@ -85,11 +85,15 @@ pub record IsSpent (len booked len_after booked_after : ℕ) : Type 0 where
   pub entries : 4 * booked_after + 3 * len_after + 3 ≤ 4 * booked + 3 * len
   pub fewer : booked_after ≤ booked
 
-pub place_spent : (old new : List Want) (booked booked_after : ℕ) → (old ≡ [] → booked ≡ 1) → new ≡ drop 1 old → booked_after ≡ booked_after_start old booked → IsSpent (length old) booked (length new) booked_after
-place_spent [] new booked booked_after had taken spent =
+pub spent_on : (old new : List Want) (booked booked_after : ℕ) → (old ≡ [] → booked ≡ 1) → new ≡ drop 1 old → booked_after ≡ booked_after_start old booked → IsSpent (length old) booked (length new) booked_after
+spent_on [] new booked booked_after had taken spent =
     let one : booked ≡ 1 = had refl in
     let none : length new ≡ 0 = ap length taken in
     record { places = omega (arith, one, none, spent); entries = omega (arith, one, none, spent); fewer = omega (arith, one, none, spent) }
-place_spent (x ∷ old) new booked booked_after had taken spent =
+spent_on (x ∷ old) new booked booked_after had taken spent =
     let fewer : length new ≡ length old = ap length taken in
     record { places = omega (arith, fewer, spent); entries = omega (arith, fewer, spent); fewer = omega (arith, spent) }
+
+-- what is told of a good result
+pub ok_told : {A E P : Type 0} (r : Result A E) (x : A) → r ≡ Ok x → OnOk r P → P
+ok_told {A} {E} {P} r x is told = subst (λ (q : Result A E). OnOk q P) is told

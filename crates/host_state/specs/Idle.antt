@@ -2,7 +2,7 @@
 use Rattle.std.specs.Prelude.{◌≡◌, ℕ, ◌<◌, ◌≤◌, Bool, true, false, not, nat_lt, ◌&&◌, ◌||◌, ◌==◌, if◌then◌else◌, List, [], ◌∷◌, length, map, slice_index_or, Option, Some, None}
 use Rattle.std.specs.List.{AllPairs}
 use Rattle.conn_log.specs.declared.entry.Want.{Want}
-use Rattle.conn_log.specs.Fit.{is_older}
+use Rattle.conn_log.specs.Fit.{is_older, is_earlier}
 use Rattle.conn_log.specs.Sound.{IdleFacts}
 use Rattle.host_state.specs.declared.idle.Idle.{Idle}
 
@@ -18,9 +18,9 @@ item_too_old want moment kept = (kept.lane == want.lane) && not want.fresh && is
 abbrev pub ends_search : {S : Type 0} → Want → ℕ → Idle S → Bool
 ends_search want moment kept = (want.max_life == 0) && not (is_older kept.since kept.born want.max_age want.max_life moment)
 
--- idle for longer: by the moment since which they are idle, then by number
+-- idle for longer, as stamps of one host say it
 abbrev pub is_before : ℕ → ℕ → ℕ → ℕ → Bool
-is_before since number other_since other_number = nat_lt since other_since || ((since == other_since) && nat_lt number other_number)
+is_before since number other_since other_number = is_earlier (record { since = since; host = 0; number = number }) (record { since = other_since; host = 0; number = other_number })
 
 abbrev pub item_before : {S : Type 0} → Idle S → Idle S → Bool
 item_before x y = is_before x.since x.number y.since y.number

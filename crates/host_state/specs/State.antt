@@ -1,6 +1,6 @@
 -- What a bundle's state has to do with its log.
-use Rattle.std.specs.Prelude.{◌≡◌, ℕ, ◌+◌, ◌*◌, ◌≤◌, Bool, true, false, not, ◌&&◌, ◌==◌, List, [], ◌∷◌, length, Option, Some}
-use Rattle.std.specs.Option.{option_map}
+use Rattle.std.specs.Prelude.{◌≡◌, ℕ, ◌+◌, ◌-◌, ◌*◌, ◌≤◌, Bool, true, false, not, ◌&&◌, ◌==◌, if◌then◌else◌, List, [], ◌∷◌, length, Option, Some, None}
+use Rattle.std.specs.Option.{option_map, option_map_or}
 use Rattle.persistence.specs.declared.facts.Facts.{Facts}
 use Rattle.persistence.specs.Persistent.{is_persistent}
 use Rattle.conn_log.specs.declared.entry.Want.{Want}
@@ -62,12 +62,19 @@ pub record IsSameHost {S : Type 0} (old new : HostState S) : Type 0 where
   pub settings : new.settings ≡ old.settings
   pub host : new.host ≡ old.host
 
+-- each connection that is open has its stream; and so has each but one
+abbrev pub KeepsOpen : {S : Type 0} → HostState S → HostState S → Type 0
+KeepsOpen old new = (d : ℕ) → is_open new.log d ≡ true → stream_of new.streams d ≡ stream_of old.streams d
+
+abbrev pub KeepsOpenBut : {S : Type 0} → ℕ → HostState S → HostState S → Type 0
+KeepsOpenBut c old new = (d : ℕ) → (c == d) ≡ false → is_open new.log d ≡ true → stream_of new.streams d ≡ stream_of old.streams d
+
 -- idle connections were closed, and nothing else: the same were opened, none is open that was not, those that
 -- are open have their streams, and who holds what and who waits stay
 pub record ClosesIdle {S : Type 0} (moment : ℕ) (old new : HostState S) : Type 0 where
   pub opened : opened new.log ≡ opened old.log
   pub still : (d : ℕ) → is_open new.log d ≡ true → is_open old.log d ≡ true
-  pub streams : (d : ℕ) → is_open new.log d ≡ true → stream_of new.streams d ≡ stream_of old.streams d
+  pub streams : KeepsOpen old new
   pub holders : (t : ℕ) → held_number new.log t ≡ held_number old.log t
   pub waiting : waiting new.log ≡ waiting old.log
   pub later : last_moment new.log ≤ moment
@@ -112,10 +119,64 @@ pub record LeasesNewest {S : Type 0} (old new : HostState S) (want : Want) (mome
   pub booked : new.booked ≡ booked_after_start (waiting old.log) old.booked
   pub same : IsSameHost old new
 
+-- room for the entries of what is to be spent: three for each transfer that waits, two for each leased
+-- connection and one for each idle one
+abbrev pub HasRoomToSpend : List Entry → ℕ → Type 0
+HasRoomToSpend log room = let leased = length (open_connections log) - length (idle_connections log) in 3 * length (waiting log) + 2 * leased + length (idle_connections log) ≤ room
+
 -- what a step asks of a held connection: that the log shows it held so by that transfer
 abbrev pub IsHeldAs : {S : Type 0} → HostState S → ℕ → Held → Type 0
 IsHeldAs state transfer held = held_facts state.log transfer ≡ Some (facts_of_held held)
 
+-- what each transfer holds, once one of them holds that, or nothing
+abbrev pub EntersHeld : (ℕ → Option Held) → (ℕ → Option Held) → ℕ → Held → Type 0
+EntersHeld old new transfer held = (t : ℕ) → new t ≡ (if transfer == t then Some held else old t)
+
+abbrev pub TakesHeld : (ℕ → Option Held) → (ℕ → Option Held) → ℕ → Type 0
+TakesHeld old new transfer = (t : ℕ) → new t ≡ (if transfer == t then None else old t)
+
+-- what a transfer holds is the connection of that number
+abbrev pub is_that : ℕ → Option Held → Bool
+is_that number held = option_map_or (λ (h : Held). h.number == number) held false
+
+-- none is open but that one and those that were
+abbrev pub OpensOnly : ℕ → List Entry → List Entry → Type 0
+OpensOnly c old new = (d : ℕ) → (c == d) ≡ false → is_open new d ≡ true → is_open old d ≡ true
+
+-- a host without connections
+abbrev pub IsNewState : {S : Type 0} → ℕ → ℕ → ℕ → HostState S → Type 0
+IsNewState limit index first state = state ≡ record { log = []; settings = record { limit = limit; first = first }; host = index; streams = []; booked = 0 }
+
+-- what is kept of a held connection once it came back at that moment
+abbrev pub idle_since : {S : Type 0} → Held → ℕ → S → Idle S
+idle_since held moment stream = record { number = held.number; lane = held.lane; born = held.born; since = moment; stream = stream }
+
 -- whether it stays open after that response
 abbrev pub stays_open : Facts → Held → Bool
 stays_open facts held = is_persistent facts && not held.forbids_reuse
+
+-- what a transfer held is free: it holds nothing, and the others hold what they held
+abbrev pub IsFreeOf : List Entry → List Entry → ℕ → Type 0
+IsFreeOf old new transfer = (t : ℕ) → held_number new t ≡ (if transfer == t then None else held_number old t)
+
+-- a connection came back after a response and is idle from then on, with its stream
+pub record ComesBack {S : Type 0} (old new : HostState S) (transfer : ℕ) (held : Held) (facts : Facts) (stream : S) (moment : ℕ) : Type 0 where
+  pub was_held : IsHeldAs old transfer held
+  pub stays : stays_open facts held ≡ true
+  pub log : new.log ≡ add moment (Returned held.number facts) old.log
+  pub settled : owed new.log ≡ None
+  pub holders : IsFreeOf old.log new.log transfer
+  pub kept : stream_of new.streams held.number ≡ Some stream
+  pub others : (d : ℕ) → (held.number == d) ≡ false → stream_of new.streams d ≡ stream_of old.streams d
+  pub booked : new.booked ≡ old.booked
+  pub same : IsSameHost old new
+
+-- a connection came back after a response that ends its use, and is closed
+pub record ComesBackToClose {S : Type 0} (old new : HostState S) (transfer c : ℕ) (facts : Facts) (moment : ℕ) : Type 0 where
+  pub was_held : held_number old.log transfer ≡ Some c
+  pub ends : EndsUse old.log new.log c facts moment
+  pub closed : is_open new.log c ≡ false
+  pub holders : IsFreeOf old.log new.log transfer
+  pub streams : new.streams ≡ old.streams
+  pub booked : new.booked ≡ old.booked
+  pub same : IsSameHost old new

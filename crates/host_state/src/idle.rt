@@ -1,9 +1,11 @@
-ghost use Rattle.std.specs.Prelude.{◌≡◌, ◌+◌, ◌<◌, ◌≤◌, IfSome, IfNone, slice_index_or, vec_len, vec_capacity};
+ghost use Rattle.std.specs.Prelude.{◌≡◌, ◌+◌, ◌<◌, ◌≤◌, IfSome, IfNone, slice_index_or};
 ghost use Rattle.std.specs.List.{insert, remove};
+ghost use Rattle.std.specs.VecDeque.{deque_len, deque_capacity};
 ghost use Rattle.conn_log.specs.Fit.{is_older};
 ghost use Rattle.host_state.specs.Idle.{item_suits, item_too_old, ends_search, LastSuits, NoneSuits, FirstTooOld, NoneTooOld, AreInOrder, IsPlaceFor, is_before};
 
 use conn_log::Want;
+use std::collections::VecDeque;
 
 /// A connection that nobody holds, with its stream.
 #[derive(Drop)]
@@ -19,7 +21,8 @@ pub(crate) struct Idle<S> {
 
 // Whether it is idle, or open, for longer than the want allows at that moment.
 fn is_older<S>(idle: &Idle<S>, want: &Want, moment: u64) -> bool
-    ensures { result ≡ is_older idle.now.since idle.now.born want.now.max_age want.now.max_life moment }
+    ensures { let want = want.now in
+        result ≡ is_older idle.now.since idle.now.born want.max_age want.max_life moment }
 {
     let idle_for = moment.saturating_sub(idle.since);
     let open_for = moment.saturating_sub(idle.born);
@@ -56,9 +59,9 @@ fn goes_before<S>(idle: &Idle<S>, since: u64, number: u32) -> bool
 
 /// The place of the newest that suits the want; none does where it is for a new one.
 #[inline(always)]
-pub(crate) fn newest_suiting<S>(idle: &[Idle<S>], want: &Want, moment: u64) -> Option<usize>
-    ensures found { IfSome result (LastSuits want.now moment idle.now) }
-    ensures none { IfNone result (NoneSuits want.now moment idle.now) }
+pub(crate) fn newest_suiting<S>(idle: &VecDeque<Idle<S>>, want: &Want, moment: u64) -> Option<usize>
+    ensures found { IfSome result (LastSuits want.now moment idle.now.items) }
+    ensures none { IfNone result (NoneSuits want.now moment idle.now.items) }
 {
     if want.fresh {
         return None;
@@ -75,8 +78,12 @@ pub(crate) fn newest_suiting<S>(idle: &[Idle<S>], want: &Want, moment: u64) -> O
 
 /// The place of the newest, where it suits the want.
 #[inline(always)]
-pub(crate) fn newest_if_suiting<S>(idle: &[Idle<S>], want: &Want, moment: u64) -> Option<usize>
-    ensures { IfSome result (LastSuits want.now moment idle.now) }
+pub(crate) fn newest_if_suiting<S>(
+    idle: &VecDeque<Idle<S>>,
+    want: &Want,
+    moment: u64,
+) -> Option<usize>
+    ensures { IfSome result (LastSuits want.now moment idle.now.items) }
 {
     let place = idle.len().checked_sub(1)?;
     if !suits(&idle[place], want, moment) {
@@ -86,14 +93,13 @@ pub(crate) fn newest_if_suiting<S>(idle: &[Idle<S>], want: &Want, moment: u64) -
 }
 
 /// The place of the first that is too old for the want in its lane; none is where it is for a new
-/// one. Where the want sets no limit on
-/// the time since a connection was opened, the search ends at the first that is idle for a short
-/// enough time, since none after it is idle for longer.
+/// one. Where the want sets no limit on the time since a connection was opened, the search ends at
+/// the first that is idle for a short enough time, since none after it is idle for longer.
 #[inline(always)]
-pub(crate) fn first_too_old<S>(idle: &[Idle<S>], want: &Want, moment: u64) -> Option<usize>
-    requires { AreInOrder idle.now }
-    ensures found { IfSome result (FirstTooOld want.now moment idle.now) }
-    ensures none { IfNone result (NoneTooOld want.now moment idle.now) }
+pub(crate) fn first_too_old<S>(idle: &VecDeque<Idle<S>>, want: &Want, moment: u64) -> Option<usize>
+    requires { AreInOrder idle.now.items }
+    ensures found { IfSome result (FirstTooOld want.now moment idle.now.items) }
+    ensures none { IfNone result (NoneTooOld want.now moment idle.now.items) }
 {
     if want.fresh {
         return None;
@@ -108,12 +114,12 @@ pub(crate) fn first_too_old<S>(idle: &[Idle<S>], want: &Want, moment: u64) -> Op
     None
 }
 
-/// The place that one of that moment and number takes in the order. It is sought from the end: those
-/// that are passed are those that have to be moved.
+/// The place that one of that moment and number takes in the order. It is sought from the end:
+/// those that are passed are those that have to be moved.
 #[inline(always)]
-pub(crate) fn place_for<S>(idle: &[Idle<S>], since: u64, number: u32) -> usize
-    requires { AreInOrder idle.now }
-    ensures { IsPlaceFor since number idle.now result }
+pub(crate) fn place_for<S>(idle: &VecDeque<Idle<S>>, since: u64, number: u32) -> usize
+    requires { AreInOrder idle.now.items }
+    ensures { IsPlaceFor since number idle.now.items result }
 {
     let mut place = idle.len();
     while place > 0 && !goes_before(&idle[place - 1], since, number) {
@@ -122,38 +128,34 @@ pub(crate) fn place_for<S>(idle: &[Idle<S>], since: u64, number: u32) -> usize
     place
 }
 
-/// Takes out the one at that place. None is moved where it is the last.
+/// Takes out the one at that place. None is moved where it is the first or the last.
 #[inline(always)]
-pub(crate) fn take_from<S: Drop>(idle: &mut Vec<Idle<S>>, place: usize) -> Idle<S>
-    requires { place < vec_len idle.old }
+pub(crate) fn take_from<S: Drop>(idle: &mut VecDeque<Idle<S>>, place: usize) -> Idle<S>
+    requires { place < deque_len idle.old }
     ensures value { result ≡ slice_index_or idle.old.items place result }
     ensures items { idle.new.items ≡ remove idle.old.items place }
-    ensures len { vec_len idle.new + 1 ≡ vec_len idle.old }
-    ensures capacity { vec_capacity idle.new ≡ vec_capacity idle.old }
+    ensures len { deque_len idle.new + 1 ≡ deque_len idle.old }
+    ensures capacity { deque_capacity idle.new ≡ deque_capacity idle.old }
 {
     if place + 1 < idle.len() {
-        return idle.remove(place);
+        return idle.remove(place).unwrap();
     }
-    let Some(last) = idle.pop() else {
-        unreachable!();
-    };
-    last
+    idle.pop_back().unwrap()
 }
 
 /// Puts one in at that place, in room made before. None is moved where it is the last.
 #[inline(always)]
-pub(crate) fn put_in<S: Drop>(idle: &mut Vec<Idle<S>>, place: usize, new: Idle<S>)
-    requires range { place ≤ vec_len idle.old }
-    requires room { vec_len idle.old < vec_capacity idle.old }
+pub(crate) fn put_in<S: Drop>(idle: &mut VecDeque<Idle<S>>, place: usize, new: Idle<S>)
+    requires range { place ≤ deque_len idle.old }
+    requires room { deque_len idle.old < deque_capacity idle.old }
     ensures items { idle.new.items ≡ insert idle.old.items place new }
-    ensures len { vec_len idle.new ≡ vec_len idle.old + 1 }
-    ensures capacity { vec_capacity idle.new ≡ vec_capacity idle.old }
+    ensures len { deque_len idle.new ≡ deque_len idle.old + 1 }
+    ensures capacity { deque_capacity idle.old ≤ deque_capacity idle.new }
 {
     if place == idle.len() {
-        idle.push_reserved(new);
+        idle.push_back_reserved(new);
         return;
     }
-    let Ok(()) = idle.insert(place, new) else {
-        unreachable!();
-    };
+    let inserted: Result<_, _> = idle.insert(place, new);
+    inserted.unwrap();
 }

@@ -1,5 +1,5 @@
-//! The state of one host's connections, which replays its log: each step adds the entries that it is
-//! named for.
+//! The state of one host's connections, which replays its log: each step adds the entries that it
+//! is named for.
 #![tactic(auto)]
 
 mod held;

@@ -15,7 +15,7 @@ use std::marker::Model;
 pub(crate) struct Queue {
     order: VecDeque<Want>,
     table: HashMap<u64, Want>,
-    places: usize,
+    free: usize,
 }
 
 impl Model for Queue {
@@ -27,13 +27,13 @@ impl Model for Queue {
 
     ghost Value = { Waiters };
 
-    ghost view = { λ queue. record { wants = queue.order.items; room = queue.places } };
+    ghost view = { λ queue. record { wants = queue.order.items; room = queue.free } };
 
     ghost invariant = { λ queue. record {
       once : WaitOnce queue.order.items;
-      table : (transfer : ℕ) → get nat_eq queue.table transfer ≡ waiting_want queue.order.items transfer;
-      order_room : queue.places + deque_len queue.order ≤ deque_capacity queue.order;
-      table_room : queue.places ≤ spare queue.table;
+      table : (t : ℕ) → get nat_eq queue.table t ≡ waiting_want queue.order.items t;
+      order_room : queue.free + deque_len queue.order ≤ deque_capacity queue.order;
+      table_room : queue.free ≤ spare queue.table;
     } };
 }
 
@@ -45,7 +45,7 @@ impl Queue {
         Queue {
             order: VecDeque::new(alloc),
             table: HashMap::new(alloc),
-            places: 0,
+            free: 0,
         }
     }
 
@@ -66,7 +66,8 @@ impl Queue {
     /// What the first one wants.
     pub(crate) fn first(&self) -> Option<Want>
         ensures none { IfNone result (self.now.wants ≡ []) }
-        ensures some { IfSome result (λ want. (others : List Want) × (self.now.wants ≡ want ∷ others)) }
+        ensures some { IfSome result
+            (λ want. (others : List Want) × (self.now.wants ≡ want ∷ others)) }
     {
         self.order.front().copied()
     }
@@ -87,10 +88,10 @@ impl Queue {
         ensures ok { OnOk result (additional ≤ self.new.room) }
         ensures never_less { self.old.room ≤ self.new.room }
     {
-        if additional > self.places {
+        if additional > self.free {
             self.order.reserve(additional)?;
             self.table.reserve(additional)?;
-            self.places = additional;
+            self.free = additional;
         }
         Ok(())
     }
@@ -102,11 +103,10 @@ impl Queue {
         ensures wants { self.new.wants ≡ self.old.wants ++ want ∷ [] }
         ensures room { self.old.room ≤ self.new.room + 1 }
     {
-        self.places -= 1;
+        self.free -= 1;
         self.order.push_back_reserved(want);
-        let Ok(_) = self.table.insert(want.transfer, want) else {
-            unreachable!();
-        };
+        let earlier: Result<_, _> = self.table.insert(want.transfer, want);
+        let _ = earlier.unwrap();
     }
 
     /// The first one, if one waits, waits no more.
@@ -129,10 +129,10 @@ impl Queue {
     }
 }
 
-/// A transfer that starts takes the place of the first one that waits, or where nobody waits what was
+/// A transfer that starts is the first one that waits, or where nobody waits the one that was
 /// booked.
 #[inline(always)]
-pub(crate) fn spend_place(queue: &mut Queue, booked: &mut u32)
+pub(crate) fn start_next(queue: &mut Queue, booked: &mut u32)
     ensures wants { queue.new.wants ≡ drop 1 queue.old.wants }
     ensures room { queue.old.room ≤ queue.new.room }
     ensures booked { booked.new ≡ booked_after_start queue.old.wants booked.old }

@@ -1,4 +1,4 @@
-ghost use Rattle.std.specs.Prelude.{◌≡◌, ℕ, ◌+◌, ◌-◌, ◌*◌, ◌<◌, ◌≤◌, [], true, false, ◌&&◌, ◌==◌, length, Some, None, IfOk, OnOk, OnErr, IfSome, IfNone, OnSome, is_some, if◌then◌else◌};
+ghost use Rattle.std.specs.Prelude.{◌≡◌, ℕ, ◌+◌, ◌-◌, ◌*◌, ◌<◌, ◌≤◌, [], true, false, ◌&&◌, ◌==◌, length, Some, None, IfOk, IfErr, OnOk, OnErr, IfSome, IfNone, OnSome, is_some, if◌then◌else◌};
 ghost use Rattle.conn_log.specs.declared.entry.Entry.{Entry};
 ghost use Rattle.conn_log.specs.declared.entry.Event.TheVariants.{Opened, Leased, Returned, Closed, Waited, Left};
 ghost use Rattle.conn_log.specs.Connections.{last_moment, held_number, is_open, is_idle, open_connections, idle_connections, holds, is_held_by};
@@ -8,19 +8,19 @@ ghost use Rattle.conn_log.specs.Sound.{IsSound, IsNext, is_of_holder, is_of_idle
 ghost use Rattle.host_state.specs.Steps.{add, next_number, without_too_old, with_host_room, is_full, is_exhausted, moment_at};
 ghost use Rattle.host_state.specs.Idle.{stream_of};
 ghost use Rattle.host_state.specs.Queue.{waiting_want};
-ghost use Rattle.host_state.specs.State.{HostState, IsSameHost, ClosesIdle, ClosesOldest, ClosesFirst, LeasesNewest, EndsUse, WaitsFirst, IsHeldAs, stays_open, booked_after_start};
+ghost use Rattle.host_state.specs.State.{HostState, IsSameHost, ClosesIdle, ClosesOldest, ClosesFirst, LeasesNewest, EndsUse, WaitsFirst, IsHeldAs, IsFreeOf, OpensOnly, IsNewState, HasRoomToSpend, ComesBack, ComesBackToClose, idle_since, stays_open, booked_after_start};
 ghost use Rattle.conn_log.specs.Legal.{IsAnyone, owed, ending_cause};
 ghost use Rattle.conn_log.specs.declared.entry.Want.{Want};
 
-use crate::held::{Held, enter, enter_if_free, take_out};
+use crate::held::{Held, enter, enter_if_free, take_out, take_out_number};
 use crate::idle::{
     Idle, first_too_old, newest_if_suiting, newest_suiting, place_for, put_in, take_from,
 };
-use crate::queue::{Queue, spend_place};
+use crate::queue::{Queue, start_next};
 use conn_log::{Cause, Entry, Event, Log, LogFault, Stamp, Want};
-use persistence::Facts;
+use persistence::{Facts, persists};
 use std::alloc::Global;
-use std::collections::HashMap;
+use std::collections::{HashMap, VecDeque};
 use std::marker::Model;
 
 /// How many entries a lease and its end may add.
@@ -41,14 +41,15 @@ pub struct State<S: Drop> {
     greatest: u32,
     booked: u32,
     log: Log,
-    idle: Vec<Idle<S>>,
+    idle: VecDeque<Idle<S>>,
     held: HashMap<u64, Held>,
     queue: Queue,
 }
 
 impl<S: Drop> Model for State<S> {
-    ghost use Rattle.std.specs.Prelude.{◌≡◌, ℕ, ◌+◌, ◌≤◌, nat_eq, length, vec_len, vec_capacity};
+    ghost use Rattle.std.specs.Prelude.{◌≡◌, ℕ, ◌+◌, ◌≤◌, nat_eq, length};
     ghost use Rattle.std.specs.HashMap.{get, hash_map_len, spare};
+    ghost use Rattle.std.specs.VecDeque.{deque_len, deque_capacity};
     ghost use Rattle.conn_log.specs.Waiting.{waiting};
     ghost use Rattle.host_state.specs.Steps.{last_number};
     ghost use Rattle.host_state.specs.State.{HostState, Replays, HasRoom};
@@ -56,25 +57,34 @@ impl<S: Drop> Model for State<S> {
 
     ghost Value = { HostState S };
 
-    ghost view = { λ state. record { log = state.log.entries; settings = record { limit = state.host_limit; first = state.first }; host = state.host; streams = streams_of state.idle.items; booked = state.booked } };
+    ghost view = { λ state. record {
+      log = state.log.entries;
+      settings = record { limit = state.host_limit; first = state.first };
+      host = state.host;
+      streams = streams_of state.idle.items;
+      booked = state.booked;
+    } };
 
     ghost invariant = { λ state. record {
-      replays : Replays (record { limit = state.host_limit; first = state.first }) state.log.entries state.greatest state.idle.items (get nat_eq state.held) (hash_map_len state.held);
+      replays :
+          Replays (record { limit = state.host_limit; first = state.first })
+          state.log.entries state.greatest
+          state.idle.items (get nat_eq state.held) (hash_map_len state.held);
       queue : state.queue.wants ≡ waiting state.log.entries;
       numbers : state.greatest + (length state.queue.wants + state.booked) ≤ last_number;
-      room : HasRoom state.booked (vec_len state.idle) (hash_map_len state.held) (length state.queue.wants) state.log.room (vec_capacity state.idle) (spare state.held) state.queue.room;
+      room :
+          let held_len = hash_map_len state.held in
+          let waiting_len = length state.queue.wants in
+          let idle_capacity = deque_capacity state.idle in
+          HasRoom state.booked (deque_len state.idle) held_len waiting_len
+          state.log.room idle_capacity (spare state.held) state.queue.room;
     } };
 }
 
 impl<S: Drop> State<S> {
     /// A host without connections.
-    pub fn new(
-        alloc: Global,
-        host_limit: u32,
-        host: u32,
-        first: u32,
-    ) -> Result<Self, LogFault>
-        ensures { IfOk result (λ state. state ≡ record { log = []; settings = record { limit = host_limit; first = first }; host = host; streams = []; booked = 0 }) }
+    pub fn new(alloc: Global, host_limit: u32, host: u32, first: u32) -> Result<Self, LogFault>
+        ensures { IfOk result (IsNewState host_limit host first) }
     {
         Ok(State {
             host_limit,
@@ -83,7 +93,7 @@ impl<S: Drop> State<S> {
             greatest: first.saturating_sub(1),
             booked: 0,
             log: Log::new(alloc)?,
-            idle: Vec::new(alloc),
+            idle: VecDeque::new(alloc),
             held: HashMap::new(alloc),
             queue: Queue::new(alloc),
         })
@@ -100,8 +110,9 @@ impl<S: Drop> State<S> {
     pub fn log(&self) -> &Log
         ensures entries { result.now.entries ≡ self.now.log }
         ensures sound { IsSound self.now.settings self.now.log }
-        ensures room { let leased = length (open_connections self.now.log) - length (idle_connections self.now.log) in 3 * length (waiting self.now.log) + 2 * leased + length (idle_connections self.now.log) ≤ result.now.room }
-        ensures streams { (c : ℕ) → is_idle self.now.log c ≡ false → stream_of self.now.streams c ≡ None }
+        ensures room { HasRoomToSpend self.now.log result.now.room }
+        ensures streams { (c : ℕ) →
+            is_idle self.now.log c ≡ false → stream_of self.now.streams c ≡ None }
     {
         &self.log
     }
@@ -124,7 +135,8 @@ impl<S: Drop> State<S> {
 
     /// How many connections a transfer holds.
     pub fn held_len(&self) -> u32
-        ensures { result ≡ length (open_connections self.now.log) - length (idle_connections self.now.log) }
+        ensures { let log = self.now.log in
+            result ≡ length (open_connections log) - length (idle_connections log) }
     {
         let _limit = self.host_limit;
         self.held.len() as u32
@@ -217,7 +229,7 @@ impl<S: Drop> State<S> {
     pub fn oldest(&self) -> Option<Stamp>
         ensures { result ≡ oldest_stamp self.now.log self.now.host }
     {
-        let oldest = self.idle.first()?;
+        let oldest = self.idle.front()?;
         Some(Stamp {
             since: oldest.since,
             host: self.host,
@@ -225,8 +237,8 @@ impl<S: Drop> State<S> {
         })
     }
 
-    /// Makes room for all that an acquire, the end of its wait and the end of its lease will add. No
-    /// other step takes memory.
+    /// Makes room for all that an acquire, the end of its wait and the end of its lease will add.
+    /// No other step takes memory.
     #[inline(always)]
     pub fn book(&mut self) -> Result<(), LogFault>
         requires none { self.old.booked ≡ 0 }
@@ -245,9 +257,9 @@ impl<S: Drop> State<S> {
         Ok(())
     }
 
-    /// Leases the connection that came back last to the transfer, where nothing else has to be done:
-    /// the transfer holds nothing, nobody waits, numbers are left, nothing that is idle is too old,
-    /// and that connection fits. Where memory runs out nothing has changed.
+    /// Leases the connection that came back last to the transfer, where nothing else has to be
+    /// done: the transfer holds nothing, nobody waits, numbers are left, nothing that is idle is
+    /// too old, and that connection fits. Where memory runs out nothing has changed.
     #[inline(always)]
     pub fn lease_last(&mut self, want: &Want, moment: u64) -> Option<(u32, S)>
         requires none { self.old.booked ≡ 0 }
@@ -257,7 +269,8 @@ impl<S: Drop> State<S> {
         ensures alone { OnSome result (waiting self.old.log ≡ []) }
         ensures number { OnSome result (is_exhausted self.old.settings self.old.log ≡ false) }
         ensures none_too_old { OnSome result (oldest_too_old self.old.log want.now moment ≡ None) }
-        ensures some { IfSome result (λ leased. LeasesNewest self.old self.new want.now moment leased.0 leased.1) }
+        ensures some { IfSome result
+            (λ leased. LeasesNewest self.old self.new want.now moment leased.0 leased.1) }
     {
         if !self.queue.is_empty() || self.is_exhausted() {
             return None;
@@ -298,8 +311,10 @@ impl<S: Drop> State<S> {
         requires next { IsNext self.old.log want.now }
         requires booked { waiting self.old.log ≡ [] → self.old.booked ≡ 1 }
         requires later { last_moment self.old.log ≤ moment }
-        ensures none { IfNone result ((newest_fit self.old.log want.now moment ≡ None) × (self.new ≡ self.old)) }
-        ensures some { IfSome result (λ leased. LeasesNewest self.old self.new want.now moment leased.0 leased.1) }
+        ensures none { let fit = newest_fit self.old.log want.now moment in
+            IfNone result ((fit ≡ None) × (self.new ≡ self.old)) }
+        ensures some { IfSome result
+            (λ leased. LeasesNewest self.old self.new want.now moment leased.0 leased.1) }
     {
         let place = newest_suiting(&self.idle, want, moment)?;
         let Idle {
@@ -309,7 +324,7 @@ impl<S: Drop> State<S> {
             since: _,
             stream,
         } = take_from(&mut self.idle, place);
-        spend_place(&mut self.queue, &mut self.booked);
+        start_next(&mut self.queue, &mut self.booked);
         self.log.append(Entry {
             moment,
             event: Event::Leased {
@@ -342,13 +357,14 @@ impl<S: Drop> State<S> {
     #[inline(always)]
     fn close_oldest_too_old(&mut self, want: &Want, moment: u64) -> bool
         requires { last_moment self.old.log ≤ moment }
-        ensures none { result ≡ false → (oldest_too_old self.old.log want.now moment ≡ None) × (self.new ≡ self.old) }
+        ensures none { let oldest = oldest_too_old self.old.log want.now moment in
+            result ≡ false → (oldest ≡ None) × (self.new ≡ self.old) }
         ensures some { result ≡ true → ClosesOldest want.now moment self.old self.new }
     {
         let Some(place) = first_too_old(&self.idle, want, moment) else {
             return false;
         };
-        let oldest = self.idle.remove(place);
+        let oldest = take_from(&mut self.idle, place);
         self.log.append(Entry {
             moment,
             event: Event::Closed {
@@ -363,7 +379,8 @@ impl<S: Drop> State<S> {
     pub fn make_room(&mut self, moment: u64)
         requires { last_moment self.old.log ≤ moment }
         ensures log { self.new.log ≡ with_host_room self.old.settings moment self.old.log }
-        ensures room { is_full self.new.settings self.new.log ≡ true → idle_connections self.new.log ≡ [] }
+        ensures room { is_full self.new.settings self.new.log ≡ true →
+            idle_connections self.new.log ≡ [] }
         ensures closes { ClosesIdle moment self.old self.new }
     {
         if self.is_full() && self.idle_len() > 0 {
@@ -378,7 +395,7 @@ impl<S: Drop> State<S> {
         requires later { last_moment self.old.log ≤ moment }
         ensures { ClosesFirst cause moment self.old self.new }
     {
-        let oldest = self.idle.remove(0);
+        let oldest = take_from(&mut self.idle, 0);
         self.log.append(Entry {
             moment,
             event: Event::Closed {
@@ -397,12 +414,13 @@ impl<S: Drop> State<S> {
         requires room { is_full self.old.settings self.old.log ≡ false }
         ensures number { result ≡ next_number self.old.settings self.old.log }
         ensures log { self.new.log ≡ add moment (Opened result want.now) self.old.log }
-        ensures opened { (d : ℕ) → (result == d) ≡ false → is_open self.new.log d ≡ true → is_open self.old.log d ≡ true }
+        ensures opened { OpensOnly result self.old.log self.new.log }
         ensures streams { self.new.streams ≡ self.old.streams }
-        ensures booked { self.new.booked ≡ booked_after_start (waiting self.old.log) self.old.booked }
+        ensures booked { let wants = waiting self.old.log in
+            self.new.booked ≡ booked_after_start wants self.old.booked }
         ensures same { IsSameHost self.old self.new }
     {
-        spend_place(&mut self.queue, &mut self.booked);
+        start_next(&mut self.queue, &mut self.booked);
         self.greatest += 1;
         let number = self.greatest;
         self.log.append(Entry {
@@ -458,60 +476,34 @@ impl<S: Drop> State<S> {
         });
     }
 
-    /// The connection comes back and is idle from then on, with its stream.
+    /// The transfer gives a connection back after a response. Where it stays open it is idle from
+    /// then on, with its stream, and what was kept of it is answered; else it is closed, and its
+    /// stream dropped. Where the transfer does not hold it the stream comes back, and nothing has
+    /// changed.
     #[inline(always)]
-    pub fn come_back(
+    pub fn give_back(
         &mut self,
         transfer: u64,
-        held: Held,
+        number: u32,
         facts: Facts,
         stream: S,
         moment: u64,
-    )
-        requires held { IsHeldAs self.old transfer held }
-        requires stays { stays_open facts held ≡ true }
-        requires later { last_moment self.old.log ≤ moment }
-        ensures log { self.new.log ≡ add moment (Returned held.number facts) self.old.log }
-        ensures settled { owed self.new.log ≡ None }
-        ensures holders { (t : ℕ) → held_number self.new.log t ≡ (if transfer == t then None else held_number self.old.log t) }
-        ensures stream { stream_of self.new.streams held.number ≡ Some stream }
-        ensures others { (d : ℕ) → (held.number == d) ≡ false → stream_of self.new.streams d ≡ stream_of self.old.streams d }
-        ensures booked { self.new.booked ≡ self.old.booked }
-        ensures same { IsSameHost self.old self.new }
+    ) -> Result<Option<Held>, S>
+        requires { last_moment self.old.log ≤ moment }
+        ensures known { OnOk result (is_held_by self.old.log transfer number ≡ true) }
+        ensures strange { OnErr result (is_held_by self.old.log transfer number ≡ false) }
+        ensures stream { IfErr result (λ back. back ≡ stream) }
+        ensures err { OnErr result (self.new ≡ self.old) }
+        ensures number { IfOk result (λ kept. IfSome kept (λ held. held.number ≡ number)) }
+        ensures idle { IfOk result (λ kept. IfSome kept (λ held.
+            ComesBack self.old self.new transfer held facts stream moment)) }
+        ensures closed { IfOk result (λ kept. IfNone kept
+            (ComesBackToClose self.old self.new transfer number facts moment)) }
     {
-        take_out(&mut self.held, transfer);
-        self.log.append(Entry {
-            moment,
-            event: Event::Returned {
-                connection: held.number,
-                facts,
-            },
-        });
-        let place = place_for(&self.idle, moment, held.number);
-        let idle = Idle {
-            number: held.number,
-            lane: held.lane,
-            born: held.born,
-            since: moment,
-            stream,
+        let more = self.booked as usize + self.queue.len();
+        let Some(held) = take_out_number(&mut self.held, transfer, number, more) else {
+            return Err(stream);
         };
-        put_in(&mut self.idle, place, idle);
-    }
-
-    /// The connection comes back after a response that ends its use, and is closed.
-    pub fn end_use(&mut self, transfer: u64, held: Held, facts: Facts, moment: u64)
-        requires held { IsHeldAs self.old transfer held }
-        requires ends { stays_open facts held ≡ false }
-        requires later { last_moment self.old.log ≤ moment }
-        ensures log { EndsUse self.old.log self.new.log held.number facts moment }
-        ensures closed { is_open self.new.log held.number ≡ false }
-        ensures holders { (t : ℕ) → held_number self.new.log t ≡ (if transfer == t then None else held_number self.old.log t) }
-        ensures streams { self.new.streams ≡ self.old.streams }
-        ensures booked { self.new.booked ≡ self.old.booked }
-        ensures same { IsSameHost self.old self.new }
-    {
-        let cause = ending_cause(&facts, held.forbids_reuse);
-        take_out(&mut self.held, transfer);
         self.log.append(Entry {
             moment,
             event: Event::Returned {
@@ -519,13 +511,19 @@ impl<S: Drop> State<S> {
                 facts,
             },
         });
-        self.log.append(Entry {
-            moment,
-            event: Event::Closed {
-                connection: held.number,
-                cause,
-            },
-        });
+        if !stays_open(&facts, &held) {
+            self.log.append(Entry {
+                moment,
+                event: Event::Closed {
+                    connection: held.number,
+                    cause: ending_cause(&facts, held.forbids_reuse),
+                },
+            });
+            return Ok(None);
+        }
+        let place = place_for(&self.idle, moment, held.number);
+        put_in(&mut self.idle, place, idle_since(&held, moment, stream));
+        Ok(Some(held))
     }
 
     /// The connection is closed without a response.
@@ -534,7 +532,7 @@ impl<S: Drop> State<S> {
         requires cause { is_of_holder cause ≡ true }
         requires later { last_moment self.old.log ≤ moment }
         ensures log { self.new.log ≡ add moment (Closed held.number cause) self.old.log }
-        ensures holders { (t : ℕ) → held_number self.new.log t ≡ (if transfer == t then None else held_number self.old.log t) }
+        ensures holders { IsFreeOf self.old.log self.new.log transfer }
         ensures streams { self.new.streams ≡ self.old.streams }
         ensures booked { self.new.booked ≡ self.old.booked }
         ensures same { IsSameHost self.old self.new }
@@ -552,7 +550,8 @@ impl<S: Drop> State<S> {
 
 // Why a connection is closed after a response that ends its use.
 fn ending_cause(facts: &Facts, forbids_reuse: bool) -> Cause
-    ensures { (want : Want) → want.forbid_reuse ≡ forbids_reuse → result ≡ ending_cause facts.now want }
+    ensures { (want : Want) →
+        want.forbid_reuse ≡ forbids_reuse → result ≡ ending_cause facts.now want }
 {
     if !facts.whole {
         Cause::Cut
@@ -560,5 +559,27 @@ fn ending_cause(facts: &Facts, forbids_reuse: bool) -> Cause
         Cause::Forbidden
     } else {
         Cause::NotPersistent
+    }
+}
+
+// Whether a connection stays open after that response.
+#[inline(always)]
+fn stays_open(facts: &Facts, held: &Held) -> bool
+    ensures { result ≡ stays_open facts.now held.now }
+{
+    persists(facts) && !held.forbids_reuse
+}
+
+// What is kept of a connection that came back at that moment.
+#[inline(always)]
+fn idle_since<S>(held: &Held, moment: u64, stream: S) -> Idle<S>
+    ensures { result ≡ idle_since held.now moment stream }
+{
+    Idle {
+        number: held.number,
+        lane: held.lane,
+        born: held.born,
+        since: moment,
+        stream,
     }
 }

@@ -8,12 +8,12 @@ use Rattle.bundle.proofs.KeptSound.{someone}
 use Rattle.bundle.proofs.Served.{fewer_after_head, alone_oldest}
 use Rattle.bundle.proofs.serving.pass_to_head.Goals as goal
 
-pub returns-in-Some-lease_newest_fit-clause-places : goal.returns-in-Some-lease_newest_fit-clause-places
-returns-in-Some-lease_newest_fit-clause-places g c =
+pub returns-in-Some-lease_newest_fit-clause-spare : goal.returns-in-Some-lease_newest_fit-clause-spare
+returns-in-Some-lease_newest_fit-clause-spare g c =
     let first = c.in-Some.ensures.some in
     let fewer = fewer_after_head c.in-Some.head first.others (waiting c.args.state.now.log) first.first in
     let left = ap (λ log. length (waiting log)) c.in-Some-lease_newest_fit.ensures.some.log in
-    omega (arith, c.requires.places, fewer, left, c.push_reserved.ensures.len, c.push_reserved.ensures.capacity)
+    omega (arith, c.requires.spare, fewer, left, c.push_reserved.ensures.len, c.push_reserved.ensures.capacity)
 
 pub returns-clause-others : goal.returns-clause-others
 returns-clause-others g c d other still =

@@ -5,9 +5,9 @@ use Rattle.host_state.proofs.idle.first_too_old.Given as goal
 
 abbrev pub invariant-loop-place : goal.invariant-loop-place
 invariant-loop-place g l = record {
-  in_range : l.place ≤ length l.idle;
-  none_before : (k : ℕ) (d : Idle g.row.S.Denot) → k < l.place → item_too_old l.want l.moment (get_or l.idle k d) ≡ false;
+  in_range : l.place ≤ length l.idle.items;
+  none_before : (k : ℕ) (d : Idle g.row.S.Denot) → k < l.place → item_too_old l.want l.moment (get_or l.idle.items k d) ≡ false;
 }
 
 abbrev pub decreases-loop-place : goal.decreases-loop-place
-decreases-loop-place g l = length l.idle - l.place
+decreases-loop-place g l = length l.idle.items - l.place

@@ -5,8 +5,8 @@ use Rattle.host_state.proofs.idle.newest_suiting.Given as goal
 
 abbrev pub invariant-loop-place : goal.invariant-loop-place
 invariant-loop-place g l = record {
-  in_range : l.place ≤ length l.idle;
-  none_after : (k : ℕ) (d : Idle g.row.S.Denot) → l.place ≤ k → k < length l.idle → item_suits l.want l.moment (get_or l.idle k d) ≡ false;
+  in_range : l.place ≤ length l.idle.items;
+  none_after : (k : ℕ) (d : Idle g.row.S.Denot) → l.place ≤ k → k < length l.idle.items → item_suits l.want l.moment (get_or l.idle.items k d) ≡ false;
 }
 
 abbrev pub decreases-loop-place : goal.decreases-loop-place

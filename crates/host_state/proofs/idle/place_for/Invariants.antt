@@ -5,8 +5,8 @@ use Rattle.host_state.proofs.idle.place_for.Given as goal
 
 abbrev pub invariant-loop-place : goal.invariant-loop-place
 invariant-loop-place g l = record {
-  in_range : l.place ≤ length l.idle;
-  after : (k : ℕ) (d : Idle g.row.S.Denot) → l.place ≤ k → k < length l.idle → (let x = get_or l.idle k d in is_before x.since x.number l.since l.number) ≡ false;
+  in_range : l.place ≤ length l.idle.items;
+  after : (k : ℕ) (d : Idle g.row.S.Denot) → l.place ≤ k → k < length l.idle.items → (let x = get_or l.idle.items k d in is_before x.since x.number l.since l.number) ≡ false;
 }
 
 abbrev pub decreases-loop-place : goal.decreases-loop-place

@@ -27,7 +27,7 @@ invariant_of-self g c =
       booked = c.open_for_head.ensures.booked;
       settled = subst (λ settings. IsSoundAndQuiet settings c.open_for_head.new.state.log) (sym (c.open_for_head.ensures.same.settings ∙ c.close_held.ensures.same.settings)) settled.settled;
       grants = settled.freed.kept;
-      room = c.open_for_head.ensures.places;
+      spare = c.open_for_head.ensures.spare;
     }
 
 pub returns-clause-streams : goal.returns-clause-streams

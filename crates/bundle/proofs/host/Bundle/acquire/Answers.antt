@@ -31,7 +31,7 @@ invariant_of-self g c =
       booked = leased.booked ∙ ap (λ wants. booked_after_start wants state.booked) told.alone;
       settled = subst (λ settings. IsSoundAndQuiet settings c.lease_last.new.self.log) (sym leased.same.settings) (subst (λ log. IsSoundAndQuiet state.settings log) (sym is) (kept_acquire state.settings state.log c.args.want c.args.now inv.settled allowed));
       grants = kept_begun state.settings state.log c.lease_last.new.self.log c.self.inside.grants.items inv.grants c.args.want may.free started;
-      room = omega (arith, inv.room, nobody);
+      spare = omega (arith, inv.spare, nobody);
     }
 
 pub returns-in-Some-clause-log : goal.returns-in-Some-clause-log
@@ -123,7 +123,7 @@ invariant_of-self-2 g c =
       booked = c.start_or_wait.ensures.booked;
       settled = subst (λ settings. IsSoundAndQuiet settings c.start_or_wait.new.state.log) (sym (c.start_or_wait.ensures.same.settings ∙ ap (λ (v : HostState g.row.S.Denot). v.settings) booked)) (subst (λ log. IsSoundAndQuiet state.settings log) (sym is) (kept_acquire state.settings state.log c.args.want c.args.now inv.settled allowed));
       grants = subst (λ gs. GrantsKept c.start_or_wait.new.state.log gs) (sym c.reserve.ensures.items) (kept_begun state.settings state.log c.start_or_wait.new.state.log grants inv.grants c.args.want may.free started);
-      room = omega (arith, queue, c.in-Ok.ensures.ok, c.waiting_len.ensures ∙ ap (λ (v : HostState g.row.S.Denot). length (waiting v.log)) same, c.reserve.ensures.len);
+      spare = omega (arith, queue, c.in-Ok.ensures.ok, c.waiting_len.ensures ∙ ap (λ (v : HostState g.row.S.Denot). length (waiting v.log)) same, c.reserve.ensures.len);
     }
 
 pub returns-clause-stream : goal.returns-clause-stream

@@ -30,7 +30,7 @@ invariant_of-self-2 g c =
       booked = inv.booked;
       settled = inv.settled;
       grants = subst (λ gs. GrantsKept state.log gs) (sym c.take_grant.ensures.others) (kept_without state.log grants t inv.grants);
-      room = omega (arith, inv.room, c.take_grant.ensures.len, c.take_grant.ensures.capacity);
+      spare = omega (arith, inv.spare, c.take_grant.ensures.len, c.take_grant.ensures.capacity);
     }
 
 pub returns-clause-lease : goal.returns-clause-lease

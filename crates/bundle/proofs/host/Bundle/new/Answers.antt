@@ -15,5 +15,5 @@ invariant_of-result g c =
       booked = ap (λ (v : HostState g.row.S.Denot). v.booked) is;
       settled = subst (λ (v : HostState g.row.S.Denot). IsSoundAndQuiet v.settings v.log) (sym is) (nobody_after settings [] (sound_empty settings) refl);
       grants = rw c.new-2.ensures.items tt;
-      room = omega (arith, ap (λ (v : HostState g.row.S.Denot). length (waiting v.log)) is, c.new-2.ensures.len);
+      spare = omega (arith, ap (λ (v : HostState g.row.S.Denot). length (waiting v.log)) is, c.new-2.ensures.len);
     }

@@ -1,5 +1,4 @@
 use Rattle.std.proofs.Common.{◌≡◌, ℕ, length, true, refl, sym, ap, subst, ◌∙◌, arith}
-use mathlib.Core.Bool.{false≢true}
 use Rattle.conn_log.specs.declared.entry.Want.{Want}
 use Rattle.conn_log.specs.declared.entry.Cause.TheVariants.{Withdrawn}
 use Rattle.conn_log.specs.Waiting.{waiting}
@@ -11,7 +10,7 @@ use Rattle.bundle.proofs.Growth.{grows_withdraw}
 use Rattle.bundle.proofs.KeptSound.{kept_withdraw}
 use Rattle.bundle.proofs.Told.{held_here}
 use Rattle.bundle.proofs.Served.{fewer_without}
-use Rattle.bundle.proofs.Answering.{known, stood_waits, claimed_number, freed_spends, spends_at, apart_open}
+use Rattle.bundle.proofs.Answering.{known, there_where, held_told, stood_waits, claimed_number, freed_spends, spends_at, apart_open}
 use Rattle.bundle.proofs.Settling.{settled_closed, room_closed, left_log, withdrawn_log, gone_open, left_moved, grows_from}
 use Rattle.bundle.proofs.host.Bundle.withdraw.Goals as goal
 
@@ -42,7 +41,7 @@ invariant_of-self g c =
       booked = c.leave.ensures.booked ∙ inv.booked;
       settled = subst (λ settings. IsSoundAndQuiet settings c.leave.new.self.log) (sym c.leave.ensures.same.settings) (subst (λ log. IsSoundAndQuiet state.settings log) (sym is) (kept_withdraw state.settings state.log t c.args.now inv.settled));
       grants = freed.kept;
-      room = omega (arith, inv.room, fewer, ap (λ log. length (waiting log)) c.leave.ensures.log, c.take_grant.ensures.len, c.take_grant.ensures.capacity);
+      spare = omega (arith, inv.spare, fewer, ap (λ log. length (waiting log)) c.leave.ensures.log, c.take_grant.ensures.len, c.take_grant.ensures.capacity);
     }
 
 pub returns-in_default-clause-log : goal.returns-in_default-clause-log
@@ -85,14 +84,14 @@ returns-in_default-clause-grew g c =
     let grew = grows_withdraw state.settings state.log t c.args.now in
     grows_from state.log c.args.self.now.log c.leave.new.self.log (ap (λ (v : HostShown g.row.S.Denot). v.log) c.self.view_is) (grew.0, is ∙ grew.1)
 
-pub unreachable-requires : goal.unreachable-requires
-unreachable-requires g c =
+pub unwrap-held-requires : goal.unwrap-held-requires
+unwrap-held-requires g c =
     let state = c.self.inside.state in
     let grants = c.self.inside.grants.items in
     let inv = c.self.invariant in
     let t = c.want-want.result.transfer in
     let number = claimed_number state.settings state.log inv.settled.sound.orderly grants inv.grants t c.in-Some.grant (sym c.in-Some.ensures.grant) in
-    false≢true (sym c.in_default-held.ensures.none ∙ held_here state.settings state.log inv.settled.sound.orderly t c.in-Some.grant.number number)
+    there_where _ _ c.held.ensures.none (held_here state.settings state.log inv.settled.sound.orderly t c.in-Some.grant.number number)
 
 pub open_for_head-requires-clause-room : goal.open_for_head-requires-clause-room
 open_for_head-requires-clause-room g c anyone =
@@ -100,8 +99,8 @@ open_for_head-requires-clause-room g c anyone =
     let grants = c.self.inside.grants.items in
     let inv = c.self.invariant in
     let t = c.want-want.result.transfer in
-    let held = c.in-Some-held.held in
-    let it = known state.log t held c.in-Some-held.ensures.some in
+    let held = c.unwrap-held.result in
+    let it = known state.log t held (held_told state.log t _ _ c.unwrap-held.ensures c.held.ensures.some) in
     room_closed state.settings state.log grants inv.settled inv.grants state.streams t held.number it.number c.args.now Withdrawn c.close_held.new.self.settings c.close_held.ensures.same.settings c.moment-moment.result c.close_held.new.self.log c.close_held.ensures.log anyone
 
 pub invariant_of-self-2 : goal.invariant_of-self-2
@@ -110,14 +109,14 @@ invariant_of-self-2 g c =
     let grants = c.self.inside.grants.items in
     let inv = c.self.invariant in
     let t = c.want-want.result.transfer in
-    let held = c.in-Some-held.held in
-    let it = known state.log t held c.in-Some-held.ensures.some in
+    let held = c.unwrap-held.result in
+    let it = known state.log t held (held_told state.log t _ _ c.unwrap-held.ensures c.held.ensures.some) in
     let settled = settled_closed state.settings state.log grants inv.settled inv.grants state.streams t held.number it.number c.args.now Withdrawn refl c.close_held.new.self.settings c.close_held.ensures.same.settings c.moment-moment.result c.moment-moment.ensures c.close_held.new.self.log c.close_held.ensures.log c.take_grant.new.grants.items c.take_grant.ensures.others c.open_for_head.new.state.log c.open_for_head.ensures.log c.open_for_head.new.grants.items c.open_for_head.ensures.grants c.open_for_head.new.state.streams (c.open_for_head.ensures.streams ∙ c.close_held.ensures.streams) in
     record {
       booked = c.open_for_head.ensures.booked;
       settled = subst (λ settings. IsSoundAndQuiet settings c.open_for_head.new.state.log) (sym (c.open_for_head.ensures.same.settings ∙ c.close_held.ensures.same.settings)) settled.settled;
       grants = settled.freed.kept;
-      room = c.open_for_head.ensures.places;
+      spare = c.open_for_head.ensures.spare;
     }
 
 pub returns-clause-log : goal.returns-clause-log
@@ -126,8 +125,8 @@ returns-clause-log g c =
     let grants = c.self.inside.grants.items in
     let inv = c.self.invariant in
     let t = c.want-want.result.transfer in
-    let held = c.in-Some-held.held in
-    let it = known state.log t held c.in-Some-held.ensures.some in
+    let held = c.unwrap-held.result in
+    let it = known state.log t held (held_told state.log t _ _ c.unwrap-held.ensures c.held.ensures.some) in
     let log_is = ap (λ (v : HostShown g.row.S.Denot). v.log) c.self.view_is in
     let who : t ≡ c.args.ticket.wait.want.transfer = ap (λ (w : Want). w.transfer) c.want-want.ensures in
     let named : after_withdraw state.settings state.log t c.args.now ≡ after_withdraw c.args.self.now.settings c.args.self.now.log c.args.ticket.wait.want.transfer c.args.now = ap (λ (n : ℕ). after_withdraw state.settings state.log n c.args.now) who ∙ ap (λ (v : HostShown g.row.S.Denot). after_withdraw v.settings v.log c.args.ticket.wait.want.transfer c.args.now) c.self.view_is in
@@ -139,8 +138,8 @@ returns-clause-streams g c d still =
     let grants = c.self.inside.grants.items in
     let inv = c.self.invariant in
     let t = c.want-want.result.transfer in
-    let held = c.in-Some-held.held in
-    let it = known state.log t held c.in-Some-held.ensures.some in
+    let held = c.unwrap-held.result in
+    let it = known state.log t held (held_told state.log t _ _ c.unwrap-held.ensures c.held.ensures.some) in
     let settled = settled_closed state.settings state.log grants inv.settled inv.grants state.streams t held.number it.number c.args.now Withdrawn refl c.close_held.new.self.settings c.close_held.ensures.same.settings c.moment-moment.result c.moment-moment.ensures c.close_held.new.self.log c.close_held.ensures.log c.take_grant.new.grants.items c.take_grant.ensures.others c.open_for_head.new.state.log c.open_for_head.ensures.log c.open_for_head.new.grants.items c.open_for_head.ensures.grants c.open_for_head.new.state.streams (c.open_for_head.ensures.streams ∙ c.close_held.ensures.streams) in
     let closed = gone_open held.number Withdrawn c.close_held.new.self.settings c.moment-moment.result state.log c.close_held.new.self.log c.close_held.ensures.log c.open_for_head.new.state.log c.open_for_head.ensures.log in
     settled.others d (apart_open c.open_for_head.new.state.log held.number d closed still) still ∙ ap (λ (v : HostShown g.row.S.Denot). stream_of v.streams d) c.self.view_is
@@ -151,8 +150,8 @@ returns-clause-spends g c =
     let grants = c.self.inside.grants.items in
     let inv = c.self.invariant in
     let t = c.want-want.result.transfer in
-    let held = c.in-Some-held.held in
-    let it = known state.log t held c.in-Some-held.ensures.some in
+    let held = c.unwrap-held.result in
+    let it = known state.log t held (held_told state.log t _ _ c.unwrap-held.ensures c.held.ensures.some) in
     let settled = settled_closed state.settings state.log grants inv.settled inv.grants state.streams t held.number it.number c.args.now Withdrawn refl c.close_held.new.self.settings c.close_held.ensures.same.settings c.moment-moment.result c.moment-moment.ensures c.close_held.new.self.log c.close_held.ensures.log c.take_grant.new.grants.items c.take_grant.ensures.others c.open_for_head.new.state.log c.open_for_head.ensures.log c.open_for_head.new.grants.items c.open_for_head.ensures.grants c.open_for_head.new.state.streams (c.open_for_head.ensures.streams ∙ c.close_held.ensures.streams) in
     let who : t ≡ c.args.ticket.wait.want.transfer = ap (λ (w : Want). w.transfer) c.want-want.ensures in
     spends_at _ _ _ _ _ c.self.view_is who (freed_spends _ _ _ _ _ _ _ _ _ _ _ settled.freed)
@@ -163,7 +162,7 @@ returns-clause-grew g c =
     let grants = c.self.inside.grants.items in
     let inv = c.self.invariant in
     let t = c.want-want.result.transfer in
-    let held = c.in-Some-held.held in
-    let it = known state.log t held c.in-Some-held.ensures.some in
+    let held = c.unwrap-held.result in
+    let it = known state.log t held (held_told state.log t _ _ c.unwrap-held.ensures c.held.ensures.some) in
     let settled = settled_closed state.settings state.log grants inv.settled inv.grants state.streams t held.number it.number c.args.now Withdrawn refl c.close_held.new.self.settings c.close_held.ensures.same.settings c.moment-moment.result c.moment-moment.ensures c.close_held.new.self.log c.close_held.ensures.log c.take_grant.new.grants.items c.take_grant.ensures.others c.open_for_head.new.state.log c.open_for_head.ensures.log c.open_for_head.new.grants.items c.open_for_head.ensures.grants c.open_for_head.new.state.streams (c.open_for_head.ensures.streams ∙ c.close_held.ensures.streams) in
     grows_from _ _ _ (ap (λ (v : HostShown g.row.S.Denot). v.log) c.self.view_is) settled.grew

@@ -51,7 +51,7 @@ invariant_of-self-2 g c =
     let empty = nobody c.self.inside.queue.wants none in
     let booked = ap (λ (v : HostState g.row.S.Denot). v.booked) c.self.view_is ∙ c.requires.none in
     let next : IsNext c.self.inside.log.entries c.args.want.now = subst (λ wants. IsNextAmong wants (held_number c.self.inside.log.entries c.args.want.now.transfer) c.args.want.now) (sym empty ∙ c.self.invariant.queue) free in
-    let last = subst (λ idle. LastSuits c.args.want.now c.args.moment idle c.in_ok-place.place) c.deref.ensures.value c.in_ok-place.ensures in
+    let last = c.in_ok-place.ensures in
     let x = c.take_from-number.result in
     let same : c.index-last.result.now ≡ x = c.index-last.ensures ∙ get_or_default c.self.inside.idle.items c.in_ok-place.place c.index-last.result.now x last.in_range ∙ sym c.take_from-number.ensures.value in
     let put = subst (λ (y : Idle g.row.S.Denot). (t : ℕ) → get nat_eq c.enter_if_free.new.table t ≡ (if c.args.want.now.transfer == t then Some (record { number = y.number; lane = y.lane; born = y.born; forbids_reuse = c.args.want.now.forbid_reuse }) else get nat_eq c.self.inside.held t)) same (c.enter_if_free.ensures.entered entered) in
@@ -72,14 +72,14 @@ pub returns-clause-none_too_old : goal.returns-clause-none_too_old
 returns-clause-none_too_old g c =
     let kept = c.self.invariant.replays in
     let log_is = ap (λ (v : HostState g.row.S.Denot). v.log) c.self.view_is in
-    let none = subst (λ idle. NoneTooOld c.args.want.now c.args.moment idle) c.deref-2.ensures.value c.in_default.ensures.none in
+    let none = c.in_default.ensures.none in
     ap (λ log. oldest_too_old log c.args.want.now c.args.moment) (sym log_is) ∙ none_too_old_read kept c.args.want.now c.args.moment none
 
 pub returns-clause-some : goal.returns-clause-some
 returns-clause-some g c =
     let kept = c.self.invariant.replays in
     let log_is = ap (λ (v : HostState g.row.S.Denot). v.log) c.self.view_is in
-    let last = subst (λ idle. LastSuits c.args.want.now c.args.moment idle c.in_ok-place.place) c.deref.ensures.value c.in_ok-place.ensures in
+    let last = c.in_ok-place.ensures in
     let x = c.take_from-number.result in
     let there = at_place kept c.in_ok-place.place x last.in_range c.take_from-number.ensures.value in
     let streams_is = ap (λ (v : HostState g.row.S.Denot). v.streams) c.self.view_is in

@@ -6,4 +6,4 @@ pub returns : goal.returns
 returns g c =
     let item = c.in_ok-oldest.ensures.item in
     let oldest = c.in_ok-oldest.oldest.now in
-    rw (← c.self.view_is) (oldest_read c.self.invariant.replays c.self.inside.host oldest (subst (λ idle. 0 < length idle) c.deref.ensures.value item.3.0) (subst (λ idle. oldest ≡ get_or idle 0 oldest) c.deref.ensures.value item.1))
+    rw (← c.self.view_is) (oldest_read c.self.invariant.replays c.self.inside.host oldest (item.3.0) (item.1))

@@ -10,7 +10,7 @@ use Rattle.host_state.proofs.Transitions.{table_absent, below_limit, replays_ope
 use Rattle.conn_log.specs.Waiting.{waiting}
 use Rattle.conn_log.specs.Sound.{IsNext}
 use Rattle.conn_log.proofs.Soundness.{next_free}
-use Rattle.host_state.proofs.Waits.{queue_started, place_spent}
+use Rattle.host_state.proofs.Waits.{queue_started, spent_on}
 use Rattle.host_state.proofs.state.State.open.Goals as goal
 
 pub enter-requires-clause-absent : goal.enter-requires-clause-absent
@@ -24,27 +24,27 @@ pub enter-requires-clause-room : goal.enter-requires-clause-room
 enter-requires-clause-room g c =
     let queue = c.self.invariant.queue in
     let had = λ (none : c.self.inside.queue.wants ≡ []). ap (λ (v : HostState g.row.S.Denot). v.booked) c.self.view_is ∙ c.requires.booked (ap (λ (v : HostState g.row.S.Denot). waiting v.log) (sym c.self.view_is) ∙ sym queue ∙ none) in
-    let spent = place_spent c.self.inside.queue.wants _ c.self.inside.booked _ had c.spend_place.ensures.wants c.spend_place.ensures.booked in
+    let spent = spent_on c.self.inside.queue.wants _ c.self.inside.booked _ had c.start_next.ensures.wants c.start_next.ensures.booked in
     omega (arith, c.self.invariant.room.held_room, spent.places)
 
 pub append-requires-clause-room : goal.append-requires-clause-room
 append-requires-clause-room g c =
     let queue = c.self.invariant.queue in
     let had = λ (none : c.self.inside.queue.wants ≡ []). ap (λ (v : HostState g.row.S.Denot). v.booked) c.self.view_is ∙ c.requires.booked (ap (λ (v : HostState g.row.S.Denot). waiting v.log) (sym c.self.view_is) ∙ sym queue ∙ none) in
-    let spent = place_spent c.self.inside.queue.wants _ c.self.inside.booked _ had c.spend_place.ensures.wants c.spend_place.ensures.booked in
+    let spent = spent_on c.self.inside.queue.wants _ c.self.inside.booked _ had c.start_next.ensures.wants c.start_next.ensures.booked in
     omega (arith, c.self.invariant.room.log_room, spent.entries)
 
 pub overflow_add-self : goal.overflow_add-self
 overflow_add-self g c =
     let queue = c.self.invariant.queue in
     let had = λ (none : c.self.inside.queue.wants ≡ []). ap (λ (v : HostState g.row.S.Denot). v.booked) c.self.view_is ∙ c.requires.booked (ap (λ (v : HostState g.row.S.Denot). waiting v.log) (sym c.self.view_is) ∙ sym queue ∙ none) in
-    let spent = place_spent c.self.inside.queue.wants _ c.self.inside.booked _ had c.spend_place.ensures.wants c.spend_place.ensures.booked in
+    let spent = spent_on c.self.inside.queue.wants _ c.self.inside.booked _ had c.start_next.ensures.wants c.start_next.ensures.booked in
     omega (arith, c.self.invariant.numbers, spent.places)
 
 pub returns-clause-booked : goal.returns-clause-booked
 returns-clause-booked g c =
     let log_is = ap (λ (v : HostState g.row.S.Denot). v.log) c.self.view_is in
-    c.spend_place.ensures.booked ∙ ap (λ wants. booked_after_start wants c.self.inside.booked) (c.self.invariant.queue ∙ ap waiting log_is) ∙ ap (λ (v : HostState g.row.S.Denot). booked_after_start (waiting c.args.self.now.log) v.booked) c.self.view_is
+    c.start_next.ensures.booked ∙ ap (λ wants. booked_after_start wants c.self.inside.booked) (c.self.invariant.queue ∙ ap waiting log_is) ∙ ap (λ (v : HostState g.row.S.Denot). booked_after_start (waiting c.args.self.now.log) v.booked) c.self.view_is
 
 pub invariant_of-self : goal.invariant_of-self
 invariant_of-self g c =
@@ -56,17 +56,17 @@ invariant_of-self g c =
     let not_full : is_full (record { limit = c.self.inside.host_limit; first = c.self.inside.first }) c.self.inside.log.entries ≡ false = ap (λ (v : HostState g.row.S.Denot). is_full v.settings v.log) c.self.view_is ∙ c.requires.room in
     let queue = c.self.invariant.queue in
     let had = λ (none : c.self.inside.queue.wants ≡ []). ap (λ (v : HostState g.row.S.Denot). v.booked) c.self.view_is ∙ c.requires.booked (ap (λ (v : HostState g.row.S.Denot). waiting v.log) (sym c.self.view_is) ∙ sym queue ∙ none) in
-    let spent = place_spent c.self.inside.queue.wants _ c.self.inside.booked _ had c.spend_place.ensures.wants c.spend_place.ensures.booked in
+    let spent = spent_on c.self.inside.queue.wants _ c.self.inside.booked _ had c.start_next.ensures.wants c.start_next.ensures.booked in
     let below = below_limit _ _ _ _ _ _ kept not_full in
     record {
       replays = rw c.append.ensures.entries (replays_open _ _ _ _ _ _ kept c.args.moment later c.args.want.now (c.self.inside.greatest + 1) refl below next (get nat_eq c.enter.new.table) _ c.enter.ensures.len c.enter.ensures.entered);
-      queue = rw c.append.ensures.entries (queue_started _ _ _ _ c.args.want.now kept.sound.orderly.wait_once next queue c.spend_place.ensures.wants);
+      queue = rw c.append.ensures.entries (queue_started _ _ _ _ c.args.want.now kept.sound.orderly.wait_once next queue c.start_next.ensures.wants);
       numbers = omega (arith, c.self.invariant.numbers, spent.places);
       room = record {
         log_room = omega (arith, room.log_room, c.append.ensures.room, c.enter.ensures.len, spent.entries);
         idle_room = omega (arith, room.idle_room, c.enter.ensures.len, spent.places);
         held_room = omega (arith, room.held_room, spent.places, c.enter.ensures.room);
-        queue_room = omega (arith, room.queue_room, spent.fewer, c.spend_place.ensures.room);
+        queue_room = omega (arith, room.queue_room, spent.fewer, c.start_next.ensures.room);
       };
     }
 
