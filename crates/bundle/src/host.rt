@@ -222,7 +222,8 @@ impl<S: Drop> Bundle<S> {
     /// transfer. Else it is closed, and one is opened for the first transfer that waits. `now` is
     /// in seconds. It takes no memory.
     ///
-    /// A lease that this host's log does not show comes back in a [`Stray`].
+    /// A lease that this host's log does not show comes back in a [`Stray`]; for one whose transfer
+    /// holds nothing here the table of holders may grow.
     #[inline(always)]
     pub fn give_back(
         &mut self,
