@@ -5,7 +5,7 @@ ghost use Rattle.conn_key.specs.Site.{site_of};
 ghost use Rattle.script_text.specs.Site.{site_named, fault_of};
 
 use crate::fault::FaultKind;
-use conn_key::{KeyError, Target, read_target};
+use conn_key::{CountedMemory, KeyError, Target, read_target};
 use std::alloc::Global;
 use std::marker::Model;
 use std::str;
@@ -44,7 +44,7 @@ impl<'a> SiteWord<'a> {
         let Ok(text) = str::from_utf8(self.bytes) else {
             return Err(FaultKind::BadSite);
         };
-        match read_target(alloc, text) {
+        match read_target(&mut CountedMemory::new(alloc), text) {
             Ok(target) => Ok(target),
             Err(error) => Err(fault_of(error)),
         }
