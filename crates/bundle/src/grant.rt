@@ -1,4 +1,5 @@
-ghost use Rattle.std.specs.Prelude.{◌≡◌, ◌==◌, ℕ, ◌+◌, ◌<◌, ◌≤◌, length, slice_index_or, vec_len, vec_capacity, false, IfSome, IfNone};
+ghost use Rattle.std.specs.Prelude.{◌≡◌, ◌==◌, ℕ, ◌+◌, ◌<◌, ◌≤◌, length, slice_index_or, vec_len};
+ghost use Rattle.std.specs.Prelude.{vec_capacity, false, IfSome, IfNone};
 ghost use Rattle.std.specs.Option.{option_map};
 ghost use Rattle.bundle.specs.declared.grant.Grant.{Grant};
 ghost use Rattle.conn_log.specs.declared.entry.Want.{Want};

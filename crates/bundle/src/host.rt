@@ -1,14 +1,21 @@
-ghost use Rattle.std.specs.Prelude.{◌≡◌, ℕ, ◌+◌, ◌-◌, ◌*◌, ◌<◌, ◌≤◌, List, [], Bool, true, false, ◌==◌, length, ◌⊎◌, Some, None, IsSome, IfOk, IfErr, OnOk, OnErr, IfSome, IfNone, if◌then◌else◌, is_some};
+ghost use Rattle.std.specs.Prelude.{◌≡◌, ℕ, ◌+◌, ◌-◌, ◌*◌, ◌<◌, ◌≤◌, List, [], Bool, true, false};
+ghost use Rattle.std.specs.Prelude.{◌==◌, length, ◌⊎◌, Some, None, IsSome, IfOk, IfErr, OnOk};
+ghost use Rattle.std.specs.Prelude.{OnErr, IfSome, IfNone, if◌then◌else◌, is_some};
 ghost use Rattle.conn_log.specs.declared.entry.Entry.{Entry};
-ghost use Rattle.conn_log.specs.Connections.{is_open, is_held_by, held_number, open_connections, idle_connections};
+ghost use Rattle.conn_log.specs.Connections.{is_open, is_held_by, held_number, open_connections};
+ghost use Rattle.conn_log.specs.Connections.{idle_connections};
 ghost use Rattle.conn_log.specs.Waiting.{waiting, waits};
 ghost use Rattle.conn_log.specs.Fit.{oldest_stamp};
 ghost use Rattle.conn_log.specs.Legal.{IsLegal, IsQuiet};
 ghost use Rattle.conn_log.specs.Sound.{IsSound};
 ghost use Rattle.host_state.specs.Steps.{is_exhausted};
-ghost use Rattle.bundle.specs.Calls.{after_acquire, after_give_back, after_abandon, after_withdraw, newest_start, newest_wait, last_start, refusal, GrowsBy};
+ghost use Rattle.bundle.specs.Calls.{after_acquire, after_give_back, after_abandon, after_withdraw};
+ghost use Rattle.bundle.specs.Calls.{newest_start, newest_wait, last_start, refusal, GrowsBy};
 ghost use Rattle.host_state.specs.Idle.{stream_of};
-ghost use Rattle.bundle.specs.Lease.{HostShown, is_unclaimed, is_valid_ticket, is_same_want, IsNewHost, is_held_lease, IsLeaseOf, IsTicketOf, WasGranted, HasItsStream, KeepsItsStream, KeepsStreams, KeepsOthers, GetsLease, GetsTicket, Spends, StaysThere, snapshot_of};
+ghost use Rattle.bundle.specs.Lease.{HostShown, is_unclaimed, is_valid_ticket, is_same_want};
+ghost use Rattle.bundle.specs.Lease.{IsNewHost, is_held_lease, IsLeaseOf, IsTicketOf, WasGranted};
+ghost use Rattle.bundle.specs.Lease.{HasItsStream, KeepsItsStream, KeepsStreams, KeepsOthers};
+ghost use Rattle.bundle.specs.Lease.{GetsLease, GetsTicket, Spends, StaysThere, snapshot_of};
 ghost use Rattle.host_state.specs.State.{HasRoomToSpend};
 ghost use Rattle.bundle.specs.Replies.{IfLeased, IfWaits, IfClaimed, IfStill};
 

@@ -1,6 +1,7 @@
 //! Laws of what calls answer, for every log.
 
-ghost use Rattle.bundle.specs.Laws.{AcquireKeepsSoundAndQuiet, GiveBackKeepsSoundAndQuiet, AbandonKeepsSoundAndQuiet, WithdrawKeepsSoundAndQuiet};
+ghost use Rattle.bundle.specs.Laws.{AcquireKeepsSoundAndQuiet, GiveBackKeepsSoundAndQuiet};
+ghost use Rattle.bundle.specs.Laws.{AbandonKeepsSoundAndQuiet, WithdrawKeepsSoundAndQuiet};
 
 /// A sound and quiet log stays so, and so legal, by each call that is not refused, whatever the
 /// log.

@@ -1,4 +1,6 @@
-ghost use Rattle.std.specs.Prelude.{◌≡◌, ℕ, ◌+◌, ◌<◌, ◌≤◌, ◌++◌, ◌==◌, ◌&&◌, not, List, [], ◌∷◌, length, Some, None, IsSome, true, false, if◌then◌else◌, is_some, vec_len, vec_capacity};
+ghost use Rattle.std.specs.Prelude.{◌≡◌, ℕ, ◌+◌, ◌<◌, ◌≤◌, ◌++◌, ◌==◌, ◌&&◌, not, List, [], ◌∷◌};
+ghost use Rattle.std.specs.Prelude.{length, Some, None, IsSome, true, false, if◌then◌else◌};
+ghost use Rattle.std.specs.Prelude.{is_some, vec_len, vec_capacity};
 ghost use Rattle.conn_log.specs.declared.entry.Cause.TheVariants.{TooOld, HostRoom, TotalRoom};
 ghost use Rattle.conn_log.specs.declared.entry.Event.TheVariants.{Waited};
 ghost use Rattle.conn_log.specs.Connections.{last_moment, held_number, is_open, idle_connections};
@@ -6,7 +8,8 @@ ghost use Rattle.conn_log.specs.Waiting.{waiting, waits};
 ghost use Rattle.conn_log.specs.Fit.{is_older};
 ghost use Rattle.conn_log.specs.Legal.{IsAnyone};
 ghost use Rattle.host_state.specs.Steps.{add, is_full};
-ghost use Rattle.bundle.specs.Calls.{start_unless, pass_to, open_for_head, newest_start, newest_wait};
+ghost use Rattle.bundle.specs.Calls.{start_unless, pass_to, open_for_head, newest_start};
+ghost use Rattle.bundle.specs.Calls.{newest_wait};
 ghost use Rattle.bundle.specs.Grants.{with_new, with_passed, IsAlone, HasSpare};
 ghost use Rattle.bundle.specs.Lease.{IsLeaseOf, IsTicketOf, HasItsStream};
 ghost use Rattle.host_state.specs.Idle.{stream_of};

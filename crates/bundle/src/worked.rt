@@ -1,6 +1,13 @@
 //! Small logs whose answers are known, against which the definitions of the calls were tried.
 
-ghost use Rattle.bundle.specs.Worked.{BusyAndNoSuchSiteCalls, ReuseThenDropCalls, NewestIsReusedCalls, NotPersistentAtTheLimitCalls, IdleAsLongAsTheAgeCalls, IdleLongerThanTheAgeCalls, AsOldAsTheLifetimeCalls, OlderThanTheLifetimeCalls, AnotherLaneAtTheHostLimitCalls, ForbiddenAndCutCalls, MomentGoesBackCalls, MomentsClampedPerHostCalls, WaitThenClaimCalls, WithdrawAGrantCalls, WhatDoesNotFit, NumbersRunOut};
+ghost use Rattle.bundle.specs.Worked.{BusyAndNoSuchSiteCalls, ReuseThenDropCalls};
+ghost use Rattle.bundle.specs.Worked.{NewestIsReusedCalls, NotPersistentAtTheLimitCalls};
+ghost use Rattle.bundle.specs.Worked.{IdleAsLongAsTheAgeCalls, IdleLongerThanTheAgeCalls};
+ghost use Rattle.bundle.specs.Worked.{AsOldAsTheLifetimeCalls, OlderThanTheLifetimeCalls};
+ghost use Rattle.bundle.specs.Worked.{AnotherLaneAtTheHostLimitCalls, ForbiddenAndCutCalls};
+ghost use Rattle.bundle.specs.Worked.{MomentGoesBackCalls, MomentsClampedPerHostCalls};
+ghost use Rattle.bundle.specs.Worked.{WaitThenClaimCalls, WithdrawAGrantCalls, WhatDoesNotFit};
+ghost use Rattle.bundle.specs.Worked.{NumbersRunOut};
 
 /// What calls answer on small logs, by computation: each clause is named for the script of its log,
 /// or for what its logs show.

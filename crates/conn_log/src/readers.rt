@@ -1,7 +1,8 @@
 //! Plain readers of a log: each scans the entries for its answer.
 
 ghost use Rattle.std.specs.Prelude.{◌≡◌, ℕ, ◌+◌, ◌<◌, ◌≤◌, List, ◌∷◌, length, reverse, filter, not};
-ghost use Rattle.conn_log.specs.Connections.{open_connections, is_closed, holder as holder_of, since as since_of};
+ghost use Rattle.conn_log.specs.Connections.{open_connections, is_closed, holder as holder_of};
+ghost use Rattle.conn_log.specs.Connections.{since as since_of};
 ghost use Rattle.conn_log.specs.Waiting.{waiting};
 ghost use Rattle.conn_log.specs.Scan.{is_wait_ended, is_left_waiting};
 ghost use Rattle.conn_log.specs.Fit.{oldest_stamp};

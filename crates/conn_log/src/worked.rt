@@ -1,6 +1,11 @@
 //! Small logs whose answers are known, against which the definitions were tried.
 
-ghost use Rattle.conn_log.specs.Worked.{BusyAndNoSuchSite, ReuseThenDrop, NewestIsReused, NotPersistentAtTheLimit, IdleAsLongAsTheAge, IdleLongerThanTheAge, AsOldAsTheLifetime, OlderThanTheLifetime, AnotherLaneAtTheHostLimit, ForbiddenAndCut, MomentGoesBack, WaitThenClaim, WithdrawAGrant, MomentsClampedPerHost};
+ghost use Rattle.conn_log.specs.Worked.{BusyAndNoSuchSite, ReuseThenDrop, NewestIsReused};
+ghost use Rattle.conn_log.specs.Worked.{NotPersistentAtTheLimit, IdleAsLongAsTheAge};
+ghost use Rattle.conn_log.specs.Worked.{IdleLongerThanTheAge, AsOldAsTheLifetime};
+ghost use Rattle.conn_log.specs.Worked.{OlderThanTheLifetime, AnotherLaneAtTheHostLimit};
+ghost use Rattle.conn_log.specs.Worked.{ForbiddenAndCut, MomentGoesBack, WaitThenClaim};
+ghost use Rattle.conn_log.specs.Worked.{WithdrawAGrant, MomentsClampedPerHost};
 
 /// What small logs say, by computation: each clause is named for the script of its log.
 pub fn worked_logs()

@@ -1,4 +1,5 @@
-ghost use Rattle.std.specs.Prelude.{◌≡◌, ℕ, ◌+◌, ◌<◌, ◌≤◌, ◌==◌, None, Some, IsSome, IfSome, IfNone, OnSome, true, false, nat_eq, if◌then◌else◌};
+ghost use Rattle.std.specs.Prelude.{◌≡◌, ℕ, ◌+◌, ◌<◌, ◌≤◌, ◌==◌, None, Some, IsSome, IfSome};
+ghost use Rattle.std.specs.Prelude.{IfNone, OnSome, true, false, nat_eq, if◌then◌else◌};
 ghost use Rattle.std.specs.HashMap.{get, hash_map_len, spare};
 ghost use Rattle.host_state.specs.State.{is_that, EntersHeld, TakesHeld};
 

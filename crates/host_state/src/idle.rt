@@ -2,7 +2,9 @@ ghost use Rattle.std.specs.Prelude.{◌≡◌, ◌+◌, ◌<◌, ◌≤◌, IfSo
 ghost use Rattle.std.specs.List.{insert, remove};
 ghost use Rattle.std.specs.VecDeque.{deque_len, deque_capacity};
 ghost use Rattle.conn_log.specs.Fit.{is_older};
-ghost use Rattle.host_state.specs.Idle.{item_suits, item_too_old, ends_search, LastSuits, NoneSuits, FirstTooOld, NoneTooOld, AreInOrder, IsPlaceFor, is_before};
+ghost use Rattle.host_state.specs.Idle.{item_suits, item_too_old, ends_search, LastSuits};
+ghost use Rattle.host_state.specs.Idle.{NoneSuits, FirstTooOld, NoneTooOld, AreInOrder, IsPlaceFor};
+ghost use Rattle.host_state.specs.Idle.{is_before};
 
 use conn_log::Want;
 use std::collections::VecDeque;

@@ -1,4 +1,5 @@
-ghost use Rattle.std.specs.Prelude.{◌≡◌, ℕ, ◌+◌, ◌<◌, ◌≤◌, ◌++◌, ◌==◌, List, [], ◌∷◌, length, drop, None, Some, IfNone, IfSome, OnOk};
+ghost use Rattle.std.specs.Prelude.{◌≡◌, ℕ, ◌+◌, ◌<◌, ◌≤◌, ◌++◌, ◌==◌, List, [], ◌∷◌, length, drop};
+ghost use Rattle.std.specs.Prelude.{None, Some, IfNone, IfSome, OnOk};
 ghost use Rattle.conn_log.specs.declared.entry.Want.{Want};
 ghost use Rattle.conn_log.specs.Waiting.{without};
 ghost use Rattle.host_state.specs.Queue.{waiting_want};

@@ -1,14 +1,23 @@
-ghost use Rattle.std.specs.Prelude.{◌≡◌, ℕ, ◌+◌, ◌-◌, ◌*◌, ◌<◌, ◌≤◌, [], true, false, ◌&&◌, ◌==◌, length, Some, None, IfOk, IfErr, OnOk, OnErr, IfSome, IfNone, OnSome, is_some, if◌then◌else◌};
+ghost use Rattle.std.specs.Prelude.{◌≡◌, ℕ, ◌+◌, ◌-◌, ◌*◌, ◌<◌, ◌≤◌, [], true, false, ◌&&◌, ◌==◌};
+ghost use Rattle.std.specs.Prelude.{length, Some, None, IfOk, IfErr, OnOk, OnErr, IfSome, IfNone};
+ghost use Rattle.std.specs.Prelude.{OnSome, is_some, if◌then◌else◌};
 ghost use Rattle.conn_log.specs.declared.entry.Entry.{Entry};
-ghost use Rattle.conn_log.specs.declared.entry.Event.TheVariants.{Opened, Leased, Returned, Closed, Waited, Left};
-ghost use Rattle.conn_log.specs.Connections.{last_moment, held_number, is_open, is_idle, open_connections, idle_connections, holds, is_held_by};
+ghost use Rattle.conn_log.specs.declared.entry.Event.TheVariants.{Opened, Leased, Returned, Closed};
+ghost use Rattle.conn_log.specs.declared.entry.Event.TheVariants.{Waited, Left};
+ghost use Rattle.conn_log.specs.Connections.{last_moment, held_number, is_open, is_idle};
+ghost use Rattle.conn_log.specs.Connections.{open_connections, idle_connections, holds, is_held_by};
 ghost use Rattle.conn_log.specs.Waiting.{waiting, waits};
 ghost use Rattle.conn_log.specs.Fit.{newest_fit, oldest_too_old, oldest_stamp};
 ghost use Rattle.conn_log.specs.Sound.{IsSound, IsNext, is_of_holder, is_of_idle};
-ghost use Rattle.host_state.specs.Steps.{add, next_number, without_too_old, with_host_room, is_full, is_exhausted, moment_at};
+ghost use Rattle.host_state.specs.Steps.{add, next_number, without_too_old, with_host_room};
+ghost use Rattle.host_state.specs.Steps.{is_full, is_exhausted, moment_at};
 ghost use Rattle.host_state.specs.Idle.{stream_of};
 ghost use Rattle.host_state.specs.Queue.{waiting_want};
-ghost use Rattle.host_state.specs.State.{HostState, IsSameHost, ClosesIdle, ClosesOldest, ClosesFirst, LeasesNewest, EndsUse, WaitsFirst, IsHeldAs, IsFreeOf, OpensOnly, IsNewState, HasRoomToSpend, ComesBack, ComesBackToClose, idle_since, stays_open, booked_after_start};
+ghost use Rattle.host_state.specs.State.{HostState, IsSameHost, ClosesIdle, ClosesOldest};
+ghost use Rattle.host_state.specs.State.{ClosesFirst, LeasesNewest, EndsUse, WaitsFirst, IsHeldAs};
+ghost use Rattle.host_state.specs.State.{IsFreeOf, OpensOnly, IsNewState, HasRoomToSpend};
+ghost use Rattle.host_state.specs.State.{ComesBack, ComesBackToClose, idle_since, stays_open};
+ghost use Rattle.host_state.specs.State.{booked_after_start};
 ghost use Rattle.conn_log.specs.Legal.{IsAnyone, owed, ending_cause};
 ghost use Rattle.conn_log.specs.declared.entry.Want.{Want};
 
