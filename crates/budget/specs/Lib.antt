@@ -1,0 +1,6 @@
+pub mod Limits
+pub mod Permits
+pub mod Plain
+pub mod PlainLaws
+pub mod Words
+pub mod WordsLaws

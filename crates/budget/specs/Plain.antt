@@ -1,0 +1,41 @@
+-- The budget of one thread.
+use Rattle.std.specs.Prelude.{◌≡◌, ◌≢◌, ℕ, ◌≤◌, List, slice_index_or, length}
+use Rattle.std.specs.List.{sum_by}
+use Rattle.budget.specs.declared.permits.Held.{Held}
+use Rattle.budget.specs.declared.permits.Try.{Try}
+use Rattle.budget.specs.declared.permits.Try.TheVariants.{Got, Full, Contended}
+use Rattle.budget.specs.Limits.{Bounds}
+use Rattle.budget.specs.Permits.{held}
+
+-- the limits, and what each host holds
+pub record Plain : Type 0 where
+  pub limits : Bounds
+  pub hosts : List Held
+
+-- how many are open over all hosts
+abbrev pub alive_in : List Held → ℕ
+alive_in hosts = sum_by (λ (h : Held). h.alive) hosts
+
+-- how many are kept over all hosts
+abbrev pub kept_in : List Held → ℕ
+kept_in hosts = sum_by (λ (h : Held). h.kept) hosts
+
+abbrev pub at_host : List Held → ℕ → Held
+at_host hosts host = slice_index_or hosts host (held 0 0)
+
+-- neither number is above its limit
+pub record IsWithin (budget : Plain) : Type 0 where
+  pub total : alive_in budget.hosts ≤ budget.limits.total
+  pub kept : kept_in budget.hosts ≤ budget.limits.connects
+
+-- what an answer tells where a number is held to a limit: Full only at the limit, and never Contended
+abbrev pub Tells : ℕ → ℕ → Try → Type 0
+Tells number limit Got = Unit {0}
+Tells number limit Full = number ≡ limit
+Tells number limit Contended = ⊥
+
+-- the limits are the same, and so is every host but that one
+pub record KeepsOthers (host : ℕ) (old new : Plain) : Type 0 where
+  pub limits : new.limits ≡ old.limits
+  pub count : length new.hosts ≡ length old.hosts
+  pub others : (other : ℕ) → other ≢ host → at_host new.hosts other ≡ at_host old.hosts other

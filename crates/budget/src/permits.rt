@@ -1,0 +1,122 @@
+ghost use Rattle.std.specs.Prelude.{◌≡◌, ◌<◌};
+
+/// What a budget answers where it is asked for one permit more.
+#[derive(Clone, Copy, Debug, PartialEq, Eq)]
+pub enum Try {
+    /// The permit is given.
+    Got,
+    /// The limit is reached. Nothing changed.
+    Full,
+    /// Another thread changed the number meanwhile. Nothing changed, and asking again may help.
+    Contended,
+}
+
+/// How many permits a part of a budget holds.
+#[derive(Clone, Copy, Debug, PartialEq, Eq)]
+pub struct Held {
+    /// Those for open connections.
+    pub alive: u32,
+    /// Those for connections that are kept open after their use.
+    pub kept: u32,
+}
+
+/// One host's part of a budget: what asks for permits, and gives them back.
+///
+/// Ghost members say what contracts may know of it. `opening` and `keeping` relate an earlier time,
+/// a later one and an answer: in between the budget was asked so, and this was its last answer. What
+/// that answer tells is the budget's to say.
+pub trait Permits {
+    ghost use Rattle.budget.specs.declared.permits.Held.{Held};
+    ghost use Rattle.budget.specs.declared.permits.Try.{Try};
+    ghost use Rattle.budget.specs.declared.permits.Try.TheVariants.{Got};
+    ghost use Rattle.budget.specs.Permits.{one_more_open, one_more_kept, one_less_open, one_less_kept, if_got};
+
+    /// It is a part of its budget.
+    ghost stands: { Self → Type 0 };
+
+    /// What it holds.
+    ghost held: { Self → Held };
+
+    /// It is the same part of the same budget, at a later time.
+    ghost stays: { Self → Self → Type 0 };
+
+    /// Between the two times the budget was asked for an open connection, and last answered so.
+    ghost opening: { Self → Self → Try → Type 0 };
+
+    /// Between the two times the budget was asked to keep a connection, and last answered so.
+    ghost keeping: { Self → Self → Try → Type 0 };
+
+    /// No step between the two times touched the number of open connections.
+    ghost same_total: { Self → Self → Type 0 };
+
+    /// No step between the two times touched the number of kept connections.
+    ghost same_kept: { Self → Self → Type 0 };
+
+    /// Asks for one more open connection.
+    fn reserve_open(&mut self) -> Try
+        requires stands { stands self.old }
+        ensures stands { stands self.new }
+        ensures stays { stays self.old self.new }
+        ensures told { opening self.old self.new result }
+        ensures held { held self.new ≡ if_got result one_more_open (held self.old) }
+        ensures same_kept { same_kept self.old self.new };
+
+    /// Asks for one more connection kept open after its use.
+    fn reserve_kept(&mut self) -> Try
+        requires stands { stands self.old }
+        ensures stands { stands self.new }
+        ensures stays { stays self.old self.new }
+        ensures told { keeping self.old self.new result }
+        ensures held { held self.new ≡ if_got result one_more_kept (held self.old) }
+        ensures same_total { same_total self.old self.new };
+
+    /// Gives one open connection's permit back.
+    fn release_open(&mut self)
+        requires stands { stands self.old }
+        requires one { 0 < (held self.old).alive }
+        ensures stands { stands self.new }
+        ensures stays { stays self.old self.new }
+        ensures held { held self.new ≡ one_less_open (held self.old) }
+        ensures same_kept { same_kept self.old self.new };
+
+    /// Gives one kept connection's permit back.
+    fn release_kept(&mut self)
+        requires stands { stands self.old }
+        requires one { 0 < (held self.old).kept }
+        ensures stands { stands self.new }
+        ensures stays { stays self.old self.new }
+        ensures held { held self.new ≡ one_less_kept (held self.old) }
+        ensures same_total { same_total self.old self.new };
+
+    /// What it holds.
+    fn held(&self) -> Held
+        requires { stands self.now }
+        ensures { result ≡ held self.now };
+
+    ghost stays_from_start: { (x : Self) → stays x x };
+
+    ghost stays_on: { (x y z : Self) → stays x y → stays y z → stays x z };
+
+    /// Not asked reads as Got.
+    ghost not_asked_to_open: { (x y : Self) → stays x y → opening x y Got };
+
+    ghost not_asked_to_keep: { (x y : Self) → stays x y → keeping x y Got };
+
+    /// An answer that was told since a later time was told since an earlier one.
+    ghost opening_since: { (x y z : Self) (answer : Try) → stays x y → opening y z answer → opening x z answer };
+
+    ghost keeping_since: { (x y z : Self) (answer : Try) → stays x y → keeping y z answer → keeping x z answer };
+
+    /// It is still the answer after steps that leave the number that was asked for.
+    ghost opening_still: { (x y z : Self) (answer : Try) → opening x y answer → stays y z → same_total y z → opening x z answer };
+
+    ghost keeping_still: { (x y z : Self) (answer : Try) → keeping x y answer → stays y z → same_kept y z → keeping x z answer };
+
+    ghost same_total_on: { (x y z : Self) → same_total x y → same_total y z → same_total x z };
+
+    ghost same_kept_on: { (x y z : Self) → same_kept x y → same_kept y z → same_kept x z };
+
+    ghost same_total_from_start: { (x : Self) → same_total x x };
+
+    ghost same_kept_from_start: { (x : Self) → same_kept x x };
+}

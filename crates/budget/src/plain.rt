@@ -1,0 +1,216 @@
+ghost use Rattle.std.specs.Prelude.{◌≡◌, ℕ, ◌<◌, length, replicate, slice_set, IfOk, IfErr};
+ghost use Rattle.budget.specs.Permits.{held, one_more_open, one_more_kept, one_less_open, one_less_kept, if_got};
+ghost use Rattle.budget.specs.Plain.{alive_in, kept_in, at_host, Tells, IsWithin};
+
+use crate::limits::Limits;
+use crate::permits::{Held, Permits, Try};
+use crate::refusal::Refusal;
+use std::alloc::Global;
+use std::marker::Model;
+
+/// The budget of one thread: how many connections are open and how many are kept over all hosts,
+/// never above the limits, and what each host holds of them. Contracts see the limits and the hosts.
+#[derive(Drop)]
+pub struct PlainBudget {
+    limits: Limits,
+    total: u32,
+    kept: u32,
+    hosts: Vec<Held>,
+}
+
+impl Model for PlainBudget {
+    ghost use Rattle.std.specs.Prelude.{◌≡◌};
+    ghost use Rattle.budget.specs.Limits.{AreLimits};
+    ghost use Rattle.budget.specs.Plain.{Plain, IsWithin, alive_in, kept_in};
+
+    ghost Value = { Plain };
+
+    ghost view = { λ budget. record { limits = budget.limits; hosts = budget.hosts.items } };
+
+    ghost invariant = { λ budget. record {
+      total : budget.total ≡ alive_in budget.hosts.items;
+      kept : budget.kept ≡ kept_in budget.hosts.items;
+      limits : AreLimits budget.limits;
+      within : IsWithin record { limits = budget.limits; hosts = budget.hosts.items };
+    } };
+}
+
+impl PlainBudget {
+    /// A budget under these limits for that many hosts, which hold nothing yet.
+    ///
+    /// The only refusal is [`Refusal::Memory`].
+    pub fn new(alloc: Global, limits: Limits, hosts: u32) -> Result<PlainBudget, Refusal>
+        ensures ok { IfOk result (λ budget. budget ≡ record { limits = limits; hosts = replicate hosts (held 0 0) }) }
+        ensures err { IfErr result (λ refusal. refusal ≡ Refusal.Memory) }
+    {
+        let nothing = Held { alive: 0, kept: 0 };
+        let mut parts = Vec::new(alloc);
+        let Ok(()) = parts.resize(hosts as usize, nothing) else {
+            return Err(Refusal::Memory);
+        };
+        Ok(PlainBudget {
+            limits,
+            total: 0,
+            kept: 0,
+            hosts: parts,
+        })
+    }
+
+    /// The part of that host, which asks for its permits.
+    pub fn at(&mut self, host: u32) -> HostPermits<'_>
+        requires { host < length self.old.hosts }
+        ensures same_reference { result.budget.ghost_name ≡ self.entry.ghost_name }
+        ensures budget { result.budget.now ≡ self.old }
+        ensures host { result.host ≡ host }
+    {
+        HostPermits {
+            budget: self,
+            host: host as usize,
+        }
+    }
+
+    fn held(&self, host: usize) -> Held
+        requires { host < length self.now.hosts }
+        ensures { result ≡ at_host self.now.hosts host }
+    {
+        self.hosts[host]
+    }
+
+    fn reserve_open(&mut self, host: usize) -> Try
+        requires { host < length self.old.hosts }
+        ensures told { Tells (alive_in self.new.hosts) self.new.limits.total result }
+        ensures limits { self.new.limits ≡ self.old.limits }
+        ensures hosts { self.new.hosts ≡ slice_set self.old.hosts host (if_got result one_more_open (at_host self.old.hosts host)) }
+    {
+        if self.total == self.limits.total() {
+            return Try::Full;
+        }
+        let part = self.hosts[host];
+        self.total += 1;
+        self.hosts[host] = Held {
+            alive: part.alive + 1,
+            kept: part.kept,
+        };
+        Try::Got
+    }
+
+    fn reserve_kept(&mut self, host: usize) -> Try
+        requires { host < length self.old.hosts }
+        ensures told { Tells (kept_in self.new.hosts) self.new.limits.connects result }
+        ensures limits { self.new.limits ≡ self.old.limits }
+        ensures hosts { self.new.hosts ≡ slice_set self.old.hosts host (if_got result one_more_kept (at_host self.old.hosts host)) }
+    {
+        if self.kept == self.limits.connects() {
+            return Try::Full;
+        }
+        let part = self.hosts[host];
+        self.kept += 1;
+        self.hosts[host] = Held {
+            alive: part.alive,
+            kept: part.kept + 1,
+        };
+        Try::Got
+    }
+
+    fn release_open(&mut self, host: usize)
+        requires there { host < length self.old.hosts }
+        requires one { 0 < (at_host self.old.hosts host).alive }
+        ensures limits { self.new.limits ≡ self.old.limits }
+        ensures hosts { self.new.hosts ≡ slice_set self.old.hosts host (one_less_open (at_host self.old.hosts host)) }
+    {
+        let part = self.hosts[host];
+        self.total -= 1;
+        self.hosts[host] = Held {
+            alive: part.alive - 1,
+            kept: part.kept,
+        };
+    }
+
+    fn release_kept(&mut self, host: usize)
+        requires there { host < length self.old.hosts }
+        requires one { 0 < (at_host self.old.hosts host).kept }
+        ensures limits { self.new.limits ≡ self.old.limits }
+        ensures hosts { self.new.hosts ≡ slice_set self.old.hosts host (one_less_kept (at_host self.old.hosts host)) }
+    {
+        let part = self.hosts[host];
+        self.kept -= 1;
+        self.hosts[host] = Held {
+            alive: part.alive,
+            kept: part.kept - 1,
+        };
+    }
+}
+
+/// One host's part of a budget of one thread. It is never answered Contended, and Full only where the
+/// total, or the number kept, is at its limit.
+pub struct HostPermits<'a> {
+    budget: &'a mut PlainBudget,
+    host: usize,
+}
+
+impl Permits for HostPermits<'_> {
+    ghost use Rattle.std.specs.Prelude.{◌≡◌, ◌<◌, length};
+    ghost use Rattle.std.specs.Prelude.{refl};
+    ghost use Rattle.std.proofs.Common.{ap, ◌∙◌};
+    ghost use Rattle.budget.specs.Limits.{Bounds};
+    ghost use Rattle.budget.specs.Plain.{alive_in, kept_in, at_host, Tells, KeepsOthers};
+    ghost use Rattle.budget.specs.PlainLaws.{keeps_from_start, keeps_on, tells_still};
+
+    ghost stands = { λ part. part.host < length part.budget.now.hosts };
+
+    ghost held = { λ part. at_host part.budget.now.hosts part.host };
+
+    ghost stays = { λ x y. (y.budget.ghost_name ≡ x.budget.ghost_name) × (y.host ≡ x.host) × KeepsOthers x.host x.budget.now y.budget.now };
+
+    ghost opening = { λ x y answer. Tells (alive_in y.budget.now.hosts) y.budget.now.limits.total answer };
+
+    ghost keeping = { λ x y answer. Tells (kept_in y.budget.now.hosts) y.budget.now.limits.connects answer };
+
+    ghost same_total = { λ x y. alive_in y.budget.now.hosts ≡ alive_in x.budget.now.hosts };
+
+    ghost same_kept = { λ x y. kept_in y.budget.now.hosts ≡ kept_in x.budget.now.hosts };
+
+    fn reserve_open(&mut self) -> Try {
+        self.budget.reserve_open(self.host)
+    }
+
+    fn reserve_kept(&mut self) -> Try {
+        self.budget.reserve_kept(self.host)
+    }
+
+    fn release_open(&mut self) {
+        self.budget.release_open(self.host)
+    }
+
+    fn release_kept(&mut self) {
+        self.budget.release_kept(self.host)
+    }
+
+    fn held(&self) -> Held {
+        self.budget.held(self.host)
+    }
+
+    ghost stays_from_start = { λ x. (refl, refl, keeps_from_start x.host x.budget.now) };
+
+    ghost stays_on = { λ x y z p q. (q.0 ∙ p.0, q.1 ∙ p.1, keeps_on x.host y.host x.budget.now y.budget.now z.budget.now p.1 p.2 q.2) };
+
+    ghost not_asked_to_open = { λ x y s. tt };
+
+    ghost not_asked_to_keep = { λ x y s. tt };
+
+    ghost opening_since = { λ x y z answer s told. told };
+
+    ghost keeping_since = { λ x y z answer s told. told };
+
+    ghost opening_still = { λ x y z answer told s same. tells_still _ _ _ _ answer told (ap (λ (b : Bounds). b.total) s.2.limits) same };
+
+    ghost keeping_still = { λ x y z answer told s same. tells_still _ _ _ _ answer told (ap (λ (b : Bounds). b.connects) s.2.limits) same };
+
+    ghost same_total_on = { λ x y z p q. q ∙ p };
+
+    ghost same_kept_on = { λ x y z p q. q ∙ p };
+
+    ghost same_total_from_start = { λ x. refl };
+
+    ghost same_kept_from_start = { λ x. refl };
+}

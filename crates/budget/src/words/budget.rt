@@ -1,0 +1,268 @@
+ghost use Rattle.std.specs.Prelude.{◌≡◌, ℕ, ◌+◌, ◌<◌, ◌≤◌, [], IfOk, IfErr};
+ghost use Rattle.budget.specs.Words.{newcomer, noted, one_less, on_total, on_kept, parted, joined, seated, held_by, whole, TriesOpen, TriesKept};
+
+use crate::limits::Limits;
+use crate::permits::{Held, Try};
+use crate::refusal::Refusal;
+use crate::words::rule::{BudgetRule, GivesKept, GivesOpen, Joins, LooksAtKept, LooksAtTotal, Parts, TakesKept, TakesOpen};
+use crate::words::view::SeatView;
+use atomic_table::{Seat, Table};
+use std::alloc::Global;
+use std::marker::Model;
+
+// The word that counts open connections, and the one that counts kept ones.
+const TOTAL: usize = 0;
+const KEPT: usize = 1;
+
+/// How many connections are open in total and how many are kept, as two words that threads step on,
+/// each step single: a load, an exchange to one more, or a subtraction of one. Between any two steps
+/// each word is the sum of what the seats hold, and is not above its limit. None of its calls waits.
+#[derive(Drop)]
+pub struct WordBudget {
+    table: Table<(), SeatView, Limits, BudgetRule, Global>,
+    limits: Limits,
+}
+
+impl Model for WordBudget {
+    ghost use Rattle.std.specs.Prelude.{◌≡◌};
+    ghost use Rattle.budget.specs.Words.{Shared};
+
+    ghost Value = { Shared };
+
+    ghost view = { λ budget. record { table = budget.table.shared.table_id; limits = budget.limits } };
+
+    ghost invariant = { λ budget. record {
+      words : budget.table.shared.table_id.words ≡ 2;
+      slots : budget.table.shared.table_id.slots ≡ 0;
+      limits : budget.table.shared.key ≡ budget.limits;
+    } };
+}
+
+/// A seat at a word budget, which one thread at a time steps with. It holds permits, has a share of
+/// the whole, and remembers what its last loads read.
+#[derive(Drop)]
+pub struct BudgetSeat {
+    seat: Seat<(), SeatView>,
+    alive: u32,
+    kept: u32,
+    seen: Seen,
+}
+
+impl Model for BudgetSeat {
+    ghost use Rattle.std.specs.Prelude.{◌≡◌, ◌<◌, []};
+    ghost use Rattle.budget.specs.Words.{Place};
+
+    ghost Value = { Place };
+
+    ghost view = { λ sitter. record { table = sitter.seat.table_id; number = sitter.seat.id; view = sitter.seat.me.0 } };
+
+    ghost invariant = { λ sitter. record {
+      slots : sitter.seat.me.1 ≡ [];
+      share : 0 < sitter.seat.me.0.share;
+      alive : sitter.alive ≡ sitter.seat.me.0.total.held;
+      kept : sitter.kept ≡ sitter.seat.me.0.kept.held;
+      seen_total : sitter.seen.total ≡ sitter.seat.me.0.total.seen;
+      seen_kept : sitter.seen.kept ≡ sitter.seat.me.0.kept.seen;
+    } };
+}
+
+/// What the last loads of a seat read, 0 before any.
+#[derive(Clone, Copy, Debug, PartialEq, Eq)]
+pub struct Seen {
+    /// Of the number of open connections.
+    pub total: u64,
+    /// Of the number of kept connections.
+    pub kept: u64,
+}
+
+/// The words of a budget that is finished.
+#[derive(Clone, Copy, Debug, PartialEq, Eq)]
+pub struct Words {
+    /// The number of open connections.
+    pub total: u64,
+    /// The number of kept connections.
+    pub kept: u64,
+}
+
+impl WordBudget {
+    /// A budget under these limits, with no connection, and its first seat, which has the whole share.
+    ///
+    /// The only refusal is [`Refusal::Memory`].
+    pub fn new(alloc: Global, limits: Limits) -> Result<(WordBudget, BudgetSeat), Refusal>
+        ensures limits { IfOk result (λ made. made.0.limits ≡ limits) }
+        ensures seat { IfOk result (λ made. (made.1.table ≡ made.0.table) × (made.1.view ≡ newcomer whole)) }
+        ensures err { IfErr result (λ refusal. refusal ≡ Refusal.Memory) }
+    {
+        let _connects = limits.connects();
+        let Ok((table, seat)) = Table::of_words(alloc, &[0, 0], &limits) else {
+            return Err(Refusal::Memory);
+        };
+        Ok((WordBudget { table, limits }, BudgetSeat::new(seat)))
+    }
+
+    /// Asks for one more open connection: one load, and where that was below the limit one exchange.
+    /// Full where the load read the limit, Contended where the exchange found another value.
+    #[inline(always)]
+    pub fn try_open(&self, seat: &mut BudgetSeat) -> Try
+        requires { seat.old.table ≡ self.now.table }
+        ensures { TriesOpen self.now.limits.total seat.old result seat.new }
+    {
+        let found = self
+            .table
+            .shared
+            .load::<LooksAtTotal>(&mut seat.seat, TOTAL);
+        seat.seen.total = found;
+        if found == u64::from(self.limits.total()) {
+            return Try::Full;
+        }
+        let before = self
+            .table
+            .shared
+            .compare_exchange::<TakesOpen>(&mut seat.seat, TOTAL, found, found + 1);
+        if before != found {
+            return Try::Contended;
+        }
+        seat.alive += 1;
+        Try::Got
+    }
+
+    /// Gives back the permit of one open connection: one subtraction.
+    #[inline(always)]
+    pub fn free_open(&self, seat: &mut BudgetSeat)
+        requires table { seat.old.table ≡ self.now.table }
+        requires one { 0 < seat.old.view.total.held }
+        ensures { seat.new ≡ seated seat.old (on_total one_less seat.old.view) }
+    {
+        self.table
+            .shared
+            .fetch_sub::<GivesOpen>(&mut seat.seat, TOTAL, 1);
+        seat.alive -= 1;
+    }
+
+    /// Asks to keep one more connection: one load, and where that was below the limit one exchange.
+    /// Full where the load read the limit, Contended where the exchange found another value.
+    #[inline(always)]
+    pub fn try_keep(&self, seat: &mut BudgetSeat) -> Try
+        requires { seat.old.table ≡ self.now.table }
+        ensures { TriesKept self.now.limits.connects seat.old result seat.new }
+    {
+        let found = self
+            .table
+            .shared
+            .load::<LooksAtKept>(&mut seat.seat, KEPT);
+        seat.seen.kept = found;
+        if found == u64::from(self.limits.connects()) {
+            return Try::Full;
+        }
+        let before = self
+            .table
+            .shared
+            .compare_exchange::<TakesKept>(&mut seat.seat, KEPT, found, found + 1);
+        if before != found {
+            return Try::Contended;
+        }
+        seat.kept += 1;
+        Try::Got
+    }
+
+    /// Gives back the permit of one kept connection: one subtraction.
+    #[inline(always)]
+    pub fn free_keep(&self, seat: &mut BudgetSeat)
+        requires table { seat.old.table ≡ self.now.table }
+        requires one { 0 < seat.old.view.kept.held }
+        ensures { seat.new ≡ seated seat.old (on_kept one_less seat.old.view) }
+    {
+        self.table
+            .shared
+            .fetch_sub::<GivesKept>(&mut seat.seat, KEPT, 1);
+        seat.kept -= 1;
+    }
+
+    /// What the seat's last loads read, 0 before any.
+    pub fn seen(&self, seat: &BudgetSeat) -> Seen
+        ensures total { result.total ≡ seat.now.view.total.seen }
+        ensures kept { result.kept ≡ seat.now.view.kept.seen }
+    {
+        seat.seen
+    }
+
+    /// A new seat, with one unit of the seat's share and no permit.
+    pub fn split(&self, seat: &mut BudgetSeat) -> BudgetSeat
+        requires table { seat.old.table ≡ self.now.table }
+        requires units { 2 ≤ seat.old.view.share }
+        ensures seat { seat.new ≡ seated seat.old (parted seat.old.view) }
+        ensures new { (result.table ≡ seat.old.table) × (result.view ≡ newcomer 1) }
+    {
+        BudgetSeat::new(self.table.shared.split_seat::<Parts>(&mut seat.seat))
+    }
+
+    /// The seat takes over the share and the permits of the other one, and loads both words.
+    pub fn join(&self, seat: &mut BudgetSeat, other: BudgetSeat)
+        requires table { seat.old.table ≡ self.now.table }
+        requires other { other.table ≡ self.now.table }
+        ensures { (total kept : ℕ) × (seat.new ≡ seated seat.old (on_kept (noted kept) (on_total (noted total) (joined seat.old.view other.view)))) }
+    {
+        let BudgetSeat {
+            seat: others,
+            alive,
+            kept,
+            seen: _,
+        } = other;
+        let table = &self.table.shared;
+        table.join_seat::<Joins>(&mut seat.seat, others);
+        seat.seen.total = table.load::<LooksAtTotal>(&mut seat.seat, TOTAL);
+        seat.seen.kept = table.load::<LooksAtKept>(&mut seat.seat, KEPT);
+        seat.alive += alive;
+        seat.kept += kept;
+    }
+
+    /// The two words at the end. The seat has the whole share, so they are what it holds.
+    pub fn finish(self, seat: BudgetSeat) -> Words
+        requires table { seat.table ≡ self.table }
+        requires all { seat.view.share ≡ whole }
+        ensures total { result.total ≡ seat.view.total.held }
+        ensures kept { result.kept ≡ seat.view.kept.held }
+    {
+        let WordBudget { table, limits: _ } = self;
+        let BudgetSeat {
+            seat,
+            alive: _,
+            kept: _,
+            seen: _,
+        } = seat;
+        let closed = table.close_with(seat);
+        let words = Words {
+            total: closed.word(TOTAL),
+            kept: closed.word(KEPT),
+        };
+        closed.free();
+        words
+    }
+}
+
+impl BudgetSeat {
+    // A seat that holds nothing yet.
+    fn new(seat: Seat<(), SeatView>) -> BudgetSeat
+        requires slots { seat.me.1 ≡ [] }
+        requires share { 0 < seat.me.0.share }
+        requires nothing { seat.me.0 ≡ newcomer seat.me.0.share }
+        ensures { (result.table ≡ seat.table_id) × (result.number ≡ seat.id) × (result.view ≡ seat.me.0) }
+    {
+        BudgetSeat {
+            seat,
+            alive: 0,
+            kept: 0,
+            seen: Seen { total: 0, kept: 0 },
+        }
+    }
+
+    /// What it holds.
+    pub fn held(&self) -> Held
+        ensures { result ≡ held_by self.now }
+    {
+        Held {
+            alive: self.alive,
+            kept: self.kept,
+        }
+    }
+}

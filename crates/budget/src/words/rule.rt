@@ -1,0 +1,94 @@
+//! The rule of a word budget, and what each kind of step tells its seat.
+
+use crate::limits::Limits;
+use crate::words::view::SeatView;
+use atomic_table::{Join, Play, Split, TableRule};
+
+/// The rule of the two words.
+pub struct BudgetRule;
+
+impl TableRule<(), SeatView, Limits> for BudgetRule {
+    ghost use Rattle.budget.specs.Words.{Rule, newcomer, whole};
+
+    ghost holds = { Rule };
+
+    ghost first = { λ _. newcomer whole };
+}
+
+/// A load of the total.
+pub struct LooksAtTotal;
+
+impl Play<(), SeatView> for LooksAtTotal {
+    ghost use Rattle.budget.specs.Words.{Looks, on_total, total_of};
+
+    ghost then = { λ _. Looks on_total total_of };
+}
+
+/// A load of the number kept.
+pub struct LooksAtKept;
+
+impl Play<(), SeatView> for LooksAtKept {
+    ghost use Rattle.budget.specs.Words.{Looks, on_kept, kept_of};
+
+    ghost then = { λ _. Looks on_kept kept_of };
+}
+
+/// An exchange of the total to one more.
+pub struct TakesOpen;
+
+impl Play<(), SeatView> for TakesOpen {
+    ghost use Rattle.budget.specs.declared.words.view.SeatView.{SeatView};
+    ghost use Rattle.budget.specs.Words.{Takes, on_total};
+
+    ghost then = { λ _. Takes on_total (λ (v : SeatView). v.total) };
+}
+
+/// An exchange of the number kept to one more.
+pub struct TakesKept;
+
+impl Play<(), SeatView> for TakesKept {
+    ghost use Rattle.budget.specs.declared.words.view.SeatView.{SeatView};
+    ghost use Rattle.budget.specs.Words.{Takes, on_kept};
+
+    ghost then = { λ _. Takes on_kept (λ (v : SeatView). v.kept) };
+}
+
+/// A subtraction of one from the total.
+pub struct GivesOpen;
+
+impl Play<(), SeatView> for GivesOpen {
+    ghost use Rattle.budget.specs.Words.{Gives, on_total};
+
+    ghost then = { λ _ me _ after. Gives on_total me after };
+}
+
+/// A subtraction of one from the number kept.
+pub struct GivesKept;
+
+impl Play<(), SeatView> for GivesKept {
+    ghost use Rattle.budget.specs.Words.{Gives, on_kept};
+
+    ghost then = { λ _ me _ after. Gives on_kept me after };
+}
+
+/// A new seat gets one unit of share.
+pub struct Parts;
+
+impl Split<SeatView> for Parts {
+    ghost use Rattle.budget.specs.Words.{parted, newcomer};
+
+    ghost left = { parted };
+
+    ghost right = { λ _. newcomer 1 };
+}
+
+/// Two seats become one.
+pub struct Joins;
+
+impl Join<SeatView> for Joins {
+    ghost use Rattle.budget.specs.Words.{joined, newcomer};
+
+    ghost both = { joined };
+
+    ghost spent = { newcomer 0 };
+}
