@@ -1,2 +1,3 @@
-pub mod Sums
 pub mod Keeps
+pub mod Queues
+pub mod Sums

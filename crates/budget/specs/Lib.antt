@@ -1,4 +1,5 @@
 pub mod Limits
+pub mod Lobby
 pub mod Permits
 pub mod Plain
 pub mod PlainLaws

@@ -3,12 +3,14 @@
 #![tactic(auto)]
 
 mod limits;
+mod lobby;
 mod permits;
 mod plain;
 mod refusal;
 mod words;
 
 pub use limits::{GREATEST_LIMIT, Limits, LimitsFault};
+pub use lobby::Lobby;
 pub use permits::{Held, Permits, Try};
 pub use plain::{HostPermits, PlainBudget};
 pub use refusal::Refusal;
