@@ -1,3 +1,5 @@
 pub mod Keeps
-pub mod Queues
-pub mod Sums
+pub mod Views
+pub mod TallySteps
+pub mod LinkSteps
+pub mod HoldersSteps

@@ -5,3 +5,7 @@ pub mod Plain
 pub mod PlainLaws
 pub mod Words
 pub mod WordsLaws
+pub mod Starts
+pub mod Places
+pub mod Marks
+pub mod Held

@@ -1,0 +1,260 @@
+-- Each step of the holders keeps their rule.
+use Rattle.std.proofs.Common.{◌≡◌, ◌≢◌, ◌⊎◌, ℕ, zero, suc, ◌+◌, ◌-◌, ◌%◌, ◌^◌, ◌<◌, ◌≤◌, ◌&&◌, Bool, true, false, cond, not, eqb, List, [], ◌∷◌, ◌++◌, length, get_or, set, sym, refl, ap, ◌∙◌, subst, inl, inr, ⊎_elim, arith, length-set, get_or-set_same}
+use Rattle.std.specs.Prelude.{Option, Some, None, IsSome, IfSome}
+use Rattle.std.specs.List.{sum_by}
+use Rattle.std.proofs.lemmas.List.Sums.{sum_by_push, sum_by-cons}
+use Rattle.std.proofs.lemmas.Bool.Decides.{eqb_tells}
+use mathlib.Core.Option.{none, some}
+use lib.ListN.{get_elem?}
+use Rattle.atomic_table.specs.Table.{State, Me, step, keeps, stepped, Allows, Splits, Joins}
+use Rattle.budget.specs.declared.holders.Holding.{Holding}
+use Rattle.budget.specs.declared.holders.Holding.TheVariants.{Host, Taking, Lease, Gone}
+use Rattle.budget.specs.Held.{Pair, is_pair, one_if, times, without, held, hosts, stands, flags, leases, IsHeld, KeepsPairs, with_pair, with_lease, with_back, without_back, lease_back, cleared, IsFlagged, MarksPair, ReadsHeld, ClearsPair, host_view}
+use Rattle.budget.proofs.Sums.{sum-set, at-le-sum}
+use Rattle.budget.proofs.Views.{sum_only}
+
+-- pairs, and how often one stands in a list that changes
+
+pair_tells : (p q : Pair) → ((is_pair p q ≡ true) × (p ≡ q)) ⊎ ((is_pair p q ≡ false) × (p ≢ q))
+pair_tells p q =
+    ⊎_elim
+    (λ (t : (eqb p.0 q.0 ≡ true) × (p.0 ≡ q.0)).
+    ⊎_elim
+    (λ (r : (eqb p.1 q.1 ≡ true) × (p.1 ≡ q.1)). inl ((λ i. t.0 i && r.0 i), (λ i. (t.1 i, r.1 i))))
+    (λ (r : (eqb p.1 q.1 ≡ false) × (p.1 ≢ q.1)). inr ((λ i. t.0 i && r.0 i), (λ e. r.1 (ap (λ (z : Pair). z.1) e))))
+    (eqb_tells p.1 q.1))
+    (λ (t : (eqb p.0 q.0 ≡ false) × (p.0 ≢ q.0)). inr (ap (λ b. b && eqb p.1 q.1) t.0, (λ e. t.1 (ap (λ (z : Pair). z.0) e))))
+    (eqb_tells p.0 q.0)
+
+own_pair : (p : Pair) → one_if (is_pair p p) ≡ 1
+own_pair p =
+    ⊎_elim
+    (λ (t : (is_pair p p ≡ true) × (p ≡ p)). ap one_if t.0)
+    (λ (t : (is_pair p p ≡ false) × (p ≢ p)). absurd (t.1 refl))
+    (pair_tells p p)
+
+other_pair : (p q : Pair) → p ≢ q → one_if (is_pair p q) ≡ 0
+other_pair p q ne =
+    ⊎_elim
+    (λ (t : (is_pair p q ≡ true) × (p ≡ q)). absurd (ne t.1))
+    (λ (t : (is_pair p q ≡ false) × (p ≢ q)). ap one_if t.0)
+    (pair_tells p q)
+
+times_cons : (p q : Pair) (pairs : List Pair) → times p (q ∷ pairs) ≡ one_if (is_pair p q) + times p pairs
+times_cons p q pairs = sum_by-cons (λ (z : Pair). cond (is_pair p z) 1 0) q pairs
+
+times_without : (q p : Pair) (pairs : List Pair) → q ≢ p → times q (without p pairs) ≡ times q pairs
+times_without q p [] ne = refl
+times_without q p (x ∷ xs) ne =
+    let rest = times_without q p xs ne in
+    let P : Bool → Type 0 = λ b. times q (cond (not b) (x ∷ without p xs) (without p xs)) ≡ times q (x ∷ xs) in
+    ⊎_elim
+    (λ (t : (is_pair p x ≡ true) × (p ≡ x)). subst P (sym t.0) (omega (arith, times_cons q x xs, other_pair q x (λ e. ne (e ∙ sym t.1)))))
+    (λ (t : (is_pair p x ≡ false) × (p ≢ x)). subst P (sym t.0) (omega (arith, times_cons q x xs, times_cons q x (without p xs))))
+    (pair_tells p x)
+
+times_without_it : (p : Pair) (pairs : List Pair) → times p (without p pairs) ≡ 0
+times_without_it p [] = refl
+times_without_it p (x ∷ xs) =
+    let rest = times_without_it p xs in
+    let P : Bool → Type 0 = λ b. times p (cond (not b) (x ∷ without p xs) (without p xs)) ≡ 0 in
+    ⊎_elim
+    (λ (t : (is_pair p x ≡ true) × (p ≡ x)). subst P (sym t.0) rest)
+    (λ (t : (is_pair p x ≡ false) × (p ≢ x)). subst P (sym t.0) (omega (arith, times_cons p x (without p xs), ap one_if t.0)))
+    (pair_tells p x)
+
+length_without : (p : Pair) (pairs : List Pair) → length (without p pairs) + times p pairs ≡ length pairs
+length_without p [] = refl
+length_without p (x ∷ xs) =
+    let rest = length_without p xs in
+    let P : Bool → Type 0 = λ b. length (cond (not b) (x ∷ without p xs) (without p xs)) + times p (x ∷ xs) ≡ suc (length xs) in
+    ⊎_elim
+    (λ (t : (is_pair p x ≡ true) × (p ≡ x)). subst P (sym t.0) (omega (arith, times_cons p x xs, ap one_if t.0)))
+    (λ (t : (is_pair p x ≡ false) × (p ≢ x)). subst P (sym t.0) (omega (arith, times_cons p x xs, ap one_if t.0)))
+    (pair_tells p x)
+
+-- a pair that stands there once is taken out
+without_one : (q p : Pair) (pairs : List Pair) → times p pairs ≡ 1 → times q (without p pairs) + one_if (is_pair q p) ≡ times q pairs
+without_one q p pairs once =
+    ⊎_elim
+    (λ (t : (is_pair q p ≡ true) × (q ≡ p)).
+    subst (λ (z : Pair). times z (without p pairs) + one_if (is_pair z p) ≡ times z pairs) (sym t.1) (omega (arith, times_without_it p pairs, own_pair p)))
+    (λ (t : (is_pair q p ≡ false) × (q ≢ p)). omega (arith, times_without q p pairs t.1, ap one_if t.0))
+    (pair_tells q p)
+
+one_if_le : (b : Bool) → one_if b ≤ 1
+one_if_le true = omega arith
+one_if_le false = omega arith
+
+-- the rule, as views change
+
+pub begins : IsHeld (0 ∷ []) (Host [] [] ∷ [])
+begins = record { one_word = refl; counts = refl; one_host = refl; flagged = λ p. refl; distinct = λ p. omega arith }
+
+set_view : (words : List ℕ) (views : List Holding) (seat n : ℕ) (v w : Holding) → IsHeld words views → get_elem? views seat ≡ some v
+    → n + held v ≡ get_or words 0 0 + held w → hosts w ≡ hosts v
+    → ((p : Pair) → leases p w + flags p v ≡ leases p v + flags p w)
+    → ((p : Pair) → sum_by (stands p) views + stands p w ≤ 1 + stands p v)
+    → IsHeld (set words 0 n) (set views seat w)
+set_view words views seat n v w rule at count host flag room =
+    let one = rule.one_word in
+    let a = rule.counts in
+    let b = rule.one_host in
+    let read : get_or (set words 0 n) 0 0 ≡ n = get_or-set_same words 0 n 0 (omega arith) in
+    record {
+      one_word = length-set words 0 n ∙ one;
+      counts = read ∙ omega (arith, sum-set held views seat v w at);
+      one_host = omega (arith, sum-set hosts views seat v w at);
+      flagged = λ p. omega (arith, rule.flagged p, flag p, sum-set (leases p) views seat v w at, sum-set (flags p) views seat v w at);
+      distinct = λ p. omega (arith, room p, sum-set (stands p) views seat v w at);
+    }
+
+cut_view : (words : List ℕ) (views : List Holding) (seat : ℕ) (v w new : Holding) → IsHeld words views → get_elem? views seat ≡ some v
+    → held w + held new ≡ held v → hosts w + hosts new ≡ hosts v
+    → ((p : Pair) → leases p w + leases p new + flags p v ≡ leases p v + flags p w + flags p new)
+    → ((p : Pair) → stands p w + stands p new ≤ stands p v)
+    → IsHeld words (set views seat w ++ new ∷ [])
+cut_view words views seat v w new rule at count host flag room =
+    let a = rule.counts in
+    let b = rule.one_host in
+    record {
+      one_word = rule.one_word;
+      counts = omega (arith, sum-set held views seat v w at, sum_by_push held (set views seat w) new);
+      one_host = omega (arith, sum-set hosts views seat v w at, sum_by_push hosts (set views seat w) new);
+      flagged = λ p. omega (arith, rule.flagged p, flag p, sum-set (leases p) views seat v w at, sum_by_push (leases p) (set views seat w) new, sum-set (flags p) views seat v w at, sum_by_push (flags p) (set views seat w) new);
+      distinct = λ p. omega (arith, rule.distinct p, room p, sum-set (stands p) views seat v w at, sum_by_push (stands p) (set views seat w) new);
+    }
+
+-- the host has all that is held
+host_has : (f : Holding → ℕ) (views : List Holding) (seat : ℕ) (v : Holding) → sum_by hosts views ≡ 1 → get_elem? views seat ≡ some v → hosts v ≡ 1
+    → ((pair : Pair) → f (Lease pair) ≡ 0) → f Gone ≡ 0 → sum_by f views ≡ f v
+host_has f views seat v one at host lease gone = sum_only f hosts views seat v at (one ∙ sym host) none_else
+  where
+    none_else : (u : Holding) → hosts u ≡ 0 → f u ≡ 0
+    none_else (Host granted leased) h = absurd (omega arith)
+    none_else (Taking granted leased pair) h = absurd (omega arith)
+    none_else (Lease pair) h = lease pair
+    none_else Gone h = gone
+
+pub marks_pair : (slots seat : ℕ) (me : Me (Unit {0}) Holding) (p : Pair) (granted leased : List Pair) → me.0 ≡ Host granted leased
+    → times p granted + times p leased ≡ 0 → length granted + length leased + 1 < 2 ^ 64
+    → Allows KeepsPairs slots seat me 0 (λ n. (n + 1) % 2 ^ 64) (MarksPair p (step slots 0 1 0 none) me)
+marks_pair slots seat me p granted leased is apart room s rule len at small =
+    let n : ℕ = get_or s.words 0 0 in
+    let v : Holding = Host granted leased in
+    let w : Holding = Host (p ∷ granted) leased in
+    let there : get_elem? s.views seat ≡ some v = at ∙ ap some is in
+    let all : sum_by held s.views ≡ length granted + length leased = host_has held s.views seat v rule.one_host there refl (λ _. refl) refl in
+    let read : n ≡ length granted + length leased = rule.counts ∙ all in
+    let fits : length granted + length leased + 1 < 18446744073709551616 = room in
+    let more : n + 1 ≡ (n + 1) % 18446744073709551616 = omega arith in
+    let none_yet : sum_by (stands p) s.views ≡ 0 = host_has (stands p) s.views seat v rule.one_host there refl (λ _. refl) refl ∙ apart in
+    let free : (q : Pair) → sum_by (stands q) s.views + one_if (is_pair q p) ≤ 1 = λ q.
+    ⊎_elim
+    (λ (t : (is_pair q p ≡ true) × (q ≡ p)). subst (λ (z : Pair). sum_by (stands z) s.views + one_if (is_pair z p) ≤ 1) (sym t.1) (omega (arith, none_yet, own_pair p)))
+    (λ (t : (is_pair q p ≡ false) × (q ≢ p)). omega (arith, rule.distinct q, ap one_if t.0))
+    (pair_tells q p) in
+    let kept : IsHeld (set s.words 0 (n + 1)) (set s.views seat w) =
+    set_view s.words s.views seat (n + 1) v w rule there (omega arith) refl (λ q. refl) (λ q. omega (arith, free q, times_cons q p granted)) in
+    (with_pair p me.0, keeps, tt, subst (λ (z : ℕ × Holding). IsHeld (set s.words 0 z.0) (set s.views seat (with_pair p z.1))) (λ i. (more i, sym is i)) kept, (refl, refl))
+
+pub splits_lease : (seat : ℕ) (v : Holding) (p : Pair) (granted leased : List Pair) → v ≡ Host granted leased → times p granted ≡ 1 → Splits KeepsPairs seat v (with_lease p v) (Lease p)
+splits_lease seat v p granted leased is once = subst (λ (u : Holding). Splits KeepsPairs seat u (with_lease p u) (Lease p)) (sym is) from_host
+  where
+    from_host : Splits KeepsPairs seat (Host granted leased) (Host (without p granted) (p ∷ leased)) (Lease p)
+    from_host s rule at = cut_view s.words s.views seat (Host granted leased) (Host (without p granted) (p ∷ leased)) (Lease p) rule at
+        (omega (arith, length_without p granted))
+        refl
+        (λ q. omega (arith, times_cons q p leased))
+        (λ q. omega (arith, times_cons q p leased, without_one q p granted once))
+
+pub takes_back : (seat : ℕ) (v : Holding) (other : ℕ) (w : Holding) (granted leased : List Pair) (p : Pair) → v ≡ Host granted leased → w ≡ Lease p → Joins KeepsPairs seat v other w (with_back v w) Gone
+takes_back seat v other w granted leased p is lease = subst (λ (z : Holding × Holding). Joins KeepsPairs seat z.0 other z.1 (with_back z.0 z.1) Gone) (λ i. (sym is i, sym lease i)) from_host
+  where
+    from_host : Joins KeepsPairs seat (Host granted leased) other (Lease p) (Taking granted leased p) Gone
+    from_host s rule at apart there =
+        let views = s.views in
+        let before : Holding = Host granted leased in
+        let both : Holding = Taking granted leased p in
+        let left : Holding = Lease p in
+        let a = rule.counts in
+        let b = rule.one_host in
+        record {
+          one_word = rule.one_word;
+          counts = omega (arith, sum-set held views seat before both at, sum-set held (set views seat both) other left Gone there);
+          one_host = omega (arith, sum-set hosts views seat before both at, sum-set hosts (set views seat both) other left Gone there);
+          flagged = λ q. omega (arith, rule.flagged q, sum-set (leases q) views seat before both at, sum-set (leases q) (set views seat both) other left Gone there, sum-set (flags q) views seat before both at, sum-set (flags q) (set views seat both) other left Gone there);
+          distinct = λ q. omega (arith, rule.distinct q, sum-set (stands q) views seat before both at, sum-set (stands q) (set views seat both) other left Gone there);
+        }
+
+unmoved : (words : List ℕ) (views : List Holding) (seat : ℕ) (v : Holding) → IsHeld words views → get_elem? views seat ≡ some v → IsHeld (set words 0 (get_or words 0 0)) (set views seat v)
+unmoved words views seat v rule at = set_view words views seat (get_or words 0 0) v v rule at refl refl (λ p. refl) (λ p. omega (arith, rule.distinct p))
+
+-- what a load tells the host
+host_reads : (words : List ℕ) (views : List Holding) (seat : ℕ) (granted leased : List Pair) (back : Option Pair) → IsHeld words views → get_elem? views seat ≡ some (host_view granted leased back)
+    → (get_or words 0 0 ≡ held (host_view granted leased back)) × IsFlagged (host_view granted leased back)
+host_reads words views seat granted leased None rule at =
+    let v : Holding = Host granted leased in
+    (rule.counts ∙ host_has held views seat v rule.one_host at refl (λ _. refl) refl, tt)
+host_reads words views seat granted leased (Some p) rule at =
+    let v : Holding = Taking granted leased p in
+    let part = at-le-sum (leases p) views seat v at in
+    let own = own_pair p in
+    let flag : sum_by (flags p) views ≡ times p leased = host_has (flags p) views seat v rule.one_host at refl (λ _. refl) refl in
+    let all : sum_by (stands p) views ≡ times p granted + times p leased = host_has (stands p) views seat v rule.one_host at refl (λ _. refl) refl in
+    (rule.counts ∙ host_has held views seat v rule.one_host at refl (λ _. refl) refl, omega (arith, rule.flagged p, rule.distinct p))
+
+pub reads_held : (slots seat : ℕ) (me : Me (Unit {0}) Holding) (granted leased : List Pair) (back : Option Pair) → me.0 ≡ host_view granted leased back
+    → Allows KeepsPairs slots seat me 0 (λ n. n) (ReadsHeld (step slots 0 0 0 none) me)
+reads_held slots seat me granted leased back is s rule len at small =
+    let told = host_reads s.words s.views seat granted leased back rule (at ∙ ap some is) in
+    (me.0, keeps, tt, unmoved s.words s.views seat me.0 rule at, (refl, told.0 ∙ ap held (sym is), subst IsFlagged (sym is) told.1))
+
+pub clears_pair : (slots seat : ℕ) (me : Me (Unit {0}) Holding) (granted leased : List Pair) (p : Pair) → me.0 ≡ Taking granted leased p → times p leased ≡ 1
+    → Allows KeepsPairs slots seat me 0 (λ n. (n + (2 ^ 64 - 1)) % 2 ^ 64) (ClearsPair (step slots 0 1 0 none) me)
+clears_pair slots seat me granted leased p is once s rule len at small =
+    let n : ℕ = get_or s.words 0 0 in
+    let v : Holding = Taking granted leased p in
+    let w : Holding = Host granted (without p leased) in
+    let there : get_elem? s.views seat ≡ some v = at ∙ ap some is in
+    let all : sum_by held s.views ≡ length granted + length leased = host_has held s.views seat v rule.one_host there refl (λ _. refl) refl in
+    let read : n ≡ length granted + length leased = rule.counts ∙ all in
+    let short = length_without p leased in
+    let fits : n < 18446744073709551616 = small in
+    let less : n - 1 ≡ (n + 18446744073709551615) % 18446744073709551616 = omega arith in
+    let kept : IsHeld (set s.words 0 (n - 1)) (set s.views seat w) =
+    set_view s.words s.views seat (n - 1) v w rule there (omega arith) refl (λ q. omega (arith, without_one q p leased once)) (λ q. omega (arith, rule.distinct q, without_one q p leased once)) in
+    (cleared me.0, keeps, tt, subst (λ (z : ℕ × Holding). IsHeld (set s.words 0 z.0) (set s.views seat (cleared z.1))) (λ i. (less i, sym is i)) kept, (refl, refl))
+
+pub hands_out : (seat : ℕ) (v : Holding) (granted leased : List Pair) (p : Pair) → v ≡ Taking granted leased p → Splits KeepsPairs seat v (without_back v) (lease_back v)
+hands_out seat v granted leased p is = subst (λ (u : Holding). Splits KeepsPairs seat u (without_back u) (lease_back u)) (sym is) from_host
+  where
+    from_host : Splits KeepsPairs seat (Taking granted leased p) (Host granted leased) (Lease p)
+    from_host s rule at = cut_view s.words s.views seat (Taking granted leased p) (Host granted leased) (Lease p) rule at
+        (omega arith)
+        refl
+        (λ q. omega arith)
+        (λ q. omega arith)
+
+-- the same, as the calls ask for it
+
+pub marks_named : (slots seat : ℕ) (me : Me (Unit {0}) Holding) (p q : Pair) (granted leased : List Pair) → p ≡ q → me.0 ≡ Host granted leased
+    → times q granted + times q leased ≡ 0 → length granted + length leased + 1 < 2 ^ 64
+    → Allows KeepsPairs slots seat me 0 (λ n. (n + 1) % 2 ^ 64) (MarksPair p (step slots 0 1 0 none) me)
+marks_named slots seat me p q granted leased named is apart room =
+    subst (λ (z : Pair). Allows KeepsPairs slots seat me 0 (λ n. (n + 1) % 2 ^ 64) (MarksPair z (step slots 0 1 0 none) me)) (sym named) (marks_pair slots seat me q granted leased is apart room)
+
+pub splits_named : (seat : ℕ) (v : Holding) (p q : Pair) (granted leased : List Pair) → p ≡ q → v ≡ Host granted leased → times q granted ≡ 1 → Splits KeepsPairs seat v (with_lease p v) (Lease p)
+splits_named seat v p q granted leased named is once = subst (λ (z : Pair). Splits KeepsPairs seat v (with_lease z v) (Lease z)) (sym named) (splits_lease seat v q granted leased is once)
+
+pub clears_back : (slots seat : ℕ) (me : Me (Unit {0}) Holding) (granted leased : List Pair) (back : Option Pair) → me.0 ≡ host_view granted leased back → IsSome back → IfSome back (λ p. times p leased ≡ 1)
+    → Allows KeepsPairs slots seat me 0 (λ n. (n + (2 ^ 64 - 1)) % 2 ^ 64) (ClearsPair (step slots 0 1 0 none) me)
+clears_back slots seat me granted leased None is there flagged = absurd (cc)
+clears_back slots seat me granted leased (Some p) is there flagged = clears_pair slots seat me granted leased p is flagged
+
+pub hands_back : (seat : ℕ) (v : Holding) (granted leased : List Pair) (back : Option Pair) → v ≡ host_view granted leased back → IsSome back → Splits KeepsPairs seat v (without_back v) (lease_back v)
+hands_back seat v granted leased None is there = absurd (cc)
+hands_back seat v granted leased (Some p) is there = hands_out seat v granted leased p is
+
+pub alone : (v : Holding) (granted leased : List Pair) (back : Option Pair) → v ≡ host_view granted leased back → back ≡ None → v ≡ Host granted leased
+alone v granted leased back is none_back = is ∙ ap (host_view granted leased) none_back
