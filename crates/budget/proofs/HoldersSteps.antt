@@ -1,12 +1,12 @@
 -- Each step of the holders keeps their rule.
-use Rattle.std.proofs.Common.{◌≡◌, ◌≢◌, ◌⊎◌, ℕ, zero, suc, ◌+◌, ◌-◌, ◌%◌, ◌^◌, ◌<◌, ◌≤◌, ◌&&◌, Bool, true, false, cond, not, eqb, List, [], ◌∷◌, ◌++◌, length, get_or, set, sym, refl, ap, ◌∙◌, subst, inl, inr, ⊎_elim, arith, length-set, get_or-set_same}
+use Rattle.std.proofs.Common.{◌≡◌, ◌≢◌, ◌⊎◌, ℕ, suc, ◌+◌, ◌-◌, ◌%◌, ◌^◌, ◌<◌, ◌≤◌, ◌&&◌, Bool, true, false, cond, not, eqb, List, [], ◌∷◌, ◌++◌, length, get_or, set, sym, refl, ap, ◌∙◌, subst, inl, inr, ⊎_elim, arith, length-set, get_or-set_same}
 use Rattle.std.specs.Prelude.{Option, Some, None, IsSome, IfSome}
 use Rattle.std.specs.List.{sum_by}
 use Rattle.std.proofs.lemmas.List.Sums.{sum_by_push, sum_by-cons}
 use Rattle.std.proofs.lemmas.Bool.Decides.{eqb_tells}
 use mathlib.Core.Option.{none, some}
 use lib.ListN.{get_elem?}
-use Rattle.atomic_table.specs.Table.{State, Me, step, keeps, stepped, Allows, Splits, Joins}
+use Rattle.atomic_table.specs.Table.{Me, step, keeps, Allows, Splits, Joins}
 use Rattle.budget.specs.declared.holders.Holding.{Holding}
 use Rattle.budget.specs.declared.holders.Holding.TheVariants.{Host, Taking, Lease, Gone}
 use Rattle.budget.specs.Held.{Pair, is_pair, one_if, times, without, held, hosts, stands, flags, leases, IsHeld, KeepsPairs, with_pair, with_lease, with_back, without_back, lease_back, cleared, IsFlagged, MarksPair, ReadsHeld, ClearsPair, host_view}

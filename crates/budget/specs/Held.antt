@@ -1,5 +1,5 @@
 -- The pairs of a connection and a transfer that hold each other at one host, and the leases that stand for them.
-use Rattle.std.specs.Prelude.{◌≡◌, ℕ, ◌+◌, ◌≤◌, ◌==◌, ◌&&◌, List, [], ◌∷◌, length, slice_index, Bool, true, false, if◌then◌else◌, not, count_by, Option, Some, None}
+use Rattle.std.specs.Prelude.{◌≡◌, ℕ, ◌+◌, ◌≤◌, ◌==◌, ◌&&◌, List, [], ◌∷◌, length, slice_index, Bool, if◌then◌else◌, not, count_by, Option, Some, None}
 use Rattle.std.specs.List.{sum_by, filter}
 use Rattle.atomic_table.specs.Table.{State, Me, Step}
 use Rattle.atomic_table.specs.Seated.{TableId}

@@ -1,4 +1,4 @@
-use Rattle.std.proofs.Common.{◌≡◌, IsSome, IfSome, sym, ap, ◌∙◌, subst, arith}
+use Rattle.std.proofs.Common.{◌≡◌, IsSome, IfSome, sym, subst, arith}
 use Rattle.budget.specs.Held.{Held, times}
 use Rattle.budget.proofs.HoldersSteps.{clears_back}
 use Rattle.budget.proofs.holders.Holders.clear.Goals as goal

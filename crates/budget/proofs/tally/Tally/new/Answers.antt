@@ -1,4 +1,3 @@
-use Rattle.std.proofs.Common.{arith}
 use Rattle.budget.proofs.TallySteps.{begins}
 use Rattle.budget.proofs.tally.Tally.new.Goals as goal
 

@@ -1,4 +1,4 @@
-use Rattle.std.proofs.Common.{◌+◌, ap, arith}
+use Rattle.std.proofs.Common.{ap, arith}
 use Rattle.budget.specs.Starts.{Starts}
 use Rattle.budget.proofs.TallySteps.{counts_start}
 use Rattle.budget.proofs.tally.Tally.start.Goals as goal
