@@ -1,11 +1,11 @@
 -- Each kind of step on the words keeps their rule.
-use Rattle.std.proofs.Common.{◌≡◌, ◌≢◌, ℕ, zero, suc, ◌+◌, ◌-◌, ◌%◌, ◌^◌, ◌<◌, ◌≤◌, eqb, List, [], ◌∷◌, ◌++◌, get_or, set, sym, refl, ap, ◌∙◌, subst, ⊎_elim, arith}
-use mathlib.Core.Option.{none, some}
+use Rattle.std.proofs.Common.{◌≡◌, ◌≢◌, ℕ, ◌+◌, ◌-◌, ◌%◌, ◌^◌, ◌<◌, ◌≤◌, eqb, List, [], ◌∷◌, ◌++◌, get_or, set, sym, refl, ap, ◌∙◌, subst, ⊎_elim, arith}
+use mathlib.Core.Option.{some}
 use lib.ListN.{get_elem?}
 use prog.Atomic.{either}
 use Rattle.std.specs.List.{sum_by}
 use Rattle.std.proofs.lemmas.List.Sums.{sum_by_push}
-use Rattle.atomic_table.specs.Table.{State, Me, step, keeps, stepped, Allows, Splits, Joins}
+use Rattle.atomic_table.specs.Table.{keeps, stepped, Allows, Splits, Joins}
 use Rattle.atomic_table.proofs.Lists.{at_set, at_snoc, exchanged}
 use Rattle.budget.specs.declared.words.view.WordView.{WordView}
 use Rattle.budget.specs.declared.words.view.SeatView.{SeatView}
@@ -115,16 +115,16 @@ module _ (limits : Bounds) where
       let most = r.total in
       let Goal : ℕ → Type 0 = λ m. (w : SeatView) × Rule limits (stepped s 0 m seat me.1 w keeps) × Takes on_total (λ (v : SeatView). v.total) me n (w, me.1) in
       let step : Goal (either (eqb n old) (old + 1) n) = exchanged n old (old + 1) Goal
-          (λ hit. (
-            on_total one_more me.0,
-            on_first s r seat me.0 (one_more me.0.total) (old + 1) me.1 at some_share (omega arith) (omega arith),
-            record { hit = λ _. (refl, omega arith); miss = λ not. absurd (not (hit ∙ noted_it)) },
-          ))
-          (λ miss. (
-            on_total missed me.0,
-            on_first s r seat me.0 (missed me.0.total) n me.1 at some_share (omega arith) (omega arith),
-            record { hit = λ found. absurd (miss (found ∙ sym noted_it)); miss = λ _. refl },
-          )) in
+      (λ hit. (
+        on_total one_more me.0,
+        on_first s r seat me.0 (one_more me.0.total) (old + 1) me.1 at some_share (omega arith) (omega arith),
+        record { hit = λ _. (refl, omega arith); miss = λ not. absurd (not (hit ∙ noted_it)) },
+      ))
+      (λ miss. (
+        on_total missed me.0,
+        on_first s r seat me.0 (missed me.0.total) n me.1 at some_share (omega arith) (omega arith),
+        record { hit = λ found. absurd (miss (found ∙ sym noted_it)); miss = λ _. refl },
+      )) in
       (step.0, keeps, tt, step.1, step.2)
 
   pub takes_kept : (slots seat : ℕ) (me : Sitter) (old : ℕ) → 0 < me.0.share → old ≡ me.0.kept.seen → old ≢ limits.connects
@@ -136,16 +136,16 @@ module _ (limits : Bounds) where
       let most = r.kept in
       let Goal : ℕ → Type 0 = λ m. (w : SeatView) × Rule limits (stepped s 1 m seat me.1 w keeps) × Takes on_kept (λ (v : SeatView). v.kept) me n (w, me.1) in
       let step : Goal (either (eqb n old) (old + 1) n) = exchanged n old (old + 1) Goal
-          (λ hit. (
-            on_kept one_more me.0,
-            on_second s r seat me.0 (one_more me.0.kept) (old + 1) me.1 at some_share (omega arith) (omega arith),
-            record { hit = λ _. (refl, omega arith); miss = λ not. absurd (not (hit ∙ noted_it)) },
-          ))
-          (λ miss. (
-            on_kept missed me.0,
-            on_second s r seat me.0 (missed me.0.kept) n me.1 at some_share (omega arith) (omega arith),
-            record { hit = λ found. absurd (miss (found ∙ sym noted_it)); miss = λ _. refl },
-          )) in
+      (λ hit. (
+        on_kept one_more me.0,
+        on_second s r seat me.0 (one_more me.0.kept) (old + 1) me.1 at some_share (omega arith) (omega arith),
+        record { hit = λ _. (refl, omega arith); miss = λ not. absurd (not (hit ∙ noted_it)) },
+      ))
+      (λ miss. (
+        on_kept missed me.0,
+        on_second s r seat me.0 (missed me.0.kept) n me.1 at some_share (omega arith) (omega arith),
+        record { hit = λ found. absurd (miss (found ∙ sym noted_it)); miss = λ _. refl },
+      )) in
       (step.0, keeps, tt, step.1, step.2)
 
   pub gives_open : (slots seat : ℕ) (me : Sitter) → 0 < me.0.share → 0 < me.0.total.held → Allows (Rule limits) slots seat me 0 (λ n. (n + (2 ^ 64 - 1)) % 2 ^ 64) (λ _. Gives on_total me)

@@ -1,10 +1,9 @@
 -- The list of hosts that wait: how it stays a list of distinct hosts.
-use Rattle.std.proofs.Common.{◌≡◌, ℕ, ◌+◌, ◌<◌, ◌≤◌, Bool, true, false, not, ◌||◌, ◌==◌, List, [], ◌∷◌, ◌++◌, length, refl, ap, sym, ◌∙◌, inl, inr, eqb, arith, length-append}
+use Rattle.std.proofs.Common.{◌≡◌, ℕ, ◌<◌, ◌≤◌, Bool, true, false, ◌||◌, ◌==◌, List, [], ◌∷◌, ◌++◌, length, refl, sym, ◌∙◌, inl, inr, eqb, arith}
 use Rattle.std.specs.List.{IsDistinct, AllByRecursion, list_any}
 use Rattle.std.proofs.lemmas.Bool.Decides.{nat_tests, eqb_tells}
-use Rattle.std.proofs.lemmas.Map.Keys.{IsDistinct-cons}
 use Rattle.std.proofs.lemmas.Map.Steps.{length-le_from_distinct_below}
-use Rattle.budget.specs.Lobby.{Queue, IsQueue, AreDistinct, is_listed, without, turned}
+use Rattle.budget.specs.Lobby.{IsQueue, AreDistinct, is_listed, without}
 
 -- a host at the end
 listed_last : (order : List ℕ) (host other : ℕ) → is_listed (order ++ host ∷ []) other ≡ (is_listed order other || (host == other))

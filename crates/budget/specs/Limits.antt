@@ -1,12 +1,15 @@
 -- What limits are (libcurl's CURLMOPT_MAX_HOST_CONNECTIONS, CURLMOPT_MAX_TOTAL_CONNECTIONS and
 -- CURLMOPT_MAXCONNECTS).
-use Rattle.std.specs.Prelude.{◌≡◌, ℕ, ◌<◌, ◌≤◌, Bool, ◌||◌, ◌==◌, nat_lt, if◌then◌else◌}
+use Rattle.std.specs.Prelude.{ℕ, ◌<◌, ◌≤◌, Bool, ◌||◌, ◌==◌, nat_lt, if◌then◌else◌}
 
 -- the most connections open to one host, the most in total, and the most that are kept open after their use
 pub record Bounds : Type 0 where
   pub host : ℕ
   pub total : ℕ
   pub connects : ℕ
+
+abbrev pub bounds : ℕ → ℕ → ℕ → Bounds
+bounds host total connects = record { host = host; total = total; connects = connects }
 
 -- each is from 1 to 65,535: so at least one may be open, and at least one kept
 pub record AreLimits (limits : Bounds) : Type 0 where
@@ -27,4 +30,4 @@ abbrev pub or_greatest : ℕ → ℕ
 or_greatest limit = if limit == 0 then 65535 else limit
 
 abbrev pub limits_of : ℕ → ℕ → ℕ → Bounds
-limits_of host total connects = record { host = or_greatest host; total = or_greatest total; connects = connects }
+limits_of host total connects = bounds (or_greatest host) (or_greatest total) connects

@@ -1,5 +1,5 @@
 -- The budget of one thread.
-use Rattle.std.specs.Prelude.{◌≡◌, ◌≢◌, ℕ, ◌≤◌, List, slice_index_or, length}
+use Rattle.std.specs.Prelude.{◌≡◌, ◌≢◌, ℕ, ◌≤◌, List, slice_index_or, slice_set, length, replicate}
 use Rattle.std.specs.List.{sum_by}
 use Rattle.budget.specs.declared.permits.Held.{Held}
 use Rattle.budget.specs.declared.permits.Try.{Try}
@@ -23,6 +23,15 @@ kept_in hosts = sum_by (λ (h : Held). h.kept) hosts
 abbrev pub at_host : List Held → ℕ → Held
 at_host hosts host = slice_index_or hosts host (held 0 0)
 
+-- the budget, with what that host holds changed
+abbrev pub changed_at : ℕ → (Held → Held) → Plain → Plain
+changed_at host change budget =
+    record { limits = budget.limits; hosts = slice_set budget.hosts host (change (at_host budget.hosts host)) }
+
+-- a budget of which nothing is held
+abbrev pub unused : Bounds → ℕ → Plain
+unused limits hosts = record { limits = limits; hosts = replicate hosts (held 0 0) }
+
 -- neither number is above its limit
 pub record IsWithin (budget : Plain) : Type 0 where
   pub total : alive_in budget.hosts ≤ budget.limits.total
@@ -33,6 +42,12 @@ abbrev pub Tells : ℕ → ℕ → Try → Type 0
 Tells number limit Got = Unit {0}
 Tells number limit Full = number ≡ limit
 Tells number limit Contended = ⊥
+
+abbrev pub TellsOfOpen : Plain → Try → Type 0
+TellsOfOpen budget = Tells (alive_in budget.hosts) budget.limits.total
+
+abbrev pub TellsOfKept : Plain → Try → Type 0
+TellsOfKept budget = Tells (kept_in budget.hosts) budget.limits.connects
 
 -- the limits are the same, and so is every host but that one
 pub record KeepsOthers (host : ℕ) (old new : Plain) : Type 0 where

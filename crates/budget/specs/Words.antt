@@ -1,9 +1,9 @@
 -- The budget that threads share: two words, the seats that step on them, and the rule that ties them.
-use Rattle.std.specs.Prelude.{◌≡◌, ◌≢◌, ℕ, ◌+◌, ◌-◌, ◌<◌, ◌≤◌, List, [], ◌∷◌}
+use Rattle.std.specs.Prelude.{◌≡◌, ◌≢◌, ℕ, ◌+◌, ◌-◌, ◌<◌, ◌≤◌, [], ◌∷◌}
 use Rattle.std.specs.List.{sum_by}
 use mathlib.Core.Option.{some}
 use lib.ListN.{get_elem?}
-use Rattle.atomic_table.specs.Table.{State, Me, Step}
+use Rattle.atomic_table.specs.Table.{State, Me}
 use Rattle.atomic_table.specs.Seated.{TableId}
 use Rattle.budget.specs.declared.permits.Held.{Held}
 use Rattle.budget.specs.declared.permits.Try.{Try}
@@ -111,6 +111,10 @@ seated place v = record { table = place.table; number = place.number; view = v }
 
 abbrev pub held_by : Place → Held
 held_by place = held place.view.total.held place.view.kept.held
+
+-- a seat that loaded both words, where it would know v without that
+abbrev pub LoadsBoth : Place → SeatView → Place → Type 0
+LoadsBoth old v new = (total kept : ℕ) × (new ≡ seated old (on_kept (noted kept) (on_total (noted total) v)))
 
 -- What asking for a permit does to the seat's view of the word: one load, and then
 --   Full: nothing more, and the load read the limit;

@@ -21,3 +21,6 @@ pub use plain::{HostPermits, PlainBudget};
 pub use refusal::Refusal;
 pub use tally::{PassSeat, StartSeat, Tally};
 pub use words::{BudgetSeat, SeatPermits, Seen, WordBudget, Words};
+
+#[cfg(test)]
+mod tests;

@@ -28,20 +28,20 @@ pub struct Limits {
 }
 
 impl Model for Limits {
-    ghost use Rattle.budget.specs.Limits.{Bounds, AreLimits};
+    ghost use Rattle.budget.specs.Limits.{Bounds, bounds, AreLimits};
 
     ghost Value = { Bounds };
 
-    ghost view = { λ limits. record { host = limits.host; total = limits.total; connects = limits.connects } };
+    ghost view = { λ limits. bounds limits.host limits.total limits.connects };
 
-    ghost inverse = { λ bounds. record { host = bounds.host; total = bounds.total; connects = bounds.connects } };
+    ghost inverse = { λ b. record { host = b.host; total = b.total; connects = b.connects } };
 
-    ghost invariant = { λ limits. AreLimits record { host = limits.host; total = limits.total; connects = limits.connects } };
+    ghost invariant = { λ limits. AreLimits (bounds limits.host limits.total limits.connects) };
 }
 
 impl Limits {
-    /// The limits for one host, for the total, and for connections kept. A 0 for host or total means
-    /// no limit.
+    /// The limits for one host, for the total and for connections kept. A 0 for host or total means
+    /// none.
     ///
     /// Refused with [`LimitsFault::BadLimit`] exactly where `connects` is 0 or a number is above
     /// 65,535.

@@ -76,8 +76,8 @@ impl Lobby {
         ensures hosts { self.new.hosts ≡ self.old.hosts }
         ensures order { self.new.order ≡ turned self.old.order }
     {
-        if let Some(host) = self.order.pop_front() {
-            self.order.push_back_reserved(host);
+        if let Some(first) = self.order.pop_front() {
+            self.order.push_back_reserved(first);
         }
     }
 

@@ -23,13 +23,14 @@ pub struct Held {
 /// One host's part of a budget: what asks for permits, and gives them back.
 ///
 /// Ghost members say what contracts may know of it. `opening` and `keeping` relate an earlier time,
-/// a later one and an answer: in between the budget was asked so, and this was its last answer. What
-/// that answer tells is the budget's to say.
+/// a later one and an answer: in between the budget was asked so, and last answered that. What the
+/// answer tells is the budget's to say.
 pub trait Permits {
     ghost use Rattle.budget.specs.declared.permits.Held.{Held};
     ghost use Rattle.budget.specs.declared.permits.Try.{Try};
     ghost use Rattle.budget.specs.declared.permits.Try.TheVariants.{Got};
-    ghost use Rattle.budget.specs.Permits.{one_more_open, one_more_kept, one_less_open, one_less_kept, if_got};
+    ghost use Rattle.budget.specs.Permits.{one_more_open, one_more_kept, if_got};
+    ghost use Rattle.budget.specs.Permits.{one_less_open, one_less_kept};
 
     /// It is a part of its budget.
     ghost stands: { Self → Type 0 };
@@ -103,14 +104,18 @@ pub trait Permits {
     ghost not_asked_to_keep: { (x y : Self) → stays x y → keeping x y Got };
 
     /// An answer that was told since a later time was told since an earlier one.
-    ghost opening_since: { (x y z : Self) (answer : Try) → stays x y → opening y z answer → opening x z answer };
+    ghost opening_since: { (x y z : Self) (answer : Try)
+        → stays x y → opening y z answer → opening x z answer };
 
-    ghost keeping_since: { (x y z : Self) (answer : Try) → stays x y → keeping y z answer → keeping x z answer };
+    ghost keeping_since: { (x y z : Self) (answer : Try)
+        → stays x y → keeping y z answer → keeping x z answer };
 
     /// It is still the answer after steps that leave the number that was asked for.
-    ghost opening_still: { (x y z : Self) (answer : Try) → opening x y answer → stays y z → same_total y z → opening x z answer };
+    ghost opening_still: { (x y z : Self) (answer : Try)
+        → opening x y answer → stays y z → same_total y z → opening x z answer };
 
-    ghost keeping_still: { (x y z : Self) (answer : Try) → keeping x y answer → stays y z → same_kept y z → keeping x z answer };
+    ghost keeping_still: { (x y z : Self) (answer : Try)
+        → keeping x y answer → stays y z → same_kept y z → keeping x z answer };
 
     ghost same_total_on: { (x y z : Self) → same_total x y → same_total y z → same_total x z };
 

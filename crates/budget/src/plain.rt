@@ -1,6 +1,7 @@
-ghost use Rattle.std.specs.Prelude.{◌≡◌, ℕ, ◌<◌, length, replicate, slice_set, IfOk, IfErr};
-ghost use Rattle.budget.specs.Permits.{held, one_more_open, one_more_kept, one_less_open, one_less_kept, if_got};
-ghost use Rattle.budget.specs.Plain.{alive_in, kept_in, at_host, Tells, IsWithin};
+ghost use Rattle.std.specs.Prelude.{◌≡◌, ◌<◌, length, IfOk, IfErr};
+ghost use Rattle.budget.specs.Permits.{one_more_open, one_more_kept, if_got};
+ghost use Rattle.budget.specs.Permits.{one_less_open, one_less_kept};
+ghost use Rattle.budget.specs.Plain.{at_host, changed_at, unused, TellsOfOpen, TellsOfKept};
 
 use crate::limits::Limits;
 use crate::permits::{Held, Permits, Try};
@@ -9,7 +10,7 @@ use std::alloc::Global;
 use std::marker::Model;
 
 /// The budget of one thread: how many connections are open and how many are kept over all hosts,
-/// never above the limits, and what each host holds of them. Contracts see the limits and the hosts.
+/// never above the limits, and what each host holds of them. Contracts see limits and hosts.
 #[derive(Drop)]
 pub struct PlainBudget {
     limits: Limits,
@@ -40,7 +41,7 @@ impl PlainBudget {
     ///
     /// The only refusal is [`Refusal::Memory`].
     pub fn new(alloc: Global, limits: Limits, hosts: u32) -> Result<PlainBudget, Refusal>
-        ensures ok { IfOk result (λ budget. budget ≡ record { limits = limits; hosts = replicate hosts (held 0 0) }) }
+        ensures ok { IfOk result (λ budget. budget ≡ unused limits hosts) }
         ensures err { IfErr result (λ refusal. refusal ≡ Refusal.Memory) }
     {
         let nothing = Held { alive: 0, kept: 0 };
@@ -78,9 +79,8 @@ impl PlainBudget {
 
     fn reserve_open(&mut self, host: usize) -> Try
         requires { host < length self.old.hosts }
-        ensures told { Tells (alive_in self.new.hosts) self.new.limits.total result }
-        ensures limits { self.new.limits ≡ self.old.limits }
-        ensures hosts { self.new.hosts ≡ slice_set self.old.hosts host (if_got result one_more_open (at_host self.old.hosts host)) }
+        ensures told { TellsOfOpen self.new result }
+        ensures part { self.new ≡ changed_at host (if_got result one_more_open) self.old }
     {
         if self.total == self.limits.total() {
             return Try::Full;
@@ -96,9 +96,8 @@ impl PlainBudget {
 
     fn reserve_kept(&mut self, host: usize) -> Try
         requires { host < length self.old.hosts }
-        ensures told { Tells (kept_in self.new.hosts) self.new.limits.connects result }
-        ensures limits { self.new.limits ≡ self.old.limits }
-        ensures hosts { self.new.hosts ≡ slice_set self.old.hosts host (if_got result one_more_kept (at_host self.old.hosts host)) }
+        ensures told { TellsOfKept self.new result }
+        ensures part { self.new ≡ changed_at host (if_got result one_more_kept) self.old }
     {
         if self.kept == self.limits.connects() {
             return Try::Full;
@@ -115,8 +114,7 @@ impl PlainBudget {
     fn release_open(&mut self, host: usize)
         requires there { host < length self.old.hosts }
         requires one { 0 < (at_host self.old.hosts host).alive }
-        ensures limits { self.new.limits ≡ self.old.limits }
-        ensures hosts { self.new.hosts ≡ slice_set self.old.hosts host (one_less_open (at_host self.old.hosts host)) }
+        ensures { self.new ≡ changed_at host one_less_open self.old }
     {
         let part = self.hosts[host];
         self.total -= 1;
@@ -129,8 +127,7 @@ impl PlainBudget {
     fn release_kept(&mut self, host: usize)
         requires there { host < length self.old.hosts }
         requires one { 0 < (at_host self.old.hosts host).kept }
-        ensures limits { self.new.limits ≡ self.old.limits }
-        ensures hosts { self.new.hosts ≡ slice_set self.old.hosts host (one_less_kept (at_host self.old.hosts host)) }
+        ensures { self.new ≡ changed_at host one_less_kept self.old }
     {
         let part = self.hosts[host];
         self.kept -= 1;
@@ -141,8 +138,9 @@ impl PlainBudget {
     }
 }
 
-/// One host's part of a budget of one thread. It is never answered Contended, and Full only where the
-/// total, or the number kept, is at its limit.
+/// One host's part of a budget of one thread. It is never answered Contended, and Full only where
+/// the total, or the number kept, is at its limit.
+#[derive(Drop)]
 pub struct HostPermits<'a> {
     budget: &'a mut PlainBudget,
     host: usize,
@@ -151,20 +149,21 @@ pub struct HostPermits<'a> {
 impl Permits for HostPermits<'_> {
     ghost use Rattle.std.specs.Prelude.{◌≡◌, ◌<◌, length};
     ghost use Rattle.std.specs.Prelude.{refl};
-    ghost use Rattle.std.proofs.Common.{ap, ◌∙◌};
-    ghost use Rattle.budget.specs.Limits.{Bounds};
-    ghost use Rattle.budget.specs.Plain.{alive_in, kept_in, at_host, Tells, KeepsOthers};
-    ghost use Rattle.budget.specs.PlainLaws.{keeps_from_start, keeps_on, tells_still};
+    ghost use Rattle.std.proofs.Common.{◌∙◌};
+    ghost use Rattle.budget.specs.Plain.{alive_in, kept_in, at_host, KeepsOthers};
+    ghost use Rattle.budget.specs.Plain.{TellsOfOpen, TellsOfKept};
+    ghost use Rattle.budget.specs.PlainLaws.{keeps_from_start, keeps_on, open_still, kept_still};
 
     ghost stands = { λ part. part.host < length part.budget.now.hosts };
 
     ghost held = { λ part. at_host part.budget.now.hosts part.host };
 
-    ghost stays = { λ x y. (y.budget.ghost_name ≡ x.budget.ghost_name) × (y.host ≡ x.host) × KeepsOthers x.host x.budget.now y.budget.now };
+    ghost stays = { λ x y. (y.budget.ghost_name ≡ x.budget.ghost_name) × (y.host ≡ x.host)
+        × KeepsOthers x.host x.budget.now y.budget.now };
 
-    ghost opening = { λ x y answer. Tells (alive_in y.budget.now.hosts) y.budget.now.limits.total answer };
+    ghost opening = { λ x y. TellsOfOpen y.budget.now };
 
-    ghost keeping = { λ x y answer. Tells (kept_in y.budget.now.hosts) y.budget.now.limits.connects answer };
+    ghost keeping = { λ x y. TellsOfKept y.budget.now };
 
     ghost same_total = { λ x y. alive_in y.budget.now.hosts ≡ alive_in x.budget.now.hosts };
 
@@ -192,7 +191,7 @@ impl Permits for HostPermits<'_> {
 
     ghost stays_from_start = { λ x. (refl, refl, keeps_from_start x.host x.budget.now) };
 
-    ghost stays_on = { λ x y z p q. (q.0 ∙ p.0, q.1 ∙ p.1, keeps_on x.host y.host x.budget.now y.budget.now z.budget.now p.1 p.2 q.2) };
+    ghost stays_on = { λ x y z p q. (q.0 ∙ p.0, q.1 ∙ p.1, keeps_on p.1 p.2 q.2) };
 
     ghost not_asked_to_open = { λ x y s. tt };
 
@@ -202,9 +201,11 @@ impl Permits for HostPermits<'_> {
 
     ghost keeping_since = { λ x y z answer s told. told };
 
-    ghost opening_still = { λ x y z answer told s same. tells_still _ _ _ _ answer told (ap (λ (b : Bounds). b.total) s.2.limits) same };
+    ghost opening_still = { λ x y z answer told s.
+        open_still y.host y.budget.now z.budget.now answer told s.2 };
 
-    ghost keeping_still = { λ x y z answer told s same. tells_still _ _ _ _ answer told (ap (λ (b : Bounds). b.connects) s.2.limits) same };
+    ghost keeping_still = { λ x y z answer told s.
+        kept_still y.host y.budget.now z.budget.now answer told s.2 };
 
     ghost same_total_on = { λ x y z p q. q ∙ p };
 

@@ -1,10 +1,13 @@
 ghost use Rattle.std.specs.Prelude.{◌≡◌, ℕ, ◌+◌, ◌<◌, ◌≤◌, [], IfOk, IfErr};
-ghost use Rattle.budget.specs.Words.{newcomer, noted, one_less, on_total, on_kept, parted, joined, seated, held_by, whole, TriesOpen, TriesKept};
+ghost use Rattle.budget.specs.Words.{newcomer, one_less, on_total, on_kept, parted, joined, whole};
+ghost use Rattle.budget.specs.Words.{seated, held_by, TriesOpen, TriesKept, LoadsBoth};
 
 use crate::limits::Limits;
 use crate::permits::{Held, Try};
 use crate::refusal::Refusal;
-use crate::words::rule::{BudgetRule, GivesKept, GivesOpen, Joins, LooksAtKept, LooksAtTotal, Parts, TakesKept, TakesOpen};
+use crate::words::rule::{
+    BudgetRule, GivesKept, GivesOpen, Joins, LooksAtKept, LooksAtTotal, Parts, TakesKept, TakesOpen,
+};
 use crate::words::view::SeatView;
 use atomic_table::{Seat, Table};
 use std::alloc::Global;
@@ -12,11 +15,12 @@ use std::marker::Model;
 
 // The word that counts open connections, and the one that counts kept ones.
 const TOTAL: usize = 0;
+
 const KEPT: usize = 1;
 
 /// How many connections are open in total and how many are kept, as two words that threads step on,
-/// each step single: a load, an exchange to one more, or a subtraction of one. Between any two steps
-/// each word is the sum of what the seats hold, and is not above its limit. None of its calls waits.
+/// each step single: a load, an exchange to one more, or a subtraction of one. Between any two
+/// steps each word is the sum of what the seats hold, and is not above its limit. No call waits.
 #[derive(Drop)]
 pub struct WordBudget {
     table: Table<(), SeatView, Limits, BudgetRule, Global>,
@@ -29,7 +33,10 @@ impl Model for WordBudget {
 
     ghost Value = { Shared };
 
-    ghost view = { λ budget. record { table = budget.table.shared.table_id; limits = budget.limits } };
+    ghost view = { λ budget. record {
+      table = budget.table.shared.table_id;
+      limits = budget.limits;
+    } };
 
     ghost invariant = { λ budget. record {
       words : budget.table.shared.table_id.words ≡ 2;
@@ -54,7 +61,11 @@ impl Model for BudgetSeat {
 
     ghost Value = { Place };
 
-    ghost view = { λ sitter. record { table = sitter.seat.table_id; number = sitter.seat.id; view = sitter.seat.me.0 } };
+    ghost view = { λ sitter. record {
+      table = sitter.seat.table_id;
+      number = sitter.seat.id;
+      view = sitter.seat.me.0;
+    } };
 
     ghost invariant = { λ sitter. record {
       slots : sitter.seat.me.1 ≡ [];
@@ -85,12 +96,13 @@ pub struct Words {
 }
 
 impl WordBudget {
-    /// A budget under these limits, with no connection, and its first seat, which has the whole share.
+    /// A budget under these limits, and its first seat: it holds nothing and has the whole share.
     ///
     /// The only refusal is [`Refusal::Memory`].
     pub fn new(alloc: Global, limits: Limits) -> Result<(WordBudget, BudgetSeat), Refusal>
         ensures limits { IfOk result (λ made. made.0.limits ≡ limits) }
-        ensures seat { IfOk result (λ made. (made.1.table ≡ made.0.table) × (made.1.view ≡ newcomer whole)) }
+        ensures table { IfOk result (λ made. made.1.table ≡ made.0.table) }
+        ensures seat { IfOk result (λ made. made.1.view ≡ newcomer whole) }
         ensures err { IfErr result (λ refusal. refusal ≡ Refusal.Memory) }
     {
         let _connects = limits.connects();
@@ -100,26 +112,21 @@ impl WordBudget {
         Ok((WordBudget { table, limits }, BudgetSeat::new(seat)))
     }
 
-    /// Asks for one more open connection: one load, and where that was below the limit one exchange.
+    /// Asks for one more open connection: one load, and below the limit one exchange.
     /// Full where the load read the limit, Contended where the exchange found another value.
     #[inline(always)]
     pub fn try_open(&self, seat: &mut BudgetSeat) -> Try
         requires { seat.old.table ≡ self.now.table }
         ensures { TriesOpen self.now.limits.total seat.old result seat.new }
     {
-        let found = self
-            .table
-            .shared
-            .load::<LooksAtTotal>(&mut seat.seat, TOTAL);
-        seat.seen.total = found;
-        if found == u64::from(self.limits.total()) {
+        let table = &self.table.shared;
+        let total = table.load::<LooksAtTotal>(&mut seat.seat, TOTAL);
+        seat.seen.total = total;
+        if total == u64::from(self.limits.total()) {
             return Try::Full;
         }
-        let before = self
-            .table
-            .shared
-            .compare_exchange::<TakesOpen>(&mut seat.seat, TOTAL, found, found + 1);
-        if before != found {
+        let found = table.compare_exchange::<TakesOpen>(&mut seat.seat, TOTAL, total, total + 1);
+        if found != total {
             return Try::Contended;
         }
         seat.alive += 1;
@@ -139,26 +146,21 @@ impl WordBudget {
         seat.alive -= 1;
     }
 
-    /// Asks to keep one more connection: one load, and where that was below the limit one exchange.
+    /// Asks to keep one more connection: one load, and below the limit one exchange.
     /// Full where the load read the limit, Contended where the exchange found another value.
     #[inline(always)]
     pub fn try_keep(&self, seat: &mut BudgetSeat) -> Try
         requires { seat.old.table ≡ self.now.table }
         ensures { TriesKept self.now.limits.connects seat.old result seat.new }
     {
-        let found = self
-            .table
-            .shared
-            .load::<LooksAtKept>(&mut seat.seat, KEPT);
-        seat.seen.kept = found;
-        if found == u64::from(self.limits.connects()) {
+        let table = &self.table.shared;
+        let kept = table.load::<LooksAtKept>(&mut seat.seat, KEPT);
+        seat.seen.kept = kept;
+        if kept == u64::from(self.limits.connects()) {
             return Try::Full;
         }
-        let before = self
-            .table
-            .shared
-            .compare_exchange::<TakesKept>(&mut seat.seat, KEPT, found, found + 1);
-        if before != found {
+        let found = table.compare_exchange::<TakesKept>(&mut seat.seat, KEPT, kept, kept + 1);
+        if found != kept {
             return Try::Contended;
         }
         seat.kept += 1;
@@ -200,7 +202,7 @@ impl WordBudget {
     pub fn join(&self, seat: &mut BudgetSeat, other: BudgetSeat)
         requires table { seat.old.table ≡ self.now.table }
         requires other { other.table ≡ self.now.table }
-        ensures { (total kept : ℕ) × (seat.new ≡ seated seat.old (on_kept (noted kept) (on_total (noted total) (joined seat.old.view other.view)))) }
+        ensures { LoadsBoth seat.old (joined seat.old.view other.view) seat.new }
     {
         let BudgetSeat {
             seat: others,
@@ -246,7 +248,9 @@ impl BudgetSeat {
         requires slots { seat.me.1 ≡ [] }
         requires share { 0 < seat.me.0.share }
         requires nothing { seat.me.0 ≡ newcomer seat.me.0.share }
-        ensures { (result.table ≡ seat.table_id) × (result.number ≡ seat.id) × (result.view ≡ seat.me.0) }
+        ensures table { result.table ≡ seat.table_id }
+        ensures number { result.number ≡ seat.id }
+        ensures view { result.view ≡ seat.me.0 }
     {
         BudgetSeat {
             seat,

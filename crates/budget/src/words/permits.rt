@@ -3,9 +3,10 @@ ghost use Rattle.std.specs.Prelude.{◌≡◌};
 use crate::permits::{Held, Permits, Try};
 use crate::words::budget::{BudgetSeat, WordBudget};
 
-/// A seat together with its budget: a host's part of the budget that threads share. Full is answered
-/// only where the load that the call made read the limit, Contended only where the exchange that
-/// followed found another value.
+/// A seat together with its budget: a host's part of the budget that threads share. Full is
+/// answered only where the load that the call made read the limit, Contended only where the
+/// exchange that followed found another value.
+#[derive(Drop)]
 pub struct SeatPermits<'a> {
     budget: &'a WordBudget,
     seat: &'a mut BudgetSeat,

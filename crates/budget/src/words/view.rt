@@ -1,6 +1,6 @@
 /// What a seat knows of one word: how many of its permits it holds, what its last load read, how
-/// many loads it made, and how many of its exchanges found another value than that load. No value of
-/// it is made.
+/// many loads it made, and how many of its exchanges found another value than that. No value of it
+/// is made.
 pub struct WordView {
     /// The permits that it holds.
     pub held: u64,

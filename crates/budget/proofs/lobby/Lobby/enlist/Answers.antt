@@ -1,4 +1,4 @@
-use Rattle.std.proofs.Common.{rules, ◌≡◌, List, ℕ, false, ap, ◌∙◌, arith, length-append, ◌++◌, ◌∷◌, []}
+use Rattle.std.proofs.Common.{rules, ◌≡◌, false, ap, ◌∙◌, arith, length-append, ◌∷◌, []}
 use Rattle.budget.specs.Lobby.{Queue, is_listed}
 use Rattle.budget.proofs.Queues.{queue_last, fits}
 use Rattle.budget.proofs.lobby.Lobby.enlist.Goals as goal

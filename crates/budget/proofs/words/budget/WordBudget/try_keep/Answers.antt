@@ -3,8 +3,8 @@ use Rattle.budget.specs.Limits.{Bounds}
 use Rattle.budget.proofs.Keeps.{looks_at_kept, takes_kept}
 use Rattle.budget.proofs.words.budget.WordBudget.try_keep.Goals as goal
 
-pub load-found-requires : goal.load-found-requires
-load-found-requires c = (search rules, search rules, looks_at_kept _ _ _ _ c.seat.invariant.share)
+pub load-kept-requires : goal.load-kept-requires
+load-kept-requires c = (search rules, search rules, looks_at_kept _ _ _ _ c.seat.invariant.share)
 
-pub compare_exchange-before-requires : goal.compare_exchange-before-requires
-compare_exchange-before-requires c = (search rules, search rules, takes_kept _ _ _ _ _ (search rules) (search rules) (λ e. c.if-found-from.false (e ∙ ap (λ (limits : Bounds). limits.connects) c.self.invariant.limits ∙ sym (c.from.ensures ∙ c.connects.ensures.connects))))
+pub compare_exchange-found-requires : goal.compare_exchange-found-requires
+compare_exchange-found-requires c = (search rules, search rules, takes_kept _ _ _ _ _ (search rules) (search rules) (λ e. c.if-kept-from.false (e ∙ ap (λ (limits : Bounds). limits.connects) c.self.invariant.limits ∙ sym (c.from.ensures ∙ c.connects.ensures.connects))))
