@@ -1,6 +1,6 @@
 -- Each kind of step on the words keeps their rule.
 use Rattle.std.proofs.Common.{◌≡◌, ◌≢◌, ℕ, ◌+◌, ◌-◌, ◌%◌, ◌^◌, ◌<◌, ◌≤◌, eqb, List, [], ◌∷◌, ◌++◌, get_or, set, sym, refl, ap, ◌∙◌, subst, ⊎_elim, arith}
-use mathlib.Core.Option.{some}
+use mathlib.Core.Option.{some, some-injective}
 use lib.ListN.{get_elem?}
 use prog.Atomic.{either}
 use Rattle.std.specs.List.{sum_by}
@@ -233,3 +233,10 @@ module _ (limits : Bounds) where
         ap (λ (l : List ℕ). get_elem? l 0) r.words ∙ ap some total,
         ap (λ (l : List ℕ). get_elem? l 1) r.words ∙ ap some kept,
       )
+
+  -- and each word is within its limit
+  pub within : (s : Words) → Rule limits s → (total kept : ℕ) → get_elem? s.words 0 ≡ some total → get_elem? s.words 1 ≡ some kept → (total ≤ limits.total) × (kept ≤ limits.connects)
+  within s r total kept first second =
+      let is : sum_by total_of s.views ≡ total = some-injective _ _ (ap (λ (l : List ℕ). get_elem? l 0) (sym r.words) ∙ first) in
+      let is' : sum_by kept_of s.views ≡ kept = some-injective _ _ (ap (λ (l : List ℕ). get_elem? l 1) (sym r.words) ∙ second) in
+      (subst (λ (n : ℕ). n ≤ limits.total) is r.total, subst (λ (n : ℕ). n ≤ limits.connects) is' r.kept)

@@ -218,12 +218,15 @@ impl WordBudget {
         seat.kept += kept;
     }
 
-    /// The two words at the end. The seat has the whole share, so they are what it holds.
+    /// The two words at the end, neither above its limit. The seat has the whole share, so they are
+    /// what it holds.
     pub fn finish(self, seat: BudgetSeat) -> Words
         requires table { seat.table ≡ self.table }
         requires all { seat.view.share ≡ whole }
         ensures total { result.total ≡ seat.view.total.held }
         ensures kept { result.kept ≡ seat.view.kept.held }
+        ensures total_within { result.total ≤ self.limits.total }
+        ensures kept_within { result.kept ≤ self.limits.connects }
     {
         let WordBudget { table, limits: _ } = self;
         let BudgetSeat {

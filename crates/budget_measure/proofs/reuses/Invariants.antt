@@ -1,0 +1,5 @@
+use Rattle.std.proofs.Common.{◌<◌, length}
+use Rattle.budget_measure.proofs.reuses.Given as goal
+
+abbrev pub invariant-loop : goal.invariant-loop
+invariant-loop l = l.part.host < length l.part.budget.now.hosts
