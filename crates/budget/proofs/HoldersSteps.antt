@@ -9,7 +9,7 @@ use lib.ListN.{get_elem?}
 use Rattle.atomic_table.specs.Table.{Me, step, keeps, Allows, Splits, Joins}
 use Rattle.budget.specs.declared.holders.Holding.{Holding}
 use Rattle.budget.specs.declared.holders.Holding.TheVariants.{Host, Taking, Lease, Gone}
-use Rattle.budget.specs.Held.{Pair, is_pair, one_if, times, without, held, hosts, stands, flags, leases, IsHeld, KeepsPairs, with_pair, with_lease, with_back, without_back, lease_back, cleared, IsFlagged, MarksPair, ReadsHeld, ClearsPair, host_view}
+use Rattle.budget.specs.Pairs.{Pair, is_pair, one_if, pair_count, without_pair, count_of, host_seats, stands, flags, leases, IsHeld, KeepsPairs, with_pair, with_lease, with_back, without_back, lease_back, cleared, IsFlagged, MarksPair, ReadsHeld, ClearsPair, host_view}
 use Rattle.budget.proofs.Sums.{sum-set, at-le-sum}
 use Rattle.budget.proofs.Views.{sum_only}
 
@@ -40,45 +40,45 @@ other_pair p q ne =
     (λ (t : (is_pair p q ≡ false) × (p ≢ q)). ap one_if t.0)
     (pair_tells p q)
 
-times_cons : (p q : Pair) (pairs : List Pair) → times p (q ∷ pairs) ≡ one_if (is_pair p q) + times p pairs
+times_cons : (p q : Pair) (pairs : List Pair) → pair_count p (q ∷ pairs) ≡ one_if (is_pair p q) + pair_count p pairs
 times_cons p q pairs = sum_by-cons (λ (z : Pair). cond (is_pair p z) 1 0) q pairs
 
-times_without : (q p : Pair) (pairs : List Pair) → q ≢ p → times q (without p pairs) ≡ times q pairs
+times_without : (q p : Pair) (pairs : List Pair) → q ≢ p → pair_count q (without_pair p pairs) ≡ pair_count q pairs
 times_without q p [] ne = refl
 times_without q p (x ∷ xs) ne =
     let rest = times_without q p xs ne in
-    let P : Bool → Type 0 = λ b. times q (cond (not b) (x ∷ without p xs) (without p xs)) ≡ times q (x ∷ xs) in
+    let P : Bool → Type 0 = λ b. pair_count q (cond (not b) (x ∷ without_pair p xs) (without_pair p xs)) ≡ pair_count q (x ∷ xs) in
     ⊎_elim
     (λ (t : (is_pair p x ≡ true) × (p ≡ x)). subst P (sym t.0) (omega (arith, times_cons q x xs, other_pair q x (λ e. ne (e ∙ sym t.1)))))
-    (λ (t : (is_pair p x ≡ false) × (p ≢ x)). subst P (sym t.0) (omega (arith, times_cons q x xs, times_cons q x (without p xs))))
+    (λ (t : (is_pair p x ≡ false) × (p ≢ x)). subst P (sym t.0) (omega (arith, times_cons q x xs, times_cons q x (without_pair p xs))))
     (pair_tells p x)
 
-times_without_it : (p : Pair) (pairs : List Pair) → times p (without p pairs) ≡ 0
+times_without_it : (p : Pair) (pairs : List Pair) → pair_count p (without_pair p pairs) ≡ 0
 times_without_it p [] = refl
 times_without_it p (x ∷ xs) =
     let rest = times_without_it p xs in
-    let P : Bool → Type 0 = λ b. times p (cond (not b) (x ∷ without p xs) (without p xs)) ≡ 0 in
+    let P : Bool → Type 0 = λ b. pair_count p (cond (not b) (x ∷ without_pair p xs) (without_pair p xs)) ≡ 0 in
     ⊎_elim
     (λ (t : (is_pair p x ≡ true) × (p ≡ x)). subst P (sym t.0) rest)
-    (λ (t : (is_pair p x ≡ false) × (p ≢ x)). subst P (sym t.0) (omega (arith, times_cons p x (without p xs), ap one_if t.0)))
+    (λ (t : (is_pair p x ≡ false) × (p ≢ x)). subst P (sym t.0) (omega (arith, times_cons p x (without_pair p xs), ap one_if t.0)))
     (pair_tells p x)
 
-length_without : (p : Pair) (pairs : List Pair) → length (without p pairs) + times p pairs ≡ length pairs
+length_without : (p : Pair) (pairs : List Pair) → length (without_pair p pairs) + pair_count p pairs ≡ length pairs
 length_without p [] = refl
 length_without p (x ∷ xs) =
     let rest = length_without p xs in
-    let P : Bool → Type 0 = λ b. length (cond (not b) (x ∷ without p xs) (without p xs)) + times p (x ∷ xs) ≡ suc (length xs) in
+    let P : Bool → Type 0 = λ b. length (cond (not b) (x ∷ without_pair p xs) (without_pair p xs)) + pair_count p (x ∷ xs) ≡ suc (length xs) in
     ⊎_elim
     (λ (t : (is_pair p x ≡ true) × (p ≡ x)). subst P (sym t.0) (omega (arith, times_cons p x xs, ap one_if t.0)))
     (λ (t : (is_pair p x ≡ false) × (p ≢ x)). subst P (sym t.0) (omega (arith, times_cons p x xs, ap one_if t.0)))
     (pair_tells p x)
 
 -- a pair that stands there once is taken out
-without_one : (q p : Pair) (pairs : List Pair) → times p pairs ≡ 1 → times q (without p pairs) + one_if (is_pair q p) ≡ times q pairs
+without_one : (q p : Pair) (pairs : List Pair) → pair_count p pairs ≡ 1 → pair_count q (without_pair p pairs) + one_if (is_pair q p) ≡ pair_count q pairs
 without_one q p pairs once =
     ⊎_elim
     (λ (t : (is_pair q p ≡ true) × (q ≡ p)).
-    subst (λ (z : Pair). times z (without p pairs) + one_if (is_pair z p) ≡ times z pairs) (sym t.1) (omega (arith, times_without_it p pairs, own_pair p)))
+    subst (λ (z : Pair). pair_count z (without_pair p pairs) + one_if (is_pair z p) ≡ pair_count z pairs) (sym t.1) (omega (arith, times_without_it p pairs, own_pair p)))
     (λ (t : (is_pair q p ≡ false) × (q ≢ p)). omega (arith, times_without q p pairs t.1, ap one_if t.0))
     (pair_tells q p)
 
@@ -92,7 +92,7 @@ pub begins : IsHeld (0 ∷ []) (Host [] [] ∷ [])
 begins = record { one_word = refl; counts = refl; one_host = refl; flagged = λ p. refl; distinct = λ p. omega arith }
 
 set_view : (words : List ℕ) (views : List Holding) (seat n : ℕ) (v w : Holding) → IsHeld words views → get_elem? views seat ≡ some v
-    → n + held v ≡ get_or words 0 0 + held w → hosts w ≡ hosts v
+    → n + count_of v ≡ get_or words 0 0 + count_of w → host_seats w ≡ host_seats v
     → ((p : Pair) → leases p w + flags p v ≡ leases p v + flags p w)
     → ((p : Pair) → sum_by (stands p) views + stands p w ≤ 1 + stands p v)
     → IsHeld (set words 0 n) (set views seat w)
@@ -103,14 +103,14 @@ set_view words views seat n v w rule at count host flag room =
     let read : get_or (set words 0 n) 0 0 ≡ n = get_or-set_same words 0 n 0 (omega arith) in
     record {
       one_word = length-set words 0 n ∙ one;
-      counts = read ∙ omega (arith, sum-set held views seat v w at);
-      one_host = omega (arith, sum-set hosts views seat v w at);
+      counts = read ∙ omega (arith, sum-set count_of views seat v w at);
+      one_host = omega (arith, sum-set host_seats views seat v w at);
       flagged = λ p. omega (arith, rule.flagged p, flag p, sum-set (leases p) views seat v w at, sum-set (flags p) views seat v w at);
       distinct = λ p. omega (arith, room p, sum-set (stands p) views seat v w at);
     }
 
 cut_view : (words : List ℕ) (views : List Holding) (seat : ℕ) (v w new : Holding) → IsHeld words views → get_elem? views seat ≡ some v
-    → held w + held new ≡ held v → hosts w + hosts new ≡ hosts v
+    → count_of w + count_of new ≡ count_of v → host_seats w + host_seats new ≡ host_seats v
     → ((p : Pair) → leases p w + leases p new + flags p v ≡ leases p v + flags p w + flags p new)
     → ((p : Pair) → stands p w + stands p new ≤ stands p v)
     → IsHeld words (set views seat w ++ new ∷ [])
@@ -119,32 +119,32 @@ cut_view words views seat v w new rule at count host flag room =
     let b = rule.one_host in
     record {
       one_word = rule.one_word;
-      counts = omega (arith, sum-set held views seat v w at, sum_by_push held (set views seat w) new);
-      one_host = omega (arith, sum-set hosts views seat v w at, sum_by_push hosts (set views seat w) new);
+      counts = omega (arith, sum-set count_of views seat v w at, sum_by_push count_of (set views seat w) new);
+      one_host = omega (arith, sum-set host_seats views seat v w at, sum_by_push host_seats (set views seat w) new);
       flagged = λ p. omega (arith, rule.flagged p, flag p, sum-set (leases p) views seat v w at, sum_by_push (leases p) (set views seat w) new, sum-set (flags p) views seat v w at, sum_by_push (flags p) (set views seat w) new);
       distinct = λ p. omega (arith, rule.distinct p, room p, sum-set (stands p) views seat v w at, sum_by_push (stands p) (set views seat w) new);
     }
 
 -- the host has all that is held
-host_has : (f : Holding → ℕ) (views : List Holding) (seat : ℕ) (v : Holding) → sum_by hosts views ≡ 1 → get_elem? views seat ≡ some v → hosts v ≡ 1
+host_has : (f : Holding → ℕ) (views : List Holding) (seat : ℕ) (v : Holding) → sum_by host_seats views ≡ 1 → get_elem? views seat ≡ some v → host_seats v ≡ 1
     → ((pair : Pair) → f (Lease pair) ≡ 0) → f Gone ≡ 0 → sum_by f views ≡ f v
-host_has f views seat v one at host lease gone = sum_only f hosts views seat v at (one ∙ sym host) none_else
+host_has f views seat v one at host lease gone = sum_only f host_seats views seat v at (one ∙ sym host) none_else
   where
-    none_else : (u : Holding) → hosts u ≡ 0 → f u ≡ 0
+    none_else : (u : Holding) → host_seats u ≡ 0 → f u ≡ 0
     none_else (Host granted leased) h = absurd (omega arith)
     none_else (Taking granted leased pair) h = absurd (omega arith)
     none_else (Lease pair) h = lease pair
     none_else Gone h = gone
 
 pub marks_pair : (slots seat : ℕ) (me : Me (Unit {0}) Holding) (p : Pair) (granted leased : List Pair) → me.0 ≡ Host granted leased
-    → times p granted + times p leased ≡ 0 → length granted + length leased + 1 < 2 ^ 64
+    → pair_count p granted + pair_count p leased ≡ 0 → length granted + length leased + 1 < 2 ^ 64
     → Allows KeepsPairs slots seat me 0 (λ n. (n + 1) % 2 ^ 64) (MarksPair p (step slots 0 1 0 none) me)
 marks_pair slots seat me p granted leased is apart room s rule len at small =
     let n : ℕ = get_or s.words 0 0 in
     let v : Holding = Host granted leased in
     let w : Holding = Host (p ∷ granted) leased in
     let there : get_elem? s.views seat ≡ some v = at ∙ ap some is in
-    let all : sum_by held s.views ≡ length granted + length leased = host_has held s.views seat v rule.one_host there refl (λ _. refl) refl in
+    let all : sum_by count_of s.views ≡ length granted + length leased = host_has count_of s.views seat v rule.one_host there refl (λ _. refl) refl in
     let read : n ≡ length granted + length leased = rule.counts ∙ all in
     let fits : length granted + length leased + 1 < 18446744073709551616 = room in
     let more : n + 1 ≡ (n + 1) % 18446744073709551616 = omega arith in
@@ -158,11 +158,11 @@ marks_pair slots seat me p granted leased is apart room s rule len at small =
     set_view s.words s.views seat (n + 1) v w rule there (omega arith) refl (λ q. refl) (λ q. omega (arith, free q, times_cons q p granted)) in
     (with_pair p me.0, keeps, tt, subst (λ (z : ℕ × Holding). IsHeld (set s.words 0 z.0) (set s.views seat (with_pair p z.1))) (λ i. (more i, sym is i)) kept, (refl, refl))
 
-pub splits_lease : (seat : ℕ) (v : Holding) (p : Pair) (granted leased : List Pair) → v ≡ Host granted leased → times p granted ≡ 1 → Splits KeepsPairs seat v (with_lease p v) (Lease p)
+pub splits_lease : (seat : ℕ) (v : Holding) (p : Pair) (granted leased : List Pair) → v ≡ Host granted leased → pair_count p granted ≡ 1 → Splits KeepsPairs seat v (with_lease p v) (Lease p)
 splits_lease seat v p granted leased is once = subst (λ (u : Holding). Splits KeepsPairs seat u (with_lease p u) (Lease p)) (sym is) from_host
   where
-    from_host : Splits KeepsPairs seat (Host granted leased) (Host (without p granted) (p ∷ leased)) (Lease p)
-    from_host s rule at = cut_view s.words s.views seat (Host granted leased) (Host (without p granted) (p ∷ leased)) (Lease p) rule at
+    from_host : Splits KeepsPairs seat (Host granted leased) (Host (without_pair p granted) (p ∷ leased)) (Lease p)
+    from_host s rule at = cut_view s.words s.views seat (Host granted leased) (Host (without_pair p granted) (p ∷ leased)) (Lease p) rule at
         (omega (arith, length_without p granted))
         refl
         (λ q. omega (arith, times_cons q p leased))
@@ -181,8 +181,8 @@ takes_back seat v other w granted leased p is lease = subst (λ (z : Holding × 
         let b = rule.one_host in
         record {
           one_word = rule.one_word;
-          counts = omega (arith, sum-set held views seat before both at, sum-set held (set views seat both) other left Gone there);
-          one_host = omega (arith, sum-set hosts views seat before both at, sum-set hosts (set views seat both) other left Gone there);
+          counts = omega (arith, sum-set count_of views seat before both at, sum-set count_of (set views seat both) other left Gone there);
+          one_host = omega (arith, sum-set host_seats views seat before both at, sum-set host_seats (set views seat both) other left Gone there);
           flagged = λ q. omega (arith, rule.flagged q, sum-set (leases q) views seat before both at, sum-set (leases q) (set views seat both) other left Gone there, sum-set (flags q) views seat before both at, sum-set (flags q) (set views seat both) other left Gone there);
           distinct = λ q. omega (arith, rule.distinct q, sum-set (stands q) views seat before both at, sum-set (stands q) (set views seat both) other left Gone there);
         }
@@ -192,32 +192,32 @@ unmoved words views seat v rule at = set_view words views seat (get_or words 0 0
 
 -- what a load tells the host
 host_reads : (words : List ℕ) (views : List Holding) (seat : ℕ) (granted leased : List Pair) (back : Option Pair) → IsHeld words views → get_elem? views seat ≡ some (host_view granted leased back)
-    → (get_or words 0 0 ≡ held (host_view granted leased back)) × IsFlagged (host_view granted leased back)
+    → (get_or words 0 0 ≡ count_of (host_view granted leased back)) × IsFlagged (host_view granted leased back)
 host_reads words views seat granted leased None rule at =
     let v : Holding = Host granted leased in
-    (rule.counts ∙ host_has held views seat v rule.one_host at refl (λ _. refl) refl, tt)
+    (rule.counts ∙ host_has count_of views seat v rule.one_host at refl (λ _. refl) refl, tt)
 host_reads words views seat granted leased (Some p) rule at =
     let v : Holding = Taking granted leased p in
     let part = at-le-sum (leases p) views seat v at in
     let own = own_pair p in
-    let flag : sum_by (flags p) views ≡ times p leased = host_has (flags p) views seat v rule.one_host at refl (λ _. refl) refl in
-    let all : sum_by (stands p) views ≡ times p granted + times p leased = host_has (stands p) views seat v rule.one_host at refl (λ _. refl) refl in
-    (rule.counts ∙ host_has held views seat v rule.one_host at refl (λ _. refl) refl, omega (arith, rule.flagged p, rule.distinct p))
+    let flag : sum_by (flags p) views ≡ pair_count p leased = host_has (flags p) views seat v rule.one_host at refl (λ _. refl) refl in
+    let all : sum_by (stands p) views ≡ pair_count p granted + pair_count p leased = host_has (stands p) views seat v rule.one_host at refl (λ _. refl) refl in
+    (rule.counts ∙ host_has count_of views seat v rule.one_host at refl (λ _. refl) refl, omega (arith, rule.flagged p, rule.distinct p))
 
 pub reads_held : (slots seat : ℕ) (me : Me (Unit {0}) Holding) (granted leased : List Pair) (back : Option Pair) → me.0 ≡ host_view granted leased back
     → Allows KeepsPairs slots seat me 0 (λ n. n) (ReadsHeld (step slots 0 0 0 none) me)
 reads_held slots seat me granted leased back is s rule len at small =
     let told = host_reads s.words s.views seat granted leased back rule (at ∙ ap some is) in
-    (me.0, keeps, tt, unmoved s.words s.views seat me.0 rule at, (refl, told.0 ∙ ap held (sym is), subst IsFlagged (sym is) told.1))
+    (me.0, keeps, tt, unmoved s.words s.views seat me.0 rule at, (refl, told.0 ∙ ap count_of (sym is), subst IsFlagged (sym is) told.1))
 
-pub clears_pair : (slots seat : ℕ) (me : Me (Unit {0}) Holding) (granted leased : List Pair) (p : Pair) → me.0 ≡ Taking granted leased p → times p leased ≡ 1
+pub clears_pair : (slots seat : ℕ) (me : Me (Unit {0}) Holding) (granted leased : List Pair) (p : Pair) → me.0 ≡ Taking granted leased p → pair_count p leased ≡ 1
     → Allows KeepsPairs slots seat me 0 (λ n. (n + (2 ^ 64 - 1)) % 2 ^ 64) (ClearsPair (step slots 0 1 0 none) me)
 clears_pair slots seat me granted leased p is once s rule len at small =
     let n : ℕ = get_or s.words 0 0 in
     let v : Holding = Taking granted leased p in
-    let w : Holding = Host granted (without p leased) in
+    let w : Holding = Host granted (without_pair p leased) in
     let there : get_elem? s.views seat ≡ some v = at ∙ ap some is in
-    let all : sum_by held s.views ≡ length granted + length leased = host_has held s.views seat v rule.one_host there refl (λ _. refl) refl in
+    let all : sum_by count_of s.views ≡ length granted + length leased = host_has count_of s.views seat v rule.one_host there refl (λ _. refl) refl in
     let read : n ≡ length granted + length leased = rule.counts ∙ all in
     let short = length_without p leased in
     let fits : n < 18446744073709551616 = small in
@@ -239,15 +239,15 @@ hands_out seat v granted leased p is = subst (λ (u : Holding). Splits KeepsPair
 -- the same, as the calls ask for it
 
 pub marks_named : (slots seat : ℕ) (me : Me (Unit {0}) Holding) (p q : Pair) (granted leased : List Pair) → p ≡ q → me.0 ≡ Host granted leased
-    → times q granted + times q leased ≡ 0 → length granted + length leased + 1 < 2 ^ 64
+    → pair_count q granted + pair_count q leased ≡ 0 → length granted + length leased + 1 < 2 ^ 64
     → Allows KeepsPairs slots seat me 0 (λ n. (n + 1) % 2 ^ 64) (MarksPair p (step slots 0 1 0 none) me)
 marks_named slots seat me p q granted leased named is apart room =
     subst (λ (z : Pair). Allows KeepsPairs slots seat me 0 (λ n. (n + 1) % 2 ^ 64) (MarksPair z (step slots 0 1 0 none) me)) (sym named) (marks_pair slots seat me q granted leased is apart room)
 
-pub splits_named : (seat : ℕ) (v : Holding) (p q : Pair) (granted leased : List Pair) → p ≡ q → v ≡ Host granted leased → times q granted ≡ 1 → Splits KeepsPairs seat v (with_lease p v) (Lease p)
+pub splits_named : (seat : ℕ) (v : Holding) (p q : Pair) (granted leased : List Pair) → p ≡ q → v ≡ Host granted leased → pair_count q granted ≡ 1 → Splits KeepsPairs seat v (with_lease p v) (Lease p)
 splits_named seat v p q granted leased named is once = subst (λ (z : Pair). Splits KeepsPairs seat v (with_lease z v) (Lease z)) (sym named) (splits_lease seat v q granted leased is once)
 
-pub clears_back : (slots seat : ℕ) (me : Me (Unit {0}) Holding) (granted leased : List Pair) (back : Option Pair) → me.0 ≡ host_view granted leased back → IsSome back → IfSome back (λ p. times p leased ≡ 1)
+pub clears_back : (slots seat : ℕ) (me : Me (Unit {0}) Holding) (granted leased : List Pair) (back : Option Pair) → me.0 ≡ host_view granted leased back → IsSome back → IfSome back (λ p. pair_count p leased ≡ 1)
     → Allows KeepsPairs slots seat me 0 (λ n. (n + (2 ^ 64 - 1)) % 2 ^ 64) (ClearsPair (step slots 0 1 0 none) me)
 clears_back slots seat me granted leased None is there flagged = absurd (cc)
 clears_back slots seat me granted leased (Some p) is there flagged = clears_pair slots seat me granted leased p is flagged

@@ -6,6 +6,6 @@ pub mod PlainLaws
 pub mod Words
 pub mod WordsLaws
 pub mod Starts
-pub mod Places
+pub mod Accounts
 pub mod Marks
-pub mod Held
+pub mod Pairs

@@ -8,11 +8,11 @@ use Rattle.budget.specs.Lobby.{without, turned}
 use Rattle.budget.specs.declared.link.Listing.{Listing}
 use Rattle.budget.specs.declared.link.Listing.TheVariants.{Lobby, Visited, Mark, Gone}
 
--- what the Lobby's seat shows: the hosts listed, in order, and how many hosts have a mark
+-- what the Lobby's seat shows: the hosts listed, in order, and how many hosts have a seat
 pub record Listed : Type 0 where
   pub table : TableId
   pub hosts : List ℕ
-  pub marks : ℕ
+  pub seats : ℕ
 
 -- what a host's seat shows: its index, and whether it is marked as listed
 pub record Marked : Type 0 where
@@ -28,22 +28,22 @@ abbrev pub one_if : Bool → ℕ
 one_if b = if b then 1 else 0
 
 -- how far apart two numbers are
-abbrev pub apart : ℕ → ℕ → ℕ
-apart a b = (a - b) + (b - a)
+abbrev pub distance : ℕ → ℕ → ℕ
+distance a b = (a - b) + (b - a)
 
 -- how many marks of the host a seat shows
 abbrev pub marks : ℕ → Listing → ℕ
-marks host (Lobby hosts made) = 0
-marks host (Visited hosts made guest mark) = one_if (guest == host)
+marks host (Lobby hosts seats) = 0
+marks host (Visited hosts seats guest mark) = one_if (guest == host)
 marks host (Mark h mark) = one_if (h == host)
 marks host Gone = 0
 
 -- how far a seat's mark is from whether its host is listed
-abbrev pub strays : List ℕ → Listing → ℕ
-strays listed (Lobby hosts made) = 0
-strays listed (Visited hosts made guest mark) = apart (times guest listed) (one_if mark)
-strays listed (Mark host mark) = apart (times host listed) (one_if mark)
-strays listed Gone = 0
+abbrev pub disagreement : List ℕ → Listing → ℕ
+disagreement listed (Lobby hosts seats) = 0
+disagreement listed (Visited hosts seats guest mark) = distance (times guest listed) (one_if mark)
+disagreement listed (Mark host mark) = distance (times host listed) (one_if mark)
+disagreement listed Gone = 0
 
 -- the view of the table's first seat, which is the Lobby's
 abbrev pub first_of : List Listing → Listing
@@ -51,93 +51,110 @@ first_of [] = Gone
 first_of (v ∷ vs) = v
 
 abbrev pub hosts_of : Listing → List ℕ
-hosts_of (Lobby hosts made) = hosts
-hosts_of (Visited hosts made guest mark) = hosts
+hosts_of (Lobby hosts seats) = hosts
+hosts_of (Visited hosts seats guest mark) = hosts
 hosts_of (Mark host mark) = []
 hosts_of Gone = []
 
-abbrev pub made_of : Listing → ℕ
-made_of (Lobby hosts made) = made
-made_of (Visited hosts made guest mark) = made
-made_of (Mark host mark) = 0
-made_of Gone = 0
+abbrev pub seats_of : Listing → ℕ
+seats_of (Lobby hosts seats) = seats
+seats_of (Visited hosts seats guest mark) = seats
+seats_of (Mark host mark) = 0
+seats_of Gone = 0
 
--- A mark is whether its host is listed. Each host that was given a mark has one seat with it, and no other host is listed. No host is listed twice
-pub record Agree (listed : List ℕ) (made : ℕ) (views : List Listing) : Type 0 where
-  pub marked : sum_by (strays listed) views ≡ 0
-  pub one_mark : (host : ℕ) → sum_by (marks host) views ≡ one_if (nat_lt host made)
-  pub no_other : (host : ℕ) → made ≤ host → times host listed ≡ 0
+-- A mark is whether its host is listed: none is apart from that. Each host that was given a seat
+-- shows its mark once, and no other host is listed. No host is listed twice.
+pub record Agree (listed : List ℕ) (seats : ℕ) (views : List Listing) : Type 0 where
+  pub marked : sum_by (disagreement listed) views ≡ 0
+  pub one_mark : (host : ℕ) → sum_by (marks host) views ≡ one_if (nat_lt host seats)
+  pub no_other : (host : ℕ) → seats ≤ host → times host listed ≡ 0
   pub distinct : (host : ℕ) → times host listed ≤ 1
 
 abbrev pub IsLink : List Listing → Type 0
-IsLink views = Agree (hosts_of (first_of views)) (made_of (first_of views)) views
+IsLink views = Agree (hosts_of (first_of views)) (seats_of (first_of views)) views
 
 abbrev pub KeepsMarks : State (Unit {0}) Listing → Type 0
 KeepsMarks s = IsLink s.views
 
-abbrev pub Shows : Type 0
-Shows = Me (Unit {0}) Listing
-
 -- the Lobby's view with a host and its mark as a guest
 abbrev pub with_guest : Listing → Listing → Listing
-with_guest (Lobby hosts made) (Mark host mark) = Visited hosts made host mark
+with_guest (Lobby hosts seats) (Mark host mark) = Visited hosts seats host mark
 with_guest v w = v
 
 -- the guest leaves, and the list and the mark stay
 abbrev pub left_alone : Listing → Listing
-left_alone (Visited hosts made host mark) = Lobby hosts made
+left_alone (Visited hosts seats host mark) = Lobby hosts seats
 left_alone v = v
 
 abbrev pub mark_alone : Listing → Listing
-mark_alone (Visited hosts made host mark) = Mark host mark
+mark_alone (Visited hosts seats host mark) = Mark host mark
 mark_alone v = Gone
 
 -- the guest leaves listed, behind the others
 abbrev pub left_longer : Listing → Listing
-left_longer (Visited hosts made host mark) = Lobby (hosts ++ host ∷ []) made
+left_longer (Visited hosts seats host mark) = Lobby (hosts ++ host ∷ []) seats
 left_longer v = v
 
 abbrev pub mark_set : Listing → Listing
-mark_set (Visited hosts made host mark) = Mark host true
+mark_set (Visited hosts seats host mark) = Mark host true
 mark_set v = Gone
 
 -- the guest leaves, and is no longer listed
 abbrev pub left_shorter : Listing → Listing
-left_shorter (Visited hosts made host mark) = Lobby (without hosts host) made
+left_shorter (Visited hosts seats host mark) = Lobby (without hosts host) seats
 left_shorter v = v
 
 abbrev pub mark_cleared : Listing → Listing
-mark_cleared (Visited hosts made host mark) = Mark host false
+mark_cleared (Visited hosts seats host mark) = Mark host false
 mark_cleared v = Gone
 
 -- the next host gets its mark
 abbrev pub with_host : Listing → Listing
-with_host (Lobby hosts made) = Lobby hosts (made + 1)
+with_host (Lobby hosts seats) = Lobby hosts (seats + 1)
 with_host v = v
 
 abbrev pub first_mark : Listing → Listing
-first_mark (Lobby hosts made) = Mark made false
+first_mark (Lobby hosts seats) = Mark seats false
 first_mark v = Gone
 
 abbrev pub with_turn : Listing → Listing
-with_turn (Lobby hosts made) = Lobby (turned hosts) made
+with_turn (Lobby hosts seats) = Lobby (turned hosts) seats
 with_turn v = v
 
 -- the guest's mark is whether it is listed
 abbrev pub Agrees : Listing → Type 0
-Agrees (Visited hosts made host mark) = times host hosts ≡ one_if mark
+Agrees (Visited hosts seats host mark) = times host hosts ≡ one_if mark
 Agrees v = Unit {0}
 
-abbrev pub SeesMark : Step (Unit {0}) → Shows → ℕ → Shows → Type 0
+abbrev pub SeesMark : Step (Unit {0}) → Me (Unit {0}) Listing → ℕ → Me (Unit {0}) Listing → Type 0
 SeesMark step before found after = (after ≡ before) × Agrees before.0
 
-abbrev pub Turns : Step (Unit {0}) → Shows → ℕ → Shows → Type 0
+abbrev pub Turns : Step (Unit {0}) → Me (Unit {0}) Listing → ℕ → Me (Unit {0}) Listing → Type 0
 Turns step before found after = (after.0 ≡ with_turn before.0) × (after.1 ≡ before.1)
 
+-- what the Lobby's seat shows its owner
+abbrev pub list_shown : TableId → Listing → Listed
+list_shown table view = record { table = table; hosts = hosts_of view; seats = seats_of view }
+
+-- the host is listed too, behind the others
+abbrev pub with_listed : ℕ → Listed → Listed
+with_listed host lobby = record lobby { hosts = lobby.hosts ++ host ∷ [] }
+
+-- the host is listed no more
+abbrev pub with_unlisted : ℕ → Listed → Listed
+with_unlisted host lobby = record lobby { hosts = without lobby.hosts host }
+
+abbrev pub mark_at : TableId → ℕ → Bool → Marked
+mark_at table host mark = record { table = table; host = host; mark = mark }
+
+-- the mark of the next host, which isn't listed
+abbrev pub next_mark : Listed → Marked
+next_mark lobby = mark_at lobby.table lobby.seats false
+
 -- the Lobby's seat is the table's first
-pub record IsLobbySeat (id : ℕ) (me : Shows) : Type 0 where
+pub record IsLobbySeat (id : ℕ) (me : Me (Unit {0}) Listing) : Type 0 where
   pub first : id ≡ 0
-  pub lobby : me.0 ≡ Lobby (hosts_of me.0) (made_of me.0)
+  pub lobby : me.0 ≡ Lobby (hosts_of me.0) (seats_of me.0)
 
 abbrev pub host_of : Listing → ℕ
 host_of (Mark host mark) = host
@@ -147,7 +164,15 @@ abbrev pub mark_of : Listing → Bool
 mark_of (Mark host mark) = mark
 mark_of v = false
 
-pub record IsMarkSeat (me : Shows) : Type 0 where
+-- the Lobby's seat with the host of another as its guest
+abbrev pub joined_mark : Listing → Listing → Listing
+joined_mark lobby host = Visited (hosts_of lobby) (seats_of lobby) (host_of host) (mark_of host)
+
+-- the host is listed as often as its mark says
+abbrev pub IsAsMarked : Listing → Listing → Type 0
+IsAsMarked lobby host = times (host_of host) (hosts_of lobby) ≡ one_if (mark_of host)
+
+pub record IsMarkSeat (me : Me (Unit {0}) Listing) : Type 0 where
   pub mark : me.0 ≡ Mark (host_of me.0) (mark_of me.0)
   pub bare : me.1 ≡ []
 
@@ -156,7 +181,8 @@ abbrev pub HasMark : Option (Seat (Unit {0}) Listing) → Type 0
 HasMark None = ⊥
 HasMark (Some seat) = IsMarkSeat seat.me
 
-abbrev no_table : TableId
+-- the name of no table
+abbrev pub no_table : TableId
 no_table = record { words = 0; slots = 0; views_name = 0; atom = 0; block = 0; offset = 0; slot_names = [] }
 
 abbrev pub marked_by : Option (Seat (Unit {0}) Listing) → Marked

@@ -3,9 +3,12 @@
 //! The word is the number of pairs. The host's seat lists them, each flagged once its lease's seat
 //! was split off: it then stands among the leased ones. A lease that comes back joins its seat, a
 //! load tells that its pair stood flagged, and clearing takes it off the list.
-ghost use Rattle.std.specs.Prelude.{◌≡◌, ◌+◌, ◌<◌, ◌^◌, [], ◌∷◌, length, Some, None, IfOk, IfErr, IfSome, IsSome};
-ghost use Rattle.budget.specs.Held.{times, without, granted_of, leased_of};
-ghost use Rattle.budget.specs.declared.holders.Holding.TheVariants.{Host, Lease};
+ghost use Rattle.std.specs.Prelude.{◌≡◌, ◌+◌, [], length, Some, None, IfOk, IfErr, IfSome, IsSome};
+ghost use Rattle.budget.specs.Pairs.{pair_count, granted_of, granted_too, leased_too};
+ghost use Rattle.budget.specs.Pairs.{HoldsNone, IsApart, IsApartIn, HasRoom, HasRoomIn};
+ghost use Rattle.budget.specs.Pairs.{IsHost, SitsAt};
+ghost use Rattle.budget.specs.Pairs.{host_granting, host_leasing, Loses};
+ghost use Rattle.budget.specs.declared.holders.Holding.TheVariants.{Lease};
 
 use crate::refusal::Refusal;
 use atomic_table::{Join, Play, Seat, Split, Table, TableRule};
@@ -27,7 +30,7 @@ pub enum Holding {
 
 /// Names the pair that a step is about. Each call of a step picks it.
 trait Named {
-    ghost use Rattle.budget.specs.Held.{Pair};
+    ghost use Rattle.budget.specs.Pairs.{Pair};
 
     ghost pair: { Pair };
 }
@@ -41,7 +44,7 @@ struct Pairs;
 impl TableRule<(), Holding, ()> for Pairs {
     ghost use Rattle.std.specs.Prelude.{[]};
     ghost use Rattle.budget.specs.declared.holders.Holding.TheVariants.{Host};
-    ghost use Rattle.budget.specs.Held.{KeepsPairs};
+    ghost use Rattle.budget.specs.Pairs.{KeepsPairs};
 
     ghost holds = { λ _. KeepsPairs };
 
@@ -53,7 +56,7 @@ struct Hold<N> {
 }
 
 impl<N: Named> Play<(), Holding> for Hold<N> {
-    ghost use Rattle.budget.specs.Held.{MarksPair};
+    ghost use Rattle.budget.specs.Pairs.{MarksPair};
 
     ghost then = { MarksPair N.pair };
 }
@@ -61,7 +64,7 @@ impl<N: Named> Play<(), Holding> for Hold<N> {
 struct Read;
 
 impl Play<(), Holding> for Read {
-    ghost use Rattle.budget.specs.Held.{ReadsHeld};
+    ghost use Rattle.budget.specs.Pairs.{ReadsHeld};
 
     ghost then = { ReadsHeld };
 }
@@ -69,7 +72,7 @@ impl Play<(), Holding> for Read {
 struct Clear;
 
 impl Play<(), Holding> for Clear {
-    ghost use Rattle.budget.specs.Held.{ClearsPair};
+    ghost use Rattle.budget.specs.Pairs.{ClearsPair};
 
     ghost then = { ClearsPair };
 }
@@ -80,17 +83,17 @@ struct OfLease<N> {
 
 impl<N: Named> Split<Holding> for OfLease<N> {
     ghost use Rattle.budget.specs.declared.holders.Holding.TheVariants.{Lease};
-    ghost use Rattle.budget.specs.Held.{with_lease};
+    ghost use Rattle.budget.specs.Pairs.{with_lease};
 
     ghost left = { with_lease N.pair };
 
     ghost right = { λ _. Lease N.pair };
 }
 
-struct BackOut;
+struct HandOut;
 
-impl Split<Holding> for BackOut {
-    ghost use Rattle.budget.specs.Held.{without_back, lease_back};
+impl Split<Holding> for HandOut {
+    ghost use Rattle.budget.specs.Pairs.{without_back, lease_back};
 
     ghost left = { without_back };
 
@@ -101,7 +104,7 @@ struct TakeBack;
 
 impl Join<Holding> for TakeBack {
     ghost use Rattle.budget.specs.declared.holders.Holding.TheVariants.{Gone};
-    ghost use Rattle.budget.specs.Held.{with_back};
+    ghost use Rattle.budget.specs.Pairs.{with_back};
 
     ghost both = { with_back };
 
@@ -116,13 +119,13 @@ pub struct Holders {
 }
 
 impl Model for Holders {
-    ghost use Rattle.budget.specs.Held.{Held, granted_of, leased_of, back_of, IsHoldersSeat};
+    ghost use Rattle.budget.specs.Pairs.{HeldPairs, pairs_shown, IsPairsSeat};
 
-    ghost Value = { Held };
+    ghost Value = { HeldPairs };
 
-    ghost view = { λ holders. record { table = holders.seat.table_id; granted = granted_of holders.seat.me.0; leased = leased_of holders.seat.me.0; back = back_of holders.seat.me.0 } };
+    ghost view = { λ holders. pairs_shown holders.seat.table_id holders.seat.me.0 };
 
-    ghost invariant = { λ holders. IsHoldersSeat holders.table.shared.table_id holders.seat.table_id holders.seat.me };
+    ghost invariant = { λ holders. IsPairsSeat holders.table.shared.table_id holders.seat };
 }
 
 /// A lease's seat: its pair of a connection and a transfer. It must be taken back.
@@ -131,11 +134,11 @@ pub struct HolderSeat {
 }
 
 impl Model for HolderSeat {
-    ghost use Rattle.budget.specs.Held.{LeaseOf, pair_of, IsHolderSeat};
+    ghost use Rattle.budget.specs.Pairs.{LeaseOf, lease_shown, IsHolderSeat};
 
     ghost Value = { LeaseOf };
 
-    ghost view = { λ holder. record { table = holder.seat.table_id; pair = pair_of holder.seat.me.0 } };
+    ghost view = { λ holder. lease_shown holder.seat.table_id holder.seat.me.0 };
 
     ghost invariant = { λ holder. IsHolderSeat holder.seat.me };
 }
@@ -145,7 +148,7 @@ impl Holders {
     ///
     /// The only refusal is [`Refusal::Memory`].
     pub fn new(alloc: Global) -> Result<Holders, Refusal>
-        ensures ok { IfOk result (λ holders. (holders.granted ≡ []) × (holders.leased ≡ []) × (holders.back ≡ None)) }
+        ensures ok { IfOk result HoldsNone }
         ensures err { IfErr result (λ refusal. refusal ≡ Refusal.Memory) }
     {
         let Ok((table, seat)) = Table::of_words(alloc, &[0], &()) else {
@@ -156,10 +159,10 @@ impl Holders {
 
     /// The transfer holds the connection from now on. No lease stands for the pair yet.
     pub fn mark(&mut self, connection: u32, transfer: u64)
-        requires apart { times (connection, transfer) self.old.granted + times (connection, transfer) self.old.leased ≡ 0 }
-        requires room { length self.old.granted + length self.old.leased + 1 < 2 ^ 64 }
+        requires apart { IsApart (connection, transfer) self.old.granted self.old.leased }
+        requires room { HasRoom self.old.granted self.old.leased }
         requires back { self.old.back ≡ None }
-        ensures { self.new ≡ record self.old { granted = (connection, transfer) ∷ self.old.granted } }
+        ensures { self.new ≡ granted_too (connection, transfer) self.old }
     {
         let table = &self.table;
         mark_pair::<Brand>(table, &mut self.seat, connection, transfer);
@@ -167,9 +170,9 @@ impl Holders {
 
     /// Splits off the seat of the lease for a pair that has none yet, and flags the pair.
     pub fn split(&mut self, connection: u32, transfer: u64) -> HolderSeat
-        requires granted { times (connection, transfer) self.old.granted ≡ 1 }
+        requires granted { pair_count (connection, transfer) self.old.granted ≡ 1 }
         requires back { self.old.back ≡ None }
-        ensures holders { self.new ≡ record self.old { granted = without (connection, transfer) self.old.granted; leased = (connection, transfer) ∷ self.old.leased } }
+        ensures holders { self.new ≡ leased_too (connection, transfer) self.old }
         ensures lease { result ≡ record { table = self.old.table; pair = (connection, transfer) } }
     {
         let table = &self.table;
@@ -192,7 +195,7 @@ impl Holders {
     pub fn load(&mut self) -> u64
         ensures holders { self.new ≡ self.old }
         ensures held { result ≡ length self.old.granted + length self.old.leased }
-        ensures flagged { IfSome self.old.back (λ pair. times pair self.old.leased ≡ 1) }
+        ensures flagged { IfSome self.old.back (λ pair. pair_count pair self.old.leased ≡ 1) }
     {
         let table = &self.table;
         table.shared.load::<Read>(&mut self.seat, 0)
@@ -201,10 +204,11 @@ impl Holders {
     /// The pair that was taken back is held no longer. `load` told that it stood flagged.
     pub fn clear(&mut self)
         requires back { IsSome self.old.back }
-        requires flagged { IfSome self.old.back (λ pair. times pair self.old.leased ≡ 1) }
+        requires flagged { IfSome self.old.back (λ pair. pair_count pair self.old.leased ≡ 1) }
         ensures back { self.new.back ≡ None }
-        ensures leased { IfSome self.old.back (λ pair. self.new.leased ≡ without pair self.old.leased) }
-        ensures same { (self.new.table ≡ self.old.table) × (self.new.granted ≡ self.old.granted) }
+        ensures leased { IfSome self.old.back (Loses self.old.leased self.new.leased) }
+        ensures granted { self.new.granted ≡ self.old.granted }
+        ensures table { self.new.table ≡ self.old.table }
     {
         let table = &self.table;
         table.shared.fetch_sub::<Clear>(&mut self.seat, 0, 1);
@@ -218,7 +222,7 @@ impl Holders {
         ensures table { result.table ≡ self.old.table }
     {
         let table = &self.table;
-        let seat = table.shared.split_seat::<BackOut>(&mut self.seat);
+        let seat = table.shared.split_seat::<HandOut>(&mut self.seat);
         HolderSeat { seat }
     }
 }
@@ -231,13 +235,14 @@ fn mark_pair<N: Named>(
     connection: u32,
     transfer: u64,
 )
-    requires seated { (seat.old.table_id ≡ table.now.shared.table_id) × (table.now.shared.table_id.words ≡ 1) }
+    requires seated { SitsAt seat.old.table_id table.now.shared.table_id }
     requires pair { N.pair ≡ (connection, transfer) }
-    requires host { seat.old.me.0 ≡ Host (granted_of seat.old.me.0) (leased_of seat.old.me.0) }
-    requires apart { times (connection, transfer) (granted_of seat.old.me.0) + times (connection, transfer) (leased_of seat.old.me.0) ≡ 0 }
-    requires room { length (granted_of seat.old.me.0) + length (leased_of seat.old.me.0) + 1 < 2 ^ 64 }
-    ensures same { (seat.new.table_id ≡ seat.old.table_id) × (seat.new.id ≡ seat.old.id) × (seat.new.me.1 ≡ seat.old.me.1) }
-    ensures marked { seat.new.me.0 ≡ Host ((connection, transfer) ∷ granted_of seat.old.me.0) (leased_of seat.old.me.0) }
+    requires host { IsHost seat.old.me.0 }
+    requires apart { IsApartIn (connection, transfer) seat.old.me.0 }
+    requires room { HasRoomIn seat.old.me.0 }
+    ensures same { (seat.new.table_id ≡ seat.old.table_id) × (seat.new.id ≡ seat.old.id) }
+    ensures bare { seat.new.me.1 ≡ seat.old.me.1 }
+    ensures host { seat.new.me.0 ≡ host_granting (connection, transfer) seat.old.me.0 }
 {
     table.shared.fetch_add::<Hold<N>>(seat, 0, 1);
 }
@@ -250,13 +255,15 @@ fn split_pair<N: Named>(
     connection: u32,
     transfer: u64,
 ) -> Seat<(), Holding>
-    requires seated { (seat.old.table_id ≡ table.now.shared.table_id) × (table.now.shared.table_id.words ≡ 1) }
+    requires seated { SitsAt seat.old.table_id table.now.shared.table_id }
     requires pair { N.pair ≡ (connection, transfer) }
-    requires host { seat.old.me.0 ≡ Host (granted_of seat.old.me.0) (leased_of seat.old.me.0) }
-    requires granted { times (connection, transfer) (granted_of seat.old.me.0) ≡ 1 }
-    ensures same { (seat.new.table_id ≡ seat.old.table_id) × (seat.new.id ≡ seat.old.id) × (seat.new.me.1 ≡ seat.old.me.1) }
-    ensures host { seat.new.me.0 ≡ Host (without (connection, transfer) (granted_of seat.old.me.0)) ((connection, transfer) ∷ leased_of seat.old.me.0) }
-    ensures lease { (result.table_id ≡ seat.old.table_id) × (result.me ≡ (Lease (connection, transfer), [])) }
+    requires host { IsHost seat.old.me.0 }
+    requires granted { pair_count (connection, transfer) (granted_of seat.old.me.0) ≡ 1 }
+    ensures same { (seat.new.table_id ≡ seat.old.table_id) × (seat.new.id ≡ seat.old.id) }
+    ensures bare { seat.new.me.1 ≡ seat.old.me.1 }
+    ensures host { seat.new.me.0 ≡ host_leasing (connection, transfer) seat.old.me.0 }
+    ensures table { result.table_id ≡ seat.old.table_id }
+    ensures lease { result.me ≡ (Lease (connection, transfer), []) }
 {
     table.shared.split_seat::<OfLease<N>>(seat)
 }

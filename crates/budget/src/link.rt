@@ -3,10 +3,10 @@
 //! The Lobby's list and a host's mark lie under two locks. With both locks held, the host's seat
 //! visits the Lobby's, a load tells that its mark is whether it is listed, and it leaves with the
 //! new values. There is no way to change one without the other.
-ghost use Rattle.std.specs.Prelude.{◌≡◌, ◌+◌, ◌++◌, [], ◌∷◌, true, false, IfOk, IfErr};
-ghost use Rattle.budget.specs.Lobby.{is_listed, without, turned};
-ghost use Rattle.budget.specs.Marks.{hosts_of, made_of, host_of, mark_of, times, one_if};
-ghost use Rattle.budget.specs.declared.link.Listing.TheVariants.{Lobby, Visited, Mark};
+ghost use Rattle.std.specs.Prelude.{◌≡◌, ◌+◌, [], true, false, IfOk, IfErr};
+ghost use Rattle.budget.specs.Lobby.{is_listed, turned};
+ghost use Rattle.budget.specs.Marks.{with_listed, with_unlisted, next_mark};
+ghost use Rattle.budget.specs.Marks.{IsLobbySeat, IsMarkSeat, IsAsMarked, joined_mark};
 
 use crate::refusal::Refusal;
 use atomic_table::{Join, Play, Seat, Split, Table, TableRule};
@@ -16,7 +16,7 @@ use std::marker::Model;
 
 /// What a seat at a link's table shows. No value of it is made.
 pub enum Listing {
-    /// The Lobby's: the hosts listed, in order, and how many hosts have a mark.
+    /// The Lobby's: the hosts listed, in order, and how many hosts have a seat.
     Lobby(LinkedList<u32>, u64),
     /// The same, with a host and its mark as a guest.
     Visited(LinkedList<u32>, u64, u32, bool),
@@ -54,9 +54,9 @@ impl Play<(), Listing> for Turn {
     ghost then = { Turns };
 }
 
-struct Visit;
+struct JoinMark;
 
-impl Join<Listing> for Visit {
+impl Join<Listing> for JoinMark {
     ghost use Rattle.budget.specs.declared.link.Listing.TheVariants.{Gone};
     ghost use Rattle.budget.specs.Marks.{with_guest};
 
@@ -105,7 +105,8 @@ impl Split<Listing> for NextHost {
     ghost right = { first_mark };
 }
 
-/// The table of the Lobby's list and the hosts' marks, which threads share. Only `new` takes memory.
+/// The table of the Lobby's list and the hosts' marks, which threads share. No call but `new` takes
+/// memory.
 #[derive(Drop)]
 pub struct Link {
     table: Table<(), Listing, (), Marks, Global>,
@@ -124,18 +125,18 @@ impl Model for Link {
     ghost invariant = { λ link. link.table.shared.table_id.words ≡ 1 };
 }
 
-/// The Lobby's seat, which lies under its lock: the hosts listed, and how many hosts have a mark.
+/// The Lobby's seat, which lies under its lock: the hosts listed, and how many hosts have a seat.
 #[derive(Drop)]
 pub struct LobbySeat {
     seat: Seat<(), Listing>,
 }
 
 impl Model for LobbySeat {
-    ghost use Rattle.budget.specs.Marks.{Listed, hosts_of, made_of, IsLobbySeat};
+    ghost use Rattle.budget.specs.Marks.{Listed, list_shown, IsLobbySeat};
 
     ghost Value = { Listed };
 
-    ghost view = { λ lobby. record { table = lobby.seat.table_id; hosts = hosts_of lobby.seat.me.0; marks = made_of lobby.seat.me.0 } };
+    ghost view = { λ lobby. list_shown lobby.seat.table_id lobby.seat.me.0 };
 
     ghost invariant = { λ lobby. IsLobbySeat lobby.seat.id lobby.seat.me };
 }
@@ -158,20 +159,21 @@ impl Model for MarkSeat {
 }
 
 // The host's seat becomes the Lobby's guest, and the load tells that the two agree.
-fn welcome(
+fn join_mark(
     table: &Table<(), Listing, (), Marks, Global>,
     lobby: &mut Seat<(), Listing>,
     host: Seat<(), Listing>,
 )
-    requires table { (lobby.old.table_id ≡ table.now.shared.table_id) × (host.table_id ≡ table.now.shared.table_id) }
+    requires lobby_table { lobby.old.table_id ≡ table.now.shared.table_id }
+    requires host_table { host.table_id ≡ table.now.shared.table_id }
     requires one_word { table.now.shared.table_id.words ≡ 1 }
-    requires lobby { (lobby.old.id ≡ 0) × (lobby.old.me.0 ≡ Lobby (hosts_of lobby.old.me.0) (made_of lobby.old.me.0)) }
-    requires host { (host.me.0 ≡ Mark (host_of host.me.0) (mark_of host.me.0)) × (host.me.1 ≡ []) }
+    requires lobby { IsLobbySeat lobby.old.id lobby.old.me }
+    requires host { IsMarkSeat host.me }
     ensures same { (lobby.new.table_id ≡ lobby.old.table_id) × (lobby.new.id ≡ lobby.old.id) }
-    ensures guest { lobby.new.me.0 ≡ Visited (hosts_of lobby.old.me.0) (made_of lobby.old.me.0) (host_of host.me.0) (mark_of host.me.0) }
-    ensures agree { times (host_of host.me.0) (hosts_of lobby.old.me.0) ≡ one_if (mark_of host.me.0) }
+    ensures guest { lobby.new.me.0 ≡ joined_mark lobby.old.me.0 host.me.0 }
+    ensures agree { IsAsMarked lobby.old.me.0 host.me.0 }
 {
-    table.shared.join_seat::<Visit>(lobby, host);
+    table.shared.join_seat::<JoinMark>(lobby, host);
     table.shared.load::<See>(lobby, 0);
 }
 
@@ -182,7 +184,7 @@ impl Link {
     pub fn new(alloc: Global) -> Result<(Link, LobbySeat), Refusal>
         ensures table { IfOk result (λ made. made.1.table ≡ made.0) }
         ensures err { IfErr result (λ refusal. refusal ≡ Refusal.Memory) }
-        ensures empty { IfOk result (λ made. (made.1.hosts ≡ []) × (made.1.marks ≡ 0)) }
+        ensures empty { IfOk result (λ made. (made.1.hosts ≡ []) × (made.1.seats ≡ 0)) }
     {
         let Ok((table, seat)) = Table::of_words(alloc, &[0], &()) else {
             return Err(Refusal::Memory);
@@ -190,11 +192,11 @@ impl Link {
         Ok((Link { table }, LobbySeat { seat }))
     }
 
-    /// The seat of the next host: its index is how many have a mark so far, and it isn't listed.
+    /// The seat of the next host: its index is how many have a seat so far, and it isn't listed.
     pub fn seat_host(&self, lobby: &mut LobbySeat) -> MarkSeat
         requires { lobby.old.table ≡ self.now }
-        ensures lobby { lobby.new ≡ record lobby.old { marks = lobby.old.marks + 1 } }
-        ensures host { result ≡ record { table = lobby.old.table; host = lobby.old.marks; mark = false } }
+        ensures lobby { lobby.new ≡ record lobby.old { seats = lobby.old.seats + 1 } }
+        ensures host { result ≡ next_mark lobby.old }
     {
         let table = &self.table;
         let seat = table.shared.split_seat::<NextHost>(&mut lobby.seat);
@@ -212,7 +214,7 @@ impl Link {
         let Some(guest) = host.seat.take() else {
             unreachable!()
         };
-        welcome(&self.table, &mut lobby.seat, guest);
+        join_mark(&self.table, &mut lobby.seat, guest);
         let table = &self.table;
         let seat = table.shared.split_seat::<Leave>(&mut lobby.seat);
         host.seat = Some(seat);
@@ -224,30 +226,31 @@ impl Link {
         requires host { host.old.table ≡ self.now }
         requires unmarked { host.old.mark ≡ false }
         ensures agree { is_listed lobby.old.hosts host.old.host ≡ false }
-        ensures lobby { lobby.new ≡ record lobby.old { hosts = lobby.old.hosts ++ host.old.host ∷ [] } }
+        ensures lobby { lobby.new ≡ with_listed host.old.host lobby.old }
         ensures host { host.new ≡ record host.old { mark = true } }
     {
         let Some(guest) = host.seat.take() else {
             unreachable!()
         };
-        welcome(&self.table, &mut lobby.seat, guest);
+        join_mark(&self.table, &mut lobby.seat, guest);
         let table = &self.table;
         let seat = table.shared.split_seat::<LeaveListed>(&mut lobby.seat);
         host.seat = Some(seat);
     }
 
-    /// Takes a host off the list, and its mark.
+    /// Takes a marked host off the list, and its mark.
     pub fn delist(&self, lobby: &mut LobbySeat, host: &mut MarkSeat)
         requires lobby { lobby.old.table ≡ self.now }
         requires host { host.old.table ≡ self.now }
-        ensures agree { is_listed lobby.old.hosts host.old.host ≡ host.old.mark }
-        ensures lobby { lobby.new ≡ record lobby.old { hosts = without lobby.old.hosts host.old.host } }
+        requires marked { host.old.mark ≡ true }
+        ensures agree { is_listed lobby.old.hosts host.old.host ≡ true }
+        ensures lobby { lobby.new ≡ with_unlisted host.old.host lobby.old }
         ensures host { host.new ≡ record host.old { mark = false } }
     {
         let Some(guest) = host.seat.take() else {
             unreachable!()
         };
-        welcome(&self.table, &mut lobby.seat, guest);
+        join_mark(&self.table, &mut lobby.seat, guest);
         let table = &self.table;
         let seat = table.shared.split_seat::<LeaveUnlisted>(&mut lobby.seat);
         host.seat = Some(seat);

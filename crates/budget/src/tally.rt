@@ -2,7 +2,8 @@
 //!
 //! A tally is a table of one word. The host's seat counts each start, and splits it off into the
 //! seat of the lease. As the lease is spent, its seat joins that of the pass that it is spent with.
-ghost use Rattle.std.specs.Prelude.{◌≡◌, ◌+◌, ◌-◌, ◌<◌, ◌^◌, IfOk, IfErr};
+ghost use Rattle.std.specs.Prelude.{◌≡◌, ◌+◌, ◌<◌, ◌^◌, IfOk, IfErr};
+ghost use Rattle.budget.specs.Starts.{one_start_more, one_split};
 
 use crate::refusal::Refusal;
 use atomic_table::{Join, Play, Seat, Split, Table, TableRule};
@@ -96,13 +97,13 @@ pub struct Tally {
 }
 
 impl Model for Tally {
-    ghost use Rattle.budget.specs.Starts.{Starts, counted, stands_for, IsHostSeat};
+    ghost use Rattle.budget.specs.Starts.{Starts, starts_shown, IsTallySeat};
 
     ghost Value = { Starts };
 
-    ghost view = { λ tally. record { table = tally.seat.table_id; counted = counted tally.seat.me.0; unsplit = stands_for tally.seat.me.0 } };
+    ghost view = { λ tally. starts_shown tally.seat.table_id tally.seat.me.0 };
 
-    ghost invariant = { λ tally. IsHostSeat tally.table.shared.table_id tally.seat.table_id tally.seat.me };
+    ghost invariant = { λ tally. IsTallySeat tally.table.shared.table_id tally.seat };
 }
 
 /// The seat of a lease, or of a grant: one start. It must be spent. Contracts see the table.
@@ -166,7 +167,7 @@ impl Tally {
     /// Counts a start: a connection was opened for a transfer, or leased again.
     pub fn start(&mut self)
         requires { self.old.counted + 1 < 2 ^ 64 }
-        ensures { self.new ≡ record self.old { counted = self.old.counted + 1; unsplit = self.old.unsplit + 1 } }
+        ensures { self.new ≡ one_start_more self.old }
     {
         let table = &self.table;
         table.shared.fetch_add::<Count>(&mut self.seat, 0, 1);
@@ -175,7 +176,7 @@ impl Tally {
     /// Splits a start off, for the lease that stands for it from now on.
     pub fn split(&mut self) -> StartSeat
         requires { 0 < self.old.unsplit }
-        ensures tally { self.new ≡ record self.old { unsplit = self.old.unsplit - 1 } }
+        ensures tally { self.new ≡ one_split self.old }
         ensures start { result ≡ self.old.table }
     {
         let table = &self.table;

@@ -1,5 +1,5 @@
 use Rattle.std.proofs.Common.{◌≡◌, IsSome, IfSome, sym, subst, arith}
-use Rattle.budget.specs.Held.{Held, times}
+use Rattle.budget.specs.Pairs.{HeldPairs, pair_count}
 use Rattle.budget.proofs.HoldersSteps.{clears_back}
 use Rattle.budget.proofs.holders.Holders.clear.Goals as goal
 
@@ -8,6 +8,6 @@ fetch_sub-requires c =
     let i = c.self.invariant in (
       i.seated,
       omega arith,
-      clears_back _ _ _ _ _ _ i.host (subst (λ (v : Held). IsSome v.back) (sym c.self.view_is) c.requires.back)
-          (subst (λ (v : Held). IfSome v.back (λ p. times p v.leased ≡ 1)) (sym c.self.view_is) c.requires.flagged),
+      clears_back _ _ _ _ _ _ i.host (subst (λ (v : HeldPairs). IsSome v.back) (sym c.self.view_is) c.requires.back)
+          (subst (λ (v : HeldPairs). IfSome v.back (λ p. pair_count p v.leased ≡ 1)) (sym c.self.view_is) c.requires.flagged),
     )
