@@ -10,7 +10,7 @@ use Rattle.atomic_table.proofs.Lists.{at_set, at_snoc, exchanged}
 use Rattle.budget.specs.declared.words.view.WordView.{WordView}
 use Rattle.budget.specs.declared.words.view.SeatView.{SeatView}
 use Rattle.budget.specs.Limits.{Bounds}
-use Rattle.budget.specs.Words.{Words, Rule, Sitter, Looks, Takes, Gives, noted, one_more, one_less, missed, on_total, on_kept, total_of, kept_of, share_of, parted, joined, newcomer}
+use Rattle.budget.specs.Words.{Words, Rule, Sitter, Looks, Compares, Takes, Gives, noted, one_more, one_less, missed, on_total, on_kept, total_of, kept_of, share_of, after_split, joined, empty_seat}
 use Rattle.budget.proofs.Sums.{sum-set, at-le-sum, only}
 
 -- a list of two words, with one of them set
@@ -106,6 +106,24 @@ module _ (limits : Bounds) where
         (refl, omega arith, omega arith),
       )
 
+  pub compares_total : (slots seat : ℕ) (me : Sitter) → 0 < me.0.share → Allows (Rule limits) slots seat me 0 (λ n. n) (Compares total_of me)
+  compares_total slots seat me some_share s r _ at _ =
+      let n : ℕ = get_or s.words 0 0 in
+      let is = first_word s r in
+      let mine = at-le-sum total_of s.views seat me.0 at in
+      let most = r.total in
+      let fits = r.total_fits in
+      (me.0, keeps, tt, on_first s r seat me.0 me.0.total n me.1 at some_share (omega arith) (omega arith), (refl, omega arith, omega arith))
+
+  pub compares_kept : (slots seat : ℕ) (me : Sitter) → 0 < me.0.share → Allows (Rule limits) slots seat me 1 (λ n. n) (Compares kept_of me)
+  compares_kept slots seat me some_share s r _ at _ =
+      let n : ℕ = get_or s.words 1 0 in
+      let is = second_word s r in
+      let mine = at-le-sum kept_of s.views seat me.0 at in
+      let most = r.kept in
+      let fits = r.kept_fits in
+      (me.0, keeps, tt, on_second s r seat me.0 me.0.kept n me.1 at some_share (omega arith) (omega arith), (refl, omega arith, omega arith))
+
   pub takes_open : (slots seat : ℕ) (me : Sitter) (old : ℕ) → 0 < me.0.share → old ≡ me.0.total.seen → old ≢ limits.total
       → Allows (Rule limits) slots seat me 0 (λ n. either (eqb n old) (old + 1) n) (Takes on_total (λ (v : SeatView). v.total) me)
   takes_open slots seat me old some_share noted_it below s r _ at _ =
@@ -178,18 +196,18 @@ module _ (limits : Bounds) where
         refl,
       )
 
-  pub parts : (seat : ℕ) (v : SeatView) → 2 ≤ v.share → Splits {S = Unit {0}} (Rule limits) seat v (parted v) (newcomer 1)
+  pub parts : (seat : ℕ) (v : SeatView) → 2 ≤ v.share → Splits {S = Unit {0}} (Rule limits) seat v (after_split v) (empty_seat 1)
   parts seat v units s r at =
-      let w : SeatView = parted v in
+      let w : SeatView = after_split v in
       let left : List SeatView = set s.views seat w in
       let total = sum-set total_of s.views seat v w at in
       let kept = sum-set kept_of s.views seat v w at in
       let share = sum-set share_of s.views seat v w at in
-      let total' = sum_by_push total_of left (newcomer 1) in
-      let kept' = sum_by_push kept_of left (newcomer 1) in
-      let share' = sum_by_push share_of left (newcomer 1) in
-      let is : sum_by total_of s.views ≡ sum_by total_of (left ++ newcomer 1 ∷ []) = omega arith in
-      let is' : sum_by kept_of s.views ≡ sum_by kept_of (left ++ newcomer 1 ∷ []) = omega arith in
+      let total' = sum_by_push total_of left (empty_seat 1) in
+      let kept' = sum_by_push kept_of left (empty_seat 1) in
+      let share' = sum_by_push share_of left (empty_seat 1) in
+      let is : sum_by total_of s.views ≡ sum_by total_of (left ++ empty_seat 1 ∷ []) = omega arith in
+      let is' : sum_by kept_of s.views ≡ sum_by kept_of (left ++ empty_seat 1 ∷ []) = omega arith in
       record {
         words = r.words ∙ two _ _ _ _ is is';
         total = subst (λ (m : ℕ). m ≤ limits.total) is r.total;
@@ -198,21 +216,21 @@ module _ (limits : Bounds) where
         kept_fits = r.kept_fits;
         shares = let all = r.shares in omega arith;
         holders = λ other u here none_left. ⊎_elim (λ old. holders-set s r seat w (omega arith) other u old none_left)
-            (λ new. let one : 1 ≡ u.share = ap share_of new in absurd (omega arith)) (at_snoc left (newcomer 1) u other here);
+            (λ new. let one : 1 ≡ u.share = ap share_of new in absurd (omega arith)) (at_snoc left (empty_seat 1) u other here);
       }
 
-  pub joins : (seat : ℕ) (v : SeatView) (other : ℕ) (u : SeatView) → 0 < v.share → Joins {S = Unit {0}} (Rule limits) seat v other u (joined v u) (newcomer 0)
+  pub joins : (seat : ℕ) (v : SeatView) (other : ℕ) (u : SeatView) → 0 < v.share → Joins {S = Unit {0}} (Rule limits) seat v other u (joined v u) (empty_seat 0)
   joins seat v other u some_share s r at apart there =
       let w : SeatView = joined v u in
       let both : List SeatView = set s.views seat w in
       let total = sum-set total_of s.views seat v w at in
       let kept = sum-set kept_of s.views seat v w at in
       let share = sum-set share_of s.views seat v w at in
-      let total' = sum-set total_of both other u (newcomer 0) there in
-      let kept' = sum-set kept_of both other u (newcomer 0) there in
-      let share' = sum-set share_of both other u (newcomer 0) there in
-      let is : sum_by total_of s.views ≡ sum_by total_of (set both other (newcomer 0)) = omega arith in
-      let is' : sum_by kept_of s.views ≡ sum_by kept_of (set both other (newcomer 0)) = omega arith in
+      let total' = sum-set total_of both other u (empty_seat 0) there in
+      let kept' = sum-set kept_of both other u (empty_seat 0) there in
+      let share' = sum-set share_of both other u (empty_seat 0) there in
+      let is : sum_by total_of s.views ≡ sum_by total_of (set both other (empty_seat 0)) = omega arith in
+      let is' : sum_by kept_of s.views ≡ sum_by kept_of (set both other (empty_seat 0)) = omega arith in
       record {
         words = r.words ∙ two _ _ _ _ is is';
         total = subst (λ (m : ℕ). m ≤ limits.total) is r.total;
@@ -221,7 +239,7 @@ module _ (limits : Bounds) where
         kept_fits = r.kept_fits;
         shares = let all = r.shares in omega arith;
         holders = λ third t here none_left. ⊎_elim (λ spent. (ap total_of (sym spent.1), ap kept_of (sym spent.1)))
-            (λ old. holders-set s r seat w (omega arith) third t old.1 none_left) (at_set both other third (newcomer 0) t here);
+            (λ old. holders-set s r seat w (omega arith) third t old.1 none_left) (at_set both other third (empty_seat 0) t here);
       }
 
   -- the seat that has the whole share holds all

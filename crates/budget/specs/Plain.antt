@@ -4,8 +4,8 @@ use Rattle.std.specs.List.{sum_by}
 use Rattle.budget.specs.declared.permits.Held.{Held}
 use Rattle.budget.specs.declared.permits.Try.{Try}
 use Rattle.budget.specs.declared.permits.Try.TheVariants.{Got, Full, Contended}
-use Rattle.budget.specs.Limits.{Bounds}
-use Rattle.budget.specs.Permits.{held}
+use Rattle.budget.specs.Limits.{Bounds, AreLimits}
+use Rattle.budget.specs.Permits.{held, one_more_open, one_more_kept, if_got}
 
 -- the limits, and what each host holds
 pub record Plain : Type 0 where
@@ -29,11 +29,12 @@ changed_at host change budget =
     record { limits = budget.limits; hosts = slice_set budget.hosts host (change (at_host budget.hosts host)) }
 
 -- a budget of which nothing is held
-abbrev pub unused : Bounds → ℕ → Plain
-unused limits hosts = record { limits = limits; hosts = replicate hosts (held 0 0) }
+abbrev pub nothing_held : Bounds → ℕ → Plain
+nothing_held limits hosts = record { limits = limits; hosts = replicate hosts (held 0 0) }
 
--- neither number is above its limit
+-- the limits are limits, and neither number is above its own
 pub record IsWithin (budget : Plain) : Type 0 where
+  pub limits : AreLimits budget.limits
   pub total : alive_in budget.hosts ≤ budget.limits.total
   pub kept : kept_in budget.hosts ≤ budget.limits.connects
 
@@ -48,6 +49,15 @@ TellsOfOpen budget = Tells (alive_in budget.hosts) budget.limits.total
 
 abbrev pub TellsOfKept : Plain → Try → Type 0
 TellsOfKept budget = Tells (kept_in budget.hosts) budget.limits.connects
+
+-- the budget was asked once for that host, and answered so
+pub record AsksOpen (host : ℕ) (old new : Plain) (answer : Try) : Type 0 where
+  pub told : TellsOfOpen new answer
+  pub part : new ≡ changed_at host (if_got answer one_more_open) old
+
+pub record AsksKept (host : ℕ) (old new : Plain) (answer : Try) : Type 0 where
+  pub told : TellsOfKept new answer
+  pub part : new ≡ changed_at host (if_got answer one_more_kept) old
 
 -- the limits are the same, and so is every host but that one
 pub record KeepsOthers (host : ℕ) (old new : Plain) : Type 0 where

@@ -18,8 +18,8 @@ abbrev pub unread : WordView
 unread = record { held = 0; seen = 0; loads = 0; misses = 0 }
 
 -- a seat that holds nothing
-abbrev pub newcomer : ℕ → SeatView
-newcomer share = record { share = share; total = unread; kept = unread }
+abbrev pub empty_seat : ℕ → SeatView
+empty_seat share = record { share = share; total = unread; kept = unread }
 
 abbrev pub whole : ℕ
 whole = 65536
@@ -45,15 +45,15 @@ abbrev pub on_kept : (WordView → WordView) → SeatView → SeatView
 on_kept step v = record { share = v.share; total = v.total; kept = step v.kept }
 
 -- A split hands one unit of share and no permit to the new seat.
-abbrev pub parted : SeatView → SeatView
-parted v = record { share = v.share - 1; total = v.total; kept = v.kept }
+abbrev pub after_split : SeatView → SeatView
+after_split v = record { share = v.share - 1; total = v.total; kept = v.kept }
 
 -- A join adds shares and permits up. What the second seat had seen counts for nothing.
-abbrev pub gained : ℕ → WordView → WordView
-gained n w = record { held = w.held + n; seen = w.seen; loads = w.loads; misses = w.misses }
+abbrev pub with_more : ℕ → WordView → WordView
+with_more n w = record { held = w.held + n; seen = w.seen; loads = w.loads; misses = w.misses }
 
 abbrev pub joined : SeatView → SeatView → SeatView
-joined v w = record { share = v.share + w.share; total = gained w.total.held v.total; kept = gained w.kept.held v.kept }
+joined v w = record { share = v.share + w.share; total = with_more w.total.held v.total; kept = with_more w.kept.held v.kept }
 
 abbrev pub total_of : SeatView → ℕ
 total_of v = v.total.held
@@ -85,6 +85,11 @@ Sitter = Me (Unit {0}) SeatView
 abbrev pub Looks : ((WordView → WordView) → SeatView → SeatView) → (SeatView → ℕ) → Sitter → ℕ → Sitter → Type 0
 Looks on held_of me found after = (after ≡ (on (noted found) me.0, me.1)) × (held_of me.0 ≤ found) × (found ≤ 65535)
 
+-- What the loads after a join tell, which the view neither notes nor counts: the word is no less than what
+-- the seat holds.
+abbrev pub Compares : (SeatView → ℕ) → Sitter → ℕ → Sitter → Type 0
+Compares held_of me found after = (after ≡ me) × (held_of me.0 ≤ found) × (found ≤ 65535)
+
 -- What an exchange for one more tells: where it found what the seat had seen, the permit is taken; where
 -- it found another value, nothing is, and the seat counts the miss.
 pub record Takes (on : (WordView → WordView) → SeatView → SeatView) (word_of : SeatView → WordView) (me : Sitter) (found : ℕ) (after : Sitter) : Type 0 where
@@ -101,20 +106,16 @@ pub record Shared : Type 0 where
   pub limits : Bounds
 
 -- a seat: at which table, its number there, and what it knows
-pub record Place : Type 0 where
+pub record SeatShown : Type 0 where
   pub table : TableId
   pub number : ℕ
   pub view : SeatView
 
-abbrev pub seated : Place → SeatView → Place
+abbrev pub seated : SeatShown → SeatView → SeatShown
 seated place v = record { table = place.table; number = place.number; view = v }
 
-abbrev pub held_by : Place → Held
+abbrev pub held_by : SeatShown → Held
 held_by place = held place.view.total.held place.view.kept.held
-
--- a seat that loaded both words, where it would know v without that
-abbrev pub LoadsBoth : Place → SeatView → Place → Type 0
-LoadsBoth old v new = (total kept : ℕ) × (new ≡ seated old (on_kept (noted kept) (on_total (noted total) v)))
 
 -- What asking for a permit does to the seat's view of the word: one load, and then
 --   Full: nothing more, and the load read the limit;
@@ -125,11 +126,11 @@ Tries limit old Full new = (new ≡ noted new.seen old) × (new.seen ≡ limit)
 Tries limit old Got new = new ≡ one_more (noted new.seen old)
 Tries limit old Contended new = new ≡ missed (noted new.seen old)
 
-pub record TriesOpen (limit : ℕ) (old : Place) (answer : Try) (new : Place) : Type 0 where
+pub record TriesOpen (limit : ℕ) (old : SeatShown) (answer : Try) (new : SeatShown) : Type 0 where
   pub total : Tries limit old.view.total answer new.view.total
   pub others : new ≡ seated old (on_total (λ _. new.view.total) old.view)
 
-pub record TriesKept (limit : ℕ) (old : Place) (answer : Try) (new : Place) : Type 0 where
+pub record TriesKept (limit : ℕ) (old : SeatShown) (answer : Try) (new : SeatShown) : Type 0 where
   pub kept : Tries limit old.view.kept answer new.view.kept
   pub others : new ≡ seated old (on_kept (λ _. new.view.kept) old.view)
 
@@ -149,14 +150,14 @@ Answers limit x y Full = (x.loads < y.loads) × (y.seen ≡ limit)
 Answers limit x y Contended = x.misses < y.misses
 
 -- the same seat of the same budget, at a later time
-pub record Stays (b : Shared) (p : Place) (c : Shared) (q : Place) : Type 0 where
+pub record Stays (b : Shared) (p : SeatShown) (c : Shared) (q : SeatShown) : Type 0 where
   pub budget : c ≡ b
   pub table : q.table ≡ p.table
   pub number : q.number ≡ p.number
   pub later : IsLater p.view q.view
 
-abbrev pub Opening : Shared → Place → Place → Try → Type 0
+abbrev pub Opening : Shared → SeatShown → SeatShown → Try → Type 0
 Opening b p q answer = Answers b.limits.total p.view.total q.view.total answer
 
-abbrev pub Keeping : Shared → Place → Place → Try → Type 0
+abbrev pub Keeping : Shared → SeatShown → SeatShown → Try → Type 0
 Keeping b p q answer = Answers b.limits.connects p.view.kept q.view.kept answer

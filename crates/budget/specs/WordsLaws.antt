@@ -5,7 +5,7 @@ use Rattle.budget.specs.declared.permits.Try.{Try}
 use Rattle.budget.specs.declared.permits.Try.TheVariants.{Got, Full, Contended}
 use Rattle.budget.specs.declared.words.view.WordView.{WordView}
 use Rattle.budget.specs.declared.words.view.SeatView.{SeatView}
-use Rattle.budget.specs.Words.{Shared, Place, Answers, IsLater, Stays, Opening, Keeping}
+use Rattle.budget.specs.Words.{Shared, SeatShown, Answers, IsLater, Stays, Opening, Keeping}
 
 later_from_start : (x : SeatView) → IsLater x x
 later_from_start x = record {
@@ -37,10 +37,10 @@ answers_still limit same x y z Got told e f = tt
 answers_still limit same x y z Full told e f = let loads = ap (λ (w : WordView). w.loads) f in let more = told.0 in (omega arith, ap (λ (w : WordView). w.seen) f ∙ told.1 ∙ sym e)
 answers_still limit same x y z Contended told e f = let misses = ap (λ (w : WordView). w.misses) f in omega arith
 
-pub stays_from_start : (b : Shared) (p : Place) → Stays b p b p
+pub stays_from_start : (b : Shared) (p : SeatShown) → Stays b p b p
 stays_from_start b p = record { budget = refl; table = refl; number = refl; later = later_from_start p.view }
 
-pub stays_on : {b c d : Shared} {p q r : Place} → Stays b p c q → Stays c q d r → Stays b p d r
+pub stays_on : {b c d : Shared} {p q r : SeatShown} → Stays b p c q → Stays c q d r → Stays b p d r
 stays_on {b} {c} {d} {p} {q} {r} s t = record {
   budget = t.budget ∙ s.budget;
   table = t.table ∙ s.table;
@@ -48,14 +48,14 @@ stays_on {b} {c} {d} {p} {q} {r} s t = record {
   later = later_on p.view q.view r.view s.later t.later;
 }
 
-pub opening_since : (b c d : Shared) (p q r : Place) (answer : Try) → Stays b p c q → Opening d q r answer → Opening d p r answer
+pub opening_since : (b c d : Shared) (p q r : SeatShown) (answer : Try) → Stays b p c q → Opening d q r answer → Opening d p r answer
 opening_since b c d p q r answer s told = answers_since d.limits.total p.view.total q.view.total r.view.total answer s.later.total_loads s.later.total_misses told
 
-pub keeping_since : (b c d : Shared) (p q r : Place) (answer : Try) → Stays b p c q → Keeping d q r answer → Keeping d p r answer
+pub keeping_since : (b c d : Shared) (p q r : SeatShown) (answer : Try) → Stays b p c q → Keeping d q r answer → Keeping d p r answer
 keeping_since b c d p q r answer s told = answers_since d.limits.connects p.view.kept q.view.kept r.view.kept answer s.later.kept_loads s.later.kept_misses told
 
-pub opening_still : (b c : Shared) (p q r : Place) (answer : Try) → Opening b p q answer → Stays b q c r → r.view.total ≡ q.view.total → Opening c p r answer
+pub opening_still : (b c : Shared) (p q r : SeatShown) (answer : Try) → Opening b p q answer → Stays b q c r → r.view.total ≡ q.view.total → Opening c p r answer
 opening_still b c p q r answer told s same = answers_still b.limits.total c.limits.total p.view.total q.view.total r.view.total answer told (ap (λ (budget : Shared). budget.limits.total) s.budget) same
 
-pub keeping_still : (b c : Shared) (p q r : Place) (answer : Try) → Keeping b p q answer → Stays b q c r → r.view.kept ≡ q.view.kept → Keeping c p r answer
+pub keeping_still : (b c : Shared) (p q r : SeatShown) (answer : Try) → Keeping b p q answer → Stays b q c r → r.view.kept ≡ q.view.kept → Keeping c p r answer
 keeping_still b c p q r answer told s same = answers_still b.limits.connects c.limits.connects p.view.kept q.view.kept r.view.kept answer told (ap (λ (budget : Shared). budget.limits.connects) s.budget) same

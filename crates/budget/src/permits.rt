@@ -47,6 +47,13 @@ pub trait Permits {
     /// Between the two times the budget was asked to keep a connection, and last answered so.
     ghost keeping: { Self → Self → Try → Type 0 };
 
+    /// From the one time to the other the budget was asked once for an open connection, answered so,
+    /// and nothing else happened.
+    ghost asks_open: { Self → Self → Try → Type 0 };
+
+    /// The same for a kept connection.
+    ghost asks_kept: { Self → Self → Try → Type 0 };
+
     /// No step between the two times touched the number of open connections.
     ghost same_total: { Self → Self → Type 0 };
 
@@ -58,6 +65,7 @@ pub trait Permits {
         requires stands { stands self.old }
         ensures stands { stands self.new }
         ensures stays { stays self.old self.new }
+        ensures asked { asks_open self.old self.new result }
         ensures told { opening self.old self.new result }
         ensures held { held self.new ≡ if_got result one_more_open (held self.old) }
         ensures same_kept { same_kept self.old self.new };
@@ -67,6 +75,7 @@ pub trait Permits {
         requires stands { stands self.old }
         ensures stands { stands self.new }
         ensures stays { stays self.old self.new }
+        ensures asked { asks_kept self.old self.new result }
         ensures told { keeping self.old self.new result }
         ensures held { held self.new ≡ if_got result one_more_kept (held self.old) }
         ensures same_total { same_total self.old self.new };

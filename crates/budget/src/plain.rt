@@ -1,7 +1,8 @@
 ghost use Rattle.std.specs.Prelude.{◌≡◌, ◌<◌, length, IfOk, IfErr};
 ghost use Rattle.budget.specs.Permits.{one_more_open, one_more_kept, if_got};
 ghost use Rattle.budget.specs.Permits.{one_less_open, one_less_kept};
-ghost use Rattle.budget.specs.Plain.{at_host, changed_at, unused, TellsOfOpen, TellsOfKept};
+ghost use Rattle.budget.specs.Plain.{at_host, changed_at, nothing_held, IsWithin};
+ghost use Rattle.budget.specs.Plain.{TellsOfOpen, TellsOfKept};
 
 use crate::limits::Limits;
 use crate::permits::{Held, Permits, Try};
@@ -21,7 +22,6 @@ pub struct PlainBudget {
 
 impl Model for PlainBudget {
     ghost use Rattle.std.specs.Prelude.{◌≡◌};
-    ghost use Rattle.budget.specs.Limits.{AreLimits};
     ghost use Rattle.budget.specs.Plain.{Plain, IsWithin, alive_in, kept_in};
 
     ghost Value = { Plain };
@@ -31,7 +31,6 @@ impl Model for PlainBudget {
     ghost invariant = { λ budget. record {
       total : budget.total ≡ alive_in budget.hosts.items;
       kept : budget.kept ≡ kept_in budget.hosts.items;
-      limits : AreLimits budget.limits;
       within : IsWithin record { limits = budget.limits; hosts = budget.hosts.items };
     } };
 }
@@ -41,7 +40,7 @@ impl PlainBudget {
     ///
     /// The only refusal is [`Refusal::Memory`].
     pub fn new(alloc: Global, limits: Limits, hosts: u32) -> Result<PlainBudget, Refusal>
-        ensures ok { IfOk result (λ budget. budget ≡ unused limits hosts) }
+        ensures ok { IfOk result (λ budget. budget ≡ nothing_held limits hosts) }
         ensures err { IfErr result (λ refusal. refusal ≡ Refusal.Memory) }
     {
         let nothing = Held { alive: 0, kept: 0 };
@@ -63,7 +62,9 @@ impl PlainBudget {
         ensures same_reference { result.budget.ghost_name ≡ self.entry.ghost_name }
         ensures budget { result.budget.now ≡ self.old }
         ensures host { result.host ≡ host }
+        ensures within { IsWithin self.old }
     {
+        let _ = &self.limits;
         HostPermits {
             budget: self,
             host: host as usize,
@@ -81,6 +82,7 @@ impl PlainBudget {
         requires { host < length self.old.hosts }
         ensures told { TellsOfOpen self.new result }
         ensures part { self.new ≡ changed_at host (if_got result one_more_open) self.old }
+        ensures within { IsWithin self.new }
     {
         if self.total == self.limits.total() {
             return Try::Full;
@@ -98,6 +100,7 @@ impl PlainBudget {
         requires { host < length self.old.hosts }
         ensures told { TellsOfKept self.new result }
         ensures part { self.new ≡ changed_at host (if_got result one_more_kept) self.old }
+        ensures within { IsWithin self.new }
     {
         if self.kept == self.limits.connects() {
             return Try::Full;
@@ -114,7 +117,8 @@ impl PlainBudget {
     fn release_open(&mut self, host: usize)
         requires there { host < length self.old.hosts }
         requires one { 0 < (at_host self.old.hosts host).alive }
-        ensures { self.new ≡ changed_at host one_less_open self.old }
+        ensures part { self.new ≡ changed_at host one_less_open self.old }
+        ensures within { IsWithin self.new }
     {
         let part = self.hosts[host];
         self.total -= 1;
@@ -127,7 +131,8 @@ impl PlainBudget {
     fn release_kept(&mut self, host: usize)
         requires there { host < length self.old.hosts }
         requires one { 0 < (at_host self.old.hosts host).kept }
-        ensures { self.new ≡ changed_at host one_less_kept self.old }
+        ensures part { self.new ≡ changed_at host one_less_kept self.old }
+        ensures within { IsWithin self.new }
     {
         let part = self.hosts[host];
         self.kept -= 1;
@@ -150,11 +155,12 @@ impl Permits for HostPermits<'_> {
     ghost use Rattle.std.specs.Prelude.{◌≡◌, ◌<◌, length};
     ghost use Rattle.std.specs.Prelude.{refl};
     ghost use Rattle.std.proofs.Common.{◌∙◌};
-    ghost use Rattle.budget.specs.Plain.{alive_in, kept_in, at_host, KeepsOthers};
-    ghost use Rattle.budget.specs.Plain.{TellsOfOpen, TellsOfKept};
+    ghost use Rattle.budget.specs.Plain.{alive_in, kept_in, at_host, IsWithin, KeepsOthers};
+    ghost use Rattle.budget.specs.Plain.{TellsOfOpen, TellsOfKept, AsksOpen, AsksKept};
     ghost use Rattle.budget.specs.PlainLaws.{keeps_from_start, keeps_on, open_still, kept_still};
 
-    ghost stands = { λ part. part.host < length part.budget.now.hosts };
+    ghost stands = { λ part. (part.host < length part.budget.now.hosts)
+        × IsWithin part.budget.now };
 
     ghost held = { λ part. at_host part.budget.now.hosts part.host };
 
@@ -164,6 +170,10 @@ impl Permits for HostPermits<'_> {
     ghost opening = { λ x y. TellsOfOpen y.budget.now };
 
     ghost keeping = { λ x y. TellsOfKept y.budget.now };
+
+    ghost asks_open = { λ x y. AsksOpen x.host x.budget.now y.budget.now };
+
+    ghost asks_kept = { λ x y. AsksKept x.host x.budget.now y.budget.now };
 
     ghost same_total = { λ x y. alive_in y.budget.now.hosts ≡ alive_in x.budget.now.hosts };
 

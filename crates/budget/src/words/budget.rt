@@ -1,12 +1,14 @@
 ghost use Rattle.std.specs.Prelude.{◌≡◌, ℕ, ◌+◌, ◌<◌, ◌≤◌, [], IfOk, IfErr};
-ghost use Rattle.budget.specs.Words.{newcomer, one_less, on_total, on_kept, parted, joined, whole};
-ghost use Rattle.budget.specs.Words.{seated, held_by, TriesOpen, TriesKept, LoadsBoth};
+ghost use Rattle.budget.specs.Words.{empty_seat, one_less, on_total, on_kept, after_split};
+ghost use Rattle.budget.specs.Words.{joined, whole};
+ghost use Rattle.budget.specs.Words.{seated, held_by, TriesOpen, TriesKept};
 
 use crate::limits::Limits;
 use crate::permits::{Held, Try};
 use crate::refusal::Refusal;
 use crate::words::rule::{
-    BudgetRule, GivesKept, GivesOpen, Joins, LooksAtKept, LooksAtTotal, Parts, TakesKept, TakesOpen,
+    BudgetRule, ComparesKept, ComparesTotal, GivesKept, GivesOpen, Joins, LooksAtKept,
+    LooksAtTotal, Parts, TakesKept, TakesOpen,
 };
 use crate::words::view::SeatView;
 use atomic_table::{Seat, Table};
@@ -57,23 +59,23 @@ pub struct BudgetSeat {
 
 impl Model for BudgetSeat {
     ghost use Rattle.std.specs.Prelude.{◌≡◌, ◌<◌, []};
-    ghost use Rattle.budget.specs.Words.{Place};
+    ghost use Rattle.budget.specs.Words.{SeatShown};
 
-    ghost Value = { Place };
+    ghost Value = { SeatShown };
 
-    ghost view = { λ sitter. record {
-      table = sitter.seat.table_id;
-      number = sitter.seat.id;
-      view = sitter.seat.me.0;
+    ghost view = { λ shown. record {
+      table = shown.seat.table_id;
+      number = shown.seat.id;
+      view = shown.seat.me.0;
     } };
 
-    ghost invariant = { λ sitter. record {
-      slots : sitter.seat.me.1 ≡ [];
-      share : 0 < sitter.seat.me.0.share;
-      alive : sitter.alive ≡ sitter.seat.me.0.total.held;
-      kept : sitter.kept ≡ sitter.seat.me.0.kept.held;
-      seen_total : sitter.seen.total ≡ sitter.seat.me.0.total.seen;
-      seen_kept : sitter.seen.kept ≡ sitter.seat.me.0.kept.seen;
+    ghost invariant = { λ shown. record {
+      slots : shown.seat.me.1 ≡ [];
+      share : 0 < shown.seat.me.0.share;
+      alive : shown.alive ≡ shown.seat.me.0.total.held;
+      kept : shown.kept ≡ shown.seat.me.0.kept.held;
+      seen_total : shown.seen.total ≡ shown.seat.me.0.total.seen;
+      seen_kept : shown.seen.kept ≡ shown.seat.me.0.kept.seen;
     } };
 }
 
@@ -102,7 +104,7 @@ impl WordBudget {
     pub fn new(alloc: Global, limits: Limits) -> Result<(WordBudget, BudgetSeat), Refusal>
         ensures limits { IfOk result (λ made. made.0.limits ≡ limits) }
         ensures table { IfOk result (λ made. made.1.table ≡ made.0.table) }
-        ensures seat { IfOk result (λ made. made.1.view ≡ newcomer whole) }
+        ensures seat { IfOk result (λ made. made.1.view ≡ empty_seat whole) }
         ensures err { IfErr result (λ refusal. refusal ≡ Refusal.Memory) }
     {
         let _connects = limits.connects();
@@ -192,17 +194,17 @@ impl WordBudget {
     pub fn split(&self, seat: &mut BudgetSeat) -> BudgetSeat
         requires table { seat.old.table ≡ self.now.table }
         requires units { 2 ≤ seat.old.view.share }
-        ensures seat { seat.new ≡ seated seat.old (parted seat.old.view) }
-        ensures new { (result.table ≡ seat.old.table) × (result.view ≡ newcomer 1) }
+        ensures seat { seat.new ≡ seated seat.old (after_split seat.old.view) }
+        ensures new { (result.table ≡ seat.old.table) × (result.view ≡ empty_seat 1) }
     {
         BudgetSeat::new(self.table.shared.split_seat::<Parts>(&mut seat.seat))
     }
 
-    /// The seat takes over the share and the permits of the other one, and loads both words.
+    /// The seat takes over the share and the permits of the other one.
     pub fn join(&self, seat: &mut BudgetSeat, other: BudgetSeat)
         requires table { seat.old.table ≡ self.now.table }
         requires other { other.table ≡ self.now.table }
-        ensures { LoadsBoth seat.old (joined seat.old.view other.view) seat.new }
+        ensures { seat.new ≡ seated seat.old (joined seat.old.view other.view) }
     {
         let BudgetSeat {
             seat: others,
@@ -212,8 +214,9 @@ impl WordBudget {
         } = other;
         let table = &self.table.shared;
         table.join_seat::<Joins>(&mut seat.seat, others);
-        seat.seen.total = table.load::<LooksAtTotal>(&mut seat.seat, TOTAL);
-        seat.seen.kept = table.load::<LooksAtKept>(&mut seat.seat, KEPT);
+        // Each word is at least what the seat now holds, so that these sums fit.
+        table.load::<ComparesTotal>(&mut seat.seat, TOTAL);
+        table.load::<ComparesKept>(&mut seat.seat, KEPT);
         seat.alive += alive;
         seat.kept += kept;
     }
@@ -250,7 +253,7 @@ impl BudgetSeat {
     fn new(seat: Seat<(), SeatView>) -> BudgetSeat
         requires slots { seat.me.1 ≡ [] }
         requires share { 0 < seat.me.0.share }
-        requires nothing { seat.me.0 ≡ newcomer seat.me.0.share }
+        requires nothing { seat.me.0 ≡ empty_seat seat.me.0.share }
         ensures table { result.table ≡ seat.table_id }
         ensures number { result.number ≡ seat.id }
         ensures view { result.view ≡ seat.me.0 }

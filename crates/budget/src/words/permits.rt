@@ -26,7 +26,7 @@ impl<'a> SeatPermits<'a> {
 impl Permits for SeatPermits<'_> {
     ghost use Rattle.std.specs.Prelude.{◌≡◌, refl};
     ghost use Rattle.std.proofs.Common.{◌∙◌};
-    ghost use Rattle.budget.specs.Words.{Stays, Opening, Keeping, held_by};
+    ghost use Rattle.budget.specs.Words.{Stays, Opening, Keeping, TriesOpen, TriesKept, held_by};
     ghost use Rattle.budget.specs.WordsLaws as laws;
 
     ghost stands = { λ part. part.seat.now.table ≡ part.budget.now.table };
@@ -39,6 +39,12 @@ impl Permits for SeatPermits<'_> {
     ghost opening = { λ x y. Opening y.budget.now x.seat.now y.seat.now };
 
     ghost keeping = { λ x y. Keeping y.budget.now x.seat.now y.seat.now };
+
+    ghost asks_open = { λ x y answer.
+        TriesOpen y.budget.now.limits.total x.seat.now answer y.seat.now };
+
+    ghost asks_kept = { λ x y answer.
+        TriesKept y.budget.now.limits.connects x.seat.now answer y.seat.now };
 
     ghost same_total = { λ x y. y.seat.now.view.total ≡ x.seat.now.view.total };
 

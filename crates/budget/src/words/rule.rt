@@ -8,11 +8,11 @@ use atomic_table::{Join, Play, Split, TableRule};
 pub struct BudgetRule;
 
 impl TableRule<(), SeatView, Limits> for BudgetRule {
-    ghost use Rattle.budget.specs.Words.{Rule, newcomer, whole};
+    ghost use Rattle.budget.specs.Words.{Rule, empty_seat, whole};
 
     ghost holds = { Rule };
 
-    ghost first = { λ _. newcomer whole };
+    ghost first = { λ _. empty_seat whole };
 }
 
 /// A load of the total.
@@ -31,6 +31,24 @@ impl Play<(), SeatView> for LooksAtKept {
     ghost use Rattle.budget.specs.Words.{Looks, on_kept, kept_of};
 
     ghost then = { λ _. Looks on_kept kept_of };
+}
+
+/// A load of the total after a join, which the seat does not note.
+pub struct ComparesTotal;
+
+impl Play<(), SeatView> for ComparesTotal {
+    ghost use Rattle.budget.specs.Words.{Compares, total_of};
+
+    ghost then = { λ _. Compares total_of };
+}
+
+/// A load of the number kept after a join, which the seat does not note.
+pub struct ComparesKept;
+
+impl Play<(), SeatView> for ComparesKept {
+    ghost use Rattle.budget.specs.Words.{Compares, kept_of};
+
+    ghost then = { λ _. Compares kept_of };
 }
 
 /// An exchange of the total to one more.
@@ -75,20 +93,20 @@ impl Play<(), SeatView> for GivesKept {
 pub struct Parts;
 
 impl Split<SeatView> for Parts {
-    ghost use Rattle.budget.specs.Words.{parted, newcomer};
+    ghost use Rattle.budget.specs.Words.{after_split, empty_seat};
 
-    ghost left = { parted };
+    ghost left = { after_split };
 
-    ghost right = { λ _. newcomer 1 };
+    ghost right = { λ _. empty_seat 1 };
 }
 
 /// Two seats become one.
 pub struct Joins;
 
 impl Join<SeatView> for Joins {
-    ghost use Rattle.budget.specs.Words.{joined, newcomer};
+    ghost use Rattle.budget.specs.Words.{joined, empty_seat};
 
     ghost both = { joined };
 
-    ghost spent = { newcomer 0 };
+    ghost spent = { empty_seat 0 };
 }

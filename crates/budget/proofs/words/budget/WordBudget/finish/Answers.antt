@@ -2,7 +2,7 @@ use Rattle.std.proofs.Common.{◌≤◌, subst, ℕ, List, ap, sym, ◌∙◌, a
 use mathlib.Core.Option.{some-injective}
 use lib.ListN.{get_elem?}
 use Rattle.budget.specs.Limits.{Bounds}
-use Rattle.budget.specs.Words.{Place, Shared}
+use Rattle.budget.specs.Words.{SeatShown, Shared}
 use Rattle.budget.proofs.Keeps.{all_held, within}
 use Rattle.budget.proofs.words.budget.WordBudget.finish.Goals as goal
 
@@ -12,14 +12,14 @@ free-requires c k below = let none_there = c.close_with-closed.ensures.counts.1 
 pub returns-clause-total : goal.returns-clause-total
 returns-clause-total c =
     let end = c.close_with-closed.ensures.values.2 in
-    let held = all_held _ end.0 end.1.0 _ _ end.1.1 (ap (λ (place : Place). place.view.share) c.seat.view_is ∙ c.requires.all) in
-    some-injective _ _ (sym c.word.ensures ∙ ap (λ (l : List ℕ). get_elem? l 0) (sym end.2) ∙ held.0) ∙ ap (λ (place : Place). place.view.total.held) c.seat.view_is
+    let held = all_held _ end.0 end.1.0 _ _ end.1.1 (ap (λ (place : SeatShown). place.view.share) c.seat.view_is ∙ c.requires.all) in
+    some-injective _ _ (sym c.word.ensures ∙ ap (λ (l : List ℕ). get_elem? l 0) (sym end.2) ∙ held.0) ∙ ap (λ (place : SeatShown). place.view.total.held) c.seat.view_is
 
 pub returns-clause-kept : goal.returns-clause-kept
 returns-clause-kept c =
     let end = c.close_with-closed.ensures.values.2 in
-    let held = all_held _ end.0 end.1.0 _ _ end.1.1 (ap (λ (place : Place). place.view.share) c.seat.view_is ∙ c.requires.all) in
-    some-injective _ _ (sym c.word-2.ensures ∙ ap (λ (l : List ℕ). get_elem? l 1) (sym end.2) ∙ held.1) ∙ ap (λ (place : Place). place.view.kept.held) c.seat.view_is
+    let held = all_held _ end.0 end.1.0 _ _ end.1.1 (ap (λ (place : SeatShown). place.view.share) c.seat.view_is ∙ c.requires.all) in
+    some-injective _ _ (sym c.word-2.ensures ∙ ap (λ (l : List ℕ). get_elem? l 1) (sym end.2) ∙ held.1) ∙ ap (λ (place : SeatShown). place.view.kept.held) c.seat.view_is
 
 pub returns-clause-total_within : goal.returns-clause-total_within
 returns-clause-total_within c =
