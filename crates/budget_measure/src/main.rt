@@ -5,7 +5,7 @@
 ghost use Rattle.std.specs.Prelude.{◌≡◌, ◌+◌, ◌<◌, length};
 ghost use Rattle.std.specs.Thread.{IsSync};
 
-use budget::{BudgetSeat, HostPermits, Limits, Permits, PlainBudget, Try, WordBudget};
+use budget::{BudgetSeat, Limits, Permits, PlainBudget, Try, WordBudget};
 use std::alloc::Global;
 use std::thread::{Threads, join};
 use std::{env, io};
@@ -53,10 +53,10 @@ fn opens(budget: &WordBudget, mut seat: BudgetSeat, rounds: u64) -> u64
 
 // One connection that was kept is used again, and kept again, with the budget of one thread.
 #[inline(never)]
-fn reuse(part: &mut HostPermits) -> Try
-    requires { part.old.host < length part.old.budget.now.hosts }
-    ensures same { part.new.host ≡ part.old.host }
-    ensures hosts { length part.new.budget.now.hosts ≡ length part.old.budget.now.hosts }
+fn reuse<P: Permits>(part: &mut P) -> Try
+    requires { P.stands part.old }
+    ensures stands { P.stands part.new }
+    ensures stays { P.stays part.old part.new }
 {
     let answer = part.reserve_kept();
     if answer == Try::Got {
