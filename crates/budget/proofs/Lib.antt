@@ -3,3 +3,5 @@ pub mod Views
 pub mod TallySteps
 pub mod LinkSteps
 pub mod HoldersSteps
+pub mod Queues
+pub mod Sums

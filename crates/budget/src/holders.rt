@@ -267,3 +267,6 @@ fn split_pair<N: Named>(
 {
     table.shared.split_seat::<OfLease<N>>(seat)
 }
+
+#[cfg(test)]
+mod tests;

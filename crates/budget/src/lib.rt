@@ -5,6 +5,7 @@
 mod holders;
 mod limits;
 mod link;
+mod lobby;
 mod pass;
 mod permits;
 mod plain;
@@ -15,6 +16,7 @@ mod words;
 pub use holders::{HolderSeat, Holders};
 pub use limits::{GREATEST_LIMIT, Limits, LimitsFault};
 pub use link::{Link, LobbySeat, MarkSeat};
+pub use lobby::Lobby;
 pub use pass::Pass;
 pub use permits::{Held, Permits, Try};
 pub use plain::{HostPermits, PlainBudget};
@@ -24,3 +26,5 @@ pub use words::{BudgetSeat, SeatPermits, Seen, WordBudget, Words};
 
 #[cfg(test)]
 mod tests;
+#[cfg(test)]
+mod threads_tests;

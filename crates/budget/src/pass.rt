@@ -139,3 +139,6 @@ impl<D: Copy + Drop> Pass<D> {
         drop(accounts);
     }
 }
+
+#[cfg(test)]
+mod tests;

@@ -1,0 +1,20 @@
+use super::Holders;
+use std::test::Fail;
+
+#[test]
+fn a_lease_that_was_handed_out_again_comes_back_once(rt: HostRuntime) -> Result<(), Fail> {
+    let Ok(mut holders) = Holders::new(rt.alloc()) else {
+        panic!(rt; "no memory");
+    };
+    holders.mark(1, 10);
+    let lease = holders.split(1, 10);
+    let held = holders.load();
+    holders.join(lease);
+    let lease = holders.hand_out();
+    holders.join(lease);
+    let taken_back = holders.load();
+    holders.clear();
+    let left = holders.load();
+    assert_eq!(rt; (held, taken_back, left), (1, 1, 0));
+    Ok(())
+}
