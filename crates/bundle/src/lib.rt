@@ -2,6 +2,8 @@
 #![tactic(auto)]
 
 mod answers;
+#[cfg(test)]
+mod example_tests;
 mod grant;
 mod host;
 pub mod laws;
