@@ -119,6 +119,7 @@ fn open_one(host: &mut Bundle<()>, leases: &mut Vec<Lease<()>>, want: Want) {
 }
 
 /// Acquires a connection and gives it back. Answers whether it was idle before, if there was one.
+#[inline(always)]
 fn use_once(host: &mut Bundle<()>, want: Want, moment: u64) -> Option<bool> {
     match host.acquire(want, moment) {
         Ok(Got::Lease(lease)) => {
