@@ -47,8 +47,8 @@ pub trait Permits {
     /// Between the two times the budget was asked to keep a connection, and last answered so.
     ghost keeping: { Self → Self → Try → Type 0 };
 
-    /// From the one time to the other the budget was asked once for an open connection, answered so,
-    /// and nothing else happened.
+    /// From the one time to the other the budget was asked once for an open connection, answered
+    /// so, and nothing else happened.
     ghost asks_open: { Self → Self → Try → Type 0 };
 
     /// The same for a kept connection.

@@ -1,8 +1,8 @@
-//! A tally and a link under locks, with two threads that come and go.
-ghost use Rattle.std.specs.Prelude.{◌≡◌, ◌<◌, true, false};
+//! A tally, a link and holders under locks, with two threads that come and go.
+ghost use Rattle.std.specs.Prelude.{◌≡◌, ◌<◌, true, false, None, IfSome};
 ghost use Rattle.budget.specs.Marks.{mark_at};
 
-use crate::{Link, Lobby, LobbySeat, MarkSeat, PassSeat, Tally};
+use crate::{HolderSeat, Holders, Link, Lobby, LobbySeat, MarkSeat, PassSeat, Tally};
 use std::marker::{Brand, Model, PhantomData};
 use std::sync::{Mutex, Wait};
 use std::test::Fail;
@@ -109,6 +109,137 @@ fn two_threads_spend_what_a_tally_counted(rt: HostRuntime) -> Result<(), Fail> {
     let two = tally.seat_pass();
     let counts = spend_by_two::<Brand, _>(&rt, tally, one, two);
     assert_eq!(rt; counts, (2_000, 1_000, 1_000));
+    Ok(())
+}
+
+#[derive(Drop)]
+struct LockedHolders<B: Room> {
+    holders: Holders,
+    of: PhantomData<B>,
+}
+
+impl<B: Room> Model for LockedHolders<B> {
+    ghost use Rattle.std.specs.Prelude.{◌≡◌, None};
+    ghost use Rattle.budget.specs.Pairs.{HeldPairs};
+
+    ghost Value = { HeldPairs };
+
+    ghost view = { λ locked. locked.holders };
+
+    ghost invariant = { λ locked. (locked.holders.table ≡ B.table) × (locked.holders.back ≡ None) };
+}
+
+impl<B: Room> LockedHolders<B> {
+    fn take_back(&mut self, lease: HolderSeat)
+        requires { lease.table ≡ B.table }
+    {
+        self.holders.join(lease);
+        let _ = self.holders.load();
+        self.holders.clear();
+    }
+
+    fn held(&mut self) -> u64 {
+        self.holders.load()
+    }
+}
+
+// A lease that waits to be taken back, as it lies under a lock.
+struct Returned<B: Room> {
+    lease: Option<HolderSeat>,
+    of: PhantomData<B>,
+}
+
+impl<B: Room> Model for Returned<B> {
+    ghost use Rattle.std.specs.Prelude.{◌≡◌, Option, IfSome};
+    ghost use Rattle.budget.specs.Pairs.{LeaseOf};
+
+    ghost Value = { Option LeaseOf };
+
+    ghost view = { λ returned. returned.lease };
+
+    ghost invariant = { λ returned. IfSome returned.lease (λ lease. lease.table ≡ B.table) };
+}
+
+impl<B: Room> Returned<B> {
+    fn new(lease: HolderSeat) -> Self
+        requires { lease.table ≡ B.table }
+    {
+        Returned {
+            lease: Some(lease),
+            of: PhantomData,
+        }
+    }
+
+    fn take(&mut self) -> Option<HolderSeat>
+        ensures { IfSome result (λ lease. lease.table ≡ B.table) }
+    {
+        self.lease.take()
+    }
+
+    fn into_lease(self) -> Option<HolderSeat>
+        ensures { IfSome result (λ lease. lease.table ≡ B.table) }
+    {
+        let Returned { lease, of: _ } = self;
+        lease
+    }
+}
+
+// Brings back the lease that waits there.
+fn bring_back<B: Room, R: Wait>(
+    rt: &R,
+    holders: &Mutex<LockedHolders<B>>,
+    returned: &Mutex<Returned<B>>,
+) {
+    let lease = returned.lock(rt).take();
+    if let Some(lease) = lease {
+        holders.lock(rt).take_back(lease);
+    }
+}
+
+fn bring_back_by_two<B: Room + Send + Sync, R: Threads + Wait + Sync>(
+    rt: &R,
+    holders: Holders,
+    one: HolderSeat,
+    two: HolderSeat,
+) -> u64
+    requires holders { (holders.table ≡ B.table) × (holders.back ≡ None) }
+    requires leases { (one.table ≡ B.table) × (two.table ≡ B.table) }
+{
+    let shared = Mutex::new(LockedHolders::<B> {
+        holders,
+        of: PhantomData,
+    });
+    let first = Mutex::new(Returned::<B>::new(one));
+    let second = Mutex::new(Returned::<B>::new(two));
+    let lock = &shared;
+    let (one, two) = (&first, &second);
+    join(
+        rt,
+        || bring_back(rt, lock, one),
+        || bring_back(rt, lock, two),
+    );
+    if let Some(lease) = first.into_inner().into_lease() {
+        shared.lock(rt).take_back(lease);
+    }
+    if let Some(lease) = second.into_inner().into_lease() {
+        shared.lock(rt).take_back(lease);
+    }
+    let mut locked = shared.into_inner();
+    locked.held()
+}
+
+#[test]
+fn two_threads_bring_two_leases_back(rt: HostRuntime) -> Result<(), Fail> {
+    let Ok(mut holders) = Holders::new(rt.alloc()) else {
+        panic!(rt; "no memory");
+    };
+    holders.mark(1, 10);
+    holders.mark(2, 20);
+    let one = holders.split(1, 10);
+    let two = holders.split(2, 20);
+    let held = holders.load();
+    let left = bring_back_by_two::<Brand, _>(&rt, holders, one, two);
+    assert_eq!(rt; (held, left), (2, 0));
     Ok(())
 }
 

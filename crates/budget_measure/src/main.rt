@@ -1,5 +1,5 @@
-//! A program that only measures: it asks a budget for permits and gives them back, as often and by as
-//! many threads as it is told. It is not a part of the product.
+//! A program that only measures: it asks a budget for permits and gives them back, as often and by
+//! as many threads as it is told. It is not a part of the product.
 #![tactic(auto)]
 
 ghost use Rattle.std.specs.Prelude.{◌≡◌, ◌+◌, ◌<◌, length};
