@@ -6,7 +6,6 @@ use Rattle.script_text.specs.declared.fault.FaultKind.{FaultKind}
 use Rattle.script_text.specs.declared.fault.FaultKind.TheVariants.{Memory, Read, Write, ScriptTooLong, LineTooLong, Unknown, Form, Place, BadLimits, BadSite, TooManySites}
 use Rattle.script_text.specs.declared.fault.ScriptFault.{ScriptFault}
 use Rattle.script_text.specs.declared.command.Action.{Action}
-use Rattle.script_text.specs.declared.command.Action.TheVariants as actions
 use Rattle.script_text.specs.declared.command.Command.{Command}
 use Rattle.script_text.specs.declared.command.Command.TheVariants as commands
 use Rattle.script_text.specs.declared.command.Limits.{Limits}

@@ -5,7 +5,7 @@ use Rattle.conn_log.specs.declared.entry.Event.TheVariants.{Closed}
 use Rattle.std.specs.List.{remove}
 use Rattle.host_state.specs.Steps.{add}
 use Rattle.conn_log.specs.Fit.{oldest_too_old}
-use Rattle.host_state.specs.Idle.{FirstTooOld, NoneTooOld, streams_of}
+use Rattle.host_state.specs.Idle.{streams_of}
 use Rattle.host_state.specs.State.{HostState, ClosesOldest}
 use Rattle.host_state.proofs.Replaying.{none_too_old_read}
 use Rattle.host_state.proofs.Transitions.{replays_close, closes_oldest}

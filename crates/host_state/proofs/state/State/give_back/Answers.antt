@@ -12,7 +12,7 @@ use Rattle.host_state.specs.Idle.{stream_of, streams_of}
 use Rattle.host_state.specs.State.{HostState, EndsUse, ComesBackToClose, stays_open, facts_of_held}
 use Rattle.host_state.proofs.Kept.{stream_of-insert}
 use Rattle.host_state.proofs.Replaying.{table_strange, table_held, table_number}
-use Rattle.host_state.proofs.Transitions.{replays_same, replays_return, replays_end, none_owed, held_not_found, ends_use_at_once}
+use Rattle.host_state.proofs.Transitions.{replays_return, replays_end, none_owed, held_not_found, ends_use_at_once}
 use Rattle.host_state.proofs.state.State.give_back.Goals as goal
 
 pub returns-in_default-clause-strange : goal.returns-in_default-clause-strange

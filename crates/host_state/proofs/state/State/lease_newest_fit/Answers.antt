@@ -8,7 +8,7 @@ use Rattle.conn_log.specs.declared.entry.Event.TheVariants.{Leased}
 use Rattle.conn_log.specs.Fit.{newest_fit}
 use Rattle.host_state.specs.declared.idle.Idle.{Idle}
 use Rattle.host_state.specs.Steps.{add}
-use Rattle.host_state.specs.Idle.{stream_of, LastSuits, NoneSuits}
+use Rattle.host_state.specs.Idle.{stream_of}
 use Rattle.host_state.specs.State.{HostState, booked_after_start}
 use Rattle.host_state.proofs.Kept.{stream_of-streams_of, stream_of-remove}
 use Rattle.host_state.proofs.Replaying.{found_idle, at_place, newest_read, newest_read_none}

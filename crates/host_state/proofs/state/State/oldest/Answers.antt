@@ -1,4 +1,3 @@
-use Rattle.std.proofs.Common.{◌≡◌, ◌<◌, length, get_or, subst}
 use Rattle.host_state.proofs.Replaying.{oldest_read}
 use Rattle.host_state.proofs.state.State.oldest.Goals as goal
 
