@@ -2,10 +2,13 @@
 //! as many threads as it is told. It is not a part of the product.
 #![tactic(auto)]
 
-ghost use Rattle.std.specs.Prelude.{◌≡◌, ◌+◌, ◌<◌, length};
+ghost use Rattle.std.specs.Prelude.{◌≡◌, ◌+◌, ◌<◌, [], None, false, length};
 ghost use Rattle.std.specs.Thread.{IsSync};
 
-use budget::{BudgetSeat, Limits, Permits, PlainBudget, Try, WordBudget};
+use budget::{
+    BudgetSeat, Holders, Limits, Link, LobbySeat, MarkSeat, PassSeat, Permits, PlainBudget, Tally,
+    Try, WordBudget,
+};
 use std::alloc::Global;
 use std::thread::{Threads, join};
 use std::{env, io};
@@ -125,8 +128,69 @@ fn by_four<R: Threads + Sync>(rt: &R, budget: &WordBudget, mut one: BudgetSeat, 
     first.wrapping_add(second)
 }
 
-// What is measured, by its name: pairs of an open connection by 1, 2 or 4 threads, pairs of a kept
-// one, opens alone, and reuses with the budget of one thread.
+// A start, the split of its lease and its spending.
+fn spends(tally: &mut Tally, mut pass: PassSeat, rounds: u32) -> u64
+    requires pass { pass.table ≡ tally.old.table }
+    requires new { tally.old.counted ≡ 0 }
+{
+    for _round in 0..rounds {
+        tally.start();
+        let start = tally.split();
+        tally.join(&mut pass, start);
+    }
+    pass.spent()
+}
+
+// A host is listed with its mark, and taken off.
+fn lists(link: &Link, lobby: &mut LobbySeat, mut host: MarkSeat, rounds: u32)
+    requires lobby { lobby.old.table ≡ link.now }
+    requires host { (host.table ≡ link.now) × (host.mark ≡ false) }
+{
+    for _round in 0..rounds {
+        link.enlist(lobby, &mut host);
+        link.delist(lobby, &mut host);
+    }
+}
+
+// A pair is held, its lease is split off and comes back, and the pair is cleared.
+fn holds(holders: &mut Holders, rounds: u32)
+    requires none { (holders.old.granted ≡ []) × (holders.old.leased ≡ []) }
+    requires back { holders.old.back ≡ None }
+{
+    for _round in 0..rounds {
+        holders.mark(1, 10);
+        let lease = holders.split(1, 10);
+        holders.join(lease);
+        let _ = holders.load();
+        holders.clear();
+    }
+}
+
+// What is measured of the tables that go with leases and with the queue of hosts, by its name.
+fn measured_table(alloc: Global, what: &str, rounds: u32) -> Option<u64> {
+    match what {
+        "tally" => {
+            let mut tally = Tally::new(alloc).ok()?;
+            let pass = tally.seat_pass();
+            Some(spends(&mut tally, pass, rounds))
+        }
+        "link" => {
+            let (link, mut lobby) = Link::new(alloc).ok()?;
+            let host = link.seat_host(&mut lobby);
+            lists(&link, &mut lobby, host, rounds);
+            Some(u64::from(rounds))
+        }
+        "holders" => {
+            let mut holders = Holders::new(alloc).ok()?;
+            holds(&mut holders, rounds);
+            Some(holders.load())
+        }
+        _ => None,
+    }
+}
+
+// What is measured of the budget, by its name: pairs of an open connection by 1, 2 or 4 threads,
+// pairs of a kept one, opens alone, and reuses with the budget of one thread.
 fn measured<R: Threads + Sync>(rt: &R, alloc: Global, what: &str, rounds: u64) -> Option<u64> {
     let limits = Limits::new(0, 0, 65_535).ok()?;
     if what == "plain" {
@@ -156,7 +220,12 @@ fn main(rt: HostRuntime) -> io::Result<()> {
         return Ok(());
     };
     let rounds = rounds.parse().unwrap_or(0);
-    if let Some(count) = measured(&rt, rt.alloc(), &what, rounds) {
+    let counted = measured(&rt, rt.alloc(), &what, rounds).or_else(|| measured_table(
+        rt.alloc(),
+        &what,
+        u32::try_from(rounds).unwrap_or(u32::MAX),
+    ));
+    if let Some(count) = counted {
         println!(rt; "{count}")?;
     }
     Ok(())
