@@ -10,7 +10,7 @@ use Rattle.atomic_table.proofs.Lists.{at_set, at_snoc, exchanged}
 use Rattle.budget.specs.declared.words.view.WordView.{WordView}
 use Rattle.budget.specs.declared.words.view.SeatView.{SeatView}
 use Rattle.budget.specs.Limits.{Bounds}
-use Rattle.budget.specs.Words.{Words, Rule, Sitter, Looks, Compares, Takes, Gives, noted, one_more, one_less, missed, on_total, on_kept, total_of, kept_of, share_of, after_split, joined, empty_seat}
+use Rattle.budget.specs.Words.{Words, Rule, Sitter, Looks, Compares, Takes, GivesBack, noted, one_more, one_less, missed, on_total, on_kept, total_of, kept_of, share_of, after_split, joined, empty_seat}
 use Rattle.budget.proofs.Sums.{sum-set, at-le-sum, only}
 
 -- a list of two words, with one of them set
@@ -166,7 +166,7 @@ module _ (limits : Bounds) where
       )) in
       (step.0, keeps, tt, step.1, step.2)
 
-  pub gives_open : (slots seat : ℕ) (me : Sitter) → 0 < me.0.share → 0 < me.0.total.held → Allows (Rule limits) slots seat me 0 (λ n. (n + (2 ^ 64 - 1)) % 2 ^ 64) (λ _. Gives on_total me)
+  pub gives_open : (slots seat : ℕ) (me : Sitter) → 0 < me.0.share → 0 < me.0.total.held → Allows (Rule limits) slots seat me 0 (λ n. (n + (2 ^ 64 - 1)) % 2 ^ 64) (λ _. GivesBack on_total me)
   gives_open slots seat me some_share some_held s r _ at small =
       let n : ℕ = get_or s.words 0 0 in
       let is = first_word s r in
@@ -181,7 +181,7 @@ module _ (limits : Bounds) where
         refl,
       )
 
-  pub gives_kept : (slots seat : ℕ) (me : Sitter) → 0 < me.0.share → 0 < me.0.kept.held → Allows (Rule limits) slots seat me 1 (λ n. (n + (2 ^ 64 - 1)) % 2 ^ 64) (λ _. Gives on_kept me)
+  pub gives_kept : (slots seat : ℕ) (me : Sitter) → 0 < me.0.share → 0 < me.0.kept.held → Allows (Rule limits) slots seat me 1 (λ n. (n + (2 ^ 64 - 1)) % 2 ^ 64) (λ _. GivesBack on_kept me)
   gives_kept slots seat me some_share some_held s r _ at small =
       let n : ℕ = get_or s.words 1 0 in
       let is = second_word s r in

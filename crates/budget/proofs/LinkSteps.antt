@@ -12,7 +12,7 @@ use Rattle.atomic_table.specs.Table.{Me, step, keeps, Allows, Splits, Joins}
 use Rattle.atomic_table.proofs.Lists.{set_again}
 use Rattle.budget.specs.declared.link.Listing.{Listing}
 use Rattle.budget.specs.declared.link.Listing.TheVariants.{Lobby, Visited, Mark, Gone}
-use Rattle.budget.specs.Lobby.{is_listed, without, turned}
+use Rattle.budget.specs.Lobby.{is_listed, without_host, turned}
 use Rattle.budget.specs.Marks.{times, one_if, distance, marks, disagreement, first_of, hosts_of, seats_of, host_of, mark_of, Agree, IsLink, KeepsMarks, with_guest, left_alone, mark_alone, left_longer, mark_set, left_shorter, mark_cleared, with_host, first_mark, with_turn, Agrees, SeesMark, Turns}
 use Rattle.budget.proofs.Sums.{sum-set, at-le-sum}
 use Rattle.budget.proofs.Views.{sum_alike, sum_change}
@@ -45,24 +45,24 @@ times_turned : (k : ℕ) (hosts : List ℕ) → times k (turned hosts) ≡ times
 times_turned k [] = refl
 times_turned k (h ∷ hs) = omega (arith, times_push k h hs, times_cons k h hs)
 
-times_without : (k host : ℕ) (hosts : List ℕ) → k ≢ host → times k (without hosts host) ≡ times k hosts
+times_without : (k host : ℕ) (hosts : List ℕ) → k ≢ host → times k (without_host hosts host) ≡ times k hosts
 times_without k host [] ne = refl
 times_without k host (h ∷ hs) ne =
     let rest = times_without k host hs ne in
-    let P : Bool → Type 0 = λ b. times k (cond (not b) (h ∷ without hs host) (without hs host)) ≡ times k (h ∷ hs) in
+    let P : Bool → Type 0 = λ b. times k (cond (not b) (h ∷ without_host hs host) (without_host hs host)) ≡ times k (h ∷ hs) in
     ⊎_elim
     (λ (t : (eqb h host ≡ true) × (h ≡ host)). subst P (sym t.0) (omega (arith, times_cons k h hs, other_host k h (λ e. ne (e ∙ t.1)))))
-    (λ (t : (eqb h host ≡ false) × (h ≢ host)). subst P (sym t.0) (omega (arith, times_cons k h hs, times_cons k h (without hs host))))
+    (λ (t : (eqb h host ≡ false) × (h ≢ host)). subst P (sym t.0) (omega (arith, times_cons k h hs, times_cons k h (without_host hs host))))
     (eqb_tells h host)
 
-times_without_it : (host : ℕ) (hosts : List ℕ) → times host (without hosts host) ≡ 0
+times_without_it : (host : ℕ) (hosts : List ℕ) → times host (without_host hosts host) ≡ 0
 times_without_it host [] = refl
 times_without_it host (h ∷ hs) =
     let rest = times_without_it host hs in
-    let P : Bool → Type 0 = λ b. times host (cond (not b) (h ∷ without hs host) (without hs host)) ≡ 0 in
+    let P : Bool → Type 0 = λ b. times host (cond (not b) (h ∷ without_host hs host) (without_host hs host)) ≡ 0 in
     ⊎_elim
     (λ (t : (eqb h host ≡ true) × (h ≡ host)). subst P (sym t.0) rest)
-    (λ (t : (eqb h host ≡ false) × (h ≢ host)). subst P (sym t.0) (omega (arith, times_cons host h (without hs host), ap one_if t.0)))
+    (λ (t : (eqb h host ≡ false) × (h ≢ host)). subst P (sym t.0) (omega (arith, times_cons host h (without_host hs host), ap one_if t.0)))
     (eqb_tells h host)
 
 listed_tells : (host : ℕ) (hosts : List ℕ) → ((is_listed hosts host ≡ true) × (0 < times host hosts)) ⊎ ((is_listed hosts host ≡ false) × (times host hosts ≡ 0))
@@ -196,7 +196,7 @@ pub leaves_unlisted : (id : ℕ) (v : Listing) (hosts : List ℕ) (seats host : 
     → Splits KeepsMarks id v (left_shorter v) (mark_cleared v)
 leaves_unlisted id v hosts seats host mark first is =
     subst (λ (z : ℕ × Listing). Splits KeepsMarks z.0 z.1 (left_shorter z.1) (mark_cleared z.1)) (λ i. (sym first i, sym is i))
-    (leaves_first hosts (without hosts host) seats host mark false (λ k ne. times_without k host hosts ne) (times_without_it host hosts))
+    (leaves_first hosts (without_host hosts host) seats host mark false (λ k ne. times_without k host hosts ne) (times_without_it host hosts))
 
 -- the next host gets its mark
 

@@ -3,14 +3,14 @@ use Rattle.std.proofs.Common.{◌≡◌, ℕ, ◌<◌, ◌≤◌, Bool, true, fa
 use Rattle.std.specs.List.{IsDistinct, AllByRecursion, list_any}
 use Rattle.std.proofs.lemmas.Bool.Decides.{nat_tests, eqb_tells}
 use Rattle.std.proofs.lemmas.Map.Steps.{length-le_from_distinct_below}
-use Rattle.budget.specs.Lobby.{IsQueue, AreDistinct, is_listed, without}
+use Rattle.budget.specs.Lobby.{IsQueue, AreDistinctHosts, is_listed, without_host}
 
 -- a host at the end
 listed_last : (order : List ℕ) (host other : ℕ) → is_listed (order ++ host ∷ []) other ≡ (is_listed order other || (host == other))
 listed_last [] host other = grind (arith, nat_tests)
 listed_last (x ∷ order) host other = grind (arith, nat_tests, listed_last order host other)
 
-distinct_last : (order : List ℕ) (host : ℕ) → AreDistinct order → is_listed order host ≡ false → AreDistinct (order ++ host ∷ [])
+distinct_last : (order : List ℕ) (host : ℕ) → AreDistinctHosts order → is_listed order host ≡ false → AreDistinctHosts (order ++ host ∷ [])
 distinct_last [] host once new = (refl, tt)
 distinct_last (x ∷ order) host once new =
     let apart : (host == x) ≡ false = grind (arith, nat_tests, new) in
@@ -29,7 +29,7 @@ queue_last hosts order host queue there new = record {
 }
 
 -- a host taken out
-still_out : (order : List ℕ) (host other : ℕ) → is_listed order other ≡ false → is_listed (without order host) other ≡ false
+still_out : (order : List ℕ) (host other : ℕ) → is_listed order other ≡ false → is_listed (without_host order host) other ≡ false
 still_out [] host other out = refl
 still_out (x ∷ order) host other out =
     let apart : (x == other) ≡ false = grind (arith, nat_tests, out) in
@@ -39,27 +39,27 @@ still_out (x ∷ order) host other out =
       | inr differs ↦ rw (differs.0, apart) (still_out order host other rest)
     ]
 
-pub gone : (order : List ℕ) (host : ℕ) → is_listed (without order host) host ≡ false
+pub gone : (order : List ℕ) (host : ℕ) → is_listed (without_host order host) host ≡ false
 gone [] host = refl
 gone (x ∷ order) host = elim (eqb_tells x host) [
   | inl same ↦ rw same.0 (gone order host)
   | inr differs ↦ rw (differs.0, differs.0) (gone order host)
 ]
 
-was_listed : (order : List ℕ) (host other : ℕ) → is_listed (without order host) other ≡ true → is_listed order other ≡ true
+was_listed : (order : List ℕ) (host other : ℕ) → is_listed (without_host order host) other ≡ true → is_listed order other ≡ true
 was_listed order host other listed = elim (is_listed order other) as (λ (b : Bool). is_listed order other ≡ b → b ≡ true) [
   | true ↦ λ _. refl
   | false ↦ λ out. sym (still_out order host other out) ∙ listed
 ] refl
 
-distinct_without : (order : List ℕ) (host : ℕ) → AreDistinct order → AreDistinct (without order host)
+distinct_without : (order : List ℕ) (host : ℕ) → AreDistinctHosts order → AreDistinctHosts (without_host order host)
 distinct_without [] host once = tt
 distinct_without (x ∷ order) host once = elim (eqb_tells x host) [
   | inl same ↦ rw same.0 (distinct_without order host once.1)
   | inr differs ↦ rw differs.0 (still_out order host x once.0, distinct_without order host once.1)
 ]
 
-pub queue_without : (hosts : ℕ) (order : List ℕ) (host : ℕ) → IsQueue record { hosts = hosts; order = order } → IsQueue record { hosts = hosts; order = without order host }
+pub queue_without : (hosts : ℕ) (order : List ℕ) (host : ℕ) → IsQueue record { hosts = hosts; order = order } → IsQueue record { hosts = hosts; order = without_host order host }
 queue_without hosts order host queue = record {
   distinct = distinct_without order host queue.distinct;
   there = λ other listed. queue.there other (was_listed order host other listed);
@@ -81,7 +81,7 @@ all_apart : (order : List ℕ) (host : ℕ) → is_listed order host ≡ false �
 all_apart [] host out = tt
 all_apart (x ∷ order) host out = (grind (arith, nat_tests, out), all_apart order host (grind (arith, nat_tests, out)))
 
-distinct_by_test : (order : List ℕ) → AreDistinct order → IsDistinct eqb order
+distinct_by_test : (order : List ℕ) → AreDistinctHosts order → IsDistinct eqb order
 unfolding IsDistinct
 distinct_by_test [] once = tt
 distinct_by_test (x ∷ order) once = (all_apart order x once.0, distinct_by_test order once.1)

@@ -29,5 +29,5 @@ is_bad_limit host total connects =
 abbrev pub or_greatest : ℕ → ℕ
 or_greatest limit = if limit == 0 then 65535 else limit
 
-abbrev pub limits_of : ℕ → ℕ → ℕ → Bounds
-limits_of host total connects = bounds (or_greatest host) (or_greatest total) connects
+abbrev pub bounds_of : ℕ → ℕ → ℕ → Bounds
+bounds_of host total connects = bounds (or_greatest host) (or_greatest total) connects

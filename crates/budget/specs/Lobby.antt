@@ -10,19 +10,19 @@ pub record Queue : Type 0 where
 abbrev pub is_listed : List ℕ → ℕ → Bool
 is_listed order host = list_any (λ listed. listed == host) order
 
-abbrev pub without : List ℕ → ℕ → List ℕ
-without order host = filter (λ listed. not (listed == host)) order
+abbrev pub without_host : List ℕ → ℕ → List ℕ
+without_host order host = filter (λ listed. not (listed == host)) order
 
 -- the first one goes to the end
 abbrev pub turned : List ℕ → List ℕ
 turned order = drop 1 order ++ take 1 order
 
 -- no host is listed twice
-abbrev pub AreDistinct : List ℕ → Type 0
-AreDistinct [] = Unit {0}
-AreDistinct (host ∷ others) = (is_listed others host ≡ false) × AreDistinct others
+abbrev pub AreDistinctHosts : List ℕ → Type 0
+AreDistinctHosts [] = Unit {0}
+AreDistinctHosts (host ∷ others) = (is_listed others host ≡ false) × AreDistinctHosts others
 
 -- the listed hosts are distinct hosts that there are
 pub record IsQueue (queue : Queue) : Type 0 where
-  pub distinct : AreDistinct queue.order
+  pub distinct : AreDistinctHosts queue.order
   pub there : (host : ℕ) → is_listed queue.order host ≡ true → host < queue.hosts

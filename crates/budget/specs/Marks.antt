@@ -4,7 +4,7 @@ use Rattle.std.specs.List.{sum_by}
 use Rattle.atomic_table.specs.Table.{State, Me, Step}
 use Rattle.atomic_table.specs.Seated.{TableId}
 use Rattle.atomic_table.specs.declared.shared.Seat.{Seat}
-use Rattle.budget.specs.Lobby.{without, turned}
+use Rattle.budget.specs.Lobby.{without_host, turned}
 use Rattle.budget.specs.declared.link.Listing.{Listing}
 use Rattle.budget.specs.declared.link.Listing.TheVariants.{Lobby, Visited, Mark, Gone}
 
@@ -101,7 +101,7 @@ mark_set v = Gone
 
 -- the guest leaves, and is no longer listed
 abbrev pub left_shorter : Listing → Listing
-left_shorter (Visited hosts seats host mark) = Lobby (without hosts host) seats
+left_shorter (Visited hosts seats host mark) = Lobby (without_host hosts host) seats
 left_shorter v = v
 
 abbrev pub mark_cleared : Listing → Listing
@@ -142,7 +142,7 @@ with_listed host lobby = record lobby { hosts = lobby.hosts ++ host ∷ [] }
 
 -- the host is listed no more
 abbrev pub with_unlisted : ℕ → Listed → Listed
-with_unlisted host lobby = record lobby { hosts = without lobby.hosts host }
+with_unlisted host lobby = record lobby { hosts = without_host lobby.hosts host }
 
 abbrev pub mark_at : TableId → ℕ → Bool → Marked
 mark_at table host mark = record { table = table; host = host; mark = mark }

@@ -139,11 +139,11 @@ leased_of (Taking granted leased pair) = leased
 leased_of (Lease pair) = []
 leased_of Gone = []
 
-abbrev pub back_of : Holding → Option Pair
-back_of (Host granted leased) = None
-back_of (Taking granted leased pair) = Some pair
-back_of (Lease pair) = None
-back_of Gone = None
+abbrev pub pair_taken_back : Holding → Option Pair
+pair_taken_back (Host granted leased) = None
+pair_taken_back (Taking granted leased pair) = Some pair
+pair_taken_back (Lease pair) = None
+pair_taken_back Gone = None
 
 abbrev pub pair_of : Holding → Pair
 pair_of (Lease pair) = pair
@@ -151,7 +151,7 @@ pair_of v = (0, 0)
 
 -- what the host's seat shows its owner
 abbrev pub pairs_shown : TableId → Holding → HeldPairs
-pairs_shown table view = record { table = table; granted = granted_of view; leased = leased_of view; back = back_of view }
+pairs_shown table view = record { table = table; granted = granted_of view; leased = leased_of view; back = pair_taken_back view }
 
 abbrev pub lease_shown : TableId → Holding → LeaseOf
 lease_shown table view = record { table = table; pair = pair_of view }
@@ -165,8 +165,8 @@ abbrev pub IsApart : Pair → List Pair → List Pair → Type 0
 IsApart p granted leased = pair_count p granted + pair_count p leased ≡ 0
 
 -- one pair more can be counted
-abbrev pub HasRoom : List Pair → List Pair → Type 0
-HasRoom granted leased = length granted + length leased + 1 < 2 ^ 64
+abbrev pub HasRoomForPair : List Pair → List Pair → Type 0
+HasRoomForPair granted leased = length granted + length leased + 1 < 2 ^ 64
 
 -- the pair is held, and no lease stands for it yet
 abbrev pub granted_too : Pair → HeldPairs → HeldPairs
@@ -191,7 +191,7 @@ abbrev pub IsApartIn : Pair → Holding → Type 0
 IsApartIn p view = IsApart p (granted_of view) (leased_of view)
 
 abbrev pub HasRoomIn : Holding → Type 0
-HasRoomIn view = HasRoom (granted_of view) (leased_of view)
+HasRoomIn view = HasRoomForPair (granted_of view) (leased_of view)
 
 abbrev pub IsHost : Holding → Type 0
 IsHost view = view ≡ Host (granted_of view) (leased_of view)
@@ -209,7 +209,7 @@ host_view granted leased (Some pair) = Taking granted leased pair
 pub record IsPairsSeat (table : TableId) (seat : Seat (Unit {0}) Holding) : Type 0 where
   pub one_word : table.words ≡ 1
   pub seated : seat.table_id ≡ table
-  pub host : seat.me.0 ≡ host_view (granted_of seat.me.0) (leased_of seat.me.0) (back_of seat.me.0)
+  pub host : seat.me.0 ≡ host_view (granted_of seat.me.0) (leased_of seat.me.0) (pair_taken_back seat.me.0)
 
 pub record IsHolderSeat (me : Me (Unit {0}) Holding) : Type 0 where
   pub lease : me.0 ≡ Lease (pair_of me.0)

@@ -20,13 +20,13 @@ alive_in hosts = sum_by (λ (h : Held). h.alive) hosts
 abbrev pub kept_in : List Held → ℕ
 kept_in hosts = sum_by (λ (h : Held). h.kept) hosts
 
-abbrev pub at_host : List Held → ℕ → Held
-at_host hosts host = slice_index_or hosts host (held 0 0)
+abbrev pub held_at_host : List Held → ℕ → Held
+held_at_host hosts host = slice_index_or hosts host (held 0 0)
 
 -- the budget, with what that host holds changed
 abbrev pub changed_at : ℕ → (Held → Held) → Plain → Plain
 changed_at host change budget =
-    record { limits = budget.limits; hosts = slice_set budget.hosts host (change (at_host budget.hosts host)) }
+    record { limits = budget.limits; hosts = slice_set budget.hosts host (change (held_at_host budget.hosts host)) }
 
 -- a budget of which nothing is held
 abbrev pub nothing_held : Bounds → ℕ → Plain
@@ -39,16 +39,16 @@ pub record IsWithin (budget : Plain) : Type 0 where
   pub kept : kept_in budget.hosts ≤ budget.limits.connects
 
 -- what an answer tells where a number is held to a limit: Full only at the limit, and never Contended
-abbrev pub Tells : ℕ → ℕ → Try → Type 0
-Tells number limit Got = Unit {0}
-Tells number limit Full = number ≡ limit
-Tells number limit Contended = ⊥
+abbrev pub TellsOfNumber : ℕ → ℕ → Try → Type 0
+TellsOfNumber number limit Got = Unit {0}
+TellsOfNumber number limit Full = number ≡ limit
+TellsOfNumber number limit Contended = ⊥
 
 abbrev pub TellsOfOpen : Plain → Try → Type 0
-TellsOfOpen budget = Tells (alive_in budget.hosts) budget.limits.total
+TellsOfOpen budget = TellsOfNumber (alive_in budget.hosts) budget.limits.total
 
 abbrev pub TellsOfKept : Plain → Try → Type 0
-TellsOfKept budget = Tells (kept_in budget.hosts) budget.limits.connects
+TellsOfKept budget = TellsOfNumber (kept_in budget.hosts) budget.limits.connects
 
 -- the budget was asked once for that host, and answered so
 pub record AsksOpen (host : ℕ) (old new : Plain) (answer : Try) : Type 0 where
@@ -60,7 +60,7 @@ pub record AsksKept (host : ℕ) (old new : Plain) (answer : Try) : Type 0 where
   pub part : new ≡ changed_at host (if_got answer one_more_kept) old
 
 -- the limits are the same, and so is every host but that one
-pub record KeepsOthers (host : ℕ) (old new : Plain) : Type 0 where
+pub record KeepsOtherHosts (host : ℕ) (old new : Plain) : Type 0 where
   pub limits : new.limits ≡ old.limits
   pub count : length new.hosts ≡ length old.hosts
-  pub others : (other : ℕ) → other ≢ host → at_host new.hosts other ≡ at_host old.hosts other
+  pub others : (other : ℕ) → other ≢ host → held_at_host new.hosts other ≡ held_at_host old.hosts other

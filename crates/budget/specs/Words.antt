@@ -97,8 +97,8 @@ pub record Takes (on : (WordView → WordView) → SeatView → SeatView) (word_
   pub miss : found ≢ (word_of me.0).seen → after ≡ (on missed me.0, me.1)
 
 -- What a subtraction tells.
-abbrev pub Gives : ((WordView → WordView) → SeatView → SeatView) → Sitter → Sitter → Type 0
-Gives on me after = after ≡ (on one_less me.0, me.1)
+abbrev pub GivesBack : ((WordView → WordView) → SeatView → SeatView) → Sitter → Sitter → Type 0
+GivesBack on me after = after ≡ (on one_less me.0, me.1)
 
 -- a budget: which table it is, and its limits
 pub record Shared : Type 0 where

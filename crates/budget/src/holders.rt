@@ -5,7 +5,7 @@
 //! load tells that its pair stood flagged, and clearing takes it off the list.
 ghost use Rattle.std.specs.Prelude.{◌≡◌, ◌+◌, [], length, Some, None, IfOk, IfErr, IfSome, IsSome};
 ghost use Rattle.budget.specs.Pairs.{pair_count, granted_of, granted_too, leased_too};
-ghost use Rattle.budget.specs.Pairs.{HoldsNone, IsApart, IsApartIn, HasRoom, HasRoomIn};
+ghost use Rattle.budget.specs.Pairs.{HoldsNone, IsApart, IsApartIn, HasRoomForPair, HasRoomIn};
 ghost use Rattle.budget.specs.Pairs.{IsHost, SitsAt};
 ghost use Rattle.budget.specs.Pairs.{host_granting, host_leasing, Loses};
 ghost use Rattle.budget.specs.declared.holders.Holding.TheVariants.{Lease};
@@ -160,7 +160,7 @@ impl Holders {
     /// The transfer holds the connection from now on. No lease stands for the pair yet.
     pub fn mark(&mut self, connection: u32, transfer: u64)
         requires apart { IsApart (connection, transfer) self.old.granted self.old.leased }
-        requires room { HasRoom self.old.granted self.old.leased }
+        requires room { HasRoomForPair self.old.granted self.old.leased }
         requires back { self.old.back ≡ None }
         ensures { self.new ≡ granted_too (connection, transfer) self.old }
     {

@@ -1,5 +1,5 @@
 ghost use Rattle.std.specs.Prelude.{◌≡◌, is_err, IfOk, IfErr};
-ghost use Rattle.budget.specs.Limits.{is_bad_limit, limits_of, or_greatest, AreLimits};
+ghost use Rattle.budget.specs.Limits.{is_bad_limit, bounds_of, or_greatest, AreLimits};
 
 use std::marker::Model;
 use thiserror::Error;
@@ -47,7 +47,7 @@ impl Limits {
     /// 65,535.
     pub fn new(host: u32, total: u32, connects: u32) -> Result<Limits, LimitsFault>
         ensures bad { is_err result ≡ is_bad_limit host total connects }
-        ensures ok { IfOk result (λ limits. limits ≡ limits_of host total connects) }
+        ensures ok { IfOk result (λ limits. limits ≡ bounds_of host total connects) }
         ensures within { IfOk result AreLimits }
     {
         let is_past = host > GREATEST_LIMIT || total > GREATEST_LIMIT || connects > GREATEST_LIMIT;

@@ -1,5 +1,5 @@
 ghost use Rattle.std.specs.Prelude.{◌≡◌, ◌<◌, [], ◌∷◌, ◌++◌, true, false, slice_get, IfOk, IfErr};
-ghost use Rattle.budget.specs.Lobby.{is_listed, without, turned, IsQueue};
+ghost use Rattle.budget.specs.Lobby.{is_listed, without_host, turned, IsQueue};
 
 use crate::refusal::Refusal;
 use std::alloc::Global;
@@ -57,7 +57,7 @@ impl Lobby {
     pub fn delist(&mut self, host: u32)
         requires { is_listed self.old.order host ≡ true }
         ensures hosts { self.new.hosts ≡ self.old.hosts }
-        ensures order { self.new.order ≡ without self.old.order host }
+        ensures order { self.new.order ≡ without_host self.old.order host }
         ensures gone { is_listed self.new.order host ≡ false }
     {
         self.order.retain(|listed| *listed != host);

@@ -1,7 +1,7 @@
 ghost use Rattle.std.specs.Prelude.{◌≡◌, ◌<◌, length, IfOk, IfErr};
 ghost use Rattle.budget.specs.Permits.{one_more_open, one_more_kept, if_got};
 ghost use Rattle.budget.specs.Permits.{one_less_open, one_less_kept};
-ghost use Rattle.budget.specs.Plain.{at_host, changed_at, nothing_held, IsWithin};
+ghost use Rattle.budget.specs.Plain.{held_at_host, changed_at, nothing_held, IsWithin};
 ghost use Rattle.budget.specs.Plain.{TellsOfOpen, TellsOfKept};
 
 use crate::limits::Limits;
@@ -73,7 +73,7 @@ impl PlainBudget {
 
     fn held(&self, host: usize) -> Held
         requires { host < length self.now.hosts }
-        ensures { result ≡ at_host self.now.hosts host }
+        ensures { result ≡ held_at_host self.now.hosts host }
     {
         self.hosts[host]
     }
@@ -116,7 +116,7 @@ impl PlainBudget {
 
     fn release_open(&mut self, host: usize)
         requires there { host < length self.old.hosts }
-        requires one { 0 < (at_host self.old.hosts host).alive }
+        requires one { 0 < (held_at_host self.old.hosts host).alive }
         ensures part { self.new ≡ changed_at host one_less_open self.old }
         ensures within { IsWithin self.new }
     {
@@ -130,7 +130,7 @@ impl PlainBudget {
 
     fn release_kept(&mut self, host: usize)
         requires there { host < length self.old.hosts }
-        requires one { 0 < (at_host self.old.hosts host).kept }
+        requires one { 0 < (held_at_host self.old.hosts host).kept }
         ensures part { self.new ≡ changed_at host one_less_kept self.old }
         ensures within { IsWithin self.new }
     {
@@ -155,17 +155,17 @@ impl Permits for HostPermits<'_> {
     ghost use Rattle.std.specs.Prelude.{◌≡◌, ◌<◌, length};
     ghost use Rattle.std.specs.Prelude.{refl};
     ghost use Rattle.std.proofs.Common.{◌∙◌};
-    ghost use Rattle.budget.specs.Plain.{alive_in, kept_in, at_host, IsWithin, KeepsOthers};
+    ghost use Rattle.budget.specs.Plain.{alive_in, kept_in, held_at_host, IsWithin, KeepsOtherHosts};
     ghost use Rattle.budget.specs.Plain.{TellsOfOpen, TellsOfKept, AsksOpen, AsksKept};
     ghost use Rattle.budget.specs.PlainLaws.{keeps_from_start, keeps_on, open_still, kept_still};
 
     ghost stands = { λ part. (part.host < length part.budget.now.hosts)
         × IsWithin part.budget.now };
 
-    ghost held = { λ part. at_host part.budget.now.hosts part.host };
+    ghost held = { λ part. held_at_host part.budget.now.hosts part.host };
 
     ghost stays = { λ x y. (y.budget.ghost_name ≡ x.budget.ghost_name) × (y.host ≡ x.host)
-        × KeepsOthers x.host x.budget.now y.budget.now };
+        × KeepsOtherHosts x.host x.budget.now y.budget.now };
 
     ghost opening = { λ x y. TellsOfOpen y.budget.now };
 

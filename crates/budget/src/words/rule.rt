@@ -75,18 +75,18 @@ impl Play<(), SeatView> for TakesKept {
 pub struct GivesOpen;
 
 impl Play<(), SeatView> for GivesOpen {
-    ghost use Rattle.budget.specs.Words.{Gives, on_total};
+    ghost use Rattle.budget.specs.Words.{GivesBack, on_total};
 
-    ghost then = { λ _ me _ after. Gives on_total me after };
+    ghost then = { λ _ me _ after. GivesBack on_total me after };
 }
 
 /// A subtraction of one from the number kept.
 pub struct GivesKept;
 
 impl Play<(), SeatView> for GivesKept {
-    ghost use Rattle.budget.specs.Words.{Gives, on_kept};
+    ghost use Rattle.budget.specs.Words.{GivesBack, on_kept};
 
-    ghost then = { λ _ me _ after. Gives on_kept me after };
+    ghost then = { λ _ me _ after. GivesBack on_kept me after };
 }
 
 /// A new seat gets one unit of share.
