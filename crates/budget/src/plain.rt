@@ -155,7 +155,8 @@ impl Permits for HostPermits<'_> {
     ghost use Rattle.std.specs.Prelude.{◌≡◌, ◌<◌, length};
     ghost use Rattle.std.specs.Prelude.{refl};
     ghost use Rattle.std.proofs.Common.{◌∙◌};
-    ghost use Rattle.budget.specs.Plain.{alive_in, kept_in, held_at_host, IsWithin, KeepsOtherHosts};
+    ghost use Rattle.budget.specs.Plain.{alive_in, kept_in, held_at_host, IsWithin};
+    ghost use Rattle.budget.specs.Plain.{KeepsOtherHosts};
     ghost use Rattle.budget.specs.Plain.{TellsOfOpen, TellsOfKept, AsksOpen, AsksKept};
     ghost use Rattle.budget.specs.PlainLaws.{keeps_from_start, keeps_on, open_still, kept_still};
 

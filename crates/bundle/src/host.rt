@@ -227,7 +227,7 @@ impl<S: Drop> Bundle<S> {
     /// allows reuse, it goes to the first transfer that waits, or is idle from then on, with its
     /// stream; where that transfer's want does not fit it, it is closed, and one is opened for that
     /// transfer. Else it is closed, and one is opened for the first transfer that waits. `now` is
-    /// in seconds. It takes no memory.
+    /// in seconds. Spending takes no memory.
     ///
     /// A lease that this host's log does not show comes back in a [`Stray`]; for one whose transfer
     /// holds nothing here the table of holders may grow.

@@ -1,4 +1,4 @@
--- A count of failures.
+-- A count of the wants of memory that were answered.
 use Rattle.std.specs.Prelude.{◌≡◌, ℕ, ◌<◌, ◌⊎◌}
 
 -- the count rose, or is at the greatest number that it can say

@@ -1,9 +1,9 @@
 -- The program's command line: what its words ask for, and what the program then does.
 use Rattle.std.specs.Prelude.{◌≡◌, ◌⊎◌, ℕ, true, codes, List, [], ◌∷◌, map, string_bytes, Result, Ok, Err}
-use Rattle.std.specs.Io.KnownBytes.{Appends}
 use Rattle.clap.specs.Words.{App, Kinds, IsAmong, fault_of, new_app, with_subcommand}
 use Rattle.clap.specs.declared.error.kind.ErrorKind.{ErrorKind}
 use Rattle.clap.specs.declared.error.kind.ErrorKind.TheVariants as kinds
+use Rattle.script_text.specs.declared.fault.FaultKind.{FaultKind}
 use Rattle.script_text.specs.declared.fault.ScriptFault.{ScriptFault}
 use Rattle.pool_cli.specs.declared.request.Words.{Words}
 use Rattle.pool_cli.specs.declared.request.Words.TheVariants.{Given, NotText, NoMemory}
@@ -11,7 +11,7 @@ use Rattle.pool_cli.specs.declared.request.Manner.{Manner}
 use Rattle.pool_cli.specs.declared.request.Manner.TheVariants as manners
 use Rattle.pool_cli.specs.declared.request.Request.{Request}
 use Rattle.pool_cli.specs.declared.request.Request.TheVariants as requests
-use Rattle.pool_cli.specs.Streams.{Stream}
+use Rattle.pool_cli.specs.Streams.{Stream, Puts}
 use Rattle.pool_cli.specs.Running.{RunsScript}
 
 -- curlpool has a version and no help subcommand, and needs its one subcommand, script, which takes nothing
@@ -57,39 +57,38 @@ abbrev pub status_of : {A : Type 0} → Result A ScriptFault → ℕ
 status_of (Ok done) = 0
 status_of (Err fault) = 3
 
--- the words ask for a script, and it was run: nothing else was read or written
-pub record RunsAsked (faults : Kinds) (unread left old new : Stream) (status : ℕ) : Type 0 where
-  pub asked : faults ≡ []
+-- a script was run: nothing else was read or written
+pub record RunsAsked (unread left old new : Stream) (status : ℕ) : Type 0 where
   pub result : Result (Unit {0}) ScriptFault
   pub runs : RunsScript unread left old new result
   pub ends : status ≡ status_of result
 
--- they ask for help or the version: a text was written, unless writing failed
-pub record TellsHelp (faults : Kinds) (unread left old new : Stream) (status : ℕ) : Type 0 where
-  pub asked : HasManner faults manners.Asked
+-- a text was written, or a front of it where writing failed
+pub record TellsText (text : List ℕ) (unread left old new : Stream) (status : ℕ) : Type 0 where
   pub unread_yet : left ≡ unread
-  pub text : List ℕ
-  pub told : Appends old.bytes new.bytes text
+  pub result : Result (Unit {0}) FaultKind
+  pub told : Puts old new text result
   pub ends : status ≡ 0
 
--- they are refused: nothing was read or written
-pub record RefusesWords (faults : Kinds) (unread left old new : Stream) (status : ℕ) : Type 0 where
-  pub mistaken : HasManner faults manners.Mistake
+-- nothing was read or written
+pub record EndsAtOnce (ending : ℕ) (unread left old new : Stream) (status : ℕ) : Type 0 where
   pub unread_yet : left ≡ unread
   pub unwritten : new ≡ old
-  pub ends : status ≡ 2
+  pub ends : status ≡ ending
 
--- memory ran out while the words were read: nothing was read or written
-pub record LacksMemory (unread left old new : Stream) (status : ℕ) : Type 0 where
-  pub unread_yet : left ≡ unread
-  pub unwritten : new ≡ old
-  pub ends : status ≡ 4
+-- what is done for a request, and the status: a script is run; help or the version is told; words that are refused, and
+-- want of memory while they are read, end the program at once
+abbrev pub AnswersRequest : Request → Stream → Stream → Stream → Stream → ℕ → Type 0
+AnswersRequest requests.Script unread left old new status = RunsAsked unread left old new status
+AnswersRequest (requests.Tell text) unread left old new status = TellsText (string_bytes text) unread left old new status
+AnswersRequest (requests.Refuse text) unread left old new status = EndsAtOnce 2 unread left old new status
+AnswersRequest requests.NoMemory unread left old new status = EndsAtOnce 4 unread left old new status
 
--- what the program does with words that have these faults, and its status
+-- what the program does with words that have these faults, and its status: what is done for a request that they may
+-- ask for
 abbrev pub RunsProgram : Kinds → Stream → Stream → Stream → Stream → ℕ → Type 0
 RunsProgram faults unread left old new status =
-    RunsAsked faults unread left old new status ⊎ (TellsHelp faults unread left old new status
-    ⊎ (RefusesWords faults unread left old new status ⊎ LacksMemory unread left old new status))
+    (request : Request) × Asks faults request × AnswersRequest request unread left old new status
 
 -- small command lines
 abbrev pub faults_after : List (List ℕ) → Kinds

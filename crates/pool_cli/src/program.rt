@@ -1,6 +1,6 @@
 //! What the program does with its words, and the status with which it ends.
 
-ghost use Rattle.pool_cli.specs.CommandLine.{RunsProgram, word_faults};
+ghost use Rattle.pool_cli.specs.CommandLine.{AnswersRequest, RunsProgram, word_faults};
 ghost use Rattle.pool_cli.specs.Streams.{CanCount};
 
 use crate::request::{Request, Words, asked_by};
@@ -38,7 +38,25 @@ pub fn run_program<R: Source, W: Sink, E: Write>(
     ensures { RunsProgram (word_faults words) (R.source input.old) (R.source input.new)
         (W.sink output.old) (W.sink output.new) result }
 {
-    match asked_by(alloc, words) {
+    let request = asked_by(alloc, words);
+    answer_request(alloc, request, input, output, errors)
+}
+
+/// Does what is asked for, and answers the status: runs the script, tells help or the version on
+/// `output`, or tells on `errors` why nothing is done.
+pub fn answer_request<R: Source, W: Sink, E: Write>(
+    alloc: Global,
+    request: Request,
+    input: &mut R,
+    output: &mut W,
+    errors: &mut E,
+) -> u8
+    requires input { CanCount (R.source input.old) }
+    requires output { CanCount (W.sink output.old) }
+    ensures { AnswersRequest request (R.source input.old) (R.source input.new)
+        (W.sink output.old) (W.sink output.new) result }
+{
+    match request {
         Request::Script => match run_script(alloc, input, output) {
             Ok(()) => DONE,
             Err(fault) => {
