@@ -1,15 +1,17 @@
 -- What is known of the streams that a script is read from and a transcript is written to, and what reading and
 -- writing do to them.
-use Rattle.std.specs.Prelude.{◌≡◌, ℕ, ◌+◌, ◌-◌, ◌^◌, ◌<◌, ◌≤◌, List, [], length, Option, Some, Result, Ok, Err}
+use Rattle.std.specs.Prelude.{◌≡◌, ℕ, ◌+◌, ◌-◌, ◌^◌, ◌<◌, ◌≤◌, Bool, true, List, [], length, Option, Some, Result, Ok, Err}
 use Rattle.std.specs.Io.KnownBytes.{Appends, Consumes, IsAtEnd}
 use Rattle.script_text.specs.declared.fault.FaultKind.{FaultKind}
 use Rattle.script_text.specs.declared.fault.FaultKind.TheVariants.{Memory, Read, Write, ScriptTooLong}
 use Rattle.script_engine.specs.Transcript.{IsProperFront, LONGEST_SCRIPT}
 
--- the bytes that reads will give, or that writes put, where they are known; and how many reads or writes failed
+-- the bytes that reads will give, or that writes put, where they are known; how many reads or writes failed; and
+-- whether a write may lack memory
 pub record Stream : Type 0 where
   pub bytes : Option (List ℕ)
   pub failures : ℕ
+  pub may_lack_memory : Bool
 
 -- one more failure can be counted
 abbrev pub CanCount : Stream → Type 0
@@ -17,7 +19,7 @@ CanCount stream = stream.failures < 2 ^ 64 - 1
 
 -- a stream in memory, which never fails
 abbrev pub in_memory : List ℕ → Stream
-in_memory bytes = record { bytes = Some bytes; failures = 0 }
+in_memory bytes = record { bytes = Some bytes; failures = 0; may_lack_memory = true }
 
 -- no read or write failed meanwhile
 abbrev pub SameFailures : Stream → Stream → Type 0
@@ -39,7 +41,7 @@ PutsFront old new bytes = (front : List ℕ) × IsProperFront front bytes × App
 -- all of the bytes are put; or a write failed, and not all are; or memory was short, and none is
 abbrev pub PutFails : Stream → Stream → List ℕ → FaultKind → Type 0
 PutFails old new bytes Write = PutsFront old.bytes new.bytes bytes × OneMoreFailed old new
-PutFails old new bytes Memory = Appends old.bytes new.bytes [] × SameFailures old new
+PutFails old new bytes Memory = Appends old.bytes new.bytes [] × SameFailures old new × (old.may_lack_memory ≡ true)
 PutFails old new bytes kind = ⊥
 
 abbrev pub Puts : {A : Type 0} → Stream → Stream → List ℕ → Result A FaultKind → Type 0

@@ -47,7 +47,8 @@ pub trait Source {
 pub trait Sink {
     ghost use Rattle.pool_cli.specs.Streams.{Stream};
 
-    /// The bytes that writes put, where they are known, and how many writes failed.
+    /// The bytes that writes put, where they are known; how many writes failed; and whether a
+    /// write may lack memory.
     ghost sink: { Self → Stream };
 
     /// Writes all of the bytes.
