@@ -46,7 +46,7 @@ apart_open log c d closed still = elim (eqb_tells c d) [
 ]
 
 -- wants that agree in each part are one
-same_parts : (transfer lane age life transfer' lane' age' life' : ℕ) (fresh forbid fresh' forbid' : Bool) → (((transfer == transfer') && (lane == lane') && (age == age') && (life == life') && beq fresh fresh' && beq forbid forbid') ≡ true) → (let first : Want = record { transfer = transfer; lane = lane; max_age = age; max_life = life; fresh = fresh; forbid_reuse = forbid } in let second : Want = record { transfer = transfer'; lane = lane'; max_age = age'; max_life = life'; fresh = fresh'; forbid_reuse = forbid' } in second ≡ first)
+same_parts : (transfer lane age life transfer' lane' age' life' : ℕ) (fresh forbid fresh' forbid' : Bool) → (((transfer == transfer') && (age == age') && (life == life') && (lane == lane') && beq fresh fresh' && beq forbid forbid') ≡ true) → (let first : Want = record { transfer = transfer; lane = lane; max_age = age; max_life = life; fresh = fresh; forbid_reuse = forbid } in let second : Want = record { transfer = transfer'; lane = lane'; max_age = age'; max_life = life'; fresh = fresh'; forbid_reuse = forbid' } in second ≡ first)
 same_parts transfer lane age life transfer' lane' age' life' fresh forbid fresh' forbid' same =
     let e1 : transfer' ≡ transfer = grind (arith, nat_tests, same) in
     let e2 : lane' ≡ lane = grind (arith, nat_tests, same) in

@@ -57,7 +57,7 @@ abbrev pub ticket_want : {S : Type 0} → HostShown S → ℕ → Option Want
 ticket_want host transfer = if is_unclaimed host transfer then granted_want host.log transfer else waiting_want (waiting host.log) transfer
 
 abbrev pub is_same_want : Want → Want → Bool
-is_same_want x y = (x.transfer == y.transfer) && (x.lane == y.lane) && (x.max_age == y.max_age) && (x.max_life == y.max_life) && beq x.fresh y.fresh && beq x.forbid_reuse y.forbid_reuse
+is_same_want x y = (x.transfer == y.transfer) && (x.max_age == y.max_age) && (x.max_life == y.max_life) && (x.lane == y.lane) && beq x.fresh y.fresh && beq x.forbid_reuse y.forbid_reuse
 
 -- a ticket is no stranger where its transfer waits with its want, or has yet to claim what it was granted for it
 abbrev pub is_valid_ticket : {S : Type 0} → HostShown S → Want → Bool

@@ -9,13 +9,14 @@ use conn_log::Want;
 use std::marker::Model;
 
 /// One transfer's use of one connection. It has to be spent: given back, or abandoned.
+// With the flags at the end six bytes of padding would follow them, which are copied apart.
 pub struct Lease<S> {
     host: u32,
-    number: u32,
-    wanted: Want,
-    moment: u64,
     reused: bool,
     stream: Option<S>,
+    number: u32,
+    moment: u64,
+    wanted: Want,
 }
 
 impl<S> Model for Lease<S> {

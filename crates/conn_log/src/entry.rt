@@ -5,12 +5,12 @@ use persistence::Facts;
 pub struct Want {
     /// The transfer's number.
     pub transfer: u64,
-    /// All that has to match beside host and port.
-    pub lane: u32,
     /// The most seconds that a connection may have been idle (CURLOPT_MAXAGE_CONN).
     pub max_age: u64,
     /// The most seconds since a connection was opened; 0 for no limit (CURLOPT_MAXLIFETIME_CONN).
     pub max_life: u64,
+    /// All that has to match beside host and port.
+    pub lane: u32,
     /// Only a new connection will do (CURLOPT_FRESH_CONNECT).
     pub fresh: bool,
     /// The connection is closed after this use (CURLOPT_FORBID_REUSE).
