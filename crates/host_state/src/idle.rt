@@ -1,4 +1,5 @@
-ghost use Rattle.std.specs.Prelude.{◌≡◌, ◌+◌, ◌<◌, ◌≤◌, IfSome, IfNone, slice_index_or};
+ghost use Rattle.std.specs.Prelude.{◌≡◌, ℕ, ◌+◌, ◌-◌, ◌<◌, ◌≤◌, true, false, slice_index_or};
+ghost use Rattle.std.specs.Prelude.{IfSome, IfNone, OnSome};
 ghost use Rattle.std.specs.List.{insert, remove};
 ghost use Rattle.std.specs.VecDeque.{deque_len, deque_capacity};
 ghost use Rattle.conn_log.specs.Fit.{is_older};
@@ -78,20 +79,43 @@ pub(crate) fn newest_suiting<S>(idle: &VecDeque<Idle<S>>, want: &Want, moment: u
     None
 }
 
-/// The place of the newest, where it suits the want.
+/// The newest, where it suits the want.
 #[inline(always)]
-pub(crate) fn newest_if_suiting<S>(
-    idle: &VecDeque<Idle<S>>,
+pub(crate) fn newest_if_suiting<'a, S>(
+    idle: &'a VecDeque<Idle<S>>,
     want: &Want,
     moment: u64,
-) -> Option<usize>
-    ensures { IfSome result (LastSuits want.now moment idle.now.items) }
+) -> Option<&'a Idle<S>>
+    ensures suits { OnSome result
+        (LastSuits want.now moment idle.now.items (deque_len idle.now - 1)) }
+    ensures last { IfSome result (λ last.
+        last.now ≡ slice_index_or idle.now.items (deque_len idle.now - 1) last.now) }
 {
-    let place = idle.len().checked_sub(1)?;
-    if !suits(&idle[place], want, moment) {
+    let last = idle.back()?;
+    if !suits(last, want, moment) {
         return None;
     }
-    Some(place)
+    Some(last)
+}
+
+/// Whether any is too old for the want in its lane. The first one tells it where the want sets no
+/// limit on the time since a connection was opened, and that one is young enough.
+#[inline(always)]
+pub(crate) fn is_any_too_old<S>(idle: &VecDeque<Idle<S>>, want: &Want, moment: u64) -> bool
+    requires { AreInOrder idle.now.items }
+    ensures some { result ≡ true →
+        (place : ℕ) × FirstTooOld want.now moment idle.now.items place }
+    ensures none { result ≡ false → NoneTooOld want.now moment idle.now.items }
+{
+    if let Some(first) = idle.front() {
+        if ends_search(first, want, moment) {
+            return false;
+        }
+    }
+    match first_too_old(idle, want, moment) {
+        Some(_) => true,
+        None => false,
+    }
 }
 
 /// The place of the first that is too old for the want in its lane; none is where it is for a new
@@ -116,10 +140,22 @@ pub(crate) fn first_too_old<S>(idle: &VecDeque<Idle<S>>, want: &Want, moment: u6
     None
 }
 
-/// The place that one of that moment and number takes in the order. It is sought from the end:
-/// those that are passed are those that have to be moved.
+/// The place that one of that moment and number takes in the order.
 #[inline(always)]
 pub(crate) fn place_for<S>(idle: &VecDeque<Idle<S>>, since: u64, number: u32) -> usize
+    requires { AreInOrder idle.now.items }
+    ensures { IsPlaceFor since number idle.now.items result }
+{
+    if let Some(last) = idle.back() {
+        if !goes_before(last, since, number) {
+            return place_from_end(idle, since, number);
+        }
+    }
+    idle.len()
+}
+
+// The same, sought from the end: those that are passed are those that have to be moved.
+fn place_from_end<S>(idle: &VecDeque<Idle<S>>, since: u64, number: u32) -> usize
     requires { AreInOrder idle.now.items }
     ensures { IsPlaceFor since number idle.now.items result }
 {
@@ -142,6 +178,18 @@ pub(crate) fn take_from<S: Drop>(idle: &mut VecDeque<Idle<S>>, place: usize) -> 
     if place + 1 < idle.len() {
         return idle.remove(place).unwrap();
     }
+    idle.pop_back().unwrap()
+}
+
+/// Takes out the last one.
+#[inline(always)]
+pub(crate) fn take_last<S: Drop>(idle: &mut VecDeque<Idle<S>>) -> Idle<S>
+    requires { 0 < deque_len idle.old }
+    ensures value { result ≡ slice_index_or idle.old.items (deque_len idle.old - 1) result }
+    ensures items { idle.new.items ≡ remove idle.old.items (deque_len idle.old - 1) }
+    ensures len { deque_len idle.new + 1 ≡ deque_len idle.old }
+    ensures capacity { deque_capacity idle.new ≡ deque_capacity idle.old }
+{
     idle.pop_back().unwrap()
 }
 

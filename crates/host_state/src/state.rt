@@ -23,7 +23,8 @@ ghost use Rattle.conn_log.specs.declared.entry.Want.{Want};
 
 use crate::held::{Held, enter, enter_if_free, take_out, take_out_number};
 use crate::idle::{
-    Idle, first_too_old, newest_if_suiting, newest_suiting, place_for, put_in, take_from,
+    Idle, first_too_old, is_any_too_old, newest_if_suiting, newest_suiting, place_for, put_in,
+    take_from, take_last,
 };
 use crate::queue::{Queue, start_next};
 use conn_log::{Cause, Entry, Event, Log, LogFault, Stamp, Want};
@@ -284,11 +285,10 @@ impl<S: Drop> State<S> {
         if !self.queue.is_empty() || self.is_exhausted() {
             return None;
         }
-        let place = newest_if_suiting(&self.idle, want, moment)?;
-        if let Some(_) = first_too_old(&self.idle, want, moment) {
+        let last = newest_if_suiting(&self.idle, want, moment)?;
+        if is_any_too_old(&self.idle, want, moment) {
             return None;
         }
-        let last = &self.idle[place];
         let held = Held {
             number: last.number,
             lane: last.lane,
@@ -302,7 +302,7 @@ impl<S: Drop> State<S> {
         if !enter_if_free(&mut self.held, want.transfer, held) {
             return None;
         }
-        let Idle { number, stream, .. } = take_from(&mut self.idle, place);
+        let Idle { number, stream, .. } = take_last(&mut self.idle);
         self.log.append(Entry {
             moment,
             event: Event::Leased {

@@ -1,7 +1,8 @@
-use Rattle.std.proofs.Common.{◌≡◌, ℕ, ◌≤◌, length, true, false, drop, Some, sym, ap, subst, ◌∙◌, arith}
+use Rattle.std.proofs.Common.{◌≡◌, ℕ, ◌-◌, ◌≤◌, length, true, false, drop, Some, sym, ap, subst, ◌∙◌, arith}
 use Rattle.std.specs.Prelude.{◌==◌, if◌then◌else◌, nat_eq}
 use Rattle.std.specs.Option.{option_map}
 use Rattle.std.specs.HashMap.{get}
+use Rattle.std.specs.VecDeque.{deque_len}
 use Rattle.std.proofs.lemmas.Bool.Decides.{nat_tests}
 use Rattle.std.proofs.lemmas.List.{get_or_default}
 use Rattle.conn_log.specs.declared.entry.Event.TheVariants.{Leased}
@@ -51,47 +52,55 @@ invariant_of-self-2 g c =
     let empty = nobody c.self.inside.queue.wants none in
     let booked = ap (λ (v : HostState g.row.S.Denot). v.booked) c.self.view_is ∙ c.requires.none in
     let next : IsNext c.self.inside.log.entries c.args.want.now = subst (λ wants. IsNextAmong wants (held_number c.self.inside.log.entries c.args.want.now.transfer) c.args.want.now) (sym empty ∙ c.self.invariant.queue) free in
-    let last = c.in_ok-place.ensures in
-    let x = c.take_from-number.result in
-    let same : c.index-last.result.now ≡ x = c.index-last.ensures ∙ get_or_default c.self.inside.idle.items c.in_ok-place.place c.index-last.result.now x last.in_range ∙ sym c.take_from-number.ensures.value in
+    let place = deque_len c.self.inside.idle - 1 in
+    let last = c.in_ok-last.ensures.suits in
+    let x = c.take_last-number.result in
+    let same : c.in_ok-last.last.now ≡ x = c.in_ok-last.ensures.last ∙ get_or_default c.self.inside.idle.items place c.in_ok-last.last.now x last.in_range ∙ sym c.take_last-number.ensures.value in
     let put = subst (λ (y : Idle g.row.S.Denot). (t : ℕ) → get nat_eq c.enter_if_free.new.table t ≡ (if c.args.want.now.transfer == t then Some (record { number = y.number; lane = y.lane; born = y.born; forbids_reuse = c.args.want.now.forbid_reuse }) else get nat_eq c.self.inside.held t)) same (c.enter_if_free.ensures.entered entered) in
-    let fit = read_fit _ _ _ _ _ _ kept c.args.want.now c.args.moment c.in_ok-place.place x last c.take_from-number.ensures.value in
+    let fit = read_fit _ _ _ _ _ _ kept c.args.want.now c.args.moment place x last c.take_last-number.ensures.value in
     record {
-      replays = rw (c.append.ensures.entries, c.reserve.ensures.entries, c.take_from-number.ensures.items) (replays_lease _ _ _ _ _ _ kept c.args.moment later c.args.want.now c.in_ok-place.place x last.in_range c.take_from-number.ensures.value fit next (get nat_eq c.enter_if_free.new.table) _ (c.enter_if_free.ensures.len entered) put);
+      replays = rw (c.append.ensures.entries, c.reserve.ensures.entries, c.take_last-number.ensures.items) (replays_lease _ _ _ _ _ _ kept c.args.moment later c.args.want.now place x last.in_range c.take_last-number.ensures.value fit next (get nat_eq c.enter_if_free.new.table) _ (c.enter_if_free.ensures.len entered) put);
       queue = rw (c.append.ensures.entries, c.reserve.ensures.entries) (queue_started _ _ _ _ c.args.want.now kept.sound.orderly.wait_once next c.self.invariant.queue (empty ∙ sym (ap (drop 1) empty)));
       numbers = c.self.invariant.numbers;
       room = record {
-        log_room = omega (arith, none, booked, c.in-Ok.ensures.ok, c.append.ensures.room, c.enter_if_free.ensures.len entered, c.take_from-number.ensures.len, c.len.ensures, c.len-2.ensures.len);
-        idle_room = omega (arith, room.idle_room, c.enter_if_free.ensures.len entered, c.take_from-number.ensures.len, c.take_from-number.ensures.capacity);
+        log_room = omega (arith, none, booked, c.in-Ok.ensures.ok, c.append.ensures.room, c.enter_if_free.ensures.len entered, c.take_last-number.ensures.len, c.len.ensures, c.len-2.ensures.len);
+        idle_room = omega (arith, room.idle_room, c.enter_if_free.ensures.len entered, c.take_last-number.ensures.len, c.take_last-number.ensures.capacity);
         held_room = omega (arith, none, booked);
         queue_room = room.queue_room;
       };
     }
 
+pub returns-clause-alone : goal.returns-clause-alone
+returns-clause-alone g c =
+    let log_is = ap (λ (v : HostState g.row.S.Denot). v.log) c.self.view_is in
+    let none : length c.self.inside.queue.wants ≡ 0 = grind (arith, nat_tests, c.is_empty.ensures, c.if-not-is_empty.false) in
+    sym (ap waiting log_is) ∙ sym c.self.invariant.queue ∙ nobody c.self.inside.queue.wants none
+
 pub returns-clause-none_too_old : goal.returns-clause-none_too_old
 returns-clause-none_too_old g c =
     let kept = c.self.invariant.replays in
     let log_is = ap (λ (v : HostState g.row.S.Denot). v.log) c.self.view_is in
-    let none = c.in_default.ensures.none in
+    let none = c.is_any_too_old.ensures.none (grind (arith, c.if-is_any_too_old.false)) in
     ap (λ log. oldest_too_old log c.args.want.now c.args.moment) (sym log_is) ∙ none_too_old_read kept c.args.want.now c.args.moment none
 
 pub returns-clause-some : goal.returns-clause-some
 returns-clause-some g c =
     let kept = c.self.invariant.replays in
     let log_is = ap (λ (v : HostState g.row.S.Denot). v.log) c.self.view_is in
-    let last = c.in_ok-place.ensures in
-    let x = c.take_from-number.result in
-    let there = at_place kept c.in_ok-place.place x last.in_range c.take_from-number.ensures.value in
+    let place = deque_len c.self.inside.idle - 1 in
+    let last = c.in_ok-last.ensures.suits in
+    let x = c.take_last-number.result in
+    let there = at_place kept place x last.in_range c.take_last-number.ensures.value in
     let streams_is = ap (λ (v : HostState g.row.S.Denot). v.streams) c.self.view_is in
     let none : length c.self.inside.queue.wants ≡ 0 = grind (arith, nat_tests, c.is_empty.ensures, c.if-not-is_empty.false) in
     let waiting_none = sym (ap waiting log_is) ∙ sym c.self.invariant.queue ∙ nobody c.self.inside.queue.wants none in
     let booked = ap (λ (v : HostState g.row.S.Denot). v.booked) c.self.view_is ∙ c.requires.none in
     record {
-      newest = ap (λ log. newest_fit log c.args.want.now c.args.moment) (sym log_is) ∙ newest_read kept c.args.want.now c.args.moment c.in_ok-place.place x last c.take_from-number.ensures.value;
+      newest = ap (λ log. newest_fit log c.args.want.now c.args.moment) (sym log_is) ∙ newest_read kept c.args.want.now c.args.moment place x last c.take_last-number.ensures.value;
       was_open = ap (λ log. is_open log x.number) (sym log_is) ∙ (let told = found_idle kept x.number x there in let open_unheld = idle_open_unheld c.self.inside.log.entries x.number told.0 in open_unheld.0);
       log = c.append.ensures.entries ∙ ap (λ log. add c.args.moment (Leased x.number c.args.want.now) log) (c.reserve.ensures.entries ∙ log_is);
       kept = ap (λ streams. stream_of streams x.number) (sym streams_is) ∙ stream_of-streams_of c.self.inside.idle.items x.number ∙ ap (option_map (λ (y : Idle g.row.S.Denot). y.stream)) there;
-      others = λ d other. rw c.take_from-number.ensures.items (stream_of-remove c.self.inside.idle.items c.in_ok-place.place x d kept.idle_distinct last.in_range c.take_from-number.ensures.value other ∙ ap (λ streams. stream_of streams d) streams_is);
+      others = λ d other. rw c.take_last-number.ensures.items (stream_of-remove c.self.inside.idle.items place x d kept.idle_distinct last.in_range c.take_last-number.ensures.value other ∙ ap (λ streams. stream_of streams d) streams_is);
       booked = booked ∙ sym (ap (λ wants. booked_after_start wants c.args.self.now.booked) waiting_none);
       same = record { settings = ap (λ (v : HostState g.row.S.Denot). v.settings) c.self.view_is; host = ap (λ (v : HostState g.row.S.Denot). v.host) c.self.view_is };
     }

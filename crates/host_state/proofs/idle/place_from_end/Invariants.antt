@@ -1,7 +1,7 @@
 use Rattle.std.proofs.Common.{◌≡◌, ℕ, ◌<◌, ◌≤◌, length, false, get_or}
 use Rattle.host_state.specs.declared.idle.Idle.{Idle}
 use Rattle.host_state.specs.Idle.{is_before}
-use Rattle.host_state.proofs.idle.place_for.Given as goal
+use Rattle.host_state.proofs.idle.place_from_end.Given as goal
 
 abbrev pub invariant-loop-place : goal.invariant-loop-place
 invariant-loop-place g l = record {
