@@ -25,6 +25,7 @@ use host_state::{Held, State};
 
 /// Starts the transfer on the newest idle connection that fits, or on a new one; where others wait,
 /// or the host has no room, it waits.
+#[inline(always)]
 pub(crate) fn start_or_wait<S: Drop>(state: &mut State<S>, want: Want, moment: u64) -> Got<S>
     requires booked { state.old.booked ≡ 1 }
     requires later { last_moment state.old.log ≤ moment }
@@ -59,6 +60,7 @@ pub(crate) fn start_or_wait<S: Drop>(state: &mut State<S>, want: Want, moment: u
 }
 
 // The transfer waits after all others.
+#[inline(always)]
 fn wait_last<S: Drop>(state: &mut State<S>, want: Want, moment: u64) -> Ticket
     requires booked { state.old.booked ≡ 1 }
     requires later { last_moment state.old.log ≤ moment }
