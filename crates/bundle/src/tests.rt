@@ -254,7 +254,15 @@ fn the_newest_is_reused(rt: HostRuntime) -> Result<(), Fail> {
     );
     assert_eq!(rt; bundle.host(), 7);
     accept(&rt, bundle.abandon(newest, 2000));
-    assert_eq!(rt; bundle.log().len(), 6);
+    Ok(())
+}
+
+#[test]
+fn an_abandoned_connection_is_closed(rt: HostRuntime) -> Result<(), Fail> {
+    let mut bundle = Bundle::new(rt.alloc(), 4, 7, 1)?;
+    let lease = leased(&rt, &mut bundle, 1, 0);
+    accept(&rt, bundle.abandon(lease, 2000));
+    assert_eq!(rt; bundle.log().len(), 2);
     let dropped = Entry {
         moment: 2000,
         event: Event::Closed {
@@ -262,7 +270,7 @@ fn the_newest_is_reused(rt: HostRuntime) -> Result<(), Fail> {
             cause: Cause::Dropped,
         },
     };
-    assert_eq!(rt; bundle.log().get(5), Some(dropped));
+    assert_eq!(rt; bundle.log().get(1), Some(dropped));
     Ok(())
 }
 
@@ -376,27 +384,23 @@ fn tickets_are_withdrawn(rt: HostRuntime) -> Result<(), Fail> {
     Ok(())
 }
 
-#[test]
-fn what_does_not_fit_the_first_that_waits_is_closed(rt: HostRuntime) -> Result<(), Fail> {
-    let wants = [
-        (
-            Want {
-                lane: 1,
-                ..want_of(2)
-            },
-            Cause::HostRoom,
-        ),
+// Wants that a connection of lane 0 does not fit 9 seconds after it was opened, each with the cause
+// for which it is closed.
+fn unfit_wants() -> [(Want, Cause); 4] {
+    let want = want_of(2);
+    [
+        (Want { lane: 1, ..want }, Cause::HostRoom),
         (
             Want {
                 fresh: true,
-                ..want_of(2)
+                ..want
             },
             Cause::HostRoom,
         ),
         (
             Want {
                 max_life: 8,
-                ..want_of(2)
+                ..want
             },
             Cause::TooOld,
         ),
@@ -404,12 +408,16 @@ fn what_does_not_fit_the_first_that_waits_is_closed(rt: HostRuntime) -> Result<(
             Want {
                 lane: 1,
                 max_life: 8,
-                ..want_of(2)
+                ..want
             },
             Cause::HostRoom,
         ),
-    ];
-    for (want, cause) in wants {
+    ]
+}
+
+#[test]
+fn what_does_not_fit_the_first_that_waits_is_closed(rt: HostRuntime) -> Result<(), Fail> {
+    for (want, cause) in unfit_wants() {
         let mut bundle = Bundle::new(rt.alloc(), 1, 0, 1)?;
         let first = leased(&rt, &mut bundle, 1, 0);
         let ticket = waits_for(&rt, &mut bundle, want, 1);
