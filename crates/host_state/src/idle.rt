@@ -61,7 +61,7 @@ fn goes_before<S>(idle: &Idle<S>, since: u64, number: u32) -> bool
 }
 
 /// The place of the newest that suits the want; none does where it is for a new one.
-#[inline(always)]
+#[inline(never)]
 pub(crate) fn newest_suiting<S>(idle: &VecDeque<Idle<S>>, want: &Want, moment: u64) -> Option<usize>
     ensures found { IfSome result (LastSuits want.now moment idle.now.items) }
     ensures none { IfNone result (NoneSuits want.now moment idle.now.items) }
