@@ -1,6 +1,7 @@
 pub mod Growth
 pub mod KeptSound
 pub mod Told
+pub mod Streams
 pub mod Granting
 pub mod Granted
 pub mod Served

@@ -1,10 +1,10 @@
 -- A lease, a ticket, and what a host shows to those who use its bundle.
-use Rattle.std.specs.Prelude.{◌≡◌, ℕ, ◌-◌, Bool, true, false, ◌==◌, ◌&&◌, if◌then◌else◌, List, [], length, Option, Some, None}
+use Rattle.std.specs.Prelude.{◌≡◌, ℕ, ◌-◌, Bool, true, false, ◌==◌, ◌&&◌, ◌||◌, if◌then◌else◌, List, [], length, Option, Some, None, is_some}
 use Rattle.std.specs.Option.{option_map_or, option_and_then}
 use Rattle.std.specs.Bool.{beq}
 use Rattle.conn_log.specs.declared.entry.Want.{Want}
 use Rattle.conn_log.specs.declared.entry.Entry.{Entry}
-use Rattle.conn_log.specs.Connections.{is_among, is_open, is_held_by, open_connections, idle_connections, held_number, holder_want}
+use Rattle.conn_log.specs.Connections.{is_among, is_open, is_idle, is_held_by, open_connections, idle_connections, held_number, holder, holder_want}
 use Rattle.conn_log.specs.Waiting.{waiting}
 use Rattle.conn_log.specs.Legal.{LimitAndFirst}
 use Rattle.host_state.specs.Queue.{waiting_want}
@@ -47,6 +47,22 @@ is_unclaimed host transfer = is_among transfer host.unclaimed
 -- the connection that a transfer has a lease of: the one that it holds, unless it has yet to claim it
 abbrev pub lease_number : {S : Type 0} → HostShown S → ℕ → Option ℕ
 lease_number host transfer = if is_unclaimed host transfer then None else held_number host.log transfer
+
+-- the transfer that holds the connection has yet to claim it, and it was idle before
+abbrev pub is_reuse : Option Start → Bool
+is_reuse start = option_map_or (λ (s : Start). s.reused) start false
+
+abbrev pub awaits_claim : {S : Type 0} → HostShown S → ℕ → Bool
+awaits_claim host c = option_map_or (λ t. is_unclaimed host t && is_reuse (last_start host.log t)) (holder host.log c) false
+
+-- the host has the streams of its idle connections, and of those granted ones that were idle before and are
+-- not claimed; it has no other
+abbrev pub HasItsStreams : {S : Type 0} → HostShown S → Type 0
+HasItsStreams host = (c : ℕ) → is_some (stream_of host.streams c) ≡ (is_idle host.log c || awaits_claim host c)
+
+-- each transfer that has yet to claim holds a connection
+abbrev pub UnclaimedAreHeld : {S : Type 0} → HostShown S → Type 0
+UnclaimedAreHeld host = (t : ℕ) → is_unclaimed host t ≡ true → is_some (held_number host.log t) ≡ true
 
 -- what a transfer was granted its connection for
 abbrev pub granted_want : List Entry → ℕ → Option Want

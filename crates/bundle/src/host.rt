@@ -16,6 +16,7 @@ ghost use Rattle.bundle.specs.Lease.{HostShown, is_unclaimed, is_valid_ticket, i
 ghost use Rattle.bundle.specs.Lease.{IsNewHost, is_held_lease, IsLeaseOf, IsTicketOf, WasGranted};
 ghost use Rattle.bundle.specs.Lease.{HasItsStream, KeepsItsStream, KeepsStreams, KeepsOthers};
 ghost use Rattle.bundle.specs.Lease.{GetsLease, GetsTicket, Spends, StaysThere, snapshot_of};
+ghost use Rattle.bundle.specs.Lease.{HasItsStreams, UnclaimedAreHeld};
 ghost use Rattle.host_state.specs.State.{HasRoomToSpend};
 ghost use Rattle.bundle.specs.Replies.{IfLeased, IfWaits, IfClaimed, IfStill};
 
@@ -87,15 +88,19 @@ impl<S: Drop> Bundle<S> {
         self.state.host()
     }
 
-    /// The host's log. It is legal and quiet, and has room for three entries for each waiting
-    /// transfer, two for each leased connection and one for each idle one, so that spending a lease
-    /// or a ticket takes no memory.
+    /// The host's log. It is legal and quiet, with no more open than the host may have, and has
+    /// room for three entries for each waiting transfer, two for each leased connection and one for
+    /// each idle one, so that spending a lease or a ticket takes no memory. The streams that the
+    /// host has, and those to whom it granted something, are those that the log tells of.
     pub fn log(&self) -> &Log
         ensures entries { result.now.entries ≡ self.now.log }
         ensures sound { IsSound self.now.settings self.now.log }
         ensures legal { IsLegal self.now.settings self.now.log }
         ensures quiet { IsQuiet self.now.settings false self.now.log }
+        ensures within { length (open_connections self.now.log) ≤ self.now.settings.limit }
         ensures room { HasRoomToSpend self.now.log result.now.room }
+        ensures streams { HasItsStreams self.now }
+        ensures unclaimed { UnclaimedAreHeld self.now }
     {
         self.state.log()
     }

@@ -153,11 +153,18 @@ module _ {S : Type 0} (settings : LimitAndFirst) (log : List Entry) (greatest_us
       seen None e told = absurd (false≢true told)
       seen (Some w) e told = (w, e, ap (λ (v : Option Want). option_map_or (λ (u : Want). u.forbid_reuse) v false) (sym e) ∙ forbids)
 
-  -- one that is not idle has no stream here
-  pub no_stream : (c : ℕ) → is_idle log c ≡ false → stream_of (streams_of idle) c ≡ None
-  no_stream c out =
-      let none : find_number idle c ≡ None = none_of facts_of_idle (find_number idle c) (r.idle_at c ∙ ap (λ (b : Bool). if b then Some (facts_if_idle log c) else None) out) in
-      stream_of-streams_of idle c ∙ ap (option_map (λ (x : Idle S). x.stream)) none
+  -- the streams here are those of idle ones
+  pub has_stream : (c : ℕ) → is_some (stream_of (streams_of idle) c) ≡ is_idle log c
+  has_stream c =
+      ap is_some (stream_of-streams_of idle c) ∙ is_some-map (λ (x : Idle S). x.stream) (find_number idle c) ∙ sym (is_some-map facts_of_idle (find_number idle c)) ∙ ap is_some (r.idle_at c) ∙ told (is_idle log c)
+    where
+      is_some-map : {A B : Type 0} (f : A → B) (x : Option A) → is_some (option_map f x) ≡ is_some x
+      is_some-map f None = refl
+      is_some-map f (Some y) = refl
+
+      told : (b : Bool) → is_some (if b then Some (facts_if_idle log c) else None) ≡ b
+      told true = refl
+      told false = refl
 
   module _ (transfer : ℕ) (h : Held) (is : held transfer ≡ Some h) where
     is_held : is_some (holder_want log h.number) ≡ true

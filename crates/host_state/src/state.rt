@@ -122,7 +122,7 @@ impl<S: Drop> State<S> {
         ensures sound { IsSound self.now.settings self.now.log }
         ensures room { HasRoomToSpend self.now.log result.now.room }
         ensures streams { (c : ℕ) →
-            is_idle self.now.log c ≡ false → stream_of self.now.streams c ≡ None }
+            is_some (stream_of self.now.streams c) ≡ is_idle self.now.log c }
     {
         &self.log
     }
