@@ -12,21 +12,21 @@ use Rattle.conn_log.specs.Fit.{newest_fit}
 use Rattle.bundle.specs.declared.refusal.Refusal.{Refusal}
 use Rattle.bundle.specs.declared.snapshot.Snapshot.{Snapshot}
 use Rattle.host_state.specs.Steps.{without_too_old, with_host_room, is_full, next_number, moment_at}
-use Rattle.bundle.specs.Calls.{after_acquire, after_give_back, after_abandon, after_withdraw, refusal, start_on, start_unless, Start, start_by, newest_start, Wait, wait_by, newest_wait}
+use Rattle.bundle.specs.Calls.{after_acquire, after_give_back, after_abandon, refusal, start_on, start_unless, Start, start_by, newest_start, Wait, wait_by, newest_wait}
 use Rattle.bundle.specs.Lease.{HostShown, Leasing, lease_number, snapshot_of}
 use Rattle.script_text.specs.declared.command.Ending.{Ending}
 use Rattle.script_text.specs.declared.fault.FaultKind.{FaultKind}
 use Rattle.script_text.specs.Printing.{entry_line, lines_since, refused, claimed_line, still_line, look_line}
 use Rattle.script_engine.specs.Hosted.{lease_facts, kept_facts, leases_of}
-use Rattle.script_engine.specs.Meaning.{Answer, replied, grown, stranger, with_ticket, without_ticket, claimed_number, get_at, get_unless, acquired, tickets_with, claim_at, claim_of, back_at, back_of, drop_at, drop_of, leave_at, look_at, refusal_word, facts_of_ending}
+use Rattle.script_engine.specs.Meaning.{ScriptHost, Answer, replied, grown, stranger, with_ticket, without_ticket, claimed_number, get_at, get_unless, acquired, tickets_with, claim_at, claim_of, back_at, back_of, drop_at, drop_of, leave_at, after_leaving, look_at, refusal_word, facts_of_ending}
 use Rattle.script_engine.specs.Transcript.{Gives}
 use Rattle.script_text.specs.Printing.{GivesText}
 use Rattle.script_engine.proofs.Growth.{Grows, lines-grown}
 
-pub gives-answer : {T : Type 0} (bytes : T → List ℕ) (meant : Answer) (log : List Entry) (tickets text : List ℕ) (r : Result T FaultKind)
-    → meant ≡ replied log tickets text → GivesText bytes text r → Gives bytes meant r log tickets
-gives-answer bytes meant log tickets text (Ok t) is gives = is ∙ ap (λ l. replied log tickets l) (sym gives)
-gives-answer bytes meant log tickets text (Err kind) is gives = gives
+pub gives-answer : {T : Type 0} (bytes : T → List ℕ) (meant : Answer) (host : ScriptHost) (text : List ℕ) (r : Result T FaultKind)
+    → meant ≡ replied host text → GivesText bytes text r → Gives bytes meant r host
+gives-answer bytes meant host text (Ok t) is gives = is ∙ ap (replied host) (sym gives)
+gives-answer bytes meant host text (Err kind) is gives = gives
 
 pub gives-lines : {T : Type 0} (bytes : T → List ℕ) (by : ℕ) (old new : List Entry) (place : ℕ) (r : Result T FaultKind) → place ≡ length old → Grows by old new
     → GivesText bytes (flat_map (entry_line 0 by) (drop place (reverse new))) r → GivesText bytes (lines_since old new) r
@@ -34,22 +34,22 @@ gives-lines bytes by old new place (Ok t) here grows gives = gives ∙ ap (λ n.
 gives-lines bytes by old new place (Err kind) here grows gives = gives
 
 -- where the entries that were added are written
-pub gives-grown : {T : Type 0} (bytes : T → List ℕ) (meant : Answer) (by : ℕ) (old new : List Entry) (tickets : List ℕ) (place : ℕ) (r : Result T FaultKind)
-    → meant ≡ grown old new tickets → place ≡ length old → Grows by old new
-    → GivesText bytes (flat_map (entry_line 0 by) (drop place (reverse new))) r → Gives bytes meant r new tickets
-gives-grown bytes meant by old new tickets place r is here grows gives =
-    gives-answer bytes meant new tickets (lines_since old new) r is (gives-lines bytes by old new place r here grows gives)
+pub gives-grown : {T : Type 0} (bytes : T → List ℕ) (meant : Answer) (by : ℕ) (old new : ScriptHost) (place : ℕ) (r : Result T FaultKind)
+    → meant ≡ grown old new → place ≡ length old.log → Grows by old.log new.log
+    → GivesText bytes (flat_map (entry_line 0 by) (drop place (reverse new.log))) r → Gives bytes meant r new
+gives-grown bytes meant by old new place r is here grows gives =
+    gives-answer bytes meant new (lines_since old.log new.log) r is (gives-lines bytes by old.log new.log place r here grows gives)
 
 -- get
-pub get-refused : (settings : LimitAndFirst) (want : Want) (moment : ℕ) (log : List Entry) (tickets : List ℕ) (r : Refusal) → refusal settings log want ≡ Some r
-    → get_at settings want moment log tickets ≡ replied log tickets (refused (refusal_word r))
+pub get-refused : (settings : LimitAndFirst) (want : Want) (moment : ℕ) (host : ScriptHost) (r : Refusal) → refusal settings host.log want ≡ Some r
+    → get_at settings want moment host ≡ replied host (refused (refusal_word r))
 unfolding get_at
-get-refused settings want moment log tickets r e = ap (get_unless settings want moment log tickets) e
+get-refused settings want moment host r e = ap (get_unless settings want moment host) e
 
-get-accepted : (settings : LimitAndFirst) (want : Want) (moment : ℕ) (log new : List Entry) (tickets : List ℕ) → refusal settings log want ≡ None → new ≡ after_acquire settings log want moment
-    → get_at settings want moment log tickets ≡ acquired want log tickets new
+get-accepted : (settings : LimitAndFirst) (want : Want) (moment : ℕ) (host : ScriptHost) (new : List Entry) → refusal settings host.log want ≡ None → new ≡ after_acquire settings host.log want moment
+    → get_at settings want moment host ≡ acquired want host new
 unfolding get_at
-get-accepted settings want moment log new tickets e same = ap (get_unless settings want moment log tickets) e ∙ ap (acquired want log tickets) (sym same)
+get-accepted settings want moment host new e same = ap (get_unless settings want moment host) e ∙ ap (acquired want host) (sym same)
 
 -- the newest entry starts no wait where it is a start
 no-wait : (moment : ℕ) (event : Event) (start : Start) → start_by moment event ≡ Some start → wait_by moment event ≡ None
@@ -64,15 +64,15 @@ started-no-wait : (log : List Entry) (start : Start) → newest_start log ≡ So
 started-no-wait [] start e = refl
 started-no-wait (e ∷ before) start is = no-wait e.moment e.event start is
 
-pub get-started : (settings : LimitAndFirst) (want : Want) (moment : ℕ) (log new : List Entry) (tickets : List ℕ) (start : Start) → refusal settings log want ≡ None → new ≡ after_acquire settings log want moment
-    → newest_start new ≡ Some start → get_at settings want moment log tickets ≡ grown log new tickets
-get-started settings want moment log new tickets start e same newest =
-    get-accepted settings want moment log new tickets e same ∙ ap (λ wait. grown log new (tickets_with want.transfer tickets wait)) (started-no-wait new start newest)
+pub get-started : (settings : LimitAndFirst) (want : Want) (moment : ℕ) (host : ScriptHost) (new : List Entry) (start : Start) → refusal settings host.log want ≡ None → new ≡ after_acquire settings host.log want moment
+    → newest_start new ≡ Some start → get_at settings want moment host ≡ grown host (record host { log = new })
+get-started settings want moment host new start e same newest =
+    get-accepted settings want moment host new e same ∙ ap (λ wait. grown host (record { log = new; tickets = tickets_with want.transfer host.tickets wait })) (started-no-wait new start newest)
 
-pub get-waited : (settings : LimitAndFirst) (want : Want) (moment : ℕ) (log new : List Entry) (tickets : List ℕ) (wait : Wait) → refusal settings log want ≡ None → new ≡ after_acquire settings log want moment
-    → newest_wait new ≡ Some wait → get_at settings want moment log tickets ≡ grown log new (with_ticket want.transfer tickets)
-get-waited settings want moment log new tickets wait e same newest =
-    get-accepted settings want moment log new tickets e same ∙ ap (λ w. grown log new (tickets_with want.transfer tickets w)) newest
+pub get-waited : (settings : LimitAndFirst) (want : Want) (moment : ℕ) (host : ScriptHost) (new : List Entry) (wait : Wait) → refusal settings host.log want ≡ None → new ≡ after_acquire settings host.log want moment
+    → newest_wait new ≡ Some wait → get_at settings want moment host ≡ grown host (record { log = new; tickets = with_ticket want.transfer host.tickets })
+get-waited settings want moment host new wait e same newest =
+    get-accepted settings want moment host new e same ∙ ap (λ w. grown host (record { log = new; tickets = tickets_with want.transfer host.tickets w })) newest
 
 -- an accepted acquire, and the want of its lease or ticket
 pub accepted : {A : Type 0} (got : A) (shows : Option Refusal) → IfSome shows (λ reason. ◌≡◌ {A = Result A Refusal} (Ok got) (Err reason)) → shows ≡ None
@@ -116,49 +116,49 @@ acquired-of settings log want now = by_waiting (waiting log)
     by_waiting (head ∷ others) = waited-of want moment log
 
 -- back and drop
-pub back-stranger : (settings : LimitAndFirst) (transfer : ℕ) (ending : Ending) (moment : ℕ) (log : List Entry) (tickets : List ℕ) → claimed_number log tickets transfer ≡ None
-    → back_at settings transfer ending moment log tickets ≡ stranger log tickets
+pub back-stranger : (settings : LimitAndFirst) (transfer : ℕ) (ending : Ending) (moment : ℕ) (host : ScriptHost) → claimed_number host transfer ≡ None
+    → back_at settings transfer ending moment host ≡ stranger host
 unfolding back_at
-back-stranger settings transfer ending moment log tickets e = ap (back_of settings ending moment log tickets) e
+back-stranger settings transfer ending moment host e = ap (back_of settings ending moment host) e
 
-pub back-taken : (settings : LimitAndFirst) (transfer : ℕ) (ending : Ending) (moment : ℕ) (log : List Entry) (tickets : List ℕ) (c : ℕ) → claimed_number log tickets transfer ≡ Some c
-    → back_at settings transfer ending moment log tickets ≡ grown log (after_give_back settings log c (facts_of_ending ending) moment) tickets
+pub back-taken : (settings : LimitAndFirst) (transfer : ℕ) (ending : Ending) (moment : ℕ) (host : ScriptHost) (c : ℕ) → claimed_number host transfer ≡ Some c
+    → back_at settings transfer ending moment host ≡ grown host (record host { log = after_give_back settings host.log c (facts_of_ending ending) moment })
 unfolding back_at
-back-taken settings transfer ending moment log tickets c e = ap (back_of settings ending moment log tickets) e
+back-taken settings transfer ending moment host c e = ap (back_of settings ending moment host) e
 
-pub drop-stranger : (settings : LimitAndFirst) (transfer moment : ℕ) (log : List Entry) (tickets : List ℕ) → claimed_number log tickets transfer ≡ None → drop_at settings transfer moment log tickets ≡ stranger log tickets
+pub drop-stranger : (settings : LimitAndFirst) (transfer moment : ℕ) (host : ScriptHost) → claimed_number host transfer ≡ None → drop_at settings transfer moment host ≡ stranger host
 unfolding drop_at
-drop-stranger settings transfer moment log tickets e = ap (drop_of settings moment log tickets) e
+drop-stranger settings transfer moment host e = ap (drop_of settings moment host) e
 
-pub drop-taken : (settings : LimitAndFirst) (transfer moment : ℕ) (log : List Entry) (tickets : List ℕ) (c : ℕ) → claimed_number log tickets transfer ≡ Some c
-    → drop_at settings transfer moment log tickets ≡ grown log (after_abandon settings log c moment) tickets
+pub drop-taken : (settings : LimitAndFirst) (transfer moment : ℕ) (host : ScriptHost) (c : ℕ) → claimed_number host transfer ≡ Some c
+    → drop_at settings transfer moment host ≡ grown host (record host { log = after_abandon settings host.log c moment })
 unfolding drop_at
-drop-taken settings transfer moment log tickets c e = ap (drop_of settings moment log tickets) e
+drop-taken settings transfer moment host c e = ap (drop_of settings moment host) e
 
 -- claim and leave
-pub claim-stranger : (transfer : ℕ) (log : List Entry) (tickets : List ℕ) → is_among transfer tickets ≡ false → claim_at transfer log tickets ≡ stranger log tickets
+pub claim-stranger : (transfer : ℕ) (host : ScriptHost) → is_among transfer host.tickets ≡ false → claim_at transfer host ≡ stranger host
 unfolding claim_at
-claim-stranger transfer log tickets e = ap (λ b. cond b (claim_of transfer log tickets (held_number log transfer)) (stranger log tickets)) e
+claim-stranger transfer host e = ap (λ b. cond b (claim_of transfer host (held_number host.log transfer)) (stranger host)) e
 
-claim-ticketed : (transfer : ℕ) (log : List Entry) (tickets : List ℕ) → is_among transfer tickets ≡ true → claim_at transfer log tickets ≡ claim_of transfer log tickets (held_number log transfer)
+claim-ticketed : (transfer : ℕ) (host : ScriptHost) → is_among transfer host.tickets ≡ true → claim_at transfer host ≡ claim_of transfer host (held_number host.log transfer)
 unfolding claim_at
-claim-ticketed transfer log tickets e = ap (λ b. cond b (claim_of transfer log tickets (held_number log transfer)) (stranger log tickets)) e
+claim-ticketed transfer host e = ap (λ b. cond b (claim_of transfer host (held_number host.log transfer)) (stranger host)) e
 
-pub claim-still : (transfer : ℕ) (log : List Entry) (tickets : List ℕ) → is_among transfer tickets ≡ true → held_number log transfer ≡ None → claim_at transfer log tickets ≡ replied log tickets still_line
-claim-still transfer log tickets e held = claim-ticketed transfer log tickets e ∙ ap (claim_of transfer log tickets) held
+pub claim-still : (transfer : ℕ) (host : ScriptHost) → is_among transfer host.tickets ≡ true → held_number host.log transfer ≡ None → claim_at transfer host ≡ replied host still_line
+claim-still transfer host e held = claim-ticketed transfer host e ∙ ap (claim_of transfer host) held
 
-pub claim-granted : (transfer : ℕ) (log : List Entry) (tickets : List ℕ) (c : ℕ) → is_among transfer tickets ≡ true → held_number log transfer ≡ Some c
-    → claim_at transfer log tickets ≡ replied log (without_ticket transfer tickets) (claimed_line 0 c)
-claim-granted transfer log tickets c e held = claim-ticketed transfer log tickets e ∙ ap (claim_of transfer log tickets) held
+pub claim-granted : (transfer : ℕ) (host : ScriptHost) (c : ℕ) → is_among transfer host.tickets ≡ true → held_number host.log transfer ≡ Some c
+    → claim_at transfer host ≡ replied (record host { tickets = without_ticket transfer host.tickets }) (claimed_line 0 c)
+claim-granted transfer host c e held = claim-ticketed transfer host e ∙ ap (claim_of transfer host) held
 
-pub leave-stranger : (settings : LimitAndFirst) (transfer moment : ℕ) (log : List Entry) (tickets : List ℕ) → is_among transfer tickets ≡ false → leave_at settings transfer moment log tickets ≡ stranger log tickets
+pub leave-stranger : (settings : LimitAndFirst) (transfer moment : ℕ) (host : ScriptHost) → is_among transfer host.tickets ≡ false → leave_at settings transfer moment host ≡ stranger host
 unfolding leave_at
-leave-stranger settings transfer moment log tickets e = ap (λ b. cond b (grown log (after_withdraw settings log transfer moment) (without_ticket transfer tickets)) (stranger log tickets)) e
+leave-stranger settings transfer moment host e = ap (λ b. cond b (grown host (after_leaving settings transfer moment host)) (stranger host)) e
 
-pub leave-taken : (settings : LimitAndFirst) (transfer moment : ℕ) (log : List Entry) (tickets : List ℕ) → is_among transfer tickets ≡ true
-    → leave_at settings transfer moment log tickets ≡ grown log (after_withdraw settings log transfer moment) (without_ticket transfer tickets)
+pub leave-taken : (settings : LimitAndFirst) (transfer moment : ℕ) (host : ScriptHost) → is_among transfer host.tickets ≡ true
+    → leave_at settings transfer moment host ≡ grown host (after_leaving settings transfer moment host)
 unfolding leave_at
-leave-taken settings transfer moment log tickets e = ap (λ b. cond b (grown log (after_withdraw settings log transfer moment) (without_ticket transfer tickets)) (stranger log tickets)) e
+leave-taken settings transfer moment host e = ap (λ b. cond b (grown host (after_leaving settings transfer moment host)) (stranger host)) e
 
 -- what is kept for a transfer
 pub record IsKeptFor {S : Type 0} (host : HostShown S) (transfer : ℕ) (lease : Leasing S) : Type 0 where
@@ -186,6 +186,6 @@ kept-none host transfer e = by_leased (lease_number host transfer) e
     by_leased None h = refl
     by_leased (Some n) h = cc
 
-pub look-told : (log : List Entry) (tickets : List ℕ) (s : Snapshot) → s ≡ snapshot_of log false → look_at log tickets ≡ replied log tickets (look_line 0 s.alive s.idle s.leased s.waiting s.queued)
+pub look-told : (host : ScriptHost) (s : Snapshot) → s ≡ snapshot_of host.log false → look_at host ≡ replied host (look_line 0 s.alive s.idle s.leased s.waiting s.queued)
 unfolding look_at
-look-told log tickets s is = ap (λ (s : Snapshot). replied log tickets (look_line 0 s.alive s.idle s.leased s.waiting s.queued)) (sym is)
+look-told host s is = ap (λ (s : Snapshot). replied host (look_line 0 s.alive s.idle s.leased s.waiting s.queued)) (sym is)

@@ -15,16 +15,16 @@ abbrev answered-by : Run → Bool → Answer → Answer → Result (Run × List 
 answered-by run there here elsewhere = Ok (after_answer run (cond there here elsewhere))
 
 given : {T : Type 0} (bytes : T → List ℕ) (run next : Run) (meant : Result (Run × List ℕ) FaultKind) (answer : Answer) (r : Result T FaultKind)
-    → meant ≡ Ok (after_answer run answer) → record run { has_begun = true; log = next.log; tickets = next.tickets } ≡ next → Gives bytes answer r next.log next.tickets → Answers bytes meant r next
+    → meant ≡ Ok (after_answer run answer) → record run { has_begun = true; host = next.host } ≡ next → Gives bytes answer r next.host → Answers bytes meant r next
 given bytes run next meant answer (Ok text) is same gives =
     is ∙ ap (λ (a : Answer). Ok (after_answer run a)) gives ∙ ap (λ (n : Run). Ok (n, bytes text)) same
 given bytes run next meant answer (Err kind) is same gives = subst (FailsBy meant) (sym gives) tt
 
 pub answered-elsewhere : {T : Type 0} (bytes : T → List ℕ) (run : Run) (limits : Limits) (site : ℕ) (action : Action) (r : Result T FaultKind) → run.has_begun ≡ true
-    → (has_site run.sites && (site == 0)) ≡ false → Gives bytes (at_no_host run.log run.tickets action) r run.log run.tickets → Answers bytes (with_action run site action (Some limits)) r run
+    → (has_site run.sites && (site == 0)) ≡ false → Gives bytes (at_no_host run.host action) r run.host → Answers bytes (with_action run site action (Some limits)) r run
 answered-elsewhere bytes run limits site action r begun elsewhere gives =
-    given bytes run run (with_action run site action (Some limits)) (at_no_host run.log run.tickets action) r
-    (ap (λ b. answered-by run b (at_host (settings_of limits) run.log run.tickets action) (at_no_host run.log run.tickets action)) elsewhere)
+    given bytes run run (with_action run site action (Some limits)) (at_no_host run.host action) r
+    (ap (λ b. answered-by run b (at_host (settings_of limits) run.host action) (at_no_host run.host action)) elsewhere)
     (ap (λ b. record run { has_begun = b }) (sym begun)) gives
 
 pub host-there : (begun site : Bool) (limits : Limits) (host : Hosted) → begun ≡ true → Some host.settings ≡ cond (begun && site) (Some (settings_of limits)) None

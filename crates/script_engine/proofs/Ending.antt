@@ -13,13 +13,14 @@ use Rattle.conn_log.specs.declared.entry.Want.{Want}
 use Rattle.conn_log.specs.Connections.{is_among, held_number}
 use Rattle.conn_log.specs.Legal.{LimitAndFirst}
 use Rattle.conn_log.specs.Sound.{IsSound}
+use Rattle.bundle.specs.Calls.{after_withdraw}
 use Rattle.bundle.specs.Lease.{HostShown, Leasing, Ticketed, lease_number, ticket_want}
-use Rattle.script_engine.specs.Meaning.{with_ticket, without_ticket}
-use Rattle.script_engine.specs.Hosted.{KeepsLeases, KeepsTickets, lease_facts, kept_facts, leases_of, is_ticket_first, merged}
-use Rattle.script_engine.specs.Ending.{has_either, after_all}
+use Rattle.script_engine.specs.Meaning.{ScriptHost, with_ticket, without_ticket}
+use Rattle.script_engine.specs.Hosted.{kept_host, KeepsLeases, KeepsTickets, lease_facts, kept_facts, leases_of, is_ticket_first, merged}
+use Rattle.script_engine.specs.Ending.{has_either, after_dropping, after_giving_up, after_all}
 use Rattle.script_engine.proofs.Tickets.{among-keys}
 use Rattle.script_engine.proofs.Spending.{leased-by-keys}
-use Rattle.script_engine.proofs.Leases.{leased-no-ticket, ticket-no-lease}
+use Rattle.script_engine.proofs.Leases.{itself, leased-no-ticket, ticket-no-lease}
 use Rattle.script_engine.proofs.TicketLists.{among-with}
 
 -- each of them is above that one
@@ -130,19 +131,6 @@ holder-first t holders rest waiters is w first apart =
     ap (λ keys. merged keys waiters) is
     ∙ lease-first t rest waiters (below-waiters t rest waiters w (ap (λ keys. is_ticket_first keys waiters) (sym is) ∙ first) apart)
 
-pub without-absent : (t : ℕ) (tickets : List ℕ) → is_among t tickets ≡ false → without_ticket t tickets ≡ tickets
-without-absent t [] apart = refl
-without-absent t (x ∷ tickets) apart = by_first (t == x) (x == t) (turned t x) apart (without-absent t tickets)
-  where
-    turned : (k q : ℕ) → (k == q) ≡ (q == k)
-    turned k q = grind (arith, nat_tests)
-
-    by_first : (first here : Bool) → first ≡ here → (here || is_among t tickets) ≡ false → (is_among t tickets ≡ false → without_ticket t tickets ≡ tickets) → cond first tickets (x ∷ without_ticket t tickets) ≡ x ∷ tickets
-    by_first true true is apart' rest = absurd (cc)
-    by_first true false is apart' rest = absurd (cc)
-    by_first false true is apart' rest = absurd (cc)
-    by_first false false is apart' rest = ap (λ keys. x ∷ keys) (rest apart')
-
 -- who has a lease has no ticket, and who has a ticket no lease
 module _ {S : Type 0} (host : HostShown S) (sound : IsSound host.settings host.log) (t : ℕ) where
   pub holder-unticketed : is_some (lease_number host t) ≡ true → ticket_want host t ≡ None
@@ -161,7 +149,7 @@ module _ {S : Type 0} (host : HostShown S) (sound : IsSound host.settings host.l
 
   -- those that are left: who has a ticket, or holds a connection
   pub each-left : (leases : List (ℕ × Leasing S)) (tickets : List (ℕ × Ticketed)) → KeepsLeases (leases_of host) (λ q. lookup (is_at (nat_cmp q)) leases) → KeepsTickets (ticket_want host) (λ q. lookup (is_at (nat_cmp q)) tickets)
-      → is_among t (merged (keys_of leases) (keys_of tickets)) ≡ has_either host.log (keys_of tickets) t
+      → is_among t (merged (keys_of leases) (keys_of tickets)) ≡ has_either (kept_host host (keys_of tickets)) t
   each-left leases tickets keeps_leases keeps_tickets =
       among-merged t (keys_of leases) (keys_of tickets) ∙ ap (λ b. is_among t (keys_of tickets) || b) leased ∙ by_ticket (is_among t (keys_of tickets))
     where
@@ -181,9 +169,20 @@ module _ {S : Type 0} (host : HostShown S) (sound : IsSound host.settings host.l
       by_ticket true = refl
       by_ticket false = refl
 
+-- the transfer with the first ticket has withdrawn it, or one without a ticket has abandoned what it held
+module _ (settings : LimitAndFirst) (host : ScriptHost) (t : ℕ) (log : List Entry) where
+  pub gave-up-ticket : (rest : List ℕ) → host.tickets ≡ t ∷ rest → log ≡ after_withdraw settings host.log t 0 → ◌≡◌ {A = ScriptHost} (record { log = log; tickets = rest }) (after_giving_up settings host t)
+  gave-up-ticket rest first same =
+      let among : is_among t host.tickets ≡ true = ap (is_among t) first ∙ ap (λ b. b || is_among t rest) (itself t) in
+      let left : without_ticket t host.tickets ≡ rest = ap (without_ticket t) first ∙ ap (λ b. cond b rest (t ∷ without_ticket t rest)) (itself t) in
+      rw (same, among, left) refl
+
+  pub gave-up-lease : is_among t host.tickets ≡ false → log ≡ after_dropping settings host.log (held_number host.log t) → ◌≡◌ {A = ScriptHost} (record host { log = log }) (after_giving_up settings host t)
+  gave-up-lease apart same = rw (same, apart) refl
+
 -- none is left
-pub none-left : {A B : Type 0} (settings : LimitAndFirst) (log : List Entry) (leases : List (ℕ × A)) (tickets : List (ℕ × B)) → length leases ≡ 0 → length tickets ≡ 0
-    → after_all settings log (keys_of tickets) (merged (keys_of leases) (keys_of tickets)) ≡ log
-none-left settings log [] [] no_lease no_ticket = refl
-none-left settings log (lease ∷ leases) tickets no_lease no_ticket = absurd (grind (arith, nat_tests))
-none-left settings log [] (ticket ∷ tickets) no_lease no_ticket = absurd (grind (arith, nat_tests))
+pub none-left : {A B : Type 0} (settings : LimitAndFirst) (host : ScriptHost) (leases : List (ℕ × A)) (tickets : List (ℕ × B)) → length leases ≡ 0 → length tickets ≡ 0
+    → after_all settings host (merged (keys_of leases) (keys_of tickets)) ≡ host
+none-left settings host [] [] no_lease no_ticket = refl
+none-left settings host (lease ∷ leases) tickets no_lease no_ticket = absurd (grind (arith, nat_tests))
+none-left settings host [] (ticket ∷ tickets) no_lease no_ticket = absurd (grind (arith, nat_tests))

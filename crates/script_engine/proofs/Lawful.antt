@@ -14,11 +14,11 @@ use Rattle.conn_log.specs.Legal.{LimitAndFirst, IsLegal, Allows, MayStartAmong}
 use Rattle.conn_log.proofs.Steps.{idle_open_unheld}
 use Rattle.conn_log.proofs.Soundness.{and_left, and_right, sound_empty}
 use Rattle.bundle.specs.declared.refusal.Refusal.{Refusal}
-use Rattle.bundle.specs.Calls.{refusal, after_withdraw}
+use Rattle.bundle.specs.Calls.{refusal}
 use Rattle.bundle.specs.Laws.{IsSoundAndQuiet, AcquireKeepsSoundAndQuiet, GiveBackKeepsSoundAndQuiet, AbandonKeepsSoundAndQuiet, WithdrawKeepsSoundAndQuiet}
 use Rattle.script_text.specs.Lines.{lines}
 use Rattle.script_text.specs.Grammar.{reading}
-use Rattle.script_engine.specs.Meaning.{Run, start, step, settings_of, facts_of_ending, claimed_number, without_ticket, stranger, grown, get_at, get_unless, claim_at, claim_of, back_at, back_of, drop_at, drop_of, leave_at, look_at, at_host, at_no_host, answer_of, with_limits, add_site, with_url, with_action, are_good}
+use Rattle.script_engine.specs.Meaning.{ScriptHost, Run, start, step, settings_of, facts_of_ending, claimed_number, stranger, grown, get_at, get_unless, claim_at, claim_of, back_at, back_of, drop_at, drop_of, leave_at, after_leaving, look_at, at_host, at_no_host, answer_of, with_limits, add_site, with_url, with_action, are_good}
 use Rattle.conn_key.specs.declared.site.Site.{Site}
 use Rattle.conn_key.specs.Sites.{with_site}
 use Rattle.script_text.specs.Site.{site_named}
@@ -47,7 +47,7 @@ SoundUnder None log = log ≡ []
 SoundUnder (Some limits) log = IsSoundAndQuiet (settings_of limits) log
 
 abbrev pub SoundRun : Run → Type 0
-SoundRun run = SoundUnder run.limits run.log
+SoundRun run = SoundUnder run.limits run.host.log
 
 -- what a step makes, if it makes anything
 abbrev pub SoundStep : Result (Run × List ℕ) FaultKind → Type 0
@@ -69,60 +69,57 @@ pub held-where-leased : (waits : Bool) (held : Option ℕ) (c : ℕ) → cond wa
 held-where-leased true held c leased = cc
 held-where-leased false held c leased = leased
 
-module _ (keep : CallsKeep) (settings : LimitAndFirst) (log : List Entry) (tickets : List ℕ) (sound : IsSoundAndQuiet settings log) where
-  sound_get : (want : Want) (moment : ℕ) → IsSoundAndQuiet settings (get_at settings want moment log tickets).log
+module _ (keep : CallsKeep) (settings : LimitAndFirst) (host : ScriptHost) (sound : IsSoundAndQuiet settings host.log) where
+  sound_get : (want : Want) (moment : ℕ) → IsSoundAndQuiet settings (get_at settings want moment host).host.log
   unfolding get_at
-  sound_get want moment = by_refusal (refusal settings log want) refl
+  sound_get want moment = by_refusal (refusal settings host.log want) refl
     where
-      by_refusal : (reason : Option Refusal) → refusal settings log want ≡ reason → IsSoundAndQuiet settings (get_unless settings want moment log tickets reason).log
+      by_refusal : (reason : Option Refusal) → refusal settings host.log want ≡ reason → IsSoundAndQuiet settings (get_unless settings want moment host reason).host.log
       by_refusal (Some r) is = sound
-      by_refusal None is = keep.acquire settings log want moment sound is
+      by_refusal None is = keep.acquire settings host.log want moment sound is
 
-  sound_claim : (transfer : ℕ) → IsSoundAndQuiet settings (claim_at transfer log tickets).log
+  sound_claim : (transfer : ℕ) → IsSoundAndQuiet settings (claim_at transfer host).host.log
   unfolding claim_at
-  sound_claim transfer = by_ticket (is_among transfer tickets)
+  sound_claim transfer = by_ticket (is_among transfer host.tickets)
     where
-      by_held : (held : Option ℕ) → IsSoundAndQuiet settings (claim_of transfer log tickets held).log
+      by_held : (held : Option ℕ) → IsSoundAndQuiet settings (claim_of transfer host held).host.log
       by_held None = sound
       by_held (Some c) = sound
 
-      by_ticket : (ticketed : Bool) → IsSoundAndQuiet settings (if ticketed then claim_of transfer log tickets (held_number log transfer) else stranger log tickets).log
-      by_ticket true = by_held (held_number log transfer)
+      by_ticket : (ticketed : Bool) → IsSoundAndQuiet settings (if ticketed then claim_of transfer host (held_number host.log transfer) else stranger host).host.log
+      by_ticket true = by_held (held_number host.log transfer)
       by_ticket false = sound
 
-  sound_back : (transfer : ℕ) (ending : Ending) (moment : ℕ) → IsSoundAndQuiet settings (back_at settings transfer ending moment log tickets).log
+  sound_back : (transfer : ℕ) (ending : Ending) (moment : ℕ) → IsSoundAndQuiet settings (back_at settings transfer ending moment host).host.log
   unfolding back_at
-  sound_back transfer ending moment = by_leased (claimed_number log tickets transfer) refl
+  sound_back transfer ending moment = by_leased (claimed_number host transfer) refl
     where
-      by_leased : (leased : Option ℕ) → claimed_number log tickets transfer ≡ leased → IsSoundAndQuiet settings (back_of settings ending moment log tickets leased).log
+      by_leased : (leased : Option ℕ) → claimed_number host transfer ≡ leased → IsSoundAndQuiet settings (back_of settings ending moment host leased).host.log
       by_leased None is = sound
       by_leased (Some c) is =
-          keep.give_back settings log transfer c (facts_of_ending ending) moment sound (held-where-leased (is_among transfer tickets) (held_number log transfer) c is)
+          keep.give_back settings host.log transfer c (facts_of_ending ending) moment sound (held-where-leased (is_among transfer host.tickets) (held_number host.log transfer) c is)
 
-  sound_drop : (transfer moment : ℕ) → IsSoundAndQuiet settings (drop_at settings transfer moment log tickets).log
+  sound_drop : (transfer moment : ℕ) → IsSoundAndQuiet settings (drop_at settings transfer moment host).host.log
   unfolding drop_at
-  sound_drop transfer moment = by_leased (claimed_number log tickets transfer) refl
+  sound_drop transfer moment = by_leased (claimed_number host transfer) refl
     where
-      by_leased : (leased : Option ℕ) → claimed_number log tickets transfer ≡ leased → IsSoundAndQuiet settings (drop_of settings moment log tickets leased).log
+      by_leased : (leased : Option ℕ) → claimed_number host transfer ≡ leased → IsSoundAndQuiet settings (drop_of settings moment host leased).host.log
       by_leased None is = sound
-      by_leased (Some c) is = keep.abandon settings log transfer c moment sound (held-where-leased (is_among transfer tickets) (held_number log transfer) c is)
+      by_leased (Some c) is = keep.abandon settings host.log transfer c moment sound (held-where-leased (is_among transfer host.tickets) (held_number host.log transfer) c is)
 
-  sound_leave : (transfer moment : ℕ) → IsSoundAndQuiet settings (leave_at settings transfer moment log tickets).log
+  sound_leave : (transfer moment : ℕ) → IsSoundAndQuiet settings (leave_at settings transfer moment host).host.log
   unfolding leave_at
-  sound_leave transfer moment = by_ticket (is_among transfer tickets)
+  sound_leave transfer moment = by_ticket (is_among transfer host.tickets)
     where
-      left : List Entry
-      left = after_withdraw settings log transfer moment
-
-      by_ticket : (ticketed : Bool) → IsSoundAndQuiet settings (if ticketed then grown log left (without_ticket transfer tickets) else stranger log tickets).log
-      by_ticket true = keep.withdraw settings log transfer moment sound
+      by_ticket : (ticketed : Bool) → IsSoundAndQuiet settings (if ticketed then grown host (after_leaving settings transfer moment host) else stranger host).host.log
+      by_ticket true = keep.withdraw settings host.log transfer moment sound
       by_ticket false = sound
 
-  sound_look : IsSoundAndQuiet settings (look_at log tickets).log
+  sound_look : IsSoundAndQuiet settings (look_at host).host.log
   unfolding look_at
   sound_look = sound
 
-  sound_at_host : (action : Action) → IsSoundAndQuiet settings (at_host settings log tickets action).log
+  sound_at_host : (action : Action) → IsSoundAndQuiet settings (at_host settings host action).host.log
   sound_at_host (actions.Get want moment) = sound_get want moment
   sound_at_host (actions.Claim transfer) = sound_claim transfer
   sound_at_host (actions.Back transfer ending moment) = sound_back transfer ending moment
@@ -130,23 +127,23 @@ module _ (keep : CallsKeep) (settings : LimitAndFirst) (log : List Entry) (ticke
   sound_at_host (actions.Leave transfer moment) = sound_leave transfer moment
   sound_at_host actions.Look = sound_look
 
-same_at_no_host : (log : List Entry) (tickets : List ℕ) (action : Action) → (at_no_host log tickets action).log ≡ log
-same_at_no_host log tickets (actions.Get want moment) = refl
-same_at_no_host log tickets (actions.Claim transfer) = refl
-same_at_no_host log tickets (actions.Back transfer ending moment) = refl
-same_at_no_host log tickets (actions.Drop transfer moment) = refl
-same_at_no_host log tickets (actions.Leave transfer moment) = refl
-same_at_no_host log tickets actions.Look = refl
+same_at_no_host : (host : ScriptHost) (action : Action) → (at_no_host host action).host.log ≡ host.log
+same_at_no_host host (actions.Get want moment) = refl
+same_at_no_host host (actions.Claim transfer) = refl
+same_at_no_host host (actions.Back transfer ending moment) = refl
+same_at_no_host host (actions.Drop transfer moment) = refl
+same_at_no_host host (actions.Leave transfer moment) = refl
+same_at_no_host host actions.Look = refl
 
 module _ (keep : CallsKeep) where
-  sound_answer : (limits : Limits) (there : Bool) (log : List Entry) (tickets : List ℕ) (site : ℕ) (action : Action) → IsSoundAndQuiet (settings_of limits) log → IsSoundAndQuiet (settings_of limits) (answer_of limits there log tickets site action).log
-  sound_answer limits there log tickets site action sound = by_test (there && (site == 0))
+  sound_answer : (limits : Limits) (there : Bool) (host : ScriptHost) (site : ℕ) (action : Action) → IsSoundAndQuiet (settings_of limits) host.log → IsSoundAndQuiet (settings_of limits) (answer_of limits there host site action).host.log
+  sound_answer limits there host site action sound = by_test (there && (site == 0))
     where
-      by_test : (here : Bool) → IsSoundAndQuiet (settings_of limits) (if here then at_host (settings_of limits) log tickets action else at_no_host log tickets action).log
-      by_test true = sound_at_host keep (settings_of limits) log tickets sound action
-      by_test false = subst (IsSoundAndQuiet (settings_of limits)) (sym (same_at_no_host log tickets action)) sound
+      by_test : (here : Bool) → IsSoundAndQuiet (settings_of limits) (if here then at_host (settings_of limits) host action else at_no_host host action).host.log
+      by_test true = sound_at_host keep (settings_of limits) host sound action
+      by_test false = subst (IsSoundAndQuiet (settings_of limits)) (sym (same_at_no_host host action)) sound
 
-  sound_limits : (run : Run) (limits : Limits) (old : Option Limits) → SoundUnder old run.log → SoundStep (with_limits run limits old)
+  sound_limits : (run : Run) (limits : Limits) (old : Option Limits) → SoundUnder old run.host.log → SoundStep (with_limits run limits old)
   sound_limits run limits (Some others) sound = tt
   sound_limits run limits None nothing = by_good (are_good limits)
     where
@@ -170,11 +167,11 @@ module _ (keep : CallsKeep) where
       by_test true = tt
       by_test false = sound_named run (site_named word) sound
 
-  sound_command : (run : Run) (site : ℕ) (action : Action) (old : Option Limits) → run.limits ≡ old → SoundUnder old run.log → SoundStep (with_action run site action old)
+  sound_command : (run : Run) (site : ℕ) (action : Action) (old : Option Limits) → run.limits ≡ old → SoundUnder old run.host.log → SoundStep (with_action run site action old)
   sound_command run site action None same sound = tt
   sound_command run site action (Some limits) same sound =
-      subst (λ l. SoundUnder l (answer_of limits (has_site run.sites) run.log run.tickets site action).log) (sym same)
-      (sound_answer limits (has_site run.sites) run.log run.tickets site action sound)
+      subst (λ l. SoundUnder l (answer_of limits (has_site run.sites) run.host site action).host.log) (sym same)
+      (sound_answer limits (has_site run.sites) run.host site action sound)
 
   sound_step : (run : Run) (command : Command) → SoundRun run → SoundStep (step run command)
   unfolding step

@@ -20,7 +20,7 @@ use Rattle.bundle.specs.Calls.{refusal, is_busy, Start, start_by, start_of, last
 use Rattle.host_state.specs.Queue.{waiting_want}
 use Rattle.bundle.specs.Lease.{HostShown, is_unclaimed, lease_number, granted_want, ticket_want, is_same_want, is_valid_ticket}
 use Rattle.script_engine.specs.Meaning.{claimed_number}
-use Rattle.script_engine.specs.Hosted.{kept_facts, leases_of, due_others}
+use Rattle.script_engine.specs.Hosted.{kept_host, kept_facts, leases_of, due_others}
 use Rattle.script_engine.proofs.Tickets.{at-key}
 
 pub itself : (c : ℕ) → (c == c) ≡ true
@@ -153,7 +153,7 @@ module _ {S : Type 0} (host : HostShown S) (sound : IsSound host.settings host.l
       by_claim false = (unheld, none-held (waiting_want (waiting host.log) t) (waits-want (waiting host.log) t ∙ waits_not))
 
   -- what a transfer has a lease of, by the list of those that have a ticket
-  pub leased-by-tickets : (tickets : List ℕ) → is_among t tickets ≡ is_some (ticket_want host t) → claimed_number host.log tickets t ≡ lease_number host t
+  pub leased-by-tickets : (tickets : List ℕ) → is_among t tickets ≡ is_some (ticket_want host t) → claimed_number (kept_host host tickets) t ≡ lease_number host t
   leased-by-tickets tickets same = ap (λ b. cond b None (held_number host.log t)) same ∙ by_claim (is_unclaimed host t)
     where
       by_held : (held : Option ℕ) → held_number host.log t ≡ held → cond (is_some (option_and_then (holder_want host.log) held)) None held ≡ None

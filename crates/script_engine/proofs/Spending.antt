@@ -9,7 +9,7 @@ use Rattle.conn_log.specs.Connections.{is_among, is_held_by}
 use Rattle.conn_log.specs.Sound.{IsSound}
 use Rattle.bundle.specs.Lease.{HostShown, Leasing, Ticketed, lease_number, ticket_want, Spends, GetsLease, GetsTicket}
 use Rattle.script_engine.specs.Meaning.{claimed_number}
-use Rattle.script_engine.specs.Hosted.{Keeps, KeepsLeases, KeepsTickets, lease_facts, kept_facts, leases_of, wanted, due_others}
+use Rattle.script_engine.specs.Hosted.{kept_host, Keeps, KeepsLeases, KeepsTickets, lease_facts, kept_facts, leases_of, wanted, due_others}
 use Rattle.script_engine.proofs.Tickets.{among-keys}
 use Rattle.script_engine.proofs.Leases.{held-passes, leased-held, leased-no-ticket, ticket-no-lease, leased-by-tickets, own-ticket, kept-due, kept-removed, kept-awaits, none-stays, leases-left, leases-same, leases-started, itself}
 use Rattle.script_engine.proofs.Answering.{IsKeptFor}
@@ -28,7 +28,7 @@ module _ {S : Type 0} (host : HostShown S) (sound : IsSound host.settings host.l
       by_ticket (Some ticket) = refl
 
   -- who has a lease, by those keys
-  pub leased-by-keys : (entries : List (ℕ × Ticketed)) → KeepsTickets (ticket_want host) (λ t. lookup (is_at (nat_cmp t)) entries) → (t : ℕ) → claimed_number host.log (keys_of entries) t ≡ lease_number host t
+  pub leased-by-keys : (entries : List (ℕ × Ticketed)) → KeepsTickets (ticket_want host) (λ t. lookup (is_at (nat_cmp t)) entries) → (t : ℕ) → claimed_number (kept_host host (keys_of entries)) t ≡ lease_number host t
   leased-by-keys entries keeps t = leased-by-tickets host sound t (keys_of entries) (ticketed entries keeps t)
 
   -- the ticket that is kept for a transfer

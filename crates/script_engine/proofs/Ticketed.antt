@@ -12,7 +12,7 @@ use Rattle.conn_log.specs.Legal.{LimitAndFirst}
 use Rattle.conn_log.specs.Sound.{AreDistinct, IsSound}
 use Rattle.bundle.specs.declared.refusal.Refusal.{Refusal}
 use Rattle.host_state.specs.Steps.{moment_at, without_too_old, with_host_room, is_full, next_number}
-use Rattle.bundle.specs.Calls.{refusal, after_acquire, after_withdraw, start_on, start_unless, newest_start, Wait, newest_wait}
+use Rattle.bundle.specs.Calls.{refusal, after_acquire, start_on, start_unless, newest_start, Wait, newest_wait}
 use Rattle.bundle.proofs.Told.{told, Told}
 use Rattle.bundle.proofs.Acquired.{begun, Starts, Waits}
 use Rattle.conn_key.specs.declared.site.Site.{Site}
@@ -21,7 +21,7 @@ use Rattle.script_text.specs.Lines.{lines}
 use Rattle.script_text.specs.Grammar.{reading}
 use Rattle.script_text.specs.Site.{site_named}
 use Rattle.script_engine.specs.Meaning.{has_site, is_one_too_many}
-use Rattle.script_engine.specs.Meaning.{Run, start, step, settings_of, facts_of_ending, with_ticket, without_ticket, claimed_number, tickets_with, stranger, grown, get_at, get_unless, claim_at, claim_of, back_at, back_of, drop_at, drop_of, leave_at, look_at, at_host, at_no_host, with_limits, add_site, with_url, with_action, are_good}
+use Rattle.script_engine.specs.Meaning.{ScriptHost, Run, start, step, settings_of, facts_of_ending, with_ticket, without_ticket, claimed_number, tickets_with, stranger, grown, get_at, get_unless, claim_at, claim_of, back_at, back_of, drop_at, drop_of, leave_at, after_leaving, look_at, at_host, at_no_host, with_limits, add_site, with_url, with_action, are_good}
 use Rattle.script_engine.specs.Transcript.{line_step, line_step_of, LONGEST_SCRIPT}
 use Rattle.script_engine.specs.Law.{run_after, after_line, is_served, TicketsStand, EveryTicketStands}
 use Rattle.script_text.specs.declared.command.Limits.{Limits}
@@ -38,9 +38,9 @@ use Rattle.script_engine.proofs.TicketLists.{no-both, among-with, among-less, am
 use Rattle.script_engine.proofs.Stakes.{Moves, Leaves, still, abandoned, given-back, withdrawn}
 
 -- the tickets stand, and each transfer has one at most
-record Fits (log : List Entry) (tickets : List ℕ) : Type 0 where
-  stands : TicketsStand log tickets
-  distinct : AreDistinct tickets
+record Fits (host : ScriptHost) : Type 0 where
+  stands : TicketsStand host
+  distinct : AreDistinct host.tickets
 
 unlike : (t u : ℕ) → (t ≡ u → ⊥) → (t == u) ≡ false
 unlike t u never = by_test (t == u) refl
@@ -50,25 +50,25 @@ unlike t u never = by_test (t == u) refl
     by_test false is = refl
 
 -- a transfer without a ticket gave back or abandoned
-moved : (t : ℕ) (log new : List Entry) (tickets : List ℕ) → Moves t log new → is_among t tickets ≡ false → Fits log tickets → Fits new tickets
-moved t log new tickets moves none fits = record {
+moved : (t : ℕ) (host : ScriptHost) (new : List Entry) → Moves t host.log new → is_among t host.tickets ≡ false → Fits host → Fits (record host { log = new })
+moved t host new moves none fits = record {
   stands = record {
     ticketed = λ u w. fits.stands.ticketed u (moves.waits_less u w);
-    served = λ u among. moves.keeps u (unlike t u (λ same. no-both (is_among u tickets) among (ap (λ (k : ℕ). is_among k tickets) (sym same) ∙ none))) (fits.stands.served u among);
+    served = λ u among. moves.keeps u (unlike t u (λ same. no-both (is_among u host.tickets) among (ap (λ (k : ℕ). is_among k host.tickets) (sym same) ∙ none))) (fits.stands.served u among);
   };
   distinct = fits.distinct;
 }
 
 -- a transfer's ticket was spent
-spent : (t : ℕ) (log new : List Entry) (tickets : List ℕ) → Leaves t log new → Fits log tickets → Fits new (without_ticket t tickets)
-spent t log new tickets leaves fits = record {
+spent : (t : ℕ) (host : ScriptHost) (new : List Entry) → Leaves t host.log new → Fits host → Fits (record { log = new; tickets = without_ticket t host.tickets })
+spent t host new leaves fits = record {
   stands = record {
-    ticketed = λ u w. among-other u t tickets (unlike t u (λ same. no-both (waits new u) w (ap (waits new) (sym same) ∙ leaves.gone))) (fits.stands.ticketed u (leaves.moves.waits_less u w));
+    ticketed = λ u w. among-other u t host.tickets (unlike t u (λ same. no-both (waits new u) w (ap (waits new) (sym same) ∙ leaves.gone))) (fits.stands.ticketed u (leaves.moves.waits_less u w));
     served = λ u among. leaves.moves.keeps u
-        (unlike t u (λ same. no-both (is_among u (without_ticket t tickets)) among (ap (λ (k : ℕ). is_among k (without_ticket t tickets)) (sym same) ∙ among-own t tickets fits.distinct)))
-        (fits.stands.served u (among-less u t tickets among));
+        (unlike t u (λ same. no-both (is_among u (without_ticket t host.tickets)) among (ap (λ (k : ℕ). is_among k (without_ticket t host.tickets)) (sym same) ∙ among-own t host.tickets fits.distinct)))
+        (fits.stands.served u (among-less u t host.tickets among));
   };
-  distinct = distinct-without t tickets fits.distinct;
+  distinct = distinct-without t host.tickets fits.distinct;
 }
 
 -- a transfer acquired
@@ -82,8 +82,8 @@ or-true : (b : Bool) → (b || true) ≡ true
 or-true true = refl
 or-true false = refl
 
-begins : (want : Want) (log new : List Entry) (tickets : List ℕ) → Starts want log new → Fits log tickets → Fits new tickets
-begins want log new tickets starts fits = record {
+begins : (want : Want) (host : ScriptHost) (new : List Entry) → Starts want host.log new → Fits host → Fits (record host { log = new })
+begins want host new starts fits = record {
   stands = record { ticketed = λ u w. ticketed u (want.transfer == u) refl w; served = λ u among. served u (want.transfer == u) refl among };
   distinct = fits.distinct;
 }
@@ -91,43 +91,44 @@ begins want log new tickets starts fits = record {
     unwaited : waits new want.transfer ≡ false
     unwaited = sym (waits-want (waiting new) want.transfer) ∙ ap (λ (t : Told). is_some t.awaited) starts.mine
 
-    ticketed : (u : ℕ) (own : Bool) → (want.transfer == u) ≡ own → waits new u ≡ true → is_among u tickets ≡ true
+    ticketed : (u : ℕ) (own : Bool) → (want.transfer == u) ≡ own → waits new u ≡ true → is_among u host.tickets ≡ true
     ticketed u true is w = absurd (no-both (waits new u) w (ap (waits new) (sym (eqb-true want.transfer u is)) ∙ unwaited))
-    ticketed u false is w = fits.stands.ticketed u (sym (told-waits log new u (starts.others u is)) ∙ w)
+    ticketed u false is w = fits.stands.ticketed u (sym (told-waits host.log new u (starts.others u is)) ∙ w)
 
-    served : (u : ℕ) (own : Bool) → (want.transfer == u) ≡ own → is_among u tickets ≡ true → is_served new u ≡ true
+    served : (u : ℕ) (own : Bool) → (want.transfer == u) ≡ own → is_among u host.tickets ≡ true → is_served new u ≡ true
     served u true is among =
         subst (λ (k : ℕ). is_served new k ≡ true) (eqb-true want.transfer u is)
         (ap (λ (t : Told). waits new want.transfer || is_some t.number) starts.mine ∙ or-true (waits new want.transfer))
-    served u false is among = told-served log new u (starts.others u is) ∙ fits.stands.served u among
+    served u false is among = told-served host.log new u (starts.others u is) ∙ fits.stands.served u among
 
-waits-there : (want : Want) (log new : List Entry) (tickets : List ℕ) → held_number log want.transfer ≡ None → waits log want.transfer ≡ false → Waits want log new → Fits log tickets → Fits new (with_ticket want.transfer tickets)
-waits-there want log new tickets free unwaiting begins_to fits = record {
-  stands = record { ticketed = λ u w. ticketed u (want.transfer == u) refl w; served = λ u among. served u (want.transfer == u) refl (sym (among-with u want.transfer tickets) ∙ among) };
-  distinct = distinct-with want.transfer tickets none fits.distinct;
+waits-there : (want : Want) (host : ScriptHost) (new : List Entry) → held_number host.log want.transfer ≡ None → waits host.log want.transfer ≡ false → Waits want host.log new → Fits host
+    → Fits (record { log = new; tickets = with_ticket want.transfer host.tickets })
+waits-there want host new free unwaiting begins_to fits = record {
+  stands = record { ticketed = λ u w. ticketed u (want.transfer == u) refl w; served = λ u among. served u (want.transfer == u) refl (sym (among-with u want.transfer host.tickets) ∙ among) };
+  distinct = distinct-with want.transfer host.tickets none fits.distinct;
 }
   where
-    unserved : is_served log want.transfer ≡ false
-    unserved = ap (λ b. b || is_some (held_number log want.transfer)) unwaiting ∙ ap is_some free
+    unserved : is_served host.log want.transfer ≡ false
+    unserved = ap (λ b. b || is_some (held_number host.log want.transfer)) unwaiting ∙ ap is_some free
 
-    none-of : (among : Bool) → is_among want.transfer tickets ≡ among → among ≡ false
-    none-of true is = absurd (no-both (is_served log want.transfer) (fits.stands.served want.transfer is) unserved)
+    none-of : (among : Bool) → is_among want.transfer host.tickets ≡ among → among ≡ false
+    none-of true is = absurd (no-both (is_served host.log want.transfer) (fits.stands.served want.transfer is) unserved)
     none-of false is = refl
 
-    none : is_among want.transfer tickets ≡ false
-    none = none-of (is_among want.transfer tickets) refl
+    none : is_among want.transfer host.tickets ≡ false
+    none = none-of (is_among want.transfer host.tickets) refl
 
     waited : waits new want.transfer ≡ true
     waited = sym (waits-want (waiting new) want.transfer) ∙ ap is_some begins_to.awaited
 
-    ticketed : (u : ℕ) (own : Bool) → (want.transfer == u) ≡ own → waits new u ≡ true → is_among u (with_ticket want.transfer tickets) ≡ true
-    ticketed u true is w = among-with u want.transfer tickets ∙ ap (λ b. b || is_among u tickets) is
+    ticketed : (u : ℕ) (own : Bool) → (want.transfer == u) ≡ own → waits new u ≡ true → is_among u (with_ticket want.transfer host.tickets) ≡ true
+    ticketed u true is w = among-with u want.transfer host.tickets ∙ ap (λ b. b || is_among u host.tickets) is
     ticketed u false is w =
-        among-with u want.transfer tickets ∙ ap (λ b. b || is_among u tickets) is ∙ fits.stands.ticketed u (sym (told-waits log new u (begins_to.others u is)) ∙ w)
+        among-with u want.transfer host.tickets ∙ ap (λ b. b || is_among u host.tickets) is ∙ fits.stands.ticketed u (sym (told-waits host.log new u (begins_to.others u is)) ∙ w)
 
-    served : (u : ℕ) (own : Bool) → (want.transfer == u) ≡ own → ((want.transfer == u) || is_among u tickets) ≡ true → is_served new u ≡ true
+    served : (u : ℕ) (own : Bool) → (want.transfer == u) ≡ own → ((want.transfer == u) || is_among u host.tickets) ≡ true → is_served new u ≡ true
     served u true is among = subst (λ (k : ℕ). is_served new k ≡ true) (eqb-true want.transfer u is) (ap (λ b. b || is_some (held_number new want.transfer)) waited)
-    served u false is among = told-served log new u (begins_to.others u is) ∙ fits.stands.served u (sym (ap (λ b. b || is_among u tickets) is) ∙ among)
+    served u false is among = told-served host.log new u (begins_to.others u is) ∙ fits.stands.served u (sym (ap (λ b. b || is_among u host.tickets) is) ∙ among)
 
 -- the newest entry of an acquire is a start or a wait
 abbrev IsEither : List Entry → Type 0
@@ -154,90 +155,87 @@ either-start settings log want now = by_waiting (waiting log)
     by_waiting [] = let closed = without_too_old want moment log in either-on settings want moment closed (newest_fit closed want moment)
     by_waiting (head ∷ others) = λ none. refl
 
-module _ (settings : LimitAndFirst) (log : List Entry) (tickets : List ℕ) (sound : IsSound settings log) (fits : Fits log tickets) where
-  fits_get : (want : Want) (moment : ℕ) → let answer = get_at settings want moment log tickets in Fits answer.log answer.tickets
+module _ (settings : LimitAndFirst) (host : ScriptHost) (sound : IsSound settings host.log) (fits : Fits host) where
+  fits_get : (want : Want) (moment : ℕ) → Fits (get_at settings want moment host).host
   unfolding get_at
-  fits_get want moment = by_refusal (refusal settings log want) refl
+  fits_get want moment = by_refusal (refusal settings host.log want) refl
     where
       new : List Entry
-      new = after_acquire settings log want moment
+      new = after_acquire settings host.log want moment
 
-      by_wait : (wait : Option Wait) → is_some wait ≡ true → Fits new (with_ticket want.transfer tickets) → Fits new (tickets_with want.transfer tickets wait)
+      by_wait : (wait : Option Wait) → is_some wait ≡ true → Fits (record { log = new; tickets = with_ticket want.transfer host.tickets }) → Fits (record { log = new; tickets = tickets_with want.transfer host.tickets wait })
       by_wait (Some wait) there fits_new = fits_new
       by_wait None there fits_new = absurd (cc)
 
-      by_begin : refusal settings log want ≡ None → Starts want log new ⊎ Waits want log new → Fits new (tickets_with want.transfer tickets (newest_wait new))
-      by_begin is (inl starts) = subst (λ wait. Fits new (tickets_with want.transfer tickets wait)) (sym starts.no_wait) (begins want log new tickets starts fits)
+      by_begin : refusal settings host.log want ≡ None → Starts want host.log new ⊎ Waits want host.log new → Fits (record { log = new; tickets = tickets_with want.transfer host.tickets (newest_wait new) })
+      by_begin is (inl starts) = subst (λ wait. Fits (record { log = new; tickets = tickets_with want.transfer host.tickets wait })) (sym starts.no_wait) (begins want host new starts fits)
       by_begin is (inr begins_to) =
-          let free = accepted-free settings log sound want is in
-          by_wait (newest_wait new) (either-start settings log want moment begins_to.no_start) (waits-there want log new tickets free.0 free.1 begins_to fits)
+          let free = accepted-free settings host.log sound want is in
+          by_wait (newest_wait new) (either-start settings host.log want moment begins_to.no_start) (waits-there want host new free.0 free.1 begins_to fits)
 
-      by_refusal : (reason : Option Refusal) → refusal settings log want ≡ reason → let answer = get_unless settings want moment log tickets reason in Fits answer.log answer.tickets
+      by_refusal : (reason : Option Refusal) → refusal settings host.log want ≡ reason → Fits (get_unless settings want moment host reason).host
       by_refusal (Some r) is = fits
-      by_refusal None is = by_begin is (begun settings log want moment sound is)
+      by_refusal None is = by_begin is (begun settings host.log want moment sound is)
 
-  holder-unwaiting : (transfer c : ℕ) → held_number log transfer ≡ Some c → waits log transfer ≡ false
-  holder-unwaiting transfer c held = by_waits (waits log transfer) refl
+  holder-unwaiting : (transfer c : ℕ) → held_number host.log transfer ≡ Some c → waits host.log transfer ≡ false
+  holder-unwaiting transfer c held = by_waits (waits host.log transfer) refl
     where
-      by_waits : (waiting_now : Bool) → waits log transfer ≡ waiting_now → waiting_now ≡ false
+      by_waits : (waiting_now : Bool) → waits host.log transfer ≡ waiting_now → waiting_now ≡ false
       by_waits true is = let both : Some c ≡ None = sym held ∙ sound.orderly.waiting_free transfer is in absurd (cc)
       by_waits false is = refl
 
-  fits_claim : (transfer : ℕ) → let answer = claim_at transfer log tickets in Fits answer.log answer.tickets
+  fits_claim : (transfer : ℕ) → Fits (claim_at transfer host).host
   unfolding claim_at
-  fits_claim transfer = by_ticket (is_among transfer tickets)
+  fits_claim transfer = by_ticket (is_among transfer host.tickets)
     where
-      by_held : (held : Option ℕ) → held_number log transfer ≡ held → let answer = claim_of transfer log tickets held in Fits answer.log answer.tickets
+      by_held : (held : Option ℕ) → held_number host.log transfer ≡ held → Fits (claim_of transfer host held).host
       by_held None is = fits
-      by_held (Some c) is = spent transfer log log tickets (record { moves = still transfer log; gone = holder-unwaiting transfer c is }) fits
+      by_held (Some c) is = spent transfer host host.log (record { moves = still transfer host.log; gone = holder-unwaiting transfer c is }) fits
 
-      by_ticket : (ticketed : Bool) → let answer = (if ticketed then claim_of transfer log tickets (held_number log transfer) else stranger log tickets) in Fits answer.log answer.tickets
-      by_ticket true = by_held (held_number log transfer) refl
+      by_ticket : (ticketed : Bool) → Fits (if ticketed then claim_of transfer host (held_number host.log transfer) else stranger host).host
+      by_ticket true = by_held (held_number host.log transfer) refl
       by_ticket false = fits
 
-  unticketed : (transfer c : ℕ) → claimed_number log tickets transfer ≡ Some c → is_among transfer tickets ≡ false
-  unticketed transfer c leased = by_ticket (is_among transfer tickets) leased
+  unticketed : (transfer c : ℕ) → claimed_number host transfer ≡ Some c → is_among transfer host.tickets ≡ false
+  unticketed transfer c leased = by_ticket (is_among transfer host.tickets) leased
     where
-      by_ticket : (ticketed : Bool) → cond ticketed None (held_number log transfer) ≡ Some c → ticketed ≡ false
+      by_ticket : (ticketed : Bool) → cond ticketed None (held_number host.log transfer) ≡ Some c → ticketed ≡ false
       by_ticket true e = cc
       by_ticket false e = refl
 
-  fits_back : (transfer : ℕ) (ending : Ending) (moment : ℕ) → let answer = back_at settings transfer ending moment log tickets in Fits answer.log answer.tickets
+  fits_back : (transfer : ℕ) (ending : Ending) (moment : ℕ) → Fits (back_at settings transfer ending moment host).host
   unfolding back_at
-  fits_back transfer ending moment = by_leased (claimed_number log tickets transfer) refl
+  fits_back transfer ending moment = by_leased (claimed_number host transfer) refl
     where
-      by_leased : (leased : Option ℕ) → claimed_number log tickets transfer ≡ leased → let answer = back_of settings ending moment log tickets leased in Fits answer.log answer.tickets
+      by_leased : (leased : Option ℕ) → claimed_number host transfer ≡ leased → Fits (back_of settings ending moment host leased).host
       by_leased None is = fits
       by_leased (Some c) is =
-          let held = held-where-leased (is_among transfer tickets) (held_number log transfer) c is in
-          moved transfer log _ tickets (given-back settings log sound transfer c held (facts_of_ending ending) moment) (unticketed transfer c is) fits
+          let held = held-where-leased (is_among transfer host.tickets) (held_number host.log transfer) c is in
+          moved transfer host _ (given-back settings host.log sound transfer c held (facts_of_ending ending) moment) (unticketed transfer c is) fits
 
-  fits_drop : (transfer moment : ℕ) → let answer = drop_at settings transfer moment log tickets in Fits answer.log answer.tickets
+  fits_drop : (transfer moment : ℕ) → Fits (drop_at settings transfer moment host).host
   unfolding drop_at
-  fits_drop transfer moment = by_leased (claimed_number log tickets transfer) refl
+  fits_drop transfer moment = by_leased (claimed_number host transfer) refl
     where
-      by_leased : (leased : Option ℕ) → claimed_number log tickets transfer ≡ leased → let answer = drop_of settings moment log tickets leased in Fits answer.log answer.tickets
+      by_leased : (leased : Option ℕ) → claimed_number host transfer ≡ leased → Fits (drop_of settings moment host leased).host
       by_leased None is = fits
       by_leased (Some c) is =
-          let held = held-where-leased (is_among transfer tickets) (held_number log transfer) c is in
-          moved transfer log _ tickets (abandoned settings log sound transfer c held moment) (unticketed transfer c is) fits
+          let held = held-where-leased (is_among transfer host.tickets) (held_number host.log transfer) c is in
+          moved transfer host _ (abandoned settings host.log sound transfer c held moment) (unticketed transfer c is) fits
 
-  fits_leave : (transfer moment : ℕ) → let answer = leave_at settings transfer moment log tickets in Fits answer.log answer.tickets
+  fits_leave : (transfer moment : ℕ) → Fits (leave_at settings transfer moment host).host
   unfolding leave_at
-  fits_leave transfer moment = by_ticket (is_among transfer tickets)
+  fits_leave transfer moment = by_ticket (is_among transfer host.tickets)
     where
-      left : List Entry
-      left = after_withdraw settings log transfer moment
-
-      by_ticket : (ticketed : Bool) → let answer = (if ticketed then grown log left (without_ticket transfer tickets) else stranger log tickets) in Fits answer.log answer.tickets
-      by_ticket true = spent transfer log left tickets (withdrawn settings log sound transfer moment) fits
+      by_ticket : (ticketed : Bool) → Fits (if ticketed then grown host (after_leaving settings transfer moment host) else stranger host).host
+      by_ticket true = spent transfer host _ (withdrawn settings host.log sound transfer moment) fits
       by_ticket false = fits
 
-  fits_look : let answer = look_at log tickets in Fits answer.log answer.tickets
+  fits_look : Fits (look_at host).host
   unfolding look_at
   fits_look = fits
 
-  fits_at_host : (action : Action) → let answer = at_host settings log tickets action in Fits answer.log answer.tickets
+  fits_at_host : (action : Action) → Fits (at_host settings host action).host
   fits_at_host (actions.Get want moment) = fits_get want moment
   fits_at_host (actions.Claim transfer) = fits_claim transfer
   fits_at_host (actions.Back transfer ending moment) = fits_back transfer ending moment
@@ -245,29 +243,29 @@ module _ (settings : LimitAndFirst) (log : List Entry) (tickets : List ℕ) (sou
   fits_at_host (actions.Leave transfer moment) = fits_leave transfer moment
   fits_at_host actions.Look = fits_look
 
-fits_at_no_host : (log : List Entry) (tickets : List ℕ) → Fits log tickets → (action : Action) → let answer = at_no_host log tickets action in Fits answer.log answer.tickets
-fits_at_no_host log tickets fits (actions.Get want moment) = fits
-fits_at_no_host log tickets fits (actions.Claim transfer) = fits
-fits_at_no_host log tickets fits (actions.Back transfer ending moment) = fits
-fits_at_no_host log tickets fits (actions.Drop transfer moment) = fits
-fits_at_no_host log tickets fits (actions.Leave transfer moment) = fits
-fits_at_no_host log tickets fits actions.Look = fits
+fits_at_no_host : (host : ScriptHost) → Fits host → (action : Action) → Fits (at_no_host host action).host
+fits_at_no_host host fits (actions.Get want moment) = fits
+fits_at_no_host host fits (actions.Claim transfer) = fits
+fits_at_no_host host fits (actions.Back transfer ending moment) = fits
+fits_at_no_host host fits (actions.Drop transfer moment) = fits
+fits_at_no_host host fits (actions.Leave transfer moment) = fits
+fits_at_no_host host fits actions.Look = fits
 
 -- a run's, and what a step makes
 abbrev FitRun : Run → Type 0
-FitRun run = Fits run.log run.tickets
+FitRun run = Fits run.host
 
 abbrev FitStep : Result (Run × List ℕ) FaultKind → Type 0
 FitStep (Err kind) = Unit {0}
 FitStep (Ok next) = FitRun next.0
 
-fits_command : (run : Run) (site : ℕ) (action : Action) (old : Option Limits) → SoundUnder old run.log → FitRun run → FitStep (with_action run site action old)
+fits_command : (run : Run) (site : ℕ) (action : Action) (old : Option Limits) → SoundUnder old run.host.log → FitRun run → FitStep (with_action run site action old)
 fits_command run site action None sound fits = tt
 fits_command run site action (Some limits) sound fits = by_test (has_site run.sites && (site == 0))
   where
-    by_test : (here : Bool) → let answer = (if here then at_host (settings_of limits) run.log run.tickets action else at_no_host run.log run.tickets action) in Fits answer.log answer.tickets
-    by_test true = fits_at_host (settings_of limits) run.log run.tickets sound.sound fits action
-    by_test false = fits_at_no_host run.log run.tickets fits action
+    by_test : (here : Bool) → Fits (if here then at_host (settings_of limits) run.host action else at_no_host run.host action).host
+    by_test true = fits_at_host (settings_of limits) run.host sound.sound fits action
+    by_test false = fits_at_no_host run.host fits action
 
 fits_limits : (run : Run) (limits : Limits) (old : Option Limits) → FitRun run → FitStep (with_limits run limits old)
 fits_limits run limits (Some others) fits = tt
@@ -324,6 +322,6 @@ module _ (keep : CallsKeep) where
   pub every_ticket_stands : EveryTicketStands
   every_ticket_stands script = by_length (nat_lt LONGEST_SCRIPT (length script))
     where
-      by_length : (too_long : Bool) → let run = (if too_long then start else run_after start (lines script)) in TicketsStand run.log run.tickets
+      by_length : (too_long : Bool) → TicketsStand (if too_long then start else run_after start (lines script)).host
       by_length true = none_yet.stands
       by_length false = (fits_after start (lines script) refl none_yet).stands

@@ -1,16 +1,18 @@
--- The one host of a script, as its callers see it, and the leases and tickets that it keeps.
+-- The one host of a script with its terms, as its callers see it, and the leases and tickets that it keeps.
 use Rattle.std.specs.Prelude.{◌≡◌, ℕ, Bool, true, false, ◌==◌, nat_lt, if◌then◌else◌, List, [], ◌∷◌, Option, None, is_some}
 use Rattle.std.specs.Option.{option_map}
-use Rattle.conn_log.specs.declared.entry.Entry.{Entry}
 use Rattle.conn_log.specs.declared.entry.Want.{Want}
 use Rattle.conn_log.specs.Legal.{LimitAndFirst}
 use Rattle.bundle.specs.Lease.{HostShown, Leasing, Ticketed, lease_number, ticket_want}
-use Rattle.script_engine.specs.Meaning.{with_ticket}
+use Rattle.script_engine.specs.Meaning.{ScriptHost, with_ticket}
 
 pub record Hosted : Type 0 where
-  pub log : List Entry
   pub settings : LimitAndFirst
-  pub tickets : List ℕ
+  pub host : ScriptHost
+
+-- a bundle, and the transfers whose tickets are kept beside it, as a script's host
+abbrev pub kept_host : {S : Type 0} → HostShown S → List ℕ → ScriptHost
+kept_host bundle tickets = record { log = bundle.log; tickets = tickets }
 
 -- a lease's connection and transfer, and whether it has its stream
 abbrev pub lease_facts : {S : Type 0} → Leasing S → ℕ × ℕ × Bool

@@ -8,7 +8,7 @@ use Rattle.conn_log.specs.Connections.{is_among, is_open, holder, held_number, c
 use Rattle.conn_log.specs.Waiting.{waiting, waits}
 use Rattle.conn_log.specs.Legal.{IsLegal, IsQuiet}
 use Rattle.script_text.specs.Lines.{lines}
-use Rattle.script_engine.specs.Meaning.{Run, start, settings_of}
+use Rattle.script_engine.specs.Meaning.{ScriptHost, Run, start, settings_of}
 use Rattle.script_engine.specs.Transcript.{line_step, LONGEST_SCRIPT}
 use Rattle.script_text.specs.declared.command.Limits.{Limits}
 use Rattle.script_text.specs.declared.fault.FaultKind.{FaultKind}
@@ -28,7 +28,7 @@ run_behind script = if nat_lt LONGEST_SCRIPT (length script) then start else run
 
 -- the log behind a transcript
 abbrev pub log_behind : List ℕ → List Entry
-log_behind script = (run_behind script).log
+log_behind script = (run_behind script).host.log
 
 -- the limits that a script gives
 abbrev pub limits_of : List ℕ → Option Limits
@@ -76,9 +76,9 @@ EachStartIsOfTheHead (e ∷ before) = StartsTheHead before e.event × EachStartI
 abbrev pub is_served : List Entry → ℕ → Bool
 is_served log transfer = waits log transfer || is_some (held_number log transfer)
 
-pub record TicketsStand (log : List Entry) (tickets : List ℕ) : Type 0 where
-  pub ticketed : (transfer : ℕ) → waits log transfer ≡ true → is_among transfer tickets ≡ true
-  pub served : (transfer : ℕ) → is_among transfer tickets ≡ true → is_served log transfer ≡ true
+pub record TicketsStand (host : ScriptHost) : Type 0 where
+  pub ticketed : (transfer : ℕ) → waits host.log transfer ≡ true → is_among transfer host.tickets ≡ true
+  pub served : (transfer : ℕ) → is_among transfer host.tickets ≡ true → is_served host.log transfer ≡ true
 
 -- for every script, the log behind its transcript is legal and quiet; each lease in it is of a connection that was
 -- opened before, came back whole and persistent, and is held by nobody at that place; the transfers are
@@ -96,4 +96,4 @@ abbrev pub EveryStartIsOfTheHead : Type 0
 EveryStartIsOfTheHead = (script : List ℕ) → EachStartIsOfTheHead (log_behind script)
 
 abbrev pub EveryTicketStands : Type 0
-EveryTicketStands = (script : List ℕ) → TicketsStand (log_behind script) (run_behind script).tickets
+EveryTicketStands = (script : List ℕ) → TicketsStand (run_behind script).host

@@ -1,4 +1,4 @@
--- What a command means: what it makes of the log and of the tickets, and the lines that tell of it.
+-- What a command means: what it makes of a script's host, and the lines that tell of it.
 use Rattle.std.specs.Prelude.{ℕ, ◌-◌, Bool, true, false, ◌==◌, ◌&&◌, nat_lt, nat_le, if◌then◌else◌, codes, List, [], ◌∷◌, length, Option, Some, None, is_none, Result, Ok, Err}
 use Rattle.persistence.specs.declared.facts.Facts.{Facts}
 use Rattle.persistence.specs.declared.facts.Version.TheVariants.{V10, V11}
@@ -43,7 +43,16 @@ facts_of_ending Surplus = record plain { surplus = true }
 abbrev pub settings_of : Limits → LimitAndFirst
 settings_of limits = record { limit = limits.host; first = 1 }
 
--- tickets: the transfers that have a ticket which they have not claimed, in ascending order
+-- a script's host: its log, and the transfers that have a ticket which they have not claimed, in
+-- ascending order
+pub record ScriptHost : Type 0 where
+  pub log : List Entry
+  pub tickets : List ℕ
+
+abbrev pub new_host : ScriptHost
+new_host = record { log = []; tickets = [] }
+
+-- a transfer more that has a ticket, and one less
 abbrev pub with_ticket : ℕ → List ℕ → List ℕ
 with_ticket transfer [] = transfer ∷ []
 with_ticket transfer (other ∷ others) =
@@ -55,20 +64,19 @@ without_ticket transfer [] = []
 without_ticket transfer (other ∷ others) = if transfer == other then others else other ∷ without_ticket transfer others
 
 -- the connection that a transfer has a lease of: the one that it holds, unless it has yet to claim it
-abbrev pub claimed_number : List Entry → List ℕ → ℕ → Option ℕ
-claimed_number log tickets transfer = if is_among transfer tickets then None else held_number log transfer
+abbrev pub claimed_number : ScriptHost → ℕ → Option ℕ
+claimed_number host transfer = if is_among transfer host.tickets then None else held_number host.log transfer
 
--- the log after a command, the tickets, and the lines that tell of it
+-- the host after a command, and the lines that tell of it
 pub record Answer : Type 0 where
-  pub log : List Entry
-  pub tickets : List ℕ
+  pub host : ScriptHost
   pub text : List ℕ
 
-abbrev pub replied : List Entry → List ℕ → List ℕ → Answer
-replied log tickets text = record { log = log; tickets = tickets; text = text }
+abbrev pub replied : ScriptHost → List ℕ → Answer
+replied host text = record { host = host; text = text }
 
-abbrev pub grown : List Entry → List Entry → List ℕ → Answer
-grown old new tickets = record { log = new; tickets = tickets; text = lines_since old new }
+abbrev pub grown : ScriptHost → ScriptHost → Answer
+grown old new = record { host = new; text = lines_since old.log new.log }
 
 -- why an acquire is refused, in a word
 abbrev pub refusal_word : Refusal → List ℕ
@@ -81,84 +89,83 @@ abbrev pub tickets_with : ℕ → List ℕ → Option Wait → List ℕ
 tickets_with transfer tickets None = tickets
 tickets_with transfer tickets (Some wait) = with_ticket transfer tickets
 
-abbrev pub acquired : Want → List Entry → List ℕ → List Entry → Answer
-acquired want log tickets new = grown log new (tickets_with want.transfer tickets (newest_wait new))
+abbrev pub acquired : Want → ScriptHost → List Entry → Answer
+acquired want host new = grown host (record { log = new; tickets = tickets_with want.transfer host.tickets (newest_wait new) })
 
-abbrev pub get_unless : LimitAndFirst → Want → ℕ → List Entry → List ℕ → Option Refusal → Answer
-get_unless settings want moment log tickets None = acquired want log tickets (after_acquire settings log want moment)
-get_unless settings want moment log tickets (Some r) = replied log tickets (refused (refusal_word r))
+abbrev pub get_unless : LimitAndFirst → Want → ℕ → ScriptHost → Option Refusal → Answer
+get_unless settings want moment host None = acquired want host (after_acquire settings host.log want moment)
+get_unless settings want moment host (Some r) = replied host (refused (refusal_word r))
 
-unfoldable pub get_at : LimitAndFirst → Want → ℕ → List Entry → List ℕ → Answer
-get_at settings want moment log tickets = get_unless settings want moment log tickets (refusal settings log want)
+unfoldable pub get_at : LimitAndFirst → Want → ℕ → ScriptHost → Answer
+get_at settings want moment host = get_unless settings want moment host (refusal settings host.log want)
 
 -- a stranger: back and drop need a lease, claim and leave a ticket
-abbrev pub stranger : List Entry → List ℕ → Answer
-stranger log tickets = replied log tickets (refused (codes "stranger"))
+abbrev pub stranger : ScriptHost → Answer
+stranger host = replied host (refused (codes "stranger"))
 
-abbrev pub back_of : LimitAndFirst → Ending → ℕ → List Entry → List ℕ → Option ℕ → Answer
-back_of settings ending moment log tickets None = stranger log tickets
-back_of settings ending moment log tickets (Some c) = grown log (after_give_back settings log c (facts_of_ending ending) moment) tickets
+abbrev pub back_of : LimitAndFirst → Ending → ℕ → ScriptHost → Option ℕ → Answer
+back_of settings ending moment host None = stranger host
+back_of settings ending moment host (Some c) = grown host (record host { log = after_give_back settings host.log c (facts_of_ending ending) moment })
 
-unfoldable pub back_at : LimitAndFirst → ℕ → Ending → ℕ → List Entry → List ℕ → Answer
-back_at settings transfer ending moment log tickets = back_of settings ending moment log tickets (claimed_number log tickets transfer)
+unfoldable pub back_at : LimitAndFirst → ℕ → Ending → ℕ → ScriptHost → Answer
+back_at settings transfer ending moment host = back_of settings ending moment host (claimed_number host transfer)
 
-abbrev pub drop_of : LimitAndFirst → ℕ → List Entry → List ℕ → Option ℕ → Answer
-drop_of settings moment log tickets None = stranger log tickets
-drop_of settings moment log tickets (Some c) = grown log (after_abandon settings log c moment) tickets
+abbrev pub drop_of : LimitAndFirst → ℕ → ScriptHost → Option ℕ → Answer
+drop_of settings moment host None = stranger host
+drop_of settings moment host (Some c) = grown host (record host { log = after_abandon settings host.log c moment })
 
-unfoldable pub drop_at : LimitAndFirst → ℕ → ℕ → List Entry → List ℕ → Answer
-drop_at settings transfer moment log tickets = drop_of settings moment log tickets (claimed_number log tickets transfer)
+unfoldable pub drop_at : LimitAndFirst → ℕ → ℕ → ScriptHost → Answer
+drop_at settings transfer moment host = drop_of settings moment host (claimed_number host transfer)
 
 -- claim: the transfer gets what it was granted, and has spent its ticket; or it still waits
-abbrev pub claim_of : ℕ → List Entry → List ℕ → Option ℕ → Answer
-claim_of transfer log tickets None = replied log tickets still_line
-claim_of transfer log tickets (Some c) = replied log (without_ticket transfer tickets) (claimed_line 0 c)
+abbrev pub claim_of : ℕ → ScriptHost → Option ℕ → Answer
+claim_of transfer host None = replied host still_line
+claim_of transfer host (Some c) = replied (record host { tickets = without_ticket transfer host.tickets }) (claimed_line 0 c)
 
-unfoldable pub claim_at : ℕ → List Entry → List ℕ → Answer
-claim_at transfer log tickets = if is_among transfer tickets then claim_of transfer log tickets (held_number log transfer) else stranger log tickets
+unfoldable pub claim_at : ℕ → ScriptHost → Answer
+claim_at transfer host = if is_among transfer host.tickets then claim_of transfer host (held_number host.log transfer) else stranger host
 
 -- leave: the transfer gives its ticket up
-unfoldable pub leave_at : LimitAndFirst → ℕ → ℕ → List Entry → List ℕ → Answer
-leave_at settings transfer moment log tickets =
-    if is_among transfer tickets then grown log (after_withdraw settings log transfer moment) (without_ticket transfer tickets) else stranger log tickets
+abbrev pub after_leaving : LimitAndFirst → ℕ → ℕ → ScriptHost → ScriptHost
+after_leaving settings transfer moment host = record { log = after_withdraw settings host.log transfer moment; tickets = without_ticket transfer host.tickets }
+
+unfoldable pub leave_at : LimitAndFirst → ℕ → ℕ → ScriptHost → Answer
+leave_at settings transfer moment host = if is_among transfer host.tickets then grown host (after_leaving settings transfer moment host) else stranger host
 
 -- look counts
-unfoldable pub look_at : List Entry → List ℕ → Answer
-look_at log tickets = let alive = length (open_connections log) in let idle = length (idle_connections log) in
-    replied log tickets (look_line 0 alive idle (alive - idle) (length (waiting log)) false)
+unfoldable pub look_at : ScriptHost → Answer
+look_at host = let alive = length (open_connections host.log) in let idle = length (idle_connections host.log) in
+    replied host (look_line 0 alive idle (alive - idle) (length (waiting host.log)) false)
 
 -- an action at a site that is there, and at one that is not
-abbrev pub at_host : LimitAndFirst → List Entry → List ℕ → Action → Answer
-at_host settings log tickets (actions.Get want moment) = get_at settings want moment log tickets
-at_host settings log tickets (actions.Claim transfer) = claim_at transfer log tickets
-at_host settings log tickets (actions.Back transfer ending moment) = back_at settings transfer ending moment log tickets
-at_host settings log tickets (actions.Drop transfer moment) = drop_at settings transfer moment log tickets
-at_host settings log tickets (actions.Leave transfer moment) = leave_at settings transfer moment log tickets
-at_host settings log tickets actions.Look = look_at log tickets
+abbrev pub at_host : LimitAndFirst → ScriptHost → Action → Answer
+at_host settings host (actions.Get want moment) = get_at settings want moment host
+at_host settings host (actions.Claim transfer) = claim_at transfer host
+at_host settings host (actions.Back transfer ending moment) = back_at settings transfer ending moment host
+at_host settings host (actions.Drop transfer moment) = drop_at settings transfer moment host
+at_host settings host (actions.Leave transfer moment) = leave_at settings transfer moment host
+at_host settings host actions.Look = look_at host
 
-abbrev pub at_no_host : List Entry → List ℕ → Action → Answer
-at_no_host log tickets (actions.Get want moment) = replied log tickets (refused (codes "bad-site"))
-at_no_host log tickets actions.Look = replied log tickets (refused (codes "bad-site"))
-at_no_host log tickets (actions.Claim transfer) = stranger log tickets
-at_no_host log tickets (actions.Back transfer ending moment) = stranger log tickets
-at_no_host log tickets (actions.Drop transfer moment) = stranger log tickets
-at_no_host log tickets (actions.Leave transfer moment) = stranger log tickets
+abbrev pub at_no_host : ScriptHost → Action → Answer
+at_no_host host (actions.Get want moment) = replied host (refused (codes "bad-site"))
+at_no_host host actions.Look = replied host (refused (codes "bad-site"))
+at_no_host host (actions.Claim transfer) = stranger host
+at_no_host host (actions.Back transfer ending moment) = stranger host
+at_no_host host (actions.Drop transfer moment) = stranger host
+at_no_host host (actions.Leave transfer moment) = stranger host
 
-abbrev pub answer_of : Limits → Bool → List Entry → List ℕ → ℕ → Action → Answer
-answer_of limits there log tickets site action =
-    if there && (site == 0) then at_host (settings_of limits) log tickets action else at_no_host log tickets action
+abbrev pub answer_of : Limits → Bool → ScriptHost → ℕ → Action → Answer
+answer_of limits there host site action = if there && (site == 0) then at_host (settings_of limits) host action else at_no_host host action
 
--- a run so far: the limits, the sites by host and port, whether a command came after these, the log, and
--- the tickets
+-- a run so far: the limits, the sites by host and port, whether a command came after these, and the host
 pub record Run : Type 0 where
   pub limits : Option Limits
   pub sites : List Site
   pub has_begun : Bool
-  pub log : List Entry
-  pub tickets : List ℕ
+  pub host : ScriptHost
 
 abbrev pub start : Run
-start = record { limits = None; sites = []; has_begun = false; log = []; tickets = [] }
+start = record { limits = None; sites = []; has_begun = false; host = new_host }
 
 -- limits: no limit on all hosts yet; a host's from 1 to what may be kept, which is at most 65,535
 abbrev pub are_good : Limits → Bool
@@ -187,11 +194,11 @@ with_url run word None = Err Place
 with_url run word (Some limits) = if run.has_begun then Err Place else add_site run (site_named word)
 
 abbrev pub after_answer : Run → Answer → Run × List ℕ
-after_answer run answer = (record run { has_begun = true; log = answer.log; tickets = answer.tickets }, answer.text)
+after_answer run answer = (record run { has_begun = true; host = answer.host }, answer.text)
 
 abbrev pub with_action : Run → ℕ → Action → Option Limits → Result (Run × List ℕ) FaultKind
 with_action run site action None = Err Place
-with_action run site action (Some limits) = Ok (after_answer run (answer_of limits (has_site run.sites) run.log run.tickets site action))
+with_action run site action (Some limits) = Ok (after_answer run (answer_of limits (has_site run.sites) run.host site action))
 
 -- the script's end: where limits are given the run has begun by then
 abbrev pub at_script_end : Run → Option Limits → Run

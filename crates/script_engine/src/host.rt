@@ -1,8 +1,8 @@
 //! The one host of a script: its bundle, and the leases and tickets that its transfers have.
 
-ghost use Rattle.std.specs.Prelude.{◌≡◌, IfOk, IfErr, string_bytes, []};
-ghost use Rattle.script_engine.specs.Meaning.{settings_of, get_at, claim_at, back_at, drop_at};
-ghost use Rattle.script_engine.specs.Meaning.{leave_at, look_at};
+ghost use Rattle.std.specs.Prelude.{◌≡◌, IfOk, IfErr, string_bytes};
+ghost use Rattle.script_engine.specs.Meaning.{settings_of, new_host, get_at, claim_at, back_at};
+ghost use Rattle.script_engine.specs.Meaning.{drop_at, leave_at, look_at};
 ghost use Rattle.script_engine.specs.Ending.{IsEnding};
 ghost use Rattle.script_engine.specs.Transcript.{Gives};
 
@@ -34,14 +34,13 @@ impl Model for OneHost {
     ghost use Rattle.std.specs.Prelude.{◌≡◌};
     ghost use Rattle.std.specs.Ordering.{nat_cmp};
     ghost use Rattle.std.specs.BTreeMap.{get, keys, IsOrdered};
-    ghost use Rattle.script_engine.specs.Hosted.{Hosted, Keeps};
+    ghost use Rattle.script_engine.specs.Hosted.{Hosted, Keeps, kept_host};
 
     ghost Value = { Hosted };
 
     ghost view = { λ h. record {
-      log = h.bundle.log;
       settings = h.bundle.settings;
-      tickets = keys h.tickets;
+      host = kept_host h.bundle (keys h.tickets);
     } };
 
     ghost invariant = { λ h. (h.bundle.settings.first ≡ 1)
@@ -53,9 +52,8 @@ impl OneHost {
     /// A host without connections.
     pub fn new(alloc: Global, limits: Limits) -> Result<OneHost, FaultKind>
         ensures ok { IfOk result (λ h. h ≡ record {
-          log = [];
           settings = settings_of limits;
-          tickets = [];
+          host = new_host;
         }) }
         ensures err { IfErr result (λ kind. kind ≡ FaultKind.Memory) }
     {
@@ -71,8 +69,8 @@ impl OneHost {
 
     /// The transfer acquires a connection, or begins to wait for one.
     pub fn get(&mut self, alloc: Global, want: Want, moment: u64) -> Result<String, FaultKind>
-        ensures answer { Gives string_bytes (get_at self.old.settings want moment self.old.log
-            self.old.tickets) result self.new.log self.new.tickets }
+        ensures answer { Gives string_bytes (get_at self.old.settings want moment self.old.host)
+            result self.new.host }
         ensures settings { self.new.settings ≡ self.old.settings }
     {
         let place = self.bundle.log().len();
@@ -95,8 +93,8 @@ impl OneHost {
 
     /// The transfer claims the connection that it waits for.
     pub fn claim(&mut self, alloc: Global, transfer: u64) -> Result<String, FaultKind>
-        ensures answer { Gives string_bytes (claim_at transfer self.old.log self.old.tickets) result
-            self.new.log self.new.tickets }
+        ensures answer { Gives string_bytes (claim_at transfer self.old.host) result
+            self.new.host }
         ensures settings { self.new.settings ≡ self.old.settings }
     {
         // The log is sound: who waits holds nothing.
@@ -130,7 +128,7 @@ impl OneHost {
         moment: u64,
     ) -> Result<String, FaultKind>
         ensures answer { Gives string_bytes (back_at self.old.settings transfer ending moment
-            self.old.log self.old.tickets) result self.new.log self.new.tickets }
+            self.old.host) result self.new.host }
         ensures settings { self.new.settings ≡ self.old.settings }
     {
         let place = self.bundle.log().len();
@@ -150,8 +148,8 @@ impl OneHost {
         transfer: u64,
         moment: u64,
     ) -> Result<String, FaultKind>
-        ensures answer { Gives string_bytes (drop_at self.old.settings transfer moment self.old.log
-            self.old.tickets) result self.new.log self.new.tickets }
+        ensures answer { Gives string_bytes (drop_at self.old.settings transfer moment
+            self.old.host) result self.new.host }
         ensures settings { self.new.settings ≡ self.old.settings }
     {
         let place = self.bundle.log().len();
@@ -166,8 +164,8 @@ impl OneHost {
 
     /// The transfer leaves where it waits.
     pub fn leave(&mut self, alloc: Global, transfer: u64, moment: u64) -> Result<String, FaultKind>
-        ensures answer { Gives string_bytes (leave_at self.old.settings transfer moment self.old.log
-            self.old.tickets) result self.new.log self.new.tickets }
+        ensures answer { Gives string_bytes (leave_at self.old.settings transfer moment
+            self.old.host) result self.new.host }
         ensures settings { self.new.settings ≡ self.old.settings }
     {
         let place = self.bundle.log().len();
@@ -182,8 +180,7 @@ impl OneHost {
 
     /// What the connections do.
     pub fn look(&self, alloc: Global) -> Result<String, FaultKind>
-        ensures { Gives string_bytes (look_at self.now.log self.now.tickets) result self.now.log
-            self.now.tickets }
+        ensures { Gives string_bytes (look_at self.now.host) result self.now.host }
     {
         let Snapshot {
             alive,
@@ -209,7 +206,7 @@ impl OneHost {
     /// Abandons the leases and withdraws the tickets, by transfer, at moment 0; gives the bundle
     /// that is left.
     pub fn end(self) -> Bundle<()>
-        ensures ending { IsEnding self.settings self.log self.tickets result.log }
+        ensures ending { IsEnding self.settings self.host result.log }
         ensures settings { result.settings ≡ self.settings }
     {
         let OneHost {

@@ -8,10 +8,11 @@ ghost use Rattle.conn_log.specs.Connections.{is_held_by, held_number};
 ghost use Rattle.conn_log.specs.Sound.{IsSound};
 ghost use Rattle.bundle.specs.Calls.{after_give_back, after_abandon, after_withdraw};
 ghost use Rattle.bundle.specs.Lease.{Spends, lease_number, ticket_want, is_valid_ticket};
-ghost use Rattle.script_engine.specs.Meaning.{with_ticket, without_ticket, facts_of_ending};
+ghost use Rattle.script_engine.specs.Meaning.{with_ticket, facts_of_ending};
 ghost use Rattle.script_engine.specs.Ending.{after_dropping, after_giving_up, IsEnding};
 ghost use Rattle.script_engine.specs.Hosted.{Keeps, KeepsLeases, KeepsTickets, leases_of};
-ghost use Rattle.script_engine.specs.Hosted.{due_others, lease_facts, is_ticket_first, merged};
+ghost use Rattle.script_engine.specs.Hosted.{due_others, lease_facts, kept_host, is_ticket_first};
+ghost use Rattle.script_engine.specs.Hosted.{merged};
 
 use crate::facts::facts_of_ending;
 use bundle::{Bundle, Lease, Ticket};
@@ -151,7 +152,8 @@ pub fn spend_all(
     tickets: BTreeMap<u64, Ticket>,
 )
     requires keeps { Keeps bundle.old (get nat_cmp leases) (get nat_cmp tickets) }
-    ensures log { IsEnding bundle.old.settings bundle.old.log (keys tickets) bundle.new.log }
+    ensures log { IsEnding bundle.old.settings (kept_host bundle.old (keys tickets))
+        bundle.new.log }
     ensures leases { (t : ℕ) → lease_number bundle.new t ≡ None }
     ensures tickets { (t : ℕ) → ticket_want bundle.new t ≡ None }
     ensures settings { bundle.new.settings ≡ bundle.old.settings }
@@ -184,9 +186,8 @@ fn spend_first(
         ≡ result ∷ merged (keys leases.new) (keys tickets.new) }
     ensures less { btree_map_len leases.new + btree_map_len tickets.new + 1
         ≡ btree_map_len leases.old + btree_map_len tickets.old }
-    ensures tickets { keys tickets.new ≡ without_ticket result (keys tickets.old) }
-    ensures log { bundle.new.log ≡ after_giving_up bundle.old.settings bundle.old.log
-        (keys tickets.old) result }
+    ensures host { kept_host bundle.new (keys tickets.new)
+        ≡ after_giving_up bundle.old.settings (kept_host bundle.old (keys tickets.old)) result }
     ensures settings { bundle.new.settings ≡ bundle.old.settings }
     ensures keeps { Keeps bundle.new (get nat_cmp leases.new) (get nat_cmp tickets.new) }
     ensures ordered { IsOrdered nat_cmp leases.new × IsOrdered nat_cmp tickets.new }

@@ -1,14 +1,12 @@
 //! What a script's commands do, one after another.
 
-ghost use Rattle.std.specs.Prelude.{◌≡◌, ℕ, List, [], IfErr, IfOk, OnOk, IfSome};
+ghost use Rattle.std.specs.Prelude.{◌≡◌, ℕ, IfErr, IfOk, OnOk, IfSome};
 ghost use Rattle.std.specs.Prelude.{IsSome, Some, None, true, ◌&&◌, string_bytes};
 ghost use Rattle.script_engine.specs.Meaning.{Run, start, step, with_limits, with_url, with_action};
 ghost use Rattle.script_engine.specs.Meaning.{at_script_end, at_host, at_no_host, are_good};
-ghost use Rattle.script_engine.specs.Meaning.{settings_of};
-ghost use Rattle.script_engine.specs.Meaning.{has_site};
+ghost use Rattle.script_engine.specs.Meaning.{ScriptHost, settings_of, has_site};
 ghost use Rattle.script_engine.specs.Ending.{IsEnding};
 ghost use Rattle.script_engine.specs.Transcript.{Answers, Gives};
-ghost use Rattle.conn_log.specs.declared.entry.Entry.{Entry};
 ghost use Rattle.script_text.specs.declared.command.Limits.{Limits};
 
 use crate::host::OneHost;
@@ -51,9 +49,7 @@ impl Model for Engine {
     ghost use Rattle.std.specs.Prelude.{◌≡◌, None, false, ◌&&◌, if◌then◌else◌};
     ghost use Rattle.std.specs.Option.{option_map, option_map_or};
     ghost use Rattle.script_engine.specs.Hosted.{Hosted};
-    ghost use Rattle.script_engine.specs.Meaning.{Run, settings_of};
-    ghost use Rattle.script_engine.specs.Meaning.{has_site};
-    ghost use Rattle.std.specs.Prelude.{[]};
+    ghost use Rattle.script_engine.specs.Meaning.{Run, new_host, settings_of, has_site};
 
     ghost Value = { Run };
 
@@ -61,8 +57,7 @@ impl Model for Engine {
       limits = e.limits;
       sites = e.sites;
       has_begun = e.has_begun;
-      log = option_map_or (λ (h : Hosted). h.log) e.host [];
-      tickets = option_map_or (λ (h : Hosted). h.tickets) e.host [];
+      host = option_map_or (λ (h : Hosted). h.host) e.host new_host;
     } };
 
     ghost invariant = { λ e. (option_map (λ (h : Hosted). h.settings) e.host
@@ -111,8 +106,7 @@ impl Engine {
     /// Abandons the leases that are left, and withdraws the tickets, by transfer, at moment 0;
     /// gives the bundle that is left, where a host was made.
     pub fn end(self) -> Option<Bundle<()>>
-        ensures ending { IfSome result (λ bundle. IsEnding bundle.settings self.log self.tickets
-            bundle.log) }
+        ensures ending { IfSome result (λ bundle. IsEnding bundle.settings self.host bundle.log) }
         ensures settings { (limits : Limits) → self.limits ≡ Some limits
             → IfSome result (λ bundle. bundle.settings ≡ settings_of limits) }
         ensures host { (self.has_begun && has_site self.sites) ≡ true → IsSome self.limits
@@ -219,8 +213,8 @@ fn are_good(limits: Limits) -> bool
 
 /// What the host answers.
 fn answer_at(host: &mut OneHost, alloc: Global, action: Action) -> Result<String, FaultKind>
-    ensures answer { Gives string_bytes (at_host host.old.settings host.old.log host.old.tickets
-        action) result host.new.log host.new.tickets }
+    ensures answer { Gives string_bytes (at_host host.old.settings host.old.host action) result
+        host.new.host }
     ensures settings { host.new.settings ≡ host.old.settings }
 {
     match action {
@@ -239,8 +233,7 @@ fn answer_at(host: &mut OneHost, alloc: Global, action: Action) -> Result<String
 
 /// The answer at a site that is not there.
 fn answer_without_host(alloc: Global, action: Action) -> Result<String, FaultKind>
-    ensures { (log : List Entry) (tickets : List ℕ)
-        → Gives string_bytes (at_no_host log tickets action) result log tickets }
+    ensures { (host : ScriptHost) → Gives string_bytes (at_no_host host action) result host }
 {
     match action {
         Action::Get { .. } => reply(alloc, "bad-site"),
@@ -263,7 +256,7 @@ fn put_host(place: &mut Option<OneHost>, host: OneHost)
 fn end_host(host: Option<OneHost>) -> Option<Bundle<()>>
     ensures none { host ≡ None → result ≡ None }
     ensures ending { IfSome host (λ h. IfSome result
-        (λ bundle. IsEnding h.settings h.log h.tickets bundle.log
+        (λ bundle. IsEnding h.settings h.host bundle.log
         × (bundle.settings ≡ h.settings))) }
     ensures some { IsSome host → IsSome result }
 {

@@ -1,7 +1,8 @@
-use Rattle.std.proofs.Common.{◌≡◌, length, sym, ◌∙◌, arith}
+use Rattle.std.proofs.Common.{◌≡◌, length, ap, sym, ◌∙◌, arith}
 use Rattle.std.specs.BTreeMap.{keys}
 use Rattle.std.proofs.lemmas.Map.Keys.{IsStrictlyIncreasing-from_sorted}
-use Rattle.script_engine.specs.Hosted.{merged}
+use Rattle.script_engine.specs.Hosted.{kept_host, merged}
+use Rattle.script_engine.specs.Meaning.{ScriptHost}
 use Rattle.script_engine.proofs.Ending.{sorted-merged, each-left, none-left}
 use Rattle.script_engine.proofs.kept.spend_all.Goals as goal
 
@@ -16,5 +17,6 @@ returns-clause-log c =
       transfers = merged holders waiters;
       ascending = IsStrictlyIncreasing-from_sorted (merged holders waiters) (sorted-merged holders waiters c.len-holders.ensures.ordered);
       each = λ t. each-left host c.log-log.ensures.sound t c.args.leases.entries c.args.tickets.entries c.requires.keeps.leases c.requires.keeps.tickets;
-      log = sym (none-left c.loop-tickets.bundle.settings c.loop-tickets.bundle.log c.loop-tickets.leases.entries c.loop-tickets.tickets.entries no_lease no_ticket) ∙ c.loop-tickets.invariant.due;
+      left = ap (λ (h : ScriptHost). h.log) (sym (none-left c.loop-tickets.bundle.settings (kept_host c.loop-tickets.bundle (keys c.loop-tickets.tickets)) c.loop-tickets.leases.entries c.loop-tickets.tickets.entries no_lease no_ticket)
+          ∙ c.loop-tickets.invariant.due);
     }

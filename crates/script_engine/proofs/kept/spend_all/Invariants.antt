@@ -1,19 +1,19 @@
 use Rattle.std.proofs.Common.{◌≡◌, ◌+◌}
 use Rattle.std.specs.Ordering.{nat_cmp}
 use Rattle.std.specs.BTreeMap.{get, keys, btree_map_len, IsOrdered}
-use Rattle.script_engine.specs.Hosted.{Keeps, merged}
+use Rattle.script_engine.specs.Hosted.{Keeps, kept_host, merged}
 use Rattle.script_engine.specs.Ending.{after_all}
 use Rattle.script_engine.proofs.kept.spend_all.Given as goal
 
--- once those that are left gave up what they have, the log is the one that is due
+-- once those that are left gave up what they have, the host is the one that is due
 abbrev pub invariant-loop-tickets : goal.invariant-loop-tickets
 invariant-loop-tickets l =
     record {
       keeps : Keeps l.bundle (get nat_cmp l.leases) (get nat_cmp l.tickets);
       waiters : IsOrdered nat_cmp l.tickets;
       settings : l.bundle.settings ≡ l.fn.bundle.settings;
-      due : after_all l.bundle.settings l.bundle.log (keys l.tickets) (merged (keys l.leases) (keys l.tickets))
-          ≡ after_all l.fn.bundle.settings l.fn.bundle.log (keys l.fn.tickets) (merged (keys l.fn.leases) (keys l.fn.tickets));
+      due : after_all l.bundle.settings (kept_host l.bundle (keys l.tickets)) (merged (keys l.leases) (keys l.tickets))
+          ≡ after_all l.fn.bundle.settings (kept_host l.fn.bundle (keys l.fn.tickets)) (merged (keys l.fn.leases) (keys l.fn.tickets));
     }
 
 abbrev pub decreases-loop-tickets : goal.decreases-loop-tickets

@@ -1,14 +1,12 @@
-use Rattle.std.proofs.Common.{◌≡◌, false, cond, sym, ◌∙◌, ap, is_some}
+use Rattle.std.proofs.Common.{◌≡◌, false, sym, ◌∙◌, ap, is_some}
 use Rattle.std.specs.Ordering.{nat_cmp}
 use Rattle.std.specs.BTreeMap.{get, keys}
-use Rattle.conn_log.specs.Connections.{is_among, held_number}
-use Rattle.bundle.specs.Calls.{after_withdraw}
+use Rattle.conn_log.specs.Connections.{is_among}
 use Rattle.bundle.specs.Lease.{lease_number, ticket_want}
-use Rattle.script_engine.specs.Hosted.{lease_facts, leases_of, wanted}
-use Rattle.script_engine.specs.Ending.{after_dropping}
+use Rattle.script_engine.specs.Hosted.{kept_host, lease_facts, leases_of, wanted}
 use Rattle.script_engine.proofs.Leases.{kept-due, none-stays, leases-same}
 use Rattle.script_engine.proofs.Spending.{ticketed}
-use Rattle.script_engine.proofs.Ending.{waiter-first, holder-first, without-absent, holder-unticketed, waiter-unleased}
+use Rattle.script_engine.proofs.Ending.{gave-up-ticket, gave-up-lease, waiter-first, holder-first, holder-unticketed, waiter-unleased}
 use Rattle.script_engine.proofs.kept.spend_first.Goals as goal
 
 pub returns-then-is_ticket_first-clause-first : goal.returns-then-is_ticket_first-clause-first
@@ -37,21 +35,18 @@ returns-else-is_ticket_first-clause-first c =
     holder-first t (keys c.args.leases.now) (keys c.abandon_first.new.leases) (keys c.args.tickets.now) c.abandon_first.ensures.first c.requires.waiters
     (sym c.is_ticket_first.ensures ∙ c.if-is_ticket_first.false) apart
 
-pub returns-else-is_ticket_first-clause-tickets : goal.returns-else-is_ticket_first-clause-tickets
-returns-else-is_ticket_first-clause-tickets c =
+pub returns-then-is_ticket_first-clause-host : goal.returns-then-is_ticket_first-clause-host
+returns-then-is_ticket_first-clause-host c =
     let host = c.args.bundle.now in
-    let t = c.abandon_first.result in
-    let none = holder-unticketed host c.log-log.ensures.sound t c.abandon_first.ensures.own in
-    let apart : is_among t (keys c.args.tickets.now) ≡ false = ticketed host c.log-log.ensures.sound c.args.tickets.now.entries c.requires.keeps.tickets t ∙ ap is_some none in
-    sym (without-absent t (keys c.args.tickets.now) apart)
+    gave-up-ticket host.settings (kept_host host (keys c.args.tickets.now)) c.withdraw_first.result c.withdraw_first.new.bundle.log (keys c.withdraw_first.new.tickets) c.withdraw_first.ensures.first c.withdraw_first.ensures.log
 
-pub returns-else-is_ticket_first-clause-log : goal.returns-else-is_ticket_first-clause-log
-returns-else-is_ticket_first-clause-log c =
+pub returns-else-is_ticket_first-clause-host : goal.returns-else-is_ticket_first-clause-host
+returns-else-is_ticket_first-clause-host c =
     let host = c.args.bundle.now in
     let t = c.abandon_first.result in
     let none = holder-unticketed host c.log-log.ensures.sound t c.abandon_first.ensures.own in
     let apart : is_among t (keys c.args.tickets.now) ≡ false = ticketed host c.log-log.ensures.sound c.args.tickets.now.entries c.requires.keeps.tickets t ∙ ap is_some none in
-    c.abandon_first.ensures.log ∙ ap (λ b. cond b (after_withdraw host.settings host.log t 0) (after_dropping host.settings host.log (held_number host.log t))) (sym apart)
+    gave-up-lease host.settings (kept_host host (keys c.args.tickets.now)) t c.abandon_first.new.bundle.log apart c.abandon_first.ensures.log
 
 pub returns-else-is_ticket_first-clause-keeps : goal.returns-else-is_ticket_first-clause-keeps
 returns-else-is_ticket_first-clause-keeps c =

@@ -6,7 +6,7 @@ use Rattle.conn_log.specs.declared.entry.Entry.{Entry}
 use Rattle.conn_log.specs.Connections.{is_held_by}
 use Rattle.bundle.specs.Lease.{lease_number, Spends}
 use Rattle.bundle.specs.Calls.{after_give_back}
-use Rattle.script_engine.specs.Hosted.{Hosted, lease_facts}
+use Rattle.script_engine.specs.Hosted.{Hosted, kept_host, lease_facts}
 use Rattle.script_engine.specs.Meaning.{grown, back_at, facts_of_ending}
 use Rattle.script_engine.specs.Transcript.{Gives}
 use Rattle.script_engine.proofs.Growth.{Grows, given_back-grows, grows-length}
@@ -54,20 +54,21 @@ returns-in-Some-clause-answer c =
     let held : is_held_by host.log lease.start.want.transfer lease.start.number ≡ true = kept-held host c.log.ensures.sound c.args.transfer lease kept in
     let same : new.log ≡ after_give_back host.settings host.log lease.start.number (facts_of_ending c.args.ending) c.args.moment = c.give_back.ensures.log held in
     let grows : Grows c.args.transfer host.log new.log = subst (λ (log : List Entry). Grows c.args.transfer host.log log) (sym same) (given_back-grows c.args.transfer host.settings host.log lease.start.number (facts_of_ending c.args.ending) c.args.moment (rw kept.own at held)) in
-    let tickets = keys c.self.inside.tickets in
+    let shown = kept_host host (keys c.self.inside.tickets) in
     let leased = leased-by-keys host c.log.ensures.sound c.self.inside.tickets.entries c.self.invariant.1.tickets c.args.transfer ∙ kept.leased in
-    subst (λ (h : Hosted). Gives string_bytes (back_at h.settings c.args.transfer c.args.ending c.args.moment h.log h.tickets) c.lines_since.result new.log tickets) c.self.view_is
-    (gives-grown string_bytes (back_at host.settings c.args.transfer c.args.ending c.args.moment host.log tickets) c.args.transfer host.log new.log tickets c.len-place.result c.lines_since.result
-    (back-taken host.settings c.args.transfer c.args.ending c.args.moment host.log tickets lease.start.number leased ∙ ap (λ log. grown host.log log tickets) (sym same))
+    let left = kept_host new (keys c.self.inside.tickets) in
+    subst (λ (h : Hosted). Gives string_bytes (back_at h.settings c.args.transfer c.args.ending c.args.moment h.host) c.lines_since.result left) c.self.view_is
+    (gives-grown string_bytes (back_at host.settings c.args.transfer c.args.ending c.args.moment shown) c.args.transfer shown left c.len-place.result c.lines_since.result
+    (back-taken host.settings c.args.transfer c.args.ending c.args.moment shown lease.start.number leased ∙ ap (λ log. grown shown (record shown { log = log })) (sym same))
     (c.len-place.ensures ∙ ap length c.log.ensures.entries) grows (rw c.log-in-Some.ensures.entries at c.lines_since.ensures))
 
 pub returns-in-None-clause-answer : goal.returns-in-None-clause-answer
 returns-in-None-clause-answer c =
     let host = c.self.inside.bundle in
-    let tickets = keys c.self.inside.tickets in
+    let shown = kept_host host (keys c.self.inside.tickets) in
     let none : lease_number host c.args.transfer ≡ None =
     kept-none host c.args.transfer (ap (option_map lease_facts) (sym c.in-None.is ∙ c.remove.ensures.value) ∙ c.self.invariant.1.leases c.args.transfer) in
     let unleased = leased-by-keys host c.log.ensures.sound c.self.inside.tickets.entries c.self.invariant.1.tickets c.args.transfer ∙ none in
-    subst (λ (h : Hosted). Gives string_bytes (back_at h.settings c.args.transfer c.args.ending c.args.moment h.log h.tickets) c.reply.result host.log tickets) c.self.view_is
-    (gives-answer string_bytes (back_at host.settings c.args.transfer c.args.ending c.args.moment host.log tickets) host.log tickets _ c.reply.result
-    (back-stranger host.settings c.args.transfer c.args.ending c.args.moment host.log tickets unleased) c.reply.ensures)
+    subst (λ (h : Hosted). Gives string_bytes (back_at h.settings c.args.transfer c.args.ending c.args.moment h.host) c.reply.result shown) c.self.view_is
+    (gives-answer string_bytes (back_at host.settings c.args.transfer c.args.ending c.args.moment shown) shown _ c.reply.result
+    (back-stranger host.settings c.args.transfer c.args.ending c.args.moment shown unleased) c.reply.ensures)

@@ -5,7 +5,7 @@ use Rattle.std.specs.BTreeMap.{get, keys}
 use Rattle.conn_log.specs.declared.entry.Entry.{Entry}
 use Rattle.conn_log.specs.Connections.{is_among, held_number}
 use Rattle.bundle.specs.Lease.{HostShown, Ticketed, GetsLease, is_unclaimed, lease_number, ticket_want}
-use Rattle.script_engine.specs.Hosted.{Hosted, KeepsLeases, KeepsTickets, leases_of, wanted, due_others}
+use Rattle.script_engine.specs.Hosted.{Hosted, kept_host, KeepsLeases, KeepsTickets, leases_of, wanted, due_others}
 use Rattle.script_text.specs.Printing.{claimed_line, still_line}
 use Rattle.script_engine.specs.Meaning.{claim_at, replied, with_ticket, without_ticket}
 use Rattle.script_engine.specs.Transcript.{Gives}
@@ -21,8 +21,9 @@ returns-in_default-clause-answer c =
     let tickets = keys c.self.inside.tickets in
     let among : is_among c.args.transfer tickets ≡ false = among-keys c.self.inside.tickets.entries c.args.transfer ∙ ap is_some (sym c.remove.ensures.value ∙ c.in_default.is) in
     let same : keys c.remove.new.self ≡ tickets = ap keys_of c.in_default.ensures.unchanged in
-    subst (λ (h : Hosted). Gives string_bytes (claim_at c.args.transfer h.log h.tickets) c.reply.result host.log (keys c.remove.new.self)) c.self.view_is
-    (rw same (gives-answer string_bytes (claim_at c.args.transfer host.log tickets) host.log tickets _ c.reply.result (claim-stranger c.args.transfer host.log tickets among) c.reply.ensures))
+    let shown = kept_host host tickets in
+    subst (λ (h : Hosted). Gives string_bytes (claim_at c.args.transfer h.host) c.reply.result (kept_host host (keys c.remove.new.self))) c.self.view_is
+    (rw same (gives-answer string_bytes (claim_at c.args.transfer shown) shown _ c.reply.result (claim-stranger c.args.transfer shown among) c.reply.ensures))
 
 pub keep_lease-requires-clause-own : goal.keep_lease-requires-clause-own
 keep_lease-requires-clause-own c =
@@ -129,10 +130,12 @@ returns-in_ok-keep_lease-in-Ok-Lease-clause-answer c =
     let left : keys c.remove.new.self ≡ without_ticket transfer tickets = ap keys_of c.remove.ensures.entries ∙ keys-removed c.self.inside.tickets.entries transfer in
     let among : is_among transfer tickets ≡ true = ticketed host c.log-log.ensures.sound c.self.inside.tickets.entries c.self.invariant.1.tickets transfer ∙ ap is_some kept.0 in
     let line : claimed_line 0 number ≡ claimed_line 0 c.number-number.result = ap (claimed_line 0) (sym c.number-number.ensures) in
-    subst (λ (h : Hosted). Gives string_bytes (claim_at transfer h.log h.tickets) c.claimed.result new.log (keys c.remove.new.self)) c.self.view_is
-    (gives-answer string_bytes (claim_at transfer host.log tickets) new.log (keys c.remove.new.self) (claimed_line 0 c.number-number.result) c.claimed.result
-    (claim-granted transfer host.log tickets number among held ∙ ap (λ (log : List Entry). replied log (without_ticket transfer tickets) (claimed_line 0 number)) (sym same)
-    ∙ ap (λ (others : List ℕ). replied new.log others (claimed_line 0 number)) (sym left) ∙ ap (replied new.log (keys c.remove.new.self)) line)
+    let shown = kept_host host tickets in
+    let after = kept_host new (keys c.remove.new.self) in
+    subst (λ (h : Hosted). Gives string_bytes (claim_at transfer h.host) c.claimed.result after) c.self.view_is
+    (gives-answer string_bytes (claim_at transfer shown) after (claimed_line 0 c.number-number.result) c.claimed.result
+    (claim-granted transfer shown number among held ∙ ap (λ (log : List Entry). replied (record { log = log; tickets = without_ticket transfer tickets }) (claimed_line 0 number)) (sym same)
+    ∙ ap (λ (others : List ℕ). replied (kept_host new others) (claimed_line 0 number)) (sym left) ∙ ap (replied after) line)
     c.claimed.ensures)
 
 pub returns-in_ok-keep_ticket-in-Ok-Still-clause-answer : goal.returns-in_ok-keep_ticket-in-Ok-Still-clause-answer
@@ -153,9 +156,11 @@ returns-in_ok-keep_ticket-in-Ok-Still-clause-answer c =
     let put : keys c.keep_ticket.new.tickets ≡ tickets =
     c.in_ok-keep_ticket-in-Ok-Still.ensures.transfers ∙ ap (λ (t : ℕ). with_ticket t (keys c.remove.new.self)) own ∙ ap (with_ticket transfer) left
     ∙ put-back transfer tickets c.self.invariant.2 among in
-    subst (λ (h : Hosted). Gives string_bytes (claim_at transfer h.log h.tickets) c.still_waiting.result new.log (keys c.keep_ticket.new.tickets)) c.self.view_is
-    (gives-answer string_bytes (claim_at transfer host.log tickets) new.log (keys c.keep_ticket.new.tickets) still_line c.still_waiting.result
-    (claim-still transfer host.log tickets among held ∙ ap (λ (log : List Entry). replied log tickets still_line) (sym same) ∙ ap (λ (others : List ℕ). replied new.log others still_line) (sym put))
+    let shown = kept_host host tickets in
+    let after = kept_host new (keys c.keep_ticket.new.tickets) in
+    subst (λ (h : Hosted). Gives string_bytes (claim_at transfer h.host) c.still_waiting.result after) c.self.view_is
+    (gives-answer string_bytes (claim_at transfer shown) after still_line c.still_waiting.result
+    (claim-still transfer shown among held ∙ ap (λ (log : List Entry). replied (record { log = log; tickets = tickets }) still_line) (sym same) ∙ ap (λ (others : List ℕ). replied (kept_host new others) still_line) (sym put))
     c.still_waiting.ensures)
 
 pub returns-in-Err-clause-answer : goal.returns-in-Err-clause-answer

@@ -8,7 +8,7 @@ use Rattle.bundle.specs.declared.refusal.Refusal.{Refusal}
 use Rattle.bundle.specs.declared.refusal.Refusal.TheVariants as refusals
 use Rattle.bundle.specs.Calls.{after_acquire, refusal, newest_start, newest_wait}
 use Rattle.bundle.specs.Lease.{HostShown, GetsLease, GetsTicket, lease_number, ticket_want}
-use Rattle.script_engine.specs.Hosted.{Hosted, KeepsLeases, KeepsTickets, leases_of, due_others}
+use Rattle.script_engine.specs.Hosted.{Hosted, kept_host, KeepsLeases, KeepsTickets, leases_of, due_others}
 use Rattle.script_engine.specs.Meaning.{get_at, grown, with_ticket}
 use Rattle.script_engine.specs.Transcript.{Gives}
 use Rattle.script_engine.proofs.Growth.{Grows, acquired-grows}
@@ -138,9 +138,10 @@ returns-in_ok-keep_lease-in-Ok-Lease-clause-answer c =
     let same : new.log ≡ after_acquire host.settings host.log want c.args.moment = kept ∙ c.in-Ok-Lease.ensures.log in
     let grows : Grows want.transfer host.log new.log = subst (λ (log : List Entry). Grows want.transfer host.log log) (sym same) (acquired-grows want.transfer host.settings host.log want c.args.moment) in
     let entries : c.log-in-Ok-Lease.result.now.entries ≡ new.log = c.log-in-Ok-Lease.ensures.entries ∙ sym kept in
-    subst (λ (h : Hosted). Gives string_bytes (get_at h.settings want c.args.moment h.log h.tickets) text new.log tickets) c.self.view_is
-    (gives-grown string_bytes (get_at host.settings want c.args.moment host.log tickets) want.transfer host.log new.log tickets c.len-place.result text
-    (get-started host.settings want c.args.moment host.log new.log tickets lease.start only same started)
+    let shown = kept_host host tickets in
+    subst (λ (h : Hosted). Gives string_bytes (get_at h.settings want c.args.moment h.host) text (kept_host new tickets)) c.self.view_is
+    (gives-grown string_bytes (get_at host.settings want c.args.moment shown) want.transfer shown (kept_host new tickets) c.len-place.result text
+    (get-started host.settings want c.args.moment shown new.log lease.start only same started)
     (c.len-place.ensures ∙ ap length c.log.ensures.entries) grows (rw entries at c.lines_since-text.ensures))
 
 pub returns-in_ok-keep_ticket-in-Ok-Wait-clause-answer : goal.returns-in_ok-keep_ticket-in-Ok-Wait-clause-answer
@@ -159,9 +160,11 @@ returns-in_ok-keep_ticket-in-Ok-Wait-clause-answer c =
     let grows : Grows want.transfer host.log new.log = subst (λ (log : List Entry). Grows want.transfer host.log log) (sym same) (acquired-grows want.transfer host.settings host.log want c.args.moment) in
     let entries : c.log-in-Ok-Wait.result.now.entries ≡ new.log = c.log-in-Ok-Wait.ensures.entries ∙ sym kept in
     let put : keys c.keep_ticket.new.tickets ≡ with_ticket want.transfer tickets = c.in_ok-keep_ticket-in-Ok-Wait.ensures.transfers ∙ ap (λ (w : Want). with_ticket w.transfer tickets) own in
-    subst (λ (h : Hosted). Gives string_bytes (get_at h.settings want c.args.moment h.log h.tickets) text new.log (keys c.keep_ticket.new.tickets)) c.self.view_is
-    (gives-grown string_bytes (get_at host.settings want c.args.moment host.log tickets) want.transfer host.log new.log (keys c.keep_ticket.new.tickets) c.len-place.result text
-    (get-waited host.settings want c.args.moment host.log new.log tickets ticket.wait only same waited ∙ ap (grown host.log new.log) (sym put))
+    let shown = kept_host host tickets in
+    let after = kept_host new (keys c.keep_ticket.new.tickets) in
+    subst (λ (h : Hosted). Gives string_bytes (get_at h.settings want c.args.moment h.host) text after) c.self.view_is
+    (gives-grown string_bytes (get_at host.settings want c.args.moment shown) want.transfer shown after c.len-place.result text
+    (get-waited host.settings want c.args.moment shown new.log ticket.wait only same waited ∙ ap (λ others. grown shown (kept_host new others)) (sym put))
     (c.len-place.ensures ∙ ap length c.log.ensures.entries) grows (rw entries at c.lines_since-text-in-Ok-Wait.ensures))
 
 -- a refusal other than for memory is that of the log
@@ -178,10 +181,11 @@ returns-in-Err-TransferBusy-clause-answer c =
     let it = c.in-Err-TransferBusy.field-0-is in
     let refused : refusal host.settings host.log want ≡ Some refusals.TransferBusy =
     shown c.in-Err-TransferBusy.field-0 (refusal host.settings host.log want) why.else_memory (λ memory. cc) ∙ ap Some it in
-    subst (λ (h : Hosted). Gives string_bytes (get_at h.settings want c.args.moment h.log h.tickets) c.reply.result c.acquire.new.self.log tickets) c.self.view_is
+    let shown = kept_host host tickets in
+    subst (λ (h : Hosted). Gives string_bytes (get_at h.settings want c.args.moment h.host) c.reply.result (kept_host c.acquire.new.self tickets)) c.self.view_is
     (rw (ap (λ (b : HostShown (Unit {0})). b.log) why.err)
-    (gives-answer string_bytes (get_at host.settings want c.args.moment host.log tickets) host.log tickets _ c.reply.result
-    (get-refused host.settings want c.args.moment host.log tickets refusals.TransferBusy refused) c.reply.ensures))
+    (gives-answer string_bytes (get_at host.settings want c.args.moment shown) shown _ c.reply.result
+    (get-refused host.settings want c.args.moment shown refusals.TransferBusy refused) c.reply.ensures))
 
 pub returns-in-Err-Exhausted-clause-answer : goal.returns-in-Err-Exhausted-clause-answer
 returns-in-Err-Exhausted-clause-answer c =
@@ -192,7 +196,8 @@ returns-in-Err-Exhausted-clause-answer c =
     let it = c.in-Err-Exhausted.field-0-is in
     let refused : refusal host.settings host.log want ≡ Some refusals.Exhausted =
     shown c.in-Err-Exhausted.field-0 (refusal host.settings host.log want) why.else_memory (λ memory. cc) ∙ ap Some it in
-    subst (λ (h : Hosted). Gives string_bytes (get_at h.settings want c.args.moment h.log h.tickets) c.reply-in-Err-Exhausted.result c.acquire.new.self.log tickets) c.self.view_is
+    let shown = kept_host host tickets in
+    subst (λ (h : Hosted). Gives string_bytes (get_at h.settings want c.args.moment h.host) c.reply-in-Err-Exhausted.result (kept_host c.acquire.new.self tickets)) c.self.view_is
     (rw (ap (λ (b : HostShown (Unit {0})). b.log) why.err)
-    (gives-answer string_bytes (get_at host.settings want c.args.moment host.log tickets) host.log tickets _ c.reply-in-Err-Exhausted.result
-    (get-refused host.settings want c.args.moment host.log tickets refusals.Exhausted refused) c.reply-in-Err-Exhausted.ensures))
+    (gives-answer string_bytes (get_at host.settings want c.args.moment shown) shown _ c.reply-in-Err-Exhausted.result
+    (get-refused host.settings want c.args.moment shown refusals.Exhausted refused) c.reply-in-Err-Exhausted.ensures))

@@ -6,7 +6,7 @@ use Rattle.conn_log.specs.declared.entry.Entry.{Entry}
 use Rattle.conn_log.specs.Connections.{is_among}
 use Rattle.bundle.specs.Lease.{is_valid_ticket, Spends}
 use Rattle.bundle.specs.Calls.{after_withdraw}
-use Rattle.script_engine.specs.Hosted.{Hosted}
+use Rattle.script_engine.specs.Hosted.{Hosted, kept_host}
 use Rattle.script_engine.specs.Meaning.{grown, without_ticket, leave_at}
 use Rattle.script_engine.specs.Transcript.{Gives}
 use Rattle.script_engine.proofs.Growth.{Grows, withdrawn-grows, grows-length}
@@ -53,9 +53,12 @@ returns-in-Some-clause-answer c =
     let tickets = keys c.self.inside.tickets in
     let left : keys c.remove.new.self ≡ without_ticket c.args.transfer tickets = ap keys_of c.remove.ensures.entries ∙ keys-removed c.self.inside.tickets.entries c.args.transfer in
     let among : is_among c.args.transfer tickets ≡ true = ticketed host c.log.ensures.sound c.self.inside.tickets.entries c.self.invariant.1.tickets c.args.transfer ∙ ap is_some kept.0 in
-    subst (λ (h : Hosted). Gives string_bytes (leave_at h.settings c.args.transfer c.args.moment h.log h.tickets) c.lines_since.result new.log (keys c.remove.new.self)) c.self.view_is
-    (gives-grown string_bytes (leave_at host.settings c.args.transfer c.args.moment host.log tickets) c.args.transfer host.log new.log (keys c.remove.new.self) c.len-place.result c.lines_since.result
-    (leave-taken host.settings c.args.transfer c.args.moment host.log tickets among ∙ ap (λ log. grown host.log log (without_ticket c.args.transfer tickets)) (sym same) ∙ ap (grown host.log new.log) (sym left))
+    let shown = kept_host host tickets in
+    let after = kept_host new (keys c.remove.new.self) in
+    subst (λ (h : Hosted). Gives string_bytes (leave_at h.settings c.args.transfer c.args.moment h.host) c.lines_since.result after) c.self.view_is
+    (gives-grown string_bytes (leave_at host.settings c.args.transfer c.args.moment shown) c.args.transfer shown after c.len-place.result c.lines_since.result
+    (leave-taken host.settings c.args.transfer c.args.moment shown among ∙ ap (λ log. grown shown (record { log = log; tickets = without_ticket c.args.transfer tickets })) (sym same)
+    ∙ ap (λ others. grown shown (kept_host new others)) (sym left))
     (c.len-place.ensures ∙ ap length c.log.ensures.entries) grows (rw c.log-in-Some.ensures.entries at c.lines_since.ensures))
 
 pub returns-in-None-clause-answer : goal.returns-in-None-clause-answer
@@ -64,6 +67,7 @@ returns-in-None-clause-answer c =
     let tickets = keys c.self.inside.tickets in
     let among : is_among c.args.transfer tickets ≡ false = among-keys c.self.inside.tickets.entries c.args.transfer ∙ ap is_some (sym c.remove.ensures.value ∙ c.in-None.is) in
     let same : keys c.remove.new.self ≡ tickets = ap keys_of (c.in-None.ensures.unchanged) in
-    subst (λ (h : Hosted). Gives string_bytes (leave_at h.settings c.args.transfer c.args.moment h.log h.tickets) c.reply.result host.log (keys c.remove.new.self)) c.self.view_is
-    (rw same (gives-answer string_bytes (leave_at host.settings c.args.transfer c.args.moment host.log tickets) host.log tickets _ c.reply.result
-    (leave-stranger host.settings c.args.transfer c.args.moment host.log tickets among) c.reply.ensures))
+    let shown = kept_host host tickets in
+    subst (λ (h : Hosted). Gives string_bytes (leave_at h.settings c.args.transfer c.args.moment h.host) c.reply.result (kept_host host (keys c.remove.new.self))) c.self.view_is
+    (rw same (gives-answer string_bytes (leave_at host.settings c.args.transfer c.args.moment shown) shown _ c.reply.result
+    (leave-stranger host.settings c.args.transfer c.args.moment shown among) c.reply.ensures))
