@@ -1,5 +1,5 @@
 -- What a host answers, from what its bundle did.
-use Rattle.std.proofs.Common.{◌≡◌, ℕ, Bool, true, false, cond, List, [], ◌∷◌, length, drop, reverse, flat_map, refl, ap, sym, ◌∙◌, Option, Some, None, IfSome, Result, Ok, Err, is_some}
+use Rattle.std.proofs.Common.{◌≡◌, ℕ, Bool, true, false, cond, List, [], ◌∷◌, length, drop, reverse, flat_map, refl, ap, sym, ◌∙◌, Option, Some, None, inl, inr, IfSome, Result, Ok, Err, is_some}
 use Rattle.std.specs.Option.{option_map}
 use Rattle.conn_log.specs.declared.entry.Event.{Event}
 use Rattle.conn_log.specs.declared.entry.Event.TheVariants.{Opened, Leased, Returned, Closed, Waited, Left}
@@ -14,19 +14,29 @@ use Rattle.bundle.specs.declared.snapshot.Snapshot.{Snapshot}
 use Rattle.host_state.specs.Steps.{without_too_old, with_host_room, is_full, next_number, moment_at}
 use Rattle.bundle.specs.Calls.{after_acquire, after_give_back, after_abandon, refusal, start_on, start_unless, Start, start_by, newest_start, Wait, wait_by, newest_wait}
 use Rattle.bundle.specs.Lease.{HostShown, Leasing, lease_number, snapshot_of}
+use Rattle.script_text.specs.declared.command.Action.{Action}
+use Rattle.script_text.specs.declared.command.Action.TheVariants as actions
 use Rattle.script_text.specs.declared.command.Ending.{Ending}
 use Rattle.script_text.specs.declared.fault.FaultKind.{FaultKind}
 use Rattle.script_text.specs.Printing.{entry_line, lines_since, refused, claimed_line, still_line, look_line}
-use Rattle.script_engine.specs.Hosted.{lease_facts, kept_facts, leases_of}
-use Rattle.script_engine.specs.Meaning.{ScriptHost, Answer, replied, grown, stranger, with_ticket, without_ticket, claimed_number, get_at, get_unless, acquired, tickets_with, claim_at, claim_of, back_at, back_of, drop_at, drop_of, leave_at, after_leaving, look_at, refusal_word, facts_of_ending}
-use Rattle.script_engine.specs.Transcript.{Gives}
+use Rattle.script_engine.specs.Hosted.{Hosted, IsUntold, Gives, lease_facts, kept_facts, leases_of}
+use Rattle.script_engine.specs.Meaning.{ScriptHost, Answer, replied, grown, stranger, with_ticket, without_ticket, claimed_number, get_at, get_unless, acquired, tickets_with, claim_at, claim_of, back_at, back_of, drop_at, drop_of, leave_at, after_leaving, look_at, at_host, refusal_word, facts_of_ending}
 use Rattle.script_text.specs.Printing.{GivesText}
 use Rattle.script_engine.proofs.Growth.{Grows, lines-grown}
 
-pub gives-answer : {T : Type 0} (bytes : T → List ℕ) (meant : Answer) (host : ScriptHost) (text : List ℕ) (r : Result T FaultKind)
-    → meant ≡ replied host text → GivesText bytes text r → Gives bytes meant r host
-gives-answer bytes meant host text (Ok t) is gives = is ∙ ap (replied host) (sym gives)
-gives-answer bytes meant host text (Err kind) is gives = gives
+-- where memory fails only what is told, the host is as the action makes it
+untold : (settings : LimitAndFirst) (old : ScriptHost) (action : Action) (new : ScriptHost) → new ≡ (at_host settings old action).host → IsUntold settings old action new
+untold settings old (actions.Get want moment) new is = inr (inl is)
+untold settings old (actions.Claim transfer) new is = inl is
+untold settings old (actions.Back transfer ending moment) new is = is
+untold settings old (actions.Drop transfer moment) new is = is
+untold settings old (actions.Leave transfer moment) new is = is
+untold settings old actions.Look new is = is
+
+pub gives-answer : {T : Type 0} (bytes : T → List ℕ) (old : Hosted) (action : Action) (host : ScriptHost) (text : List ℕ) (r : Result T FaultKind)
+    → at_host old.settings old.host action ≡ replied host text → GivesText bytes text r → Gives bytes old action r host
+gives-answer bytes old action host text (Ok t) is gives = is ∙ ap (replied host) (sym gives)
+gives-answer bytes old action host text (Err kind) is gives = (gives, untold old.settings old.host action host (ap (λ (a : Answer). a.host) (sym is)))
 
 pub gives-lines : {T : Type 0} (bytes : T → List ℕ) (by : ℕ) (old new : List Entry) (place : ℕ) (r : Result T FaultKind) → place ≡ length old → Grows by old new
     → GivesText bytes (flat_map (entry_line 0 by) (drop place (reverse new))) r → GivesText bytes (lines_since old new) r
@@ -34,11 +44,11 @@ gives-lines bytes by old new place (Ok t) here grows gives = gives ∙ ap (λ n.
 gives-lines bytes by old new place (Err kind) here grows gives = gives
 
 -- where the entries that were added are written
-pub gives-grown : {T : Type 0} (bytes : T → List ℕ) (meant : Answer) (by : ℕ) (old new : ScriptHost) (place : ℕ) (r : Result T FaultKind)
-    → meant ≡ grown old new → place ≡ length old.log → Grows by old.log new.log
-    → GivesText bytes (flat_map (entry_line 0 by) (drop place (reverse new.log))) r → Gives bytes meant r new
-gives-grown bytes meant by old new place r is here grows gives =
-    gives-answer bytes meant new (lines_since old.log new.log) r is (gives-lines bytes by old.log new.log place r here grows gives)
+pub gives-grown : {T : Type 0} (bytes : T → List ℕ) (old : Hosted) (action : Action) (by : ℕ) (new : ScriptHost) (place : ℕ) (r : Result T FaultKind)
+    → at_host old.settings old.host action ≡ grown old.host new → place ≡ length old.host.log → Grows by old.host.log new.log
+    → GivesText bytes (flat_map (entry_line 0 by) (drop place (reverse new.log))) r → Gives bytes old action r new
+gives-grown bytes old action by new place r is here grows gives =
+    gives-answer bytes old action new (lines_since old.host.log new.log) r is (gives-lines bytes by old.host.log new.log place r here grows gives)
 
 -- get
 pub get-refused : (settings : LimitAndFirst) (want : Want) (moment : ℕ) (host : ScriptHost) (r : Refusal) → refusal settings host.log want ≡ Some r
@@ -189,3 +199,7 @@ kept-none host transfer e = by_leased (lease_number host transfer) e
 pub look-told : (host : ScriptHost) (s : Snapshot) → s ≡ snapshot_of host.log false → look_at host ≡ replied host (look_line 0 s.alive s.idle s.leased s.waiting s.queued)
 unfolding look_at
 look-told host s is = ap (λ (s : Snapshot). replied host (look_line 0 s.alive s.idle s.leased s.waiting s.queued)) (sym is)
+
+pub look-stays : (host : ScriptHost) → host ≡ (look_at host).host
+unfolding look_at
+look-stays host = refl

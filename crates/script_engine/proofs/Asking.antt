@@ -6,26 +6,21 @@ use Rattle.script_text.specs.declared.command.Action.{Action}
 use Rattle.script_text.specs.declared.command.Limits.{Limits}
 use Rattle.script_text.specs.declared.fault.FaultKind.{FaultKind}
 use Rattle.script_engine.specs.Hosted.{Hosted}
-use Rattle.script_engine.specs.Meaning.{Run, Answer, with_action, after_answer, at_host, at_no_host, settings_of}
+use Rattle.script_engine.specs.Meaning.{Run, Answer, with_action, after_answer, replied, at_host, at_no_host, settings_of}
 use Rattle.script_engine.specs.Meaning.{has_site}
-use Rattle.script_engine.specs.Transcript.{Answers, Gives, FailsBy}
+use Rattle.script_engine.specs.Transcript.{Answers, FailsBy}
+use Rattle.script_text.specs.Printing.{GivesText}
 
 -- the answer of the run, where it is that one
 abbrev answered-by : Run → Bool → Answer → Answer → Result (Run × List ℕ) FaultKind
 answered-by run there here elsewhere = Ok (after_answer run (cond there here elsewhere))
 
-given : {T : Type 0} (bytes : T → List ℕ) (run next : Run) (meant : Result (Run × List ℕ) FaultKind) (answer : Answer) (r : Result T FaultKind)
-    → meant ≡ Ok (after_answer run answer) → record run { has_begun = true; host = next.host } ≡ next → Gives bytes answer r next.host → Answers bytes meant r next
-given bytes run next meant answer (Ok text) is same gives =
-    is ∙ ap (λ (a : Answer). Ok (after_answer run a)) gives ∙ ap (λ (n : Run). Ok (n, bytes text)) same
-given bytes run next meant answer (Err kind) is same gives = subst (FailsBy meant) (sym gives) tt
-
 pub answered-elsewhere : {T : Type 0} (bytes : T → List ℕ) (run : Run) (limits : Limits) (site : ℕ) (action : Action) (r : Result T FaultKind) → run.has_begun ≡ true
-    → (has_site run.sites && (site == 0)) ≡ false → Gives bytes (at_no_host run.host action) r run.host → Answers bytes (with_action run site action (Some limits)) r run
-answered-elsewhere bytes run limits site action r begun elsewhere gives =
-    given bytes run run (with_action run site action (Some limits)) (at_no_host run.host action) r
-    (ap (λ b. answered-by run b (at_host (settings_of limits) run.host action) (at_no_host run.host action)) elsewhere)
-    (ap (λ b. record run { has_begun = b }) (sym begun)) gives
+    → (has_site run.sites && (site == 0)) ≡ false → GivesText bytes (at_no_host action) r → Answers bytes (with_action run site action (Some limits)) r run
+answered-elsewhere bytes run limits site action (Ok text) begun elsewhere gives =
+    ap (λ b. answered-by run b (at_host (settings_of limits) run.host action) (replied run.host (at_no_host action))) elsewhere
+    ∙ ap (λ line. Ok (record run { has_begun = true }, line)) (sym gives) ∙ ap (λ b. Ok (record run { has_begun = b }, bytes text)) (sym begun)
+answered-elsewhere bytes run limits site action (Err kind) begun elsewhere gives = subst (FailsBy (with_action run site action (Some limits))) (sym gives) tt
 
 pub host-there : (begun site : Bool) (limits : Limits) (host : Hosted) → begun ≡ true → Some host.settings ≡ cond (begun && site) (Some (settings_of limits)) None
     → (site ≡ true) × (host.settings ≡ settings_of limits)

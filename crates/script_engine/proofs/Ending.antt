@@ -13,14 +13,13 @@ use Rattle.conn_log.specs.declared.entry.Want.{Want}
 use Rattle.conn_log.specs.Connections.{is_among, held_number}
 use Rattle.conn_log.specs.Legal.{LimitAndFirst}
 use Rattle.conn_log.specs.Sound.{IsSound}
-use Rattle.bundle.specs.Calls.{after_withdraw}
 use Rattle.bundle.specs.Lease.{HostShown, Leasing, Ticketed, lease_number, ticket_want}
-use Rattle.script_engine.specs.Meaning.{ScriptHost, with_ticket, without_ticket}
+use Rattle.script_engine.specs.Meaning.{ScriptHost, with_ticket}
 use Rattle.script_engine.specs.Hosted.{kept_host, KeepsLeases, KeepsTickets, lease_facts, kept_facts, leases_of, is_ticket_first, merged}
-use Rattle.script_engine.specs.Ending.{has_either, after_dropping, after_giving_up, after_all}
+use Rattle.script_engine.specs.Ending.{has_either, after_all}
 use Rattle.script_engine.proofs.Tickets.{among-keys}
 use Rattle.script_engine.proofs.Spending.{leased-by-keys}
-use Rattle.script_engine.proofs.Leases.{itself, leased-no-ticket, ticket-no-lease}
+use Rattle.script_engine.proofs.Leases.{leased-no-ticket, ticket-no-lease}
 use Rattle.script_engine.proofs.TicketLists.{among-with}
 
 -- each of them is above that one
@@ -168,17 +167,6 @@ module _ {S : Type 0} (host : HostShown S) (sound : IsSound host.settings host.l
       by_ticket : (ticketed : Bool) → (ticketed || is_some (cond ticketed None (held_number host.log t))) ≡ (ticketed || is_some (held_number host.log t))
       by_ticket true = refl
       by_ticket false = refl
-
--- the transfer with the first ticket has withdrawn it, or one without a ticket has abandoned what it held
-module _ (settings : LimitAndFirst) (host : ScriptHost) (t : ℕ) (log : List Entry) where
-  pub gave-up-ticket : (rest : List ℕ) → host.tickets ≡ t ∷ rest → log ≡ after_withdraw settings host.log t 0 → ◌≡◌ {A = ScriptHost} (record { log = log; tickets = rest }) (after_giving_up settings host t)
-  gave-up-ticket rest first same =
-      let among : is_among t host.tickets ≡ true = ap (is_among t) first ∙ ap (λ b. b || is_among t rest) (itself t) in
-      let left : without_ticket t host.tickets ≡ rest = ap (without_ticket t) first ∙ ap (λ b. cond b rest (t ∷ without_ticket t rest)) (itself t) in
-      rw (same, among, left) refl
-
-  pub gave-up-lease : is_among t host.tickets ≡ false → log ≡ after_dropping settings host.log (held_number host.log t) → ◌≡◌ {A = ScriptHost} (record host { log = log }) (after_giving_up settings host t)
-  gave-up-lease apart same = rw (same, apart) refl
 
 -- none is left
 pub none-left : {A B : Type 0} (settings : LimitAndFirst) (host : ScriptHost) (leases : List (ℕ × A)) (tickets : List (ℕ × B)) → length leases ≡ 0 → length tickets ≡ 0

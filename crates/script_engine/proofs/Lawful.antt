@@ -18,7 +18,7 @@ use Rattle.bundle.specs.Calls.{refusal}
 use Rattle.bundle.specs.Laws.{IsSoundAndQuiet, AcquireKeepsSoundAndQuiet, GiveBackKeepsSoundAndQuiet, AbandonKeepsSoundAndQuiet, WithdrawKeepsSoundAndQuiet}
 use Rattle.script_text.specs.Lines.{lines}
 use Rattle.script_text.specs.Grammar.{reading}
-use Rattle.script_engine.specs.Meaning.{ScriptHost, Run, start, step, settings_of, facts_of_ending, claimed_number, stranger, grown, get_at, get_unless, claim_at, claim_of, back_at, back_of, drop_at, drop_of, leave_at, after_leaving, look_at, at_host, at_no_host, answer_of, with_limits, add_site, with_url, with_action, are_good}
+use Rattle.script_engine.specs.Meaning.{ScriptHost, Run, start, step, settings_of, facts_of_ending, claimed_number, replied, stranger, grown, get_at, get_unless, claim_at, claim_of, back_at, back_of, drop_at, drop_of, leave_at, after_leaving, look_at, at_host, at_no_host, answer_of, with_limits, add_site, with_url, with_action, are_good}
 use Rattle.conn_key.specs.declared.site.Site.{Site}
 use Rattle.conn_key.specs.Sites.{with_site}
 use Rattle.script_text.specs.Site.{site_named}
@@ -127,21 +127,13 @@ module _ (keep : CallsKeep) (settings : LimitAndFirst) (host : ScriptHost) (soun
   sound_at_host (actions.Leave transfer moment) = sound_leave transfer moment
   sound_at_host actions.Look = sound_look
 
-same_at_no_host : (host : ScriptHost) (action : Action) → (at_no_host host action).host.log ≡ host.log
-same_at_no_host host (actions.Get want moment) = refl
-same_at_no_host host (actions.Claim transfer) = refl
-same_at_no_host host (actions.Back transfer ending moment) = refl
-same_at_no_host host (actions.Drop transfer moment) = refl
-same_at_no_host host (actions.Leave transfer moment) = refl
-same_at_no_host host actions.Look = refl
-
 module _ (keep : CallsKeep) where
   sound_answer : (limits : Limits) (there : Bool) (host : ScriptHost) (site : ℕ) (action : Action) → IsSoundAndQuiet (settings_of limits) host.log → IsSoundAndQuiet (settings_of limits) (answer_of limits there host site action).host.log
   sound_answer limits there host site action sound = by_test (there && (site == 0))
     where
-      by_test : (here : Bool) → IsSoundAndQuiet (settings_of limits) (if here then at_host (settings_of limits) host action else at_no_host host action).host.log
+      by_test : (here : Bool) → IsSoundAndQuiet (settings_of limits) (if here then at_host (settings_of limits) host action else replied host (at_no_host action)).host.log
       by_test true = sound_at_host keep (settings_of limits) host sound action
-      by_test false = subst (IsSoundAndQuiet (settings_of limits)) (sym (same_at_no_host host action)) sound
+      by_test false = sound
 
   sound_limits : (run : Run) (limits : Limits) (old : Option Limits) → SoundUnder old run.host.log → SoundStep (with_limits run limits old)
   sound_limits run limits (Some others) sound = tt

@@ -13,3 +13,4 @@ pub mod Ticketed
 pub mod Telling
 pub mod LeasedLines
 pub mod Ending
+pub mod GivingUp

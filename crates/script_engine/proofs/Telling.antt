@@ -108,7 +108,7 @@ module _ (settings : LimitAndFirst) (host : ScriptHost) where
   tells-at_host (actions.Leave transfer moment) = tells-leave transfer moment
   tells-at_host actions.Look = tells-looked
 
-tells-at_no_host : (host : ScriptHost) (action : Action) → TellsAnswer host.log (at_no_host host action)
+tells-at_no_host : (host : ScriptHost) (action : Action) → TellsAnswer host.log (replied host (at_no_host action))
 tells-at_no_host host (actions.Get want moment) = tells-refused host.log (codes "bad-site") refl
 tells-at_no_host host (actions.Claim transfer) = tells-stranger host
 tells-at_no_host host (actions.Back transfer ending moment) = tells-stranger host
@@ -119,7 +119,7 @@ tells-at_no_host host actions.Look = tells-refused host.log (codes "bad-site") r
 tells-answer : (limits : Limits) (there : Bool) (host : ScriptHost) (site : ℕ) (action : Action) → TellsAnswer host.log (answer_of limits there host site action)
 tells-answer limits there host site action = by_test (there && (site == 0))
   where
-    by_test : (here : Bool) → TellsAnswer host.log (if here then at_host (settings_of limits) host action else at_no_host host action)
+    by_test : (here : Bool) → TellsAnswer host.log (if here then at_host (settings_of limits) host action else replied host (at_no_host action))
     by_test true = tells-at_host (settings_of limits) host action
     by_test false = tells-at_no_host host action
 

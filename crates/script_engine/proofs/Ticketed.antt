@@ -21,7 +21,7 @@ use Rattle.script_text.specs.Lines.{lines}
 use Rattle.script_text.specs.Grammar.{reading}
 use Rattle.script_text.specs.Site.{site_named}
 use Rattle.script_engine.specs.Meaning.{has_site, is_one_too_many}
-use Rattle.script_engine.specs.Meaning.{ScriptHost, Run, start, step, settings_of, facts_of_ending, with_ticket, without_ticket, claimed_number, tickets_with, stranger, grown, get_at, get_unless, claim_at, claim_of, back_at, back_of, drop_at, drop_of, leave_at, after_leaving, look_at, at_host, at_no_host, with_limits, add_site, with_url, with_action, are_good}
+use Rattle.script_engine.specs.Meaning.{ScriptHost, Run, start, step, settings_of, facts_of_ending, with_ticket, without_ticket, claimed_number, tickets_with, replied, stranger, grown, get_at, get_unless, claim_at, claim_of, back_at, back_of, drop_at, drop_of, leave_at, after_leaving, look_at, at_host, at_no_host, with_limits, add_site, with_url, with_action, are_good}
 use Rattle.script_engine.specs.Transcript.{line_step, line_step_of, LONGEST_SCRIPT}
 use Rattle.script_engine.specs.Law.{run_after, after_line, is_served, TicketsStand, EveryTicketStands}
 use Rattle.script_text.specs.declared.command.Limits.{Limits}
@@ -243,14 +243,6 @@ module _ (settings : LimitAndFirst) (host : ScriptHost) (sound : IsSound setting
   fits_at_host (actions.Leave transfer moment) = fits_leave transfer moment
   fits_at_host actions.Look = fits_look
 
-fits_at_no_host : (host : ScriptHost) → Fits host → (action : Action) → Fits (at_no_host host action).host
-fits_at_no_host host fits (actions.Get want moment) = fits
-fits_at_no_host host fits (actions.Claim transfer) = fits
-fits_at_no_host host fits (actions.Back transfer ending moment) = fits
-fits_at_no_host host fits (actions.Drop transfer moment) = fits
-fits_at_no_host host fits (actions.Leave transfer moment) = fits
-fits_at_no_host host fits actions.Look = fits
-
 -- a run's, and what a step makes
 abbrev FitRun : Run → Type 0
 FitRun run = Fits run.host
@@ -263,9 +255,9 @@ fits_command : (run : Run) (site : ℕ) (action : Action) (old : Option Limits) 
 fits_command run site action None sound fits = tt
 fits_command run site action (Some limits) sound fits = by_test (has_site run.sites && (site == 0))
   where
-    by_test : (here : Bool) → Fits (if here then at_host (settings_of limits) run.host action else at_no_host run.host action).host
+    by_test : (here : Bool) → Fits (if here then at_host (settings_of limits) run.host action else replied run.host (at_no_host action)).host
     by_test true = fits_at_host (settings_of limits) run.host sound.sound fits action
-    by_test false = fits_at_no_host run.host fits action
+    by_test false = fits
 
 fits_limits : (run : Run) (limits : Limits) (old : Option Limits) → FitRun run → FitStep (with_limits run limits old)
 fits_limits run limits (Some others) fits = tt

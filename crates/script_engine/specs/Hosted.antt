@@ -1,14 +1,35 @@
 -- The one host of a script with its terms, as its callers see it, and the leases and tickets that it keeps.
-use Rattle.std.specs.Prelude.{◌≡◌, ℕ, Bool, true, false, ◌==◌, nat_lt, if◌then◌else◌, List, [], ◌∷◌, Option, None, is_some}
+use Rattle.std.specs.Prelude.{◌≡◌, ℕ, Bool, true, false, ◌==◌, nat_lt, if◌then◌else◌, List, [], ◌∷◌, Option, None, is_some, Result, Ok, Err, ◌⊎◌}
 use Rattle.std.specs.Option.{option_map}
 use Rattle.conn_log.specs.declared.entry.Want.{Want}
 use Rattle.conn_log.specs.Legal.{LimitAndFirst}
 use Rattle.bundle.specs.Lease.{HostShown, Leasing, Ticketed, lease_number, ticket_want}
-use Rattle.script_engine.specs.Meaning.{ScriptHost, with_ticket}
+use Rattle.script_engine.specs.Meaning.{ScriptHost, with_ticket, get_at, claim_at, at_host}
+use Rattle.script_engine.specs.Ending.{after_giving_up}
+use Rattle.script_text.specs.declared.command.Action.{Action}
+use Rattle.script_text.specs.declared.command.Action.TheVariants as actions
+use Rattle.script_text.specs.declared.fault.FaultKind.{FaultKind}
+use Rattle.script_text.specs.declared.fault.FaultKind.TheVariants.{Memory}
 
 pub record Hosted : Type 0 where
   pub settings : LimitAndFirst
   pub host : ScriptHost
+
+-- what a transfer got by a command is kept; or it could not be, and was given up at moment 0
+abbrev pub IsKeptOrGivenUp : LimitAndFirst → ScriptHost → ℕ → ScriptHost → Type 0
+IsKeptOrGivenUp settings meant transfer new = (new ≡ meant) ⊎ (new ≡ after_giving_up settings meant transfer)
+
+-- what the host is where memory fails an action: what the action makes of it, and nothing is told; but a get may not
+-- have begun, and what it or a claim gave may not be kept
+abbrev pub IsUntold : LimitAndFirst → ScriptHost → Action → ScriptHost → Type 0
+IsUntold settings old (actions.Get want moment) new = (new ≡ old) ⊎ IsKeptOrGivenUp settings (get_at settings want moment old).host want.transfer new
+IsUntold settings old (actions.Claim transfer) new = IsKeptOrGivenUp settings (claim_at transfer old).host transfer new
+IsUntold settings old action new = new ≡ (at_host settings old action).host
+
+-- what the host answers to an action: what it means; only memory can fail it
+abbrev pub Gives : {T : Type 0} → (T → List ℕ) → Hosted → Action → Result T FaultKind → ScriptHost → Type 0
+Gives bytes old action (Ok text) new = at_host old.settings old.host action ≡ record { host = new; text = bytes text }
+Gives bytes old action (Err kind) new = (kind ≡ Memory) × IsUntold old.settings old.host action new
 
 -- a bundle, and the transfers whose tickets are kept beside it, as a script's host
 abbrev pub kept_host : {S : Type 0} → HostShown S → List ℕ → ScriptHost

@@ -137,7 +137,7 @@ unfoldable pub look_at : ScriptHost → Answer
 look_at host = let alive = length (open_connections host.log) in let idle = length (idle_connections host.log) in
     replied host (look_line 0 alive idle (alive - idle) (length (waiting host.log)) false)
 
--- an action at a site that is there, and at one that is not
+-- an action at a site that is there
 abbrev pub at_host : LimitAndFirst → ScriptHost → Action → Answer
 at_host settings host (actions.Get want moment) = get_at settings want moment host
 at_host settings host (actions.Claim transfer) = claim_at transfer host
@@ -146,16 +146,17 @@ at_host settings host (actions.Drop transfer moment) = drop_at settings transfer
 at_host settings host (actions.Leave transfer moment) = leave_at settings transfer moment host
 at_host settings host actions.Look = look_at host
 
-abbrev pub at_no_host : ScriptHost → Action → Answer
-at_no_host host (actions.Get want moment) = replied host (refused (codes "bad-site"))
-at_no_host host actions.Look = replied host (refused (codes "bad-site"))
-at_no_host host (actions.Claim transfer) = stranger host
-at_no_host host (actions.Back transfer ending moment) = stranger host
-at_no_host host (actions.Drop transfer moment) = stranger host
-at_no_host host (actions.Leave transfer moment) = stranger host
+-- the line of one at a site that is not there
+abbrev pub at_no_host : Action → List ℕ
+at_no_host (actions.Get want moment) = refused (codes "bad-site")
+at_no_host actions.Look = refused (codes "bad-site")
+at_no_host (actions.Claim transfer) = refused (codes "stranger")
+at_no_host (actions.Back transfer ending moment) = refused (codes "stranger")
+at_no_host (actions.Drop transfer moment) = refused (codes "stranger")
+at_no_host (actions.Leave transfer moment) = refused (codes "stranger")
 
 abbrev pub answer_of : Limits → Bool → ScriptHost → ℕ → Action → Answer
-answer_of limits there host site action = if there && (site == 0) then at_host (settings_of limits) host action else at_no_host host action
+answer_of limits there host site action = if there && (site == 0) then at_host (settings_of limits) host action else replied host (at_no_host action)
 
 -- a run so far: the limits, the sites by host and port, whether a command came after these, and the host
 pub record Run : Type 0 where

@@ -4,7 +4,7 @@ use Rattle.std.specs.List.{concat}
 use Rattle.std.specs.Option.{option_map}
 use Rattle.script_text.specs.Lines.{lines}
 use Rattle.script_text.specs.Grammar.{reading}
-use Rattle.script_engine.specs.Meaning.{ScriptHost, Run, Answer, start, step}
+use Rattle.script_engine.specs.Meaning.{Run, start, step}
 use Rattle.script_text.specs.declared.command.Command.{Command}
 use Rattle.script_text.specs.declared.fault.FaultKind.{FaultKind}
 use Rattle.script_text.specs.declared.fault.FaultKind.TheVariants.{Memory, Read, Write, ScriptTooLong}
@@ -98,8 +98,3 @@ FailsBy meant kind = meant ≡ Err kind
 abbrev pub Answers : {T : Type 0} → (T → List ℕ) → Result (Run × List ℕ) FaultKind → Result T FaultKind → Run → Type 0
 Answers bytes meant (Ok text) run = meant ≡ Ok (run, bytes text)
 Answers bytes meant (Err kind) run = FailsBy meant kind
-
--- the same of a host, whose commands fail only for want of memory
-abbrev pub Gives : {T : Type 0} → (T → List ℕ) → Answer → Result T FaultKind → ScriptHost → Type 0
-Gives bytes meant (Ok text) host = meant ≡ record { host = host; text = bytes text }
-Gives bytes meant (Err kind) host = kind ≡ Memory

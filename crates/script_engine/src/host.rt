@@ -1,10 +1,10 @@
 //! The one host of a script: its bundle, and the leases and tickets that its transfers have.
 
 ghost use Rattle.std.specs.Prelude.{◌≡◌, IfOk, IfErr, string_bytes};
-ghost use Rattle.script_engine.specs.Meaning.{settings_of, new_host, get_at, claim_at, back_at};
-ghost use Rattle.script_engine.specs.Meaning.{drop_at, leave_at, look_at};
+ghost use Rattle.script_engine.specs.Meaning.{settings_of, new_host};
 ghost use Rattle.script_engine.specs.Ending.{IsEnding};
-ghost use Rattle.script_engine.specs.Transcript.{Gives};
+ghost use Rattle.script_engine.specs.Hosted.{Gives};
+ghost use Rattle.script_text.specs.declared.command.Action.TheVariants as actions;
 
 use crate::kept::{abandon, give_back, keep_lease, keep_ticket, spend_all, withdraw};
 use bundle::{Bundle, Claimed, Got, Lease, Refusal, Snapshot, Ticket};
@@ -69,8 +69,8 @@ impl OneHost {
 
     /// The transfer acquires a connection, or begins to wait for one.
     pub fn get(&mut self, alloc: Global, want: Want, moment: u64) -> Result<String, FaultKind>
-        ensures answer { Gives string_bytes (get_at self.old.settings want moment self.old.host)
-            result self.new.host }
+        ensures answer { Gives string_bytes self.old (actions.Get want moment) result
+            self.new.host }
         ensures settings { self.new.settings ≡ self.old.settings }
     {
         let place = self.bundle.log().len();
@@ -93,7 +93,7 @@ impl OneHost {
 
     /// The transfer claims the connection that it waits for.
     pub fn claim(&mut self, alloc: Global, transfer: u64) -> Result<String, FaultKind>
-        ensures answer { Gives string_bytes (claim_at transfer self.old.host) result
+        ensures answer { Gives string_bytes self.old (actions.Claim transfer) result
             self.new.host }
         ensures settings { self.new.settings ≡ self.old.settings }
     {
@@ -127,8 +127,8 @@ impl OneHost {
         ending: Ending,
         moment: u64,
     ) -> Result<String, FaultKind>
-        ensures answer { Gives string_bytes (back_at self.old.settings transfer ending moment
-            self.old.host) result self.new.host }
+        ensures answer { Gives string_bytes self.old (actions.Back transfer ending moment) result
+            self.new.host }
         ensures settings { self.new.settings ≡ self.old.settings }
     {
         let place = self.bundle.log().len();
@@ -148,8 +148,8 @@ impl OneHost {
         transfer: u64,
         moment: u64,
     ) -> Result<String, FaultKind>
-        ensures answer { Gives string_bytes (drop_at self.old.settings transfer moment
-            self.old.host) result self.new.host }
+        ensures answer { Gives string_bytes self.old (actions.Drop transfer moment) result
+            self.new.host }
         ensures settings { self.new.settings ≡ self.old.settings }
     {
         let place = self.bundle.log().len();
@@ -164,8 +164,8 @@ impl OneHost {
 
     /// The transfer leaves where it waits.
     pub fn leave(&mut self, alloc: Global, transfer: u64, moment: u64) -> Result<String, FaultKind>
-        ensures answer { Gives string_bytes (leave_at self.old.settings transfer moment
-            self.old.host) result self.new.host }
+        ensures answer { Gives string_bytes self.old (actions.Leave transfer moment) result
+            self.new.host }
         ensures settings { self.new.settings ≡ self.old.settings }
     {
         let place = self.bundle.log().len();
@@ -180,7 +180,7 @@ impl OneHost {
 
     /// What the connections do.
     pub fn look(&self, alloc: Global) -> Result<String, FaultKind>
-        ensures { Gives string_bytes (look_at self.now.host) result self.now.host }
+        ensures { Gives string_bytes self.now actions.Look result self.now.host }
     {
         let Snapshot {
             alive,

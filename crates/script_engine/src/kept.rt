@@ -122,6 +122,7 @@ pub fn keep_ticket(
     ensures ok { OnOk result (bundle.new ≡ bundle.old) }
     ensures transfers { OnOk result (keys tickets.new
         ≡ with_ticket ticket.wait.want.transfer (keys tickets.old)) }
+    ensures put_back { OnErr result (keys tickets.new ≡ keys tickets.old) }
     ensures err { IfErr result (λ kind. kind ≡ FaultKind.Memory) }
     ensures withdrawn { OnErr result (bundle.new.log
         ≡ after_withdraw bundle.old.settings bundle.old.log ticket.wait.want.transfer 0) }

@@ -3,10 +3,12 @@
 ghost use Rattle.std.specs.Prelude.{◌≡◌, ℕ, IfErr, IfOk, OnOk, IfSome};
 ghost use Rattle.std.specs.Prelude.{IsSome, Some, None, true, ◌&&◌, string_bytes};
 ghost use Rattle.script_engine.specs.Meaning.{Run, start, step, with_limits, with_url, with_action};
-ghost use Rattle.script_engine.specs.Meaning.{at_script_end, at_host, at_no_host, are_good};
-ghost use Rattle.script_engine.specs.Meaning.{ScriptHost, settings_of, has_site};
+ghost use Rattle.script_engine.specs.Meaning.{at_script_end, at_no_host, are_good, settings_of};
+ghost use Rattle.script_engine.specs.Meaning.{has_site};
 ghost use Rattle.script_engine.specs.Ending.{IsEnding};
-ghost use Rattle.script_engine.specs.Transcript.{Answers, Gives};
+ghost use Rattle.script_engine.specs.Transcript.{Answers};
+ghost use Rattle.script_engine.specs.Hosted.{Gives};
+ghost use Rattle.script_text.specs.Printing.{GivesText};
 ghost use Rattle.script_text.specs.declared.command.Limits.{Limits};
 
 use crate::host::OneHost;
@@ -213,8 +215,7 @@ fn are_good(limits: Limits) -> bool
 
 /// What the host answers.
 fn answer_at(host: &mut OneHost, alloc: Global, action: Action) -> Result<String, FaultKind>
-    ensures answer { Gives string_bytes (at_host host.old.settings host.old.host action) result
-        host.new.host }
+    ensures answer { Gives string_bytes host.old action result host.new.host }
     ensures settings { host.new.settings ≡ host.old.settings }
 {
     match action {
@@ -233,7 +234,7 @@ fn answer_at(host: &mut OneHost, alloc: Global, action: Action) -> Result<String
 
 /// The answer at a site that is not there.
 fn answer_without_host(alloc: Global, action: Action) -> Result<String, FaultKind>
-    ensures { (host : ScriptHost) → Gives string_bytes (at_no_host host action) result host }
+    ensures { GivesText string_bytes (at_no_host action) result }
 {
     match action {
         Action::Get { .. } => reply(alloc, "bad-site"),

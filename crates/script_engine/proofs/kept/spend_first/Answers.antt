@@ -1,12 +1,14 @@
-use Rattle.std.proofs.Common.{◌≡◌, false, sym, ◌∙◌, ap, is_some}
+use Rattle.std.proofs.Common.{◌≡◌, false, cond, ◌||◌, ◌∷◌, sym, ◌∙◌, ap, is_some}
 use Rattle.std.specs.Ordering.{nat_cmp}
 use Rattle.std.specs.BTreeMap.{get, keys}
 use Rattle.conn_log.specs.Connections.{is_among}
 use Rattle.bundle.specs.Lease.{lease_number, ticket_want}
 use Rattle.script_engine.specs.Hosted.{kept_host, lease_facts, leases_of, wanted}
-use Rattle.script_engine.proofs.Leases.{kept-due, none-stays, leases-same}
+use Rattle.script_engine.proofs.Leases.{itself, kept-due, none-stays, leases-same}
 use Rattle.script_engine.proofs.Spending.{ticketed}
-use Rattle.script_engine.proofs.Ending.{gave-up-ticket, gave-up-lease, waiter-first, holder-first, holder-unticketed, waiter-unleased}
+use Rattle.script_engine.proofs.Ending.{waiter-first, holder-first, holder-unticketed, waiter-unleased}
+use Rattle.script_engine.proofs.GivingUp.{gave-up-ticket, gave-up-lease}
+use Rattle.script_engine.specs.Meaning.{without_ticket}
 use Rattle.script_engine.proofs.kept.spend_first.Goals as goal
 
 pub returns-then-is_ticket_first-clause-first : goal.returns-then-is_ticket_first-clause-first
@@ -38,7 +40,12 @@ returns-else-is_ticket_first-clause-first c =
 pub returns-then-is_ticket_first-clause-host : goal.returns-then-is_ticket_first-clause-host
 returns-then-is_ticket_first-clause-host c =
     let host = c.args.bundle.now in
-    gave-up-ticket host.settings (kept_host host (keys c.args.tickets.now)) c.withdraw_first.result c.withdraw_first.new.bundle.log (keys c.withdraw_first.new.tickets) c.withdraw_first.ensures.first c.withdraw_first.ensures.log
+    let t = c.withdraw_first.result in
+    let rest = keys c.withdraw_first.new.tickets in
+    let first = c.withdraw_first.ensures.first in
+    gave-up-ticket host.settings (kept_host host (keys c.args.tickets.now)) t c.withdraw_first.new.bundle.log rest
+    (ap (is_among t) first ∙ ap (λ b. b || is_among t rest) (itself t))
+    (ap (λ b. cond b rest (t ∷ without_ticket t rest)) (sym (itself t)) ∙ ap (without_ticket t) (sym first)) c.withdraw_first.ensures.log
 
 pub returns-else-is_ticket_first-clause-host : goal.returns-else-is_ticket_first-clause-host
 returns-else-is_ticket_first-clause-host c =

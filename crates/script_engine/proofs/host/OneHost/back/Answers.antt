@@ -6,9 +6,9 @@ use Rattle.conn_log.specs.declared.entry.Entry.{Entry}
 use Rattle.conn_log.specs.Connections.{is_held_by}
 use Rattle.bundle.specs.Lease.{lease_number, Spends}
 use Rattle.bundle.specs.Calls.{after_give_back}
-use Rattle.script_engine.specs.Hosted.{Hosted, kept_host, lease_facts}
-use Rattle.script_engine.specs.Meaning.{grown, back_at, facts_of_ending}
-use Rattle.script_engine.specs.Transcript.{Gives}
+use Rattle.script_engine.specs.Hosted.{Hosted, Gives, kept_host, lease_facts}
+use Rattle.script_engine.specs.Meaning.{grown, facts_of_ending}
+use Rattle.script_text.specs.declared.command.Action.TheVariants as actions
 use Rattle.script_engine.proofs.Growth.{Grows, given_back-grows, grows-length}
 use Rattle.script_engine.proofs.Answering.{gives-answer, gives-grown, kept-lease, kept-none, back-taken, back-stranger}
 use Rattle.script_engine.proofs.Spending.{kept-held, leased-by-keys, lease-spent}
@@ -57,8 +57,8 @@ returns-in-Some-clause-answer c =
     let shown = kept_host host (keys c.self.inside.tickets) in
     let leased = leased-by-keys host c.log.ensures.sound c.self.inside.tickets.entries c.self.invariant.1.tickets c.args.transfer ∙ kept.leased in
     let left = kept_host new (keys c.self.inside.tickets) in
-    subst (λ (h : Hosted). Gives string_bytes (back_at h.settings c.args.transfer c.args.ending c.args.moment h.host) c.lines_since.result left) c.self.view_is
-    (gives-grown string_bytes (back_at host.settings c.args.transfer c.args.ending c.args.moment shown) c.args.transfer shown left c.len-place.result c.lines_since.result
+    subst (λ (h : Hosted). Gives string_bytes h (actions.Back c.args.transfer c.args.ending c.args.moment) c.lines_since.result left) c.self.view_is
+    (gives-grown string_bytes (record { settings = host.settings; host = shown }) (actions.Back c.args.transfer c.args.ending c.args.moment) c.args.transfer left c.len-place.result c.lines_since.result
     (back-taken host.settings c.args.transfer c.args.ending c.args.moment shown lease.start.number leased ∙ ap (λ log. grown shown (record shown { log = log })) (sym same))
     (c.len-place.ensures ∙ ap length c.log.ensures.entries) grows (rw c.log-in-Some.ensures.entries at c.lines_since.ensures))
 
@@ -69,6 +69,6 @@ returns-in-None-clause-answer c =
     let none : lease_number host c.args.transfer ≡ None =
     kept-none host c.args.transfer (ap (option_map lease_facts) (sym c.in-None.is ∙ c.remove.ensures.value) ∙ c.self.invariant.1.leases c.args.transfer) in
     let unleased = leased-by-keys host c.log.ensures.sound c.self.inside.tickets.entries c.self.invariant.1.tickets c.args.transfer ∙ none in
-    subst (λ (h : Hosted). Gives string_bytes (back_at h.settings c.args.transfer c.args.ending c.args.moment h.host) c.reply.result shown) c.self.view_is
-    (gives-answer string_bytes (back_at host.settings c.args.transfer c.args.ending c.args.moment shown) shown _ c.reply.result
+    subst (λ (h : Hosted). Gives string_bytes h (actions.Back c.args.transfer c.args.ending c.args.moment) c.reply.result shown) c.self.view_is
+    (gives-answer string_bytes (record { settings = host.settings; host = shown }) (actions.Back c.args.transfer c.args.ending c.args.moment) shown _ c.reply.result
     (back-stranger host.settings c.args.transfer c.args.ending c.args.moment shown unleased) c.reply.ensures)

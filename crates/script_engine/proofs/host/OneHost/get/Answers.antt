@@ -1,4 +1,4 @@
-use Rattle.std.proofs.Common.{◌≡◌, List, sym, ◌∙◌, ap, subst, length, string_bytes, Option, Some, None, inl, inr}
+use Rattle.std.proofs.Common.{◌≡◌, false, List, sym, ◌∙◌, ap, subst, length, string_bytes, Option, Some, None, inl, inr, is_some}
 use Rattle.std.specs.Prelude.{◌⊎◌}
 use Rattle.std.specs.Ordering.{nat_cmp}
 use Rattle.std.specs.BTreeMap.{get, keys}
@@ -6,15 +6,18 @@ use Rattle.conn_log.specs.declared.entry.Entry.{Entry}
 use Rattle.conn_log.specs.declared.entry.Want.{Want}
 use Rattle.bundle.specs.declared.refusal.Refusal.{Refusal}
 use Rattle.bundle.specs.declared.refusal.Refusal.TheVariants as refusals
-use Rattle.bundle.specs.Calls.{after_acquire, refusal, newest_start, newest_wait}
+use Rattle.std.proofs.lemmas.Result.{err_from_is_err_and}
+use Rattle.conn_log.specs.Connections.{is_among, held_number}
+use Rattle.bundle.specs.Calls.{after_acquire, after_abandon, after_withdraw, refusal, newest_start, newest_wait}
 use Rattle.bundle.specs.Lease.{HostShown, GetsLease, GetsTicket, lease_number, ticket_want}
-use Rattle.script_engine.specs.Hosted.{Hosted, kept_host, KeepsLeases, KeepsTickets, leases_of, due_others}
-use Rattle.script_engine.specs.Meaning.{get_at, grown, with_ticket}
-use Rattle.script_engine.specs.Transcript.{Gives}
+use Rattle.script_engine.specs.Hosted.{Hosted, Gives, kept_host, KeepsLeases, KeepsTickets, leases_of, due_others}
+use Rattle.script_engine.specs.Meaning.{grown, with_ticket}
+use Rattle.script_text.specs.declared.command.Action.TheVariants as actions
 use Rattle.script_engine.proofs.Growth.{Grows, acquired-grows}
-use Rattle.script_engine.proofs.Leases.{accepted-free, free-none}
+use Rattle.script_engine.proofs.Leases.{accepted-free, free-none, leased-held}
 use Rattle.script_engine.proofs.Answering.{gives-answer, gives-grown, get-started, get-waited, get-refused, accepted, acquired-of}
-use Rattle.script_engine.proofs.Spending.{lease-awaits, lease-own, lease-no-ticket, ticket-awaits, ticket-own, started-kept}
+use Rattle.script_engine.proofs.GivingUp.{gives-memory, get-unleased, get-unticketed}
+use Rattle.script_engine.proofs.Spending.{ticketed, lease-awaits, lease-own, lease-no-ticket, ticket-awaits, ticket-own, started-kept}
 use Rattle.script_engine.proofs.host.OneHost.get.Goals as goal
 
 pub keep_lease-requires-clause-own : goal.keep_lease-requires-clause-own
@@ -139,8 +142,8 @@ returns-in_ok-keep_lease-in-Ok-Lease-clause-answer c =
     let grows : Grows want.transfer host.log new.log = subst (λ (log : List Entry). Grows want.transfer host.log log) (sym same) (acquired-grows want.transfer host.settings host.log want c.args.moment) in
     let entries : c.log-in-Ok-Lease.result.now.entries ≡ new.log = c.log-in-Ok-Lease.ensures.entries ∙ sym kept in
     let shown = kept_host host tickets in
-    subst (λ (h : Hosted). Gives string_bytes (get_at h.settings want c.args.moment h.host) text (kept_host new tickets)) c.self.view_is
-    (gives-grown string_bytes (get_at host.settings want c.args.moment shown) want.transfer shown (kept_host new tickets) c.len-place.result text
+    subst (λ (h : Hosted). Gives string_bytes h (actions.Get want c.args.moment) text (kept_host new tickets)) c.self.view_is
+    (gives-grown string_bytes (record { settings = host.settings; host = shown }) (actions.Get want c.args.moment) want.transfer (kept_host new tickets) c.len-place.result text
     (get-started host.settings want c.args.moment shown new.log lease.start only same started)
     (c.len-place.ensures ∙ ap length c.log.ensures.entries) grows (rw entries at c.lines_since-text.ensures))
 
@@ -162,10 +165,58 @@ returns-in_ok-keep_ticket-in-Ok-Wait-clause-answer c =
     let put : keys c.keep_ticket.new.tickets ≡ with_ticket want.transfer tickets = c.in_ok-keep_ticket-in-Ok-Wait.ensures.transfers ∙ ap (λ (w : Want). with_ticket w.transfer tickets) own in
     let shown = kept_host host tickets in
     let after = kept_host new (keys c.keep_ticket.new.tickets) in
-    subst (λ (h : Hosted). Gives string_bytes (get_at h.settings want c.args.moment h.host) text after) c.self.view_is
-    (gives-grown string_bytes (get_at host.settings want c.args.moment shown) want.transfer shown after c.len-place.result text
+    subst (λ (h : Hosted). Gives string_bytes h (actions.Get want c.args.moment) text after) c.self.view_is
+    (gives-grown string_bytes (record { settings = host.settings; host = shown }) (actions.Get want c.args.moment) want.transfer after c.len-place.result text
     (get-waited host.settings want c.args.moment shown new.log ticket.wait only same waited ∙ ap (λ others. grown shown (kept_host new others)) (sym put))
     (c.len-place.ensures ∙ ap length c.log.ensures.entries) grows (rw entries at c.lines_since-text-in-Ok-Wait.ensures))
+
+pub returns-in_err-keep_lease-in-Ok-Lease-clause-answer : goal.returns-in_err-keep_lease-in-Ok-Lease-clause-answer
+returns-in_err-keep_lease-in-Ok-Lease-clause-answer c =
+    let host = c.self.inside.bundle in
+    let new = c.acquire.new.self in
+    let final = c.keep_lease.new.bundle in
+    let want = c.args.want in
+    let tickets = keys c.self.inside.tickets in
+    let lease = c.in-Ok-Lease.lease in
+    let failed = c.in_err-keep_lease-in-Ok-Lease in
+    let result = c.from_residual.result in
+    let fault = err_from_is_err_and result c.from_residual.ensures.1 in
+    let started : newest_start new.log ≡ Some lease.start = (rw c.in-Ok-Lease.field-0-is at c.in-Ok-Lease.ensures.lease).0 in
+    let gets : GetsLease host new want.transfer lease.start.number = rw c.in-Ok-Lease.field-0-is at c.in-Ok-Lease.ensures.gets_lease in
+    let only : refusal host.settings host.log want ≡ None = accepted c.in-Ok-Lease.field-0 (refusal host.settings host.log want) c.in-Ok-Lease.ensures.refused in
+    let free = accepted-free host.settings host.log c.log.ensures.sound want only in
+    let none = free-none host c.log.ensures.sound want.transfer free.0 free.1 in
+    let apart : is_among want.transfer tickets ≡ false = ticketed host c.log.ensures.sound c.self.inside.tickets.entries c.self.invariant.1.tickets want.transfer ∙ ap is_some none.1 in
+    let held : held_number new.log want.transfer ≡ Some lease.start.number = leased-held new want.transfer lease.start.number (lease-own host new want.transfer lease.start.number gets) in
+    let abandoned : final.log ≡ after_abandon host.settings new.log lease.start.number 0 = failed.ensures.abandoned ∙ ap (λ s. after_abandon s new.log lease.start.number 0) c.acquire.ensures.same.settings in
+    let shown = kept_host host tickets in
+    subst (λ (h : Hosted). Gives string_bytes h (actions.Get want c.args.moment) result (kept_host final tickets)) c.self.view_is
+    (gives-memory string_bytes (record { settings = host.settings; host = shown }) (actions.Get want c.args.moment) result fault.0 (kept_host final tickets) fault.1 (fault.2 ∙ failed.ensures.err)
+    (inr (inr (get-unleased host.settings want c.args.moment shown new.log final.log only c.in-Ok-Lease.ensures.log apart lease.start started held abandoned))))
+
+pub returns-in_err-keep_ticket-in-Ok-Wait-clause-answer : goal.returns-in_err-keep_ticket-in-Ok-Wait-clause-answer
+returns-in_err-keep_ticket-in-Ok-Wait-clause-answer c =
+    let host = c.self.inside.bundle in
+    let new = c.acquire.new.self in
+    let final = c.keep_ticket.new.bundle in
+    let want = c.args.want in
+    let tickets = keys c.self.inside.tickets in
+    let ticket = c.in-Ok-Wait.ticket in
+    let failed = c.in_err-keep_ticket-in-Ok-Wait in
+    let result = c.from_residual-in_err-keep_ticket-in-Ok-Wait.result in
+    let fault = err_from_is_err_and result c.from_residual-in_err-keep_ticket-in-Ok-Wait.ensures.1 in
+    let waited : newest_wait new.log ≡ Some ticket.wait = (rw c.in-Ok-Wait.field-0-is at c.in-Ok-Wait.ensures.ticket).0 in
+    let own : ticket.wait.want ≡ want = (acquired-of host.settings host.log want c.args.moment).1 ticket.wait (ap newest_wait (sym c.in-Ok-Wait.ensures.log) ∙ waited) in
+    let only : refusal host.settings host.log want ≡ None = accepted c.in-Ok-Wait.field-0 (refusal host.settings host.log want) c.in-Ok-Wait.ensures.refused in
+    let free = accepted-free host.settings host.log c.log.ensures.sound want only in
+    let none = free-none host c.log.ensures.sound want.transfer free.0 free.1 in
+    let apart : is_among want.transfer tickets ≡ false = ticketed host c.log.ensures.sound c.self.inside.tickets.entries c.self.invariant.1.tickets want.transfer ∙ ap is_some none.1 in
+    let withdrawn : final.log ≡ after_withdraw host.settings new.log want.transfer 0 =
+    failed.ensures.withdrawn ∙ ap (λ s. after_withdraw s new.log ticket.wait.want.transfer 0) c.acquire.ensures.same.settings ∙ ap (λ (w : Want). after_withdraw host.settings new.log w.transfer 0) own in
+    let shown = kept_host host tickets in
+    subst (λ (h : Hosted). Gives string_bytes h (actions.Get want c.args.moment) result (kept_host final (keys c.keep_ticket.new.tickets))) c.self.view_is
+    (gives-memory string_bytes (record { settings = host.settings; host = shown }) (actions.Get want c.args.moment) result fault.0 (kept_host final (keys c.keep_ticket.new.tickets)) fault.1 (fault.2 ∙ failed.ensures.err)
+    (inr (inr (ap (kept_host final) failed.ensures.put_back ∙ get-unticketed host.settings want c.args.moment shown new.log final.log only c.in-Ok-Wait.ensures.log apart ticket.wait waited withdrawn))))
 
 -- a refusal other than for memory is that of the log
 shown : (r : Refusal) (shows : Option Refusal) → (shows ≡ Some r) ⊎ (r ≡ refusals.Memory) → (r ≡ refusals.Memory → ⊥) → shows ≡ Some r
@@ -182,9 +233,9 @@ returns-in-Err-TransferBusy-clause-answer c =
     let refused : refusal host.settings host.log want ≡ Some refusals.TransferBusy =
     shown c.in-Err-TransferBusy.field-0 (refusal host.settings host.log want) why.else_memory (λ memory. cc) ∙ ap Some it in
     let shown = kept_host host tickets in
-    subst (λ (h : Hosted). Gives string_bytes (get_at h.settings want c.args.moment h.host) c.reply.result (kept_host c.acquire.new.self tickets)) c.self.view_is
+    subst (λ (h : Hosted). Gives string_bytes h (actions.Get want c.args.moment) c.reply.result (kept_host c.acquire.new.self tickets)) c.self.view_is
     (rw (ap (λ (b : HostShown (Unit {0})). b.log) why.err)
-    (gives-answer string_bytes (get_at host.settings want c.args.moment shown) shown _ c.reply.result
+    (gives-answer string_bytes (record { settings = host.settings; host = shown }) (actions.Get want c.args.moment) shown _ c.reply.result
     (get-refused host.settings want c.args.moment shown refusals.TransferBusy refused) c.reply.ensures))
 
 pub returns-in-Err-Exhausted-clause-answer : goal.returns-in-Err-Exhausted-clause-answer
@@ -197,7 +248,7 @@ returns-in-Err-Exhausted-clause-answer c =
     let refused : refusal host.settings host.log want ≡ Some refusals.Exhausted =
     shown c.in-Err-Exhausted.field-0 (refusal host.settings host.log want) why.else_memory (λ memory. cc) ∙ ap Some it in
     let shown = kept_host host tickets in
-    subst (λ (h : Hosted). Gives string_bytes (get_at h.settings want c.args.moment h.host) c.reply-in-Err-Exhausted.result (kept_host c.acquire.new.self tickets)) c.self.view_is
+    subst (λ (h : Hosted). Gives string_bytes h (actions.Get want c.args.moment) c.reply-in-Err-Exhausted.result (kept_host c.acquire.new.self tickets)) c.self.view_is
     (rw (ap (λ (b : HostShown (Unit {0})). b.log) why.err)
-    (gives-answer string_bytes (get_at host.settings want c.args.moment shown) shown _ c.reply-in-Err-Exhausted.result
+    (gives-answer string_bytes (record { settings = host.settings; host = shown }) (actions.Get want c.args.moment) shown _ c.reply-in-Err-Exhausted.result
     (get-refused host.settings want c.args.moment shown refusals.Exhausted refused) c.reply-in-Err-Exhausted.ensures))

@@ -6,9 +6,9 @@ use Rattle.conn_log.specs.declared.entry.Entry.{Entry}
 use Rattle.conn_log.specs.Connections.{is_among}
 use Rattle.bundle.specs.Lease.{is_valid_ticket, Spends}
 use Rattle.bundle.specs.Calls.{after_withdraw}
-use Rattle.script_engine.specs.Hosted.{Hosted, kept_host}
-use Rattle.script_engine.specs.Meaning.{grown, without_ticket, leave_at}
-use Rattle.script_engine.specs.Transcript.{Gives}
+use Rattle.script_engine.specs.Hosted.{Hosted, Gives, kept_host}
+use Rattle.script_engine.specs.Meaning.{grown, without_ticket}
+use Rattle.script_text.specs.declared.command.Action.TheVariants as actions
 use Rattle.script_engine.proofs.Growth.{Grows, withdrawn-grows, grows-length}
 use Rattle.script_engine.proofs.Leases.{kept-valid}
 use Rattle.script_engine.proofs.Tickets.{among-keys, keys-removed}
@@ -55,8 +55,8 @@ returns-in-Some-clause-answer c =
     let among : is_among c.args.transfer tickets ≡ true = ticketed host c.log.ensures.sound c.self.inside.tickets.entries c.self.invariant.1.tickets c.args.transfer ∙ ap is_some kept.0 in
     let shown = kept_host host tickets in
     let after = kept_host new (keys c.remove.new.self) in
-    subst (λ (h : Hosted). Gives string_bytes (leave_at h.settings c.args.transfer c.args.moment h.host) c.lines_since.result after) c.self.view_is
-    (gives-grown string_bytes (leave_at host.settings c.args.transfer c.args.moment shown) c.args.transfer shown after c.len-place.result c.lines_since.result
+    subst (λ (h : Hosted). Gives string_bytes h (actions.Leave c.args.transfer c.args.moment) c.lines_since.result after) c.self.view_is
+    (gives-grown string_bytes (record { settings = host.settings; host = shown }) (actions.Leave c.args.transfer c.args.moment) c.args.transfer after c.len-place.result c.lines_since.result
     (leave-taken host.settings c.args.transfer c.args.moment shown among ∙ ap (λ log. grown shown (record { log = log; tickets = without_ticket c.args.transfer tickets })) (sym same)
     ∙ ap (λ others. grown shown (kept_host new others)) (sym left))
     (c.len-place.ensures ∙ ap length c.log.ensures.entries) grows (rw c.log-in-Some.ensures.entries at c.lines_since.ensures))
@@ -68,6 +68,6 @@ returns-in-None-clause-answer c =
     let among : is_among c.args.transfer tickets ≡ false = among-keys c.self.inside.tickets.entries c.args.transfer ∙ ap is_some (sym c.remove.ensures.value ∙ c.in-None.is) in
     let same : keys c.remove.new.self ≡ tickets = ap keys_of (c.in-None.ensures.unchanged) in
     let shown = kept_host host tickets in
-    subst (λ (h : Hosted). Gives string_bytes (leave_at h.settings c.args.transfer c.args.moment h.host) c.reply.result (kept_host host (keys c.remove.new.self))) c.self.view_is
-    (rw same (gives-answer string_bytes (leave_at host.settings c.args.transfer c.args.moment shown) shown _ c.reply.result
+    subst (λ (h : Hosted). Gives string_bytes h (actions.Leave c.args.transfer c.args.moment) c.reply.result (kept_host host (keys c.remove.new.self))) c.self.view_is
+    (rw same (gives-answer string_bytes (record { settings = host.settings; host = shown }) (actions.Leave c.args.transfer c.args.moment) shown _ c.reply.result
     (leave-stranger host.settings c.args.transfer c.args.moment shown among) c.reply.ensures))

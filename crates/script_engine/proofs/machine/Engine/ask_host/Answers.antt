@@ -12,7 +12,7 @@ pub returns-then-site-ne0 : goal.returns-then-site-ne0
 returns-then-site-ne0 c =
     let run = c.args.self.now in
     answered-elsewhere string_bytes run c.args.limits c.args.site c.args.action c.answer_without_host.result c.requires.begun
-    (other-site (has_site run.sites) c.args.site c.if-site-ne0.true) (c.answer_without_host.ensures run.host)
+    (other-site (has_site run.sites) c.args.site c.if-site-ne0.true) c.answer_without_host.ensures
 
 pub returns-in_default : goal.returns-in_default
 returns-in_default c =
@@ -26,4 +26,4 @@ returns-in_default c =
     ∙ host-missing inside.has_begun (has_site inside.sites) c.args.limits (ap (λ (r : Run). r.has_begun) c.self.view_is ∙ c.requires.begun) hostless in
     let elsewhere : (has_site run.sites && (c.args.site == 0)) ≡ false = ap (λ b. b && (c.args.site == 0)) site in
     subst (λ (next : Run). Answers string_bytes (with_action run c.args.site c.args.action (Some c.args.limits)) c.answer_without_host-in_default.result next) (sym c.self.view_is)
-    (answered-elsewhere string_bytes run c.args.limits c.args.site c.args.action c.answer_without_host-in_default.result c.requires.begun elsewhere (c.answer_without_host-in_default.ensures run.host))
+    (answered-elsewhere string_bytes run c.args.limits c.args.site c.args.action c.answer_without_host-in_default.result c.requires.begun elsewhere c.answer_without_host-in_default.ensures)
