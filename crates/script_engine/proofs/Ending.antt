@@ -8,8 +8,6 @@ use Rattle.std.specs.Option.{option_map}
 use Rattle.std.specs.Map.{keys_of, lookup}
 use Rattle.std.specs.BTreeMap.{is_at}
 use Rattle.std.proofs.lemmas.Bool.Decides.{nat_tests}
-use Rattle.conn_log.specs.declared.entry.Entry.{Entry}
-use Rattle.conn_log.specs.declared.entry.Want.{Want}
 use Rattle.conn_log.specs.Connections.{is_among, held_number}
 use Rattle.conn_log.specs.Legal.{LimitAndFirst}
 use Rattle.conn_log.specs.Sound.{IsSound}
@@ -19,7 +17,6 @@ use Rattle.script_engine.specs.Hosted.{kept_host, KeepsLeases, KeepsTickets, lea
 use Rattle.script_engine.specs.Ending.{has_either, after_all}
 use Rattle.script_engine.proofs.Tickets.{among-keys}
 use Rattle.script_engine.proofs.Spending.{leased-by-keys}
-use Rattle.script_engine.proofs.Leases.{leased-no-ticket, ticket-no-lease}
 use Rattle.script_engine.proofs.TicketLists.{among-with}
 
 -- each of them is above that one
@@ -130,22 +127,7 @@ holder-first t holders rest waiters is w first apart =
     ap (λ keys. merged keys waiters) is
     ∙ lease-first t rest waiters (below-waiters t rest waiters w (ap (λ keys. is_ticket_first keys waiters) (sym is) ∙ first) apart)
 
--- who has a lease has no ticket, and who has a ticket no lease
 module _ {S : Type 0} (host : HostShown S) (sound : IsSound host.settings host.log) (t : ℕ) where
-  pub holder-unticketed : is_some (lease_number host t) ≡ true → ticket_want host t ≡ None
-  holder-unticketed has = by_leased (lease_number host t) refl has
-    where
-      by_leased : (leased : Option ℕ) → lease_number host t ≡ leased → is_some leased ≡ true → ticket_want host t ≡ None
-      by_leased None is h = cc
-      by_leased (Some c) is h = leased-no-ticket host sound t c is
-
-  pub waiter-unleased : is_some (ticket_want host t) ≡ true → lease_number host t ≡ None
-  waiter-unleased has = by_want (ticket_want host t) refl has
-    where
-      by_want : (want : Option Want) → ticket_want host t ≡ want → is_some want ≡ true → lease_number host t ≡ None
-      by_want None is h = cc
-      by_want (Some want) is h = ticket-no-lease host sound t want is
-
   -- those that are left: who has a ticket, or holds a connection
   pub each-left : (leases : List (ℕ × Leasing S)) (tickets : List (ℕ × Ticketed)) → KeepsLeases (leases_of host) (λ q. lookup (is_at (nat_cmp q)) leases) → KeepsTickets (ticket_want host) (λ q. lookup (is_at (nat_cmp q)) tickets)
       → is_among t (merged (keys_of leases) (keys_of tickets)) ≡ has_either (kept_host host (keys_of tickets)) t

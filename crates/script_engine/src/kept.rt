@@ -1,15 +1,15 @@
 //! The leases and tickets that a host keeps for its transfers, until they are spent.
 
-ghost use Rattle.std.specs.Prelude.{◌≡◌, ◌+◌, ◌<◌, ℕ, OnOk, OnErr, IfErr, IsSome, Some, None, true};
-ghost use Rattle.std.specs.Prelude.{◌∷◌};
+ghost use Rattle.std.specs.Prelude.{◌≡◌, ◌+◌, ℕ, OnOk, OnErr, IfErr, IfSome, IfNone, IsSome};
+ghost use Rattle.std.specs.Prelude.{is_some, Some, None, true, ◌∷◌, if◌then◌else◌};
 ghost use Rattle.std.specs.Ordering.{nat_cmp};
 ghost use Rattle.std.specs.BTreeMap.{get, keys, btree_map_len, IsOrdered};
-ghost use Rattle.conn_log.specs.Connections.{is_held_by, held_number};
+ghost use Rattle.conn_log.specs.Connections.{is_held_by};
 ghost use Rattle.conn_log.specs.Sound.{IsSound};
 ghost use Rattle.bundle.specs.Calls.{after_give_back, after_abandon, after_withdraw};
 ghost use Rattle.bundle.specs.Lease.{Spends, lease_number, ticket_want, is_valid_ticket};
 ghost use Rattle.script_engine.specs.Meaning.{with_ticket, facts_of_ending};
-ghost use Rattle.script_engine.specs.Ending.{after_dropping, after_giving_up, IsEnding};
+ghost use Rattle.script_engine.specs.Ending.{after_giving_up, IsEnding};
 ghost use Rattle.script_engine.specs.Hosted.{Keeps, KeepsLeases, KeepsTickets, leases_of};
 ghost use Rattle.script_engine.specs.Hosted.{due_others, lease_facts, kept_host, is_ticket_first};
 ghost use Rattle.script_engine.specs.Hosted.{merged};
@@ -165,89 +165,44 @@ pub fn spend_all(
     let _waiters = tickets.len();
     let mut leases = leases;
     let mut tickets = tickets;
-    while leases.len() != 0 || tickets.len() != 0 {
-        let _ = spend_first(bundle, &mut leases, &mut tickets);
-    }
+    while let Some(_) = spend_first(bundle, &mut leases, &mut tickets) {}
     leases.destroy_empty();
     tickets.destroy_empty();
 }
 
 /// Spends the lease or the ticket of the first transfer that has one, at moment 0. Tells which
-/// transfer that is.
+/// transfer that is; `None` where none has one.
 fn spend_first(
     bundle: &mut Bundle<()>,
     leases: &mut BTreeMap<u64, Lease<()>>,
     tickets: &mut BTreeMap<u64, Ticket>,
-) -> u64
-    requires some { 0 < btree_map_len leases.old + btree_map_len tickets.old }
+) -> Option<u64>
     requires keeps { Keeps bundle.old (get nat_cmp leases.old) (get nat_cmp tickets.old) }
     requires holders { IsOrdered nat_cmp leases.old }
     requires waiters { IsOrdered nat_cmp tickets.old }
-    ensures first { merged (keys leases.old) (keys tickets.old)
-        ≡ result ∷ merged (keys leases.new) (keys tickets.new) }
-    ensures less { btree_map_len leases.new + btree_map_len tickets.new + 1
-        ≡ btree_map_len leases.old + btree_map_len tickets.old }
-    ensures host { kept_host bundle.new (keys tickets.new)
-        ≡ after_giving_up bundle.old.settings (kept_host bundle.old (keys tickets.old)) result }
+    ensures none { IfNone result ((btree_map_len leases.old ≡ 0)
+        × (btree_map_len tickets.old ≡ 0) × (bundle.new ≡ bundle.old)) }
+    ensures first { IfSome result (λ transfer. merged (keys leases.old) (keys tickets.old)
+        ≡ transfer ∷ merged (keys leases.new) (keys tickets.new)) }
+    ensures less { btree_map_len leases.new + btree_map_len tickets.new
+        + (if is_some result then 1 else 0) ≡ btree_map_len leases.old + btree_map_len tickets.old }
+    ensures host { IfSome result (λ transfer. kept_host bundle.new (keys tickets.new)
+        ≡ after_giving_up bundle.old.settings (kept_host bundle.old (keys tickets.old)) transfer) }
     ensures settings { bundle.new.settings ≡ bundle.old.settings }
     ensures keeps { Keeps bundle.new (get nat_cmp leases.new) (get nat_cmp tickets.new) }
     ensures ordered { IsOrdered nat_cmp leases.new × IsOrdered nat_cmp tickets.new }
 {
-    // The log is sound: who has a ticket has no lease.
+    // The log is sound: a ticket is of its transfer, which has no lease; what a transfer has a
+    // lease of, it holds.
     let _log = bundle.log();
     if is_ticket_first(leases, tickets) {
-        withdraw_first(bundle, tickets)
+        let (transfer, first) = tickets.pop_first()?;
+        withdraw(bundle, first, 0);
+        Some(transfer)
     } else {
-        abandon_first(bundle, leases)
-    }
-}
-
-/// Withdraws the first of the tickets, at moment 0. Tells whose it is.
-fn withdraw_first(bundle: &mut Bundle<()>, tickets: &mut BTreeMap<u64, Ticket>) -> u64
-    requires some { 0 < btree_map_len tickets.old }
-    requires keeps { KeepsTickets (ticket_want bundle.old) (get nat_cmp tickets.old) }
-    ensures own { IsSome (ticket_want bundle.old result) }
-    ensures first { keys tickets.old ≡ result ∷ keys tickets.new }
-    ensures less { btree_map_len tickets.new + 1 ≡ btree_map_len tickets.old }
-    ensures log { bundle.new.log ≡ after_withdraw bundle.old.settings bundle.old.log result 0 }
-    ensures spends { Spends bundle.old bundle.new result }
-    ensures settings { bundle.new.settings ≡ bundle.old.settings }
-    ensures keeps { KeepsTickets (ticket_want bundle.new) (get nat_cmp tickets.new) }
-    ensures ordered { IsOrdered nat_cmp tickets.new }
-{
-    // The log is sound: a ticket is of its transfer.
-    let _log = bundle.log();
-    match tickets.pop_first() {
-        Some((transfer, first)) => {
-            withdraw(bundle, first, 0);
-            transfer
-        }
-        None => unreachable!(),
-    }
-}
-
-/// Abandons the first of the leases, at moment 0. Tells whose it is.
-fn abandon_first(bundle: &mut Bundle<()>, leases: &mut BTreeMap<u64, Lease<()>>) -> u64
-    requires some { 0 < btree_map_len leases.old }
-    requires keeps { KeepsLeases (leases_of bundle.old) (get nat_cmp leases.old) }
-    ensures own { IsSome (lease_number bundle.old result) }
-    ensures first { keys leases.old ≡ result ∷ keys leases.new }
-    ensures less { btree_map_len leases.new + 1 ≡ btree_map_len leases.old }
-    ensures log { bundle.new.log ≡ after_dropping bundle.old.settings bundle.old.log
-        (held_number bundle.old.log result) }
-    ensures spends { Spends bundle.old bundle.new result }
-    ensures settings { bundle.new.settings ≡ bundle.old.settings }
-    ensures keeps { KeepsLeases (leases_of bundle.new) (get nat_cmp leases.new) }
-    ensures ordered { IsOrdered nat_cmp leases.new }
-{
-    // The log is sound: what a transfer has a lease of, it holds.
-    let _log = bundle.log();
-    match leases.pop_first() {
-        Some((transfer, first)) => {
-            abandon(bundle, first, 0);
-            transfer
-        }
-        None => unreachable!(),
+        let (transfer, first) = leases.pop_first()?;
+        abandon(bundle, first, 0);
+        Some(transfer)
     }
 }
 

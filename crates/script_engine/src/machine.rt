@@ -1,6 +1,6 @@
 //! What a script's commands do, one after another.
 
-ghost use Rattle.std.specs.Prelude.{◌≡◌, ℕ, IfErr, IfOk, OnOk, IfSome};
+ghost use Rattle.std.specs.Prelude.{◌≡◌, IfErr, IfOk, OnOk, IfSome};
 ghost use Rattle.std.specs.Prelude.{IsSome, Some, None, true, ◌&&◌, string_bytes};
 ghost use Rattle.script_engine.specs.Meaning.{Run, start, step, with_limits, with_url, with_action};
 ghost use Rattle.script_engine.specs.Meaning.{at_script_end, at_no_host, are_good, settings_of};
