@@ -13,7 +13,7 @@ ghost use Rattle.script_text.specs.declared.command.Limits.{Limits};
 
 use crate::host::OneHost;
 use bundle::Bundle;
-use conn_key::Sites;
+use conn_key::{CountedMemory, Sites};
 use script_text::{Action, Command, FaultKind, Limits, SiteWord, reply};
 use std::alloc::Global;
 use std::marker::Model;
@@ -147,7 +147,7 @@ impl Engine {
         if self.limits.is_none() || self.has_begun {
             return Err(FaultKind::Place);
         }
-        let target = word.target(self.alloc)?;
+        let target = word.target(&mut CountedMemory::new(self.alloc))?;
         if !self.sites.is_empty() && self.sites.find(&target).is_none() {
             return Err(FaultKind::TooManySites);
         }

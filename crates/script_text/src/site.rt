@@ -2,11 +2,11 @@
 
 ghost use Rattle.std.specs.Prelude.{◌≡◌, ◌⊎◌, None, Some, IfOk, IfErr};
 ghost use Rattle.conn_key.specs.Site.{site_of};
+ghost use Rattle.conn_key.specs.Wants.{Rises};
 ghost use Rattle.script_text.specs.Site.{site_named, fault_of};
 
 use crate::fault::FaultKind;
-use conn_key::{CountedMemory, KeyError, Target, read_target};
-use std::alloc::Global;
+use conn_key::{KeyError, Target, TargetMemory, read_target};
 use std::marker::Model;
 use std::str;
 
@@ -35,16 +35,18 @@ impl<'a> SiteWord<'a> {
     /// The target that the word leads to.
     ///
     /// Errors: `BadSite` where the word isn't UTF-8 or isn't an `http` URL of at most 2,048 bytes,
-    /// and `Memory`.
-    pub fn target(&self, alloc: Global) -> Result<Target, FaultKind>
+    /// and `Memory` only where the memory counted a want.
+    pub fn target<M: TargetMemory>(&self, memory: &mut M) -> Result<Target, FaultKind>
         ensures ok { IfOk result (λ target. site_named self.now ≡ Some (site_of target)) }
         ensures err { IfErr result (λ kind. (kind ≡ FaultKind.Memory)
             ⊎ ((kind ≡ FaultKind.BadSite) × (site_named self.now ≡ None))) }
+        ensures memory { IfErr result (λ kind. kind ≡ FaultKind.Memory
+            → Rises (M.wants memory.old) (M.wants memory.new)) }
     {
         let Ok(text) = str::from_utf8(self.bytes) else {
             return Err(FaultKind::BadSite);
         };
-        match read_target(&mut CountedMemory::new(alloc), text) {
+        match read_target(memory, text) {
             Ok(target) => Ok(target),
             Err(error) => Err(fault_of(error)),
         }
