@@ -3,10 +3,11 @@ use Rattle.std.specs.Prelude.{◌≡◌, ◌⊎◌, ℕ, true, codes, List, [], 
 use Rattle.clap.specs.Words.{App, Kinds, IsAmong, fault_of, new_app, with_subcommand}
 use Rattle.clap.specs.declared.error.kind.ErrorKind.{ErrorKind}
 use Rattle.clap.specs.declared.error.kind.ErrorKind.TheVariants as kinds
+use Rattle.conn_key.specs.Wants.{Rises}
 use Rattle.script_text.specs.declared.fault.FaultKind.{FaultKind}
 use Rattle.script_text.specs.declared.fault.ScriptFault.{ScriptFault}
-use Rattle.pool_cli.specs.declared.request.Words.{Words}
-use Rattle.pool_cli.specs.declared.request.Words.TheVariants.{Given, NotText, NoMemory}
+use Rattle.pool_cli.specs.declared.command_line.Words.{Words}
+use Rattle.pool_cli.specs.declared.command_line.Words.TheVariants.{Given, NotText, NoMemory}
 use Rattle.pool_cli.specs.declared.request.Manner.{Manner}
 use Rattle.pool_cli.specs.declared.request.Manner.TheVariants as manners
 use Rattle.pool_cli.specs.declared.request.Request.{Request}
@@ -34,23 +35,23 @@ manner_of kinds.DisplayHelp = manners.Asked
 manner_of kinds.DisplayVersion = manners.Asked
 manner_of _ = manners.Mistake
 
--- what an error makes the words ask for
-abbrev pub AnswersError : Manner → Request → Type 0
-AnswersError manner requests.Script = ⊥
-AnswersError manner (requests.Tell text) = manner ≡ manners.Asked
-AnswersError manner (requests.Refuse text) = manner ≡ manners.Mistake
-AnswersError manner requests.NoMemory = Unit {0}
+-- what an error makes the words ask for, where so many wants of memory were counted before its text was made and after
+abbrev pub AnswersError : Manner → ℕ → ℕ → Request → Type 0
+AnswersError manner before after requests.Script = ⊥
+AnswersError manner before after (requests.Tell text) = manner ≡ manners.Asked
+AnswersError manner before after (requests.Refuse text) = manner ≡ manners.Mistake
+AnswersError manner before after requests.NoMemory = ((manner ≡ manners.Memory) × (after ≡ before)) ⊎ Rises before after
 
 -- one of the faults is of that manner
 abbrev pub HasManner : Kinds → Manner → Type 0
 HasManner faults manner = (kind : ErrorKind) × IsAmong kind faults × (manner_of kind ≡ manner)
 
--- what words with these faults may ask for
-abbrev pub Asks : Kinds → Request → Type 0
-Asks faults requests.Script = faults ≡ []
-Asks faults (requests.Tell text) = HasManner faults manners.Asked
-Asks faults (requests.Refuse text) = HasManner faults manners.Mistake
-Asks faults requests.NoMemory = Unit {0}
+-- what words with these faults may ask for, where so many wants of memory were counted before they were read and after
+abbrev pub Asks : Kinds → ℕ → ℕ → Request → Type 0
+Asks faults before after requests.Script = faults ≡ []
+Asks faults before after (requests.Tell text) = HasManner faults manners.Asked
+Asks faults before after (requests.Refuse text) = HasManner faults manners.Mistake
+Asks faults before after requests.NoMemory = HasManner faults manners.Memory ⊎ Rises before after
 
 -- the status of a program that ran a script
 abbrev pub status_of : {A : Type 0} → Result A ScriptFault → ℕ
@@ -85,10 +86,10 @@ AnswersRequest (requests.Refuse text) unread left old new status = EndsAtOnce 2 
 AnswersRequest requests.NoMemory unread left old new status = EndsAtOnce 4 unread left old new status
 
 -- what the program does with words that have these faults, and its status: what is done for a request that they may
--- ask for
-abbrev pub RunsProgram : Kinds → Stream → Stream → Stream → Stream → ℕ → Type 0
-RunsProgram faults unread left old new status =
-    (request : Request) × Asks faults request × AnswersRequest request unread left old new status
+-- ask for, where so many wants of memory were counted before they were read and after
+abbrev pub RunsProgram : Kinds → ℕ → ℕ → Stream → Stream → Stream → Stream → ℕ → Type 0
+RunsProgram faults before after unread left old new status =
+    (request : Request) × Asks faults before after request × AnswersRequest request unread left old new status
 
 -- small command lines
 abbrev pub faults_after : List (List ℕ) → Kinds

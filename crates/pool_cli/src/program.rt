@@ -3,7 +3,9 @@
 ghost use Rattle.pool_cli.specs.CommandLine.{AnswersRequest, RunsProgram, word_faults};
 ghost use Rattle.pool_cli.specs.Streams.{CanCount};
 
-use crate::request::{Request, Words, asked_by};
+use crate::command_line::Words;
+use crate::memory::WordsMemory;
+use crate::request::{Request, asked_by};
 use crate::script::run_script;
 use crate::streams::{Sink, Source};
 use script_text::ScriptFault;
@@ -26,8 +28,9 @@ const NO_MEMORY: u8 = 4;
 /// so, 2 where the words are refused, 3 where the script has a fault, and 4 where memory ran out
 /// while reading words. What goes wrong is told on `errors`; on `output` stands the transcript or
 /// the help that was asked for, and nothing else.
-pub fn run_program<R: Source, W: Sink, E: Write>(
+pub fn run_program<M: WordsMemory, R: Source, W: Sink, E: Write>(
     alloc: Global,
+    memory: &mut M,
     words: Words,
     input: &mut R,
     output: &mut W,
@@ -35,10 +38,10 @@ pub fn run_program<R: Source, W: Sink, E: Write>(
 ) -> u8
     requires input { CanCount (R.source input.old) }
     requires output { CanCount (W.sink output.old) }
-    ensures { RunsProgram (word_faults words) (R.source input.old) (R.source input.new)
-        (W.sink output.old) (W.sink output.new) result }
+    ensures { RunsProgram (word_faults words) (M.wants memory.old) (M.wants memory.new)
+        (R.source input.old) (R.source input.new) (W.sink output.old) (W.sink output.new) result }
 {
-    let request = asked_by(alloc, words);
+    let request = asked_by(memory, words);
     answer_request(alloc, request, input, output, errors)
 }
 

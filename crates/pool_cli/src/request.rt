@@ -1,23 +1,13 @@
 //! What the words on the command line ask for.
 
-ghost use Rattle.std.specs.Prelude.{◌≡◌, IfOk, map, string_bytes};
-ghost use Rattle.clap.specs.Words.{FailsBy, app_of, fault_of, kind_of};
-ghost use Rattle.pool_cli.specs.CommandLine.{AnswersError, Asks, curlpool, manner_of, word_faults};
+ghost use Rattle.std.specs.Prelude.{◌≡◌};
+ghost use Rattle.clap.specs.Words.{kind_of};
+ghost use Rattle.pool_cli.specs.CommandLine.{AnswersError, Asks, manner_of, word_faults};
 
-use crate::help::COMMANDS;
+use crate::command_line::Words;
+use crate::memory::WordsMemory;
+use clap::Error;
 use clap::error::ErrorKind;
-use clap::{Command, Error};
-use std::alloc::{AllocError, Global};
-
-/// The words with which the program was started, its name first, or why they could not be had.
-#[derive(Drop)]
-pub enum Words {
-    Given(Vec<String>),
-    /// One is not UTF-8.
-    NotText,
-    /// Memory ran out.
-    NoMemory,
-}
 
 /// What the words ask for.
 #[derive(Drop)]
@@ -43,71 +33,36 @@ pub enum Manner {
     Mistake,
 }
 
-/// What the words ask for.
-pub fn asked_by(alloc: Global, words: Words) -> Request
-    ensures { Asks (word_faults words) result }
+/// What the words ask for. `NoMemory` comes only where the words could not be had for want of
+/// memory, or the memory counted a want.
+pub fn asked_by<M: WordsMemory>(memory: &mut M, words: Words) -> Request
+    ensures { Asks (word_faults words) (M.wants memory.old) (M.wants memory.new) result }
 {
     match words {
-        Words::Given(words) => match parse(alloc, words.as_slice()) {
+        Words::Given(words) => match memory.parse(words.as_slice()) {
             Ok(()) => Request::Script,
-            Err(error) => refused(alloc, error),
+            Err(error) => refused(memory, error),
         },
-        Words::NotText => match not_text(alloc) {
-            Ok(error) => refused(alloc, error),
+        Words::NotText => match memory.not_text() {
+            Ok(error) => refused(memory, error),
             Err(_) => Request::NoMemory,
         },
         Words::NoMemory => Request::NoMemory,
     }
 }
 
-/// The program's command line.
-fn command<'a>(alloc: Global) -> Result<Command<'a>, AllocError>
-    ensures { IfOk result (λ command. app_of command ≡ curlpool) }
-{
-    let script = Command::new(alloc, "script")
-        .about("Runs the script on standard input and writes its transcript")
-        .after_help(COMMANDS);
-    Ok(
-        Command::new(alloc, "curlpool")
-            .bin_name("curlpool")?
-            .version("0.1.0")
-            .about("libcurl's connection cache: runs scripts of connection events")
-            .subcommand_required(true)
-            .disable_help_subcommand(true)
-            .subcommand(script)?,
-    )
-}
-
-/// Reads the words; those that it takes ask for a script.
-fn parse(alloc: Global, words: &[String]) -> Result<(), Error>
-    ensures { FailsBy (fault_of curlpool (map string_bytes words.now)) result }
-{
-    let _ = command(alloc)?.try_get_matches_from(words)?;
-    Ok(())
-}
-
-/// The error for a word that is not UTF-8.
-fn not_text(alloc: Global) -> Result<Error, AllocError>
-    ensures { IfOk result (λ error. kind_of error ≡ ErrorKind.ValueValidation) }
-{
-    let mut command = command(alloc)?;
-    command.error(
-        ErrorKind::ValueValidation,
-        "invalid UTF-8 was detected in one or more arguments",
-    )
-}
-
 /// What is asked for where reading the words gave that error.
-fn refused(alloc: Global, error: Error) -> Request
-    ensures { AnswersError (manner_of (kind_of error)) result }
+fn refused<M: WordsMemory>(memory: &mut M, error: Error) -> Request
+    ensures { AnswersError (manner_of (kind_of error)) (M.wants memory.old)
+        (M.wants memory.new) result }
 {
     match manner_of(error.kind()) {
         Manner::Memory => Request::NoMemory,
-        Manner::Asked => match error.to_string(alloc) {
+        Manner::Asked => match memory.text(&error) {
             Ok(text) => Request::Tell(text),
             Err(_) => Request::NoMemory,
         },
-        Manner::Mistake => match error.to_string(alloc) {
+        Manner::Mistake => match memory.text(&error) {
             Ok(text) => Request::Refuse(text),
             Err(_) => Request::NoMemory,
         },

@@ -1,12 +1,12 @@
 //! The streams that a script is read from and its transcript is written to: they tell what was read
-//! and written, and count the reads and writes that failed.
+//! and written, and how many reads and writes failed.
 
-ghost use Rattle.std.specs.Prelude.{◌≡◌, ◌-◌, ◌^◌, ◌<◌, IfOk};
-ghost use Rattle.std.specs.Io.KnownBytes.{ReadConsumes, WriteAppends};
-ghost use Rattle.std.specs.Io.{ReadsAtMost, WritesAtMost};
+ghost use Rattle.std.specs.Io.KnownBytes.{ReadConsumes};
+ghost use Rattle.std.specs.Io.{ReadsAtMost};
 ghost use Rattle.pool_cli.specs.Streams.{CanCount, CountsFailure, Puts, ReadsScript, in_memory};
 ghost use Rattle.pool_cli.specs.Watching.{watched};
 
+use crate::watched::{ReadFailed, Watched};
 use script_text::FaultKind;
 use std::alloc::Global;
 use std::io::{Read, Write};
@@ -16,14 +16,6 @@ pub const SCRIPT_LIMIT: usize = 1_048_576;
 
 /// How many bytes are read at a time.
 const PIECE: usize = 4096;
-
-/// A read failed.
-#[derive(Clone, Copy, Debug, PartialEq, Eq)]
-pub struct ReadFailed;
-
-/// A write failed, or took no byte.
-#[derive(Clone, Copy, Debug, PartialEq, Eq)]
-pub struct WriteFailed;
 
 /// What a script is read from.
 pub trait Source {
@@ -64,10 +56,7 @@ impl Source for &[u8] {
     ghost source = { λ s. in_memory s.now };
 
     fn read_some(&mut self, buf: &mut [u8]) -> Result<usize, ReadFailed> {
-        let Ok(count) = Read::read(self, buf) else {
-            unreachable!()
-        };
-        Ok(count)
+        Read::read(self, buf).map_err(|_| ReadFailed)
     }
 }
 
@@ -82,61 +71,11 @@ impl Sink for Vec<u8> {
     }
 }
 
-/// A reader or writer of the system's, with how many of its reads or writes failed.
-#[derive(Drop)]
-pub struct Watched<S> {
-    pub stream: S,
-    pub failures: u64,
-}
-
-impl<S> Watched<S> {
-    /// That stream, of which nothing failed yet.
-    pub fn new(stream: S) -> Watched<S>
-        ensures { result ≡ record { stream = stream; failures = 0 } }
-    {
-        Watched {
-            stream,
-            failures: 0,
-        }
-    }
-}
-
 impl<R: Read> Source for Watched<R> {
     ghost source = { λ w. watched R.remaining w };
 
     fn read_some(&mut self, buf: &mut [u8]) -> Result<usize, ReadFailed> {
-        match self.stream.read(buf) {
-            Ok(count) => Ok(count),
-            Err(_) => {
-                self.failures += 1;
-                Err(ReadFailed)
-            }
-        }
-    }
-}
-
-impl<W: Write> Watched<W> {
-    /// Writes some of the bytes, and tells how many.
-    fn write_some(&mut self, bytes: &[u8]) -> Result<usize, WriteFailed>
-        requires room { self.old.failures < 2 ^ 64 - 1 }
-        ensures bound { WritesAtMost result bytes.now }
-        ensures some { IfOk result (λ count. 0 < count) }
-        ensures bytes { WriteAppends (W.contents self.old.stream)
-            (W.contents self.new.stream) result bytes.now }
-        ensures failures { CountsFailure (watched W.contents self.old)
-            (watched W.contents self.new) result }
-    {
-        match self.stream.write(bytes) {
-            Ok(0) => {
-                self.failures += 1;
-                Err(WriteFailed)
-            }
-            Ok(count) => Ok(count),
-            Err(_) => {
-                self.failures += 1;
-                Err(WriteFailed)
-            }
-        }
+        self.read(buf)
     }
 }
 
@@ -146,7 +85,7 @@ impl<W: Write> Sink for Watched<W> {
     fn put(&mut self, bytes: &[u8]) -> Result<(), FaultKind> {
         let mut rest = bytes;
         while !rest.is_empty() {
-            match self.write_some(rest) {
+            match self.write(rest) {
                 Ok(count) => rest = rest.split_at(count).1,
                 Err(_) => return Err(FaultKind::Write),
             }

@@ -1,10 +1,11 @@
 //! What no clause says: that scripts run in ample memory, the worked ones among them, what words
 //! ask for, and what reader, writer and memory leave that fail.
 
+use crate::command_line::Words;
+use crate::memory::CountedWordsMemory;
 use crate::program::run_program;
-use crate::request::Words;
 use crate::script::{run_bytes, run_script};
-use crate::streams::Watched;
+use crate::watched::Watched;
 use script_text::{FaultKind, ScriptFault};
 use std::alloc::{AllocError, Global};
 use std::io;
@@ -585,14 +586,29 @@ fn words(alloc: Global, given: &str) -> Result<Words, AllocError> {
     Ok(Words::Given(words))
 }
 
+// What the program does with these words and that script: its status, and what it writes on output
+// and on standard error.
+fn run_words(alloc: Global, words: Words, script: &str) -> (u8, Vec<u8>, Vec<u8>) {
+    let mut memory = CountedWordsMemory::new(alloc);
+    let mut input = script.as_bytes();
+    let mut output = Vec::new(alloc);
+    let mut errors = Vec::new(alloc);
+    let status = run_program(
+        alloc,
+        &mut memory,
+        words,
+        &mut input,
+        &mut output,
+        &mut errors,
+    );
+    (status, output, errors)
+}
+
 #[test]
 fn words_ask_for_a_script(rt: HostRuntime) -> Result<(), Fail> {
     let (script, transcript) = REUSE_THEN_DROP;
-    let mut input = script.as_bytes();
-    let mut output = Vec::new(rt.alloc());
-    let mut errors = Vec::new(rt.alloc());
     let given = words(rt.alloc(), "script")?;
-    let status = run_program(rt.alloc(), given, &mut input, &mut output, &mut errors);
+    let (status, output, errors) = run_words(rt.alloc(), given, script);
     assert_eq!(rt; status, 0);
     assert_eq!(rt; output.as_slice(), transcript.as_bytes());
     assert!(rt; errors.is_empty());
@@ -601,11 +617,8 @@ fn words_ask_for_a_script(rt: HostRuntime) -> Result<(), Fail> {
 
 #[test]
 fn a_fault_is_told_on_standard_error(rt: HostRuntime) -> Result<(), Fail> {
-    let mut input = "limits 4 0 4\nlook x\n".as_bytes();
-    let mut output = Vec::new(rt.alloc());
-    let mut errors = Vec::new(rt.alloc());
     let given = words(rt.alloc(), "script")?;
-    let status = run_program(rt.alloc(), given, &mut input, &mut output, &mut errors);
+    let (status, output, errors) = run_words(rt.alloc(), given, "limits 4 0 4\nlook x\n");
     assert_eq!(rt; status, 3);
     assert!(rt; output.is_empty());
     assert_eq!(rt; errors.as_slice(), b"line 2: wrong form\n".as_slice());
@@ -615,11 +628,8 @@ fn a_fault_is_told_on_standard_error(rt: HostRuntime) -> Result<(), Fail> {
 #[test]
 fn other_words_are_refused(rt: HostRuntime) -> Result<(), Fail> {
     for given in ["", "help", "scripts", "script again", "--verbose"] {
-        let mut input = "".as_bytes();
-        let mut output = Vec::new(rt.alloc());
-        let mut errors = Vec::new(rt.alloc());
         let given = words(rt.alloc(), given)?;
-        let status = run_program(rt.alloc(), given, &mut input, &mut output, &mut errors);
+        let (status, output, errors) = run_words(rt.alloc(), given, "");
         assert_eq!(rt; status, 2);
         assert!(rt; output.is_empty());
         assert!(rt; errors.starts_with(b"error: ".as_slice()));
@@ -633,11 +643,8 @@ fn help_and_version_are_told_on_standard_output(rt: HostRuntime) -> Result<(), F
         ("--help", "libcurl's connection cache"),
         ("--version", "curlpool 0.1.0\n"),
     ] {
-        let mut input = "".as_bytes();
-        let mut output = Vec::new(rt.alloc());
-        let mut errors = Vec::new(rt.alloc());
         let given = words(rt.alloc(), word)?;
-        let status = run_program(rt.alloc(), given, &mut input, &mut output, &mut errors);
+        let (status, output, errors) = run_words(rt.alloc(), given, "");
         assert_eq!(rt; status, 0);
         assert!(rt; output.starts_with(start.as_bytes()));
         assert!(rt; errors.is_empty());
@@ -651,15 +658,12 @@ fn words_that_could_not_be_had(rt: HostRuntime) -> Result<(), Fail> {
         (false, 2, "error: invalid UTF-8"),
         (true, 4, "run: out of memory\n"),
     ] {
-        let mut input = "".as_bytes();
-        let mut output = Vec::new(rt.alloc());
-        let mut errors = Vec::new(rt.alloc());
         let given = if is_text {
             Words::NoMemory
         } else {
             Words::NotText
         };
-        let status = run_program(rt.alloc(), given, &mut input, &mut output, &mut errors);
+        let (status, output, errors) = run_words(rt.alloc(), given, "");
         assert_eq!(rt; status, expected);
         assert!(rt; output.is_empty());
         assert!(rt; errors.starts_with(start.as_bytes()));

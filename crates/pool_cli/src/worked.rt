@@ -6,6 +6,7 @@ ghost use Rattle.pool_cli.specs.CommandLine.{TellsVersionOnVersion, RefusesAnoth
 
 /// What is wrong with small command lines, by computation: with `script` alone nothing; no word at
 /// all, and a word after `script`, are refused; `--help` and `--version` are asked for.
+#[tactic(auto, unfolding(clap::proofs::OnLiterals::clap_on_literals))]
 pub fn worked_command_lines()
     ensures script { TakesScript }
     ensures nothing { WantsSubcommand }
