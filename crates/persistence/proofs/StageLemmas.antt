@@ -50,20 +50,20 @@ module _ (method : Method) (bytes : List ℕ) (told : Head) (text : List ℕ) (p
   pub passes_status : TellsStatus bytes (Some told.status)
   passes_status = subst (λ n. TellsStatus bytes (Some n)) (sym passes.says.status) (status_there method passes.head bytes text passes.has)
 
-  pub passes_length : (len : ℕ) → TellsBodyLength (body_kind method passes.head) told.counted text len → TellsLength method bytes len
+  pub passes_length : (len : ℕ) → TellsBodyLength (body_kind method passes.head) told.fields.counted text len → TellsLength method bytes len
   passes_length len came =
       length_there method passes.head bytes text passes.has len
-      (subst (λ (n : Option ℕ). TellsBodyLength (body_kind method passes.head) n text len) passes.says.counted came)
+      (subst (λ (n : Option ℕ). TellsBodyLength (body_kind method passes.head) n text len) passes.says.fields.counted came)
 
-  pub passes_fault : (fault : ReadFault) → IsFirst (BodyShows (body_kind method passes.head) told.counted) (HasLongTrailerBy (body_kind method passes.head)) text fault
+  pub passes_fault : (fault : ReadFault) → IsFirst (BodyShows (body_kind method passes.head) told.fields.counted) (HasLongTrailerBy (body_kind method passes.head)) text fault
       → IsFirstFault method bytes fault
   passes_fault fault found =
       first_in_body method passes.head bytes text passes.has fault
-      (subst (λ (n : Option ℕ). IsFirst (BodyShows (body_kind method passes.head) n) (HasLongTrailerBy (body_kind method passes.head)) text fault) passes.says.counted found)
+      (subst (λ (n : Option ℕ). IsFirst (BodyShows (body_kind method passes.head) n) (HasLongTrailerBy (body_kind method passes.head)) text fault) passes.says.fields.counted found)
 
-  module _ (ended : Bool) (len : ℕ) (whole surplus : Bool) (tells : TellsBody (body_kind method passes.head) told.counted ended text len whole surplus) where
+  module _ (ended : Bool) (len : ℕ) (whole surplus : Bool) (tells : TellsBody (body_kind method passes.head) told.fields.counted ended text len whole surplus) where
     here : TellsBody (body_kind method passes.head) (counted_length (fields_of passes.head)) ended text len whole surplus
-    here = subst (λ (n : Option ℕ). TellsBody (body_kind method passes.head) n ended text len whole surplus) passes.says.counted tells
+    here = subst (λ (n : Option ℕ). TellsBody (body_kind method passes.head) n ended text len whole surplus) passes.says.fields.counted tells
 
     pub pieces_clean : IsFaultless method bytes
     pieces_clean = faultless method passes.head bytes text passes.has here.clean
@@ -110,7 +110,7 @@ abbrev pub passes_more : (bytes text piece : List ℕ) (told : Head) → PassesH
 passes_more bytes text piece told passes = record { head = passes.head; has = HasFinalHead-append bytes piece passes.head text passes.has; says = passes.says }
 
 -- what fixes the body's length fixes that of all bytes
-pub passes_fixes : (method : Method) (bytes : List ℕ) (told : Head) (text : List ℕ) (passes : PassesHead bytes told text) (len : ℕ) → FixesBody (body_kind method passes.head) told.counted text len
+pub passes_fixes : (method : Method) (bytes : List ℕ) (told : Head) (text : List ℕ) (passes : PassesHead bytes told text) (len : ℕ) → FixesBody (body_kind method passes.head) told.fields.counted text len
     → FixesLength method bytes len
 passes_fixes method bytes told text passes len fixes more = passes_length method (bytes ++ more) told (text ++ more) (passes_more bytes text more told passes) len (fixes more)
 
@@ -167,22 +167,22 @@ memory_never method bytes fault first is = never_shown method first.front (subst
 -- ---- where the final head has just come
 
 module _ (method : Method) (bytes kept : List ℕ) (told : Head) (ends : EndsHeadsIn bytes kept told) (kind : BodyKind) (is : kind ≡ body_kind method ends.head) where
-  pub body_now : (state : BodyState) → BodyAt kind told.counted [] state [] → IsInBody method bytes told state kept
+  pub body_now : (state : BodyState) → BodyAt kind told.fields.counted [] state [] → IsInBody method bytes told state kept
   body_now state at = record {
     text = [];
     passes = passes_now bytes kept told ends;
-    at = subst (λ (t : List ℕ). BodyAt (body_kind method ends.head) told.counted [] state t) (sym ends.is) (subst (λ (k : BodyKind). BodyAt k told.counted [] state []) is at);
+    at = subst (λ (t : List ℕ). BodyAt (body_kind method ends.head) told.fields.counted [] state t) (sym ends.is) (subst (λ (k : BodyKind). BodyAt k told.fields.counted [] state []) is at);
   }
 
-  pub fault_now : (piece : List ℕ) (fault : ReadFault) → IsFirst (BodyShows kind told.counted) (HasLongTrailerBy kind) [] fault → FixesBody kind told.counted [] 0
+  pub fault_now : (piece : List ℕ) (fault : ReadFault) → IsFirst (BodyShows kind told.fields.counted) (HasLongTrailerBy kind) [] fault → FixesBody kind told.fields.counted [] 0
       → IsFaulty method (bytes ++ piece) fault (Some told) 0
   fault_now piece fault found fixes =
       faulty_more method bytes piece fault (Some told) 0
       (record {
         first = passes_fault method bytes told [] (passes_now bytes kept told ends) fault
-            (subst (λ (k : BodyKind). IsFirst (BodyShows k told.counted) (HasLongTrailerBy k) [] fault) is found);
+            (subst (λ (k : BodyKind). IsFirst (BodyShows k told.fields.counted) (HasLongTrailerBy k) [] fault) is found);
         tells = ([], passes_now bytes kept told ends);
-        fixes = passes_fixes method bytes told [] (passes_now bytes kept told ends) 0 (subst (λ (k : BodyKind). FixesBody k told.counted [] 0) is fixes);
+        fixes = passes_fixes method bytes told [] (passes_now bytes kept told ends) 0 (subst (λ (k : BodyKind). FixesBody k told.fields.counted [] 0) is fixes);
       })
 
 -- ---- a piece that is read from a stage on
@@ -216,8 +216,8 @@ module _ (method : Method) (bytes kept : List ℕ) where
   at_stage one other is reached = subst (λ (stage : Stage). IsAtStage method bytes stage kept) is reached
 
   module _ (told : Head) (state : BodyState) (at : IsInBody method bytes told state kept) where
-    body_pieces : (ended : Bool) → TellsBody (body_kind method at.passes.head) told.counted ended at.text (len_of state) (whole_of ended state) (surplus_of state)
-    body_pieces ended = tells_body (body_kind method at.passes.head) told.counted ended at.text state kept at.at
+    body_pieces : (ended : Bool) → TellsBody (body_kind method at.passes.head) told.fields.counted ended at.text (len_of state) (whole_of ended state) (surplus_of state)
+    body_pieces ended = tells_body (body_kind method at.passes.head) told.fields.counted ended at.text state kept at.at
 
     pub body_status : TellsStatus bytes (Some told.status)
     body_status = passes_status method bytes told at.text at.passes

@@ -13,11 +13,12 @@ use Rattle.persistence.specs.declared.head.Head.{Head}
 use Rattle.persistence.specs.declared.head.head_step.HeadStep.{HeadStep}
 use Rattle.persistence.specs.declared.head.heads_step.HeadsStep.{HeadsStep}
 use Rattle.persistence.specs.Faults.{HeadShows, IsFirst}
-use Rattle.persistence.specs.Fields.{NameAndValue, fields_of, has_option, has_transfer_encoding, is_chunked_last, has_content_length, counted_length, is_word}
+use Rattle.persistence.specs.Fields.{NameAndValue, fields_of, is_word}
 use Rattle.persistence.specs.Heads.{ReadsHead, ReadsInterim, ReadsHeads}
 use Rattle.persistence.specs.Limits.{most_fields, most_head_bytes, most_interims}
 use Rattle.persistence.specs.Sequence.{ReadsEach}
 use Rattle.persistence.specs.Told.{version_of, HasNoFinalHead}
+use Rattle.persistence.specs.ReadingFields.{TellsFields}
 
 -- the spans lie in the text
 abbrev pub AreWithin : List ℕ → List HeaderSpan → Type 0
@@ -40,12 +41,7 @@ FirstIs elements first = (others : List (List ℕ)) × (elements ≡ first ∷ o
 pub record TellsHead (head : ResponseHead) (told : Head) : Type 0 where
   pub status : told.status ≡ status_code head
   pub version : told.version ≡ version_of head
-  pub close : told.close ≡ has_option (codes "close") (fields_of head)
-  pub keep_alive : told.keep_alive ≡ has_option (codes "keep-alive") (fields_of head)
-  pub transfer_encoding : told.transfer_encoding ≡ has_transfer_encoding (fields_of head)
-  pub chunked : told.chunked ≡ is_chunked_last (fields_of head)
-  pub content_length : told.content_length ≡ has_content_length (fields_of head)
-  pub counted : told.counted ≡ counted_length (fields_of head)
+  pub fields : TellsFields (fields_of head) told.fields
 
 -- the text from the first byte that is no CR or LF
 abbrev pub skip_newlines : List ℕ → List ℕ

@@ -24,7 +24,7 @@ pub record PassesHead (bytes : List ℕ) (told : Head) (text : List ℕ) : Type 
 pub record IsInBody (method : Method) (bytes : List ℕ) (told : Head) (body : BodyState) (kept : List ℕ) : Type 0 where
   pub text : List ℕ
   pub passes : PassesHead bytes told text
-  pub at : BodyAt (body_kind method passes.head) told.counted text body kept
+  pub at : BodyAt (body_kind method passes.head) told.fields.counted text body kept
 
 -- the final head, as far as the bytes have one
 abbrev pub TellsFinalHead : List ℕ → Option Head → Type 0

@@ -14,7 +14,7 @@ pub(crate) mod lines;
 
 use crate::body::kind::BodyKind;
 use crate::{Facts, Framing, Method, Version};
-use fields::control_fields;
+use fields::{ControlFields, control_fields};
 use httparse::spans::{HeaderSpan, ResponseSpans};
 
 /// What a head says of its response.
@@ -22,18 +22,7 @@ use httparse::spans::{HeaderSpan, ResponseSpans};
 pub(crate) struct Head {
     pub status: u16,
     pub version: Version,
-    /// It has the connection option `close`.
-    pub close: bool,
-    /// It has the connection option `keep-alive`.
-    pub keep_alive: bool,
-    /// It has a Transfer-Encoding field.
-    pub transfer_encoding: bool,
-    /// Its final transfer coding is chunked.
-    pub chunked: bool,
-    /// It has a Content-Length field.
-    pub content_length: bool,
-    /// The one number that its Content-Length fields give.
-    pub counted: Option<u64>,
+    pub fields: ControlFields,
 }
 
 impl Head {
@@ -49,16 +38,10 @@ impl Head {
         } else {
             Version::V11
         };
-        let told = control_fields(text, fields);
         Head {
             status: spans.code,
             version,
-            close: told.close,
-            keep_alive: told.keep_alive,
-            transfer_encoding: told.transfer_encoding,
-            chunked: told.chunked,
-            content_length: told.content_length,
-            counted: told.counted,
+            fields: control_fields(text, fields),
         }
     }
 
@@ -69,13 +52,13 @@ impl Head {
         let is_head = matches!(method, Method::Head);
         if is_head || self.status == 101 || self.status == 204 || self.status == 304 {
             BodyKind::NoBody
-        } else if self.transfer_encoding {
-            if self.chunked {
+        } else if self.fields.transfer_encoding {
+            if self.fields.chunked {
                 BodyKind::Chunked
             } else {
                 BodyKind::UntilClose
             }
-        } else if self.content_length {
+        } else if self.fields.content_length {
             BodyKind::Counted
         } else {
             BodyKind::UntilClose
@@ -88,16 +71,16 @@ impl Head {
             → result ≡ facts_of_head method request_close head whole surplus }
     {
         let framing = match self.version {
-            Version::V10 if self.transfer_encoding => Framing::Faulty,
+            Version::V10 if self.fields.transfer_encoding => Framing::Faulty,
             _ => self.body_kind(method).framing(),
         };
         Facts {
             version: self.version,
-            close: self.close,
-            keep_alive: self.keep_alive,
+            close: self.fields.close,
+            keep_alive: self.fields.keep_alive,
             request_close,
             framing,
-            both_lengths: self.transfer_encoding && self.content_length,
+            both_lengths: self.fields.transfer_encoding && self.fields.content_length,
             upgraded: self.status == 101,
             whole,
             surplus,

@@ -82,7 +82,7 @@ fn after_head(method: Method, head: Head, buffer: &mut Buffer, piece: &[u8]) -> 
     ensures reached { (bytes : List ℕ) → EndsHeadsIn bytes buffer.old head
         → IsAtStage method (bytes ++ piece.now) result buffer.new }
 {
-    match begin_body(head.body_kind(method), head.counted) {
+    match begin_body(head.body_kind(method), head.fields.counted) {
         Ok(body) => after_body(head, body, buffer, piece),
         Err(fault) => Stage::Fault {
             fault,

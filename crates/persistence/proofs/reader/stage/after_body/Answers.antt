@@ -9,7 +9,7 @@ returns-in-Ok c = record {
   reached = λ method bytes at. (record {
     text = at.text ++ c.args.piece.now;
     passes = passes_more bytes at.text c.args.piece.now c.args.head at.passes;
-    at = c.in-Ok.ensures.told (body_kind method at.passes.head) c.args.head.counted at.text at.at;
+    at = c.in-Ok.ensures.told (body_kind method at.passes.head) c.args.head.fields.counted at.text at.at;
   });
 }
 
@@ -19,10 +19,10 @@ returns-in-Err c = record {
       let more = passes_more bytes at.text c.args.piece.now c.args.head at.passes in
       record {
         first = passes_fault method (bytes ++ c.args.piece.now) c.args.head (at.text ++ c.args.piece.now) more c.in-Err.fault
-            (c.in-Err.ensures.fault (body_kind method at.passes.head) c.args.head.counted at.text at.at);
+            (c.in-Err.ensures.fault (body_kind method at.passes.head) c.args.head.fields.counted at.text at.at);
         tells = (at.text ++ c.args.piece.now, more);
         fixes = passes_fixes method (bytes ++ c.args.piece.now) c.args.head (at.text ++ c.args.piece.now) more c.len.result
-            (subst (FixesBody (body_kind method at.passes.head) c.args.head.counted (at.text ++ c.args.piece.now)) (sym c.len.ensures)
-            (c.in-Err.ensures.fixes (body_kind method at.passes.head) c.args.head.counted at.text at.at));
+            (subst (FixesBody (body_kind method at.passes.head) c.args.head.fields.counted (at.text ++ c.args.piece.now)) (sym c.len.ensures)
+            (c.in-Err.ensures.fixes (body_kind method at.passes.head) c.args.head.fields.counted at.text at.at));
       });
 }
