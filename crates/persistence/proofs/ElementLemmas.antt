@@ -1,7 +1,7 @@
 -- The elements of a value, one after another.
-use Rattle.std.proofs.Common.{◌≡◌, ℕ, Bool, List, [], ◌∷◌, ◌||◌, not, length, map, take, codes, Option, None, Some, cond, ltb, unwrap_or, option_map, refl, sym, ap, ◌∙◌, arith}
+use Rattle.std.proofs.Common.{◌≡◌, ℕ, Bool, List, [], ◌∷◌, not, length, map, take, codes, Option, None, Some, cond, ltb, unwrap_or, option_map, refl, sym, ap, ◌∙◌, arith}
 use Rattle.std.specs.Option.{option_or}
-use Rattle.std.specs.List.{fold, list_any, slice_split, position_or_len, after_first}
+use Rattle.std.specs.List.{fold, slice_split, position_or_len, after_first}
 use Rattle.std.proofs.lemmas.Bool.{cases_lt}
 use Rattle.std.proofs.lemmas.Bool.Decides.{nat_tests}
 use Rattle.std.proofs.lemmas.List.{take_all}
@@ -31,10 +31,6 @@ fold-chunked_after (part ∷ parts) before =
 pub option_or-None : {X : Type 0} (o : Option X) → option_or o None ≡ o
 option_or-None None = refl
 option_or-None (Some x) = refl
-
-pub list_any-map : {X Y : Type 0} (p : X → Bool) (f : Y → X) (ys : List Y) → list_any p (map f ys) ≡ list_any (λ y. p (f y)) ys
-list_any-map p f [] = refl
-list_any-map p f (y ∷ ys) = ap (λ b. p (f y) || b) (list_any-map p f ys)
 
 -- the first place that passes, or else the length
 pub unwrap_or-position : {X : Type 0} (p : X → Bool) (xs : List X) (place : Option ℕ)

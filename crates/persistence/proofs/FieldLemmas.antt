@@ -1,7 +1,7 @@
 -- What fields say, and what they say with one field more.
-use Rattle.std.proofs.Common.{◌≡◌, ◌≢◌, ℕ, ◌≤◌, arith, inl, inr, Bool, true, false, ◌&&◌, ◌||◌, cond, nat_le, List, [], ◌∷◌, ◌++◌, length, codes, Option, None, Some, option_map, unwrap_or, refl, sym, ap, ◌∙◌}
+use Rattle.std.proofs.Common.{◌≡◌, ◌≢◌, ℕ, ◌≤◌, arith, inl, inr, Bool, true, false, ◌&&◌, ◌||◌, cond, nat_le, List, [], ◌∷◌, ◌++◌, length, map, codes, Option, None, Some, option_map, unwrap_or, refl, sym, ap, ◌∙◌}
 use Rattle.std.specs.Option.{option_or}
-use Rattle.std.specs.List.{filter, flat_map, list_all, list_any}
+use Rattle.std.specs.List.{filter, flat_map, fold, list_all, list_any}
 use Rattle.std.specs.Char.{to_ascii_lowercase}
 use Rattle.std.specs.Str.{str_to_ascii_lowercase}
 use Rattle.std.specs.Str.Parse.{digits_value}
@@ -12,11 +12,12 @@ use Rattle.std.proofs.lemmas.List.Elements.{filter-append}
 use Rattle.std.proofs.lemmas.List.Folds.{list_any-append, list_all-append}
 use Rattle.std.proofs.lemmas.Grind.{flat_map-append}
 use Rattle.std.proofs.lemmas.Slice.Eq.{bytes_eq-Decides}
+use Rattle.httparse.specs.Grammar.{trim_ows}
 use Rattle.persistence.specs.declared.head.fields.ControlFields.{ControlFields}
 use Rattle.persistence.specs.Fields.{NameAndValue, is_named, has_field, has_option, elements, elements_of, is_word, later_coding, last_coding, is_chunked_coding, is_chunked_last, has_transfer_encoding, has_content_length, counted_length, is_number, one_number}
 use Rattle.persistence.specs.Limits.{most_bytes}
 use Rattle.persistence.specs.ReadingHeads.{FirstIs}
-use Rattle.persistence.specs.ReadingFields.{TellsFields, number_with}
+use Rattle.persistence.specs.ReadingFields.{TellsFields, adds_option, number_with}
 use Rattle.persistence.proofs.ElementLemmas.{FirstIs-elements}
 
 -- ---- names
@@ -97,6 +98,32 @@ chunked-append xs ys = ap is_chunked_coding (last_coding-append xs ys) ∙ by_ca
     by_cases : (o : Option (List ℕ)) → is_chunked_coding (option_or o (last_coding xs)) ≡ unwrap_or (option_map (is_word (codes "chunked")) o) (is_chunked_coding (last_coding xs))
     by_cases None = refl
     by_cases (Some coding) = refl
+
+-- ---- connection options
+
+-- what fields say, where the options are told in another way
+options : (told : ControlFields) {a b c d : Bool} → a ≡ b → c ≡ d
+    → ◌≡◌ {A = ControlFields} (record told { close = a; keep_alive = c }) (record told { close = b; keep_alive = d })
+options told {a} {b} {c} {d} one other =
+    ap (λ (o : Bool). told_with o c) one ∙ ap (λ (o : Bool). told_with b o) other
+  where
+    told_with : Bool → Bool → ControlFields
+    told_with close keep_alive = record told { close = close; keep_alive = keep_alive }
+
+-- a walk over elements ends with each option that is one of them
+pub fold-adds_option : (parts : List (List ℕ)) (told : ControlFields)
+    → fold (λ known part. adds_option known (trim_ows part)) told parts
+    ≡ record told {
+      close = told.close || list_any (is_word (codes "close")) (map trim_ows parts);
+      keep_alive = told.keep_alive || list_any (is_word (codes "keep-alive")) (map trim_ows parts);
+    }
+fold-adds_option [] told = options told (sym (no_more told.close)) (sym (no_more told.keep_alive))
+fold-adds_option (part ∷ parts) told =
+    fold-adds_option parts (adds_option told (trim_ows part)) ∙ options told (in_turn told.close _ _) (in_turn told.keep_alive _ _)
+  where
+    in_turn : (a b c : Bool) → (a || b) || c ≡ a || (b || c)
+    in_turn true b c = refl
+    in_turn false b c = refl
 
 -- ---- lengths
 

@@ -1,8 +1,8 @@
 -- What is known of the fields of a head that were read so far. No public contract needs these words.
-use Rattle.std.specs.Prelude.{◌≡◌, ℕ, Bool, true, false, if◌then◌else◌, List, [], ◌∷◌, ◌++◌, codes, Option, None, Some}
+use Rattle.std.specs.Prelude.{◌≡◌, ℕ, Bool, true, false, ◌||◌, if◌then◌else◌, List, [], ◌∷◌, ◌++◌, codes, Option, None, Some}
 use Rattle.std.specs.List.{list_all}
 use Rattle.persistence.specs.declared.head.fields.ControlFields.{ControlFields}
-use Rattle.persistence.specs.Fields.{NameAndValue, has_option, has_transfer_encoding, is_chunked_last, has_content_length, counted_length, is_number, one_number}
+use Rattle.persistence.specs.Fields.{NameAndValue, has_option, has_transfer_encoding, is_chunked_last, has_content_length, counted_length, is_number, is_word, one_number}
 
 -- what the fields say
 pub record TellsFields (fields : List NameAndValue) (told : ControlFields) : Type 0 where
@@ -17,6 +17,13 @@ pub record TellsFields (fields : List NameAndValue) (told : ControlFields) : Typ
 abbrev pub AddsField : ControlFields → NameAndValue → ControlFields → Type 0
 AddsField before field after =
     (fields : List NameAndValue) → TellsFields fields before → TellsFields (fields ++ field ∷ []) after
+
+-- what fields say with that connection option
+abbrev pub adds_option : ControlFields → List ℕ → ControlFields
+adds_option told option = record told {
+  close = told.close || is_word (codes "close") option;
+  keep_alive = told.keep_alive || is_word (codes "keep-alive") option;
+}
 
 -- the one number of all elements of a list, where that of those before is known, if there are any
 abbrev pub number_with : Bool → Option ℕ → List (List ℕ) → Option ℕ

@@ -1,6 +1,6 @@
 //! The elements of a field's value: what stands between its commas (RFC 9110, section 5.6.1).
 ghost use Rattle.std.specs.Prelude.{◌≡◌, codes, reverse, option_map};
-ghost use Rattle.std.specs.List.{list_any, list_all, position_or_len};
+ghost use Rattle.std.specs.List.{list_all, position_or_len};
 ghost use Rattle.httparse.specs.Grammar.{skip_ows, trim_ows};
 ghost use Rattle.persistence.specs.Fields.{elements, is_comma, is_word, is_number, last_coding};
 ghost use Rattle.persistence.specs.Fields.{one_number as one_number_of};
@@ -9,15 +9,6 @@ ghost use Rattle.persistence.specs.ReadingFields.{number_with};
 
 use crate::number::decimal;
 use httparse::is_space_or_tab;
-
-/// Whether an element of the value is that word, without case.
-pub(crate) fn has_word(value: &[u8], word: &[u8]) -> bool
-    ensures { result ≡ list_any (is_word word.now) (elements value.now) }
-{
-    value
-        .split(|b| *b == b',')
-        .any(|element| trim(element).eq_ignore_ascii_case(word))
-}
 
 /// The one number that all elements of the value are, if any.
 pub(crate) fn one_number(value: &[u8]) -> Option<u64>

@@ -3,9 +3,9 @@
 ghost use Rattle.std.specs.Prelude.{◌≡◌, [], length};
 ghost use Rattle.std.specs.Str.{str_eq_ignore_ascii_case};
 ghost use Rattle.persistence.specs.ReadingHeads.{AreWithin, fields_at};
-ghost use Rattle.persistence.specs.ReadingFields.{TellsFields, AddsField};
+ghost use Rattle.persistence.specs.ReadingFields.{TellsFields, AddsField, adds_option};
 
-use crate::head::elements::{has_word, is_chunked, one_number_with};
+use crate::head::elements::{is_chunked, one_number_with, trim};
 use httparse::spans::HeaderSpan;
 
 /// The length of the name `Connection`.
@@ -87,9 +87,18 @@ impl ControlFields {
         if !is_name(name, b"connection") {
             return self;
         }
+        value
+            .split(|b| *b == b',')
+            .fold(self, |told, element| told.with_option(trim(element)))
+    }
+
+    // What the fields say with that connection option.
+    fn with_option(self, option: &[u8]) -> ControlFields
+        ensures { result ≡ adds_option self option.now }
+    {
         ControlFields {
-            close: self.close | has_word(value, b"close"),
-            keep_alive: self.keep_alive | has_word(value, b"keep-alive"),
+            close: self.close | option.eq_ignore_ascii_case(b"close"),
+            keep_alive: self.keep_alive | option.eq_ignore_ascii_case(b"keep-alive"),
             ..self
         }
     }

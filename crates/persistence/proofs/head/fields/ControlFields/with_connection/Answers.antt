@@ -1,6 +1,11 @@
-use Rattle.std.proofs.Common.{◌≡◌, length, codes, sym, ◌∙◌, arith}
-use Rattle.persistence.specs.Fields.{NameAndValue}
-use Rattle.persistence.proofs.FieldLemmas.{other_length, other_added, connection_added}
+use Rattle.std.proofs.Common.{◌≡◌, [], ◌∷◌, ◌++◌, length, codes, refl, sym, subst, ◌∙◌, arith, rules, tests}
+use Rattle.std.specs.List.{slice_split}
+use Rattle.std.proofs.lemmas.Iterator.Consumers.{fold_from_yields_List}
+use Rattle.std.proofs.lemmas.Iterator.Splits.{YieldsList-from_slice_split}
+use Rattle.httparse.specs.Grammar.{trim_ows}
+use Rattle.persistence.specs.Fields.{NameAndValue, is_comma}
+use Rattle.persistence.specs.ReadingFields.{TellsFields, adds_option}
+use Rattle.persistence.proofs.FieldLemmas.{other_length, fold-adds_option, other_added, connection_added}
 use Rattle.persistence.proofs.head.fields.ControlFields.with_connection.Goals as goal
 
 pub returns-then-not-is_name : goal.returns-then-not-is_name
@@ -13,7 +18,13 @@ returns-then-not-is_name c = λ fields tells.
 pub returns : goal.returns
 returns c = λ fields tells.
     let field : NameAndValue = (c.args.name.now, c.args.value.now) in
-    connection_added fields field c.args.self tells c.has_word.result c.has_word-2.result (sym c.is_name.ensures ∙ c.if-not-is_name.false)
+    let parts = slice_split is_comma c.args.value.now in
+    let is = fold_from_yields_List _ (λ told part. adds_option told (trim_ows part)) _ _ c.fold.ensures.ran
+    (YieldsList-from_slice_split _ is_comma c.args.value.now c.split.ensures.rest c.split.ensures.done c.split.ensures.closure (λ x b q k. search (rules, tests)))
+    (λ a x b q k. search (rules, tests))
+    ∙ fold-adds_option parts c.args.self in
+    subst (TellsFields (fields ++ field ∷ [])) (sym is)
+    (connection_added fields field c.args.self tells _ _ (sym c.is_name.ensures ∙ c.if-not-is_name.false)
     (other_length (codes "content-length") field (λ (e : length c.args.name.now ≡ 14). omega (arith, e, c.requires)))
     (other_length (codes "transfer-encoding") field (λ (e : length c.args.name.now ≡ 17). omega (arith, e, c.requires)))
-    c.has_word.ensures c.has_word-2.ensures
+    refl refl)
