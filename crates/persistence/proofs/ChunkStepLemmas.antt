@@ -155,13 +155,8 @@ nothing_yet_there fs last rest reads = omega (arith, ap line_ends reads.1, line_
 nothing_may : MayBecomeSection []
 nothing_may = (print_section [] lf, [], lf, (All-nil IsField, sym (append-nil (print_section [] lf))))
 
-nothing_taken : (text : List ℕ) → text ≡ [] → text ≡ take most_trailer_bytes text
-nothing_taken text is = sym (take_all most_trailer_bytes text (omega (arith, ap length is)))
-
 nothing_awaited : IsTrailerAwaited []
-nothing_awaited =
-    trailer_awaited [] (subst HasNoSection (nothing_taken [] refl) nothing_yet_there) (subst MayBecomeSection (nothing_taken [] refl) nothing_may)
-    (λ full. omega (arith, length-take {A = ℕ} most_trailer_bytes [], full)) (omega (arith, ap line_ends (nothing_taken [] refl)))
+nothing_awaited = trailer_awaited [] (record { none = nothing_yet_there; more = nothing_may; short = omega (arith) }) (omega (arith))
 
 -- after the last line a trailer section is due, of which nothing is kept
 pub trailer_due : (text : List ℕ) (len : ℕ) (kept : List ℕ) → kept ≡ [] → ReachesSection text len [] → IsTrailerDue text len kept

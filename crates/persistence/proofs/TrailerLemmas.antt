@@ -9,7 +9,7 @@ use Rattle.persistence.specs.declared.answer.ReadFault.TheVariants.{Memory, BadH
 use Rattle.persistence.specs.Limits.{most_fields, most_trailer_bytes}
 use Rattle.persistence.specs.Chunks.{ReadsTrailer}
 use Rattle.persistence.specs.Faults.{TrailerShows, IsFirst}
-use Rattle.persistence.specs.ReadingChunks.{IsTrailerAwaited, EndsTrailer}
+use Rattle.persistence.specs.ReadingChunks.{IsTrailerAwaited, IsUnfinishedSection, EndsTrailer}
 use Rattle.persistence.specs.ReadingHeads.{line_ends}
 use Rattle.persistence.proofs.LineLemmas.{cut_twice, section_exceeds_lines, section_exceeds_none, section_exceeds_cut}
 
@@ -53,26 +53,19 @@ only_too_long front may start next more BadHead e shown = absurd shown
 only_too_long front may start next more TooManyInterims e shown = absurd shown
 only_too_long front may start next more HeadTooLong e shown = absurd shown
 
-pub trailer_awaited : (text : List ℕ) → HasNoSection (take most_trailer_bytes text) → MayBecomeSection (take most_trailer_bytes text)
-    → length (take most_trailer_bytes text) ≢ most_trailer_bytes → line_ends (take most_trailer_bytes text) ≤ most_fields → IsTrailerAwaited text
-trailer_awaited text none may unfull few =
-    let short : length text < most_trailer_bytes = omega (arith, length-take most_trailer_bytes text, unfull) in
-    let whole : take most_trailer_bytes text ≡ text = take_all most_trailer_bytes text (omega arith) in
-    waits short (subst HasNoSection whole none) (subst MayBecomeSection whole may)
-    (let P : List ℕ → Type 0 = λ t. line_ends t ≤ most_fields in subst P whole few)
+-- a section that may still come is awaited, where no more lines ended in it than it may have fields
+pub trailer_awaited : (text : List ℕ) → IsUnfinishedSection text → line_ends text ≤ most_fields → IsTrailerAwaited text
+trailer_awaited text so_far few = record { none = λ rest reads. so_far.none reads.fields reads.last rest reads.reads; clean = clean }
   where
-    waits : length text < most_trailer_bytes → HasNoSection text → MayBecomeSection text → line_ends text ≤ most_fields → IsTrailerAwaited text
-    waits short none may few = record { none = λ rest reads. none reads.fields reads.last rest reads.reads; clean = clean }
-      where
-        clean : (fault : ReadFault) → TrailerShows text fault → ⊥
-        clean BadChunk never = never may.0 may.1 may.2 [] may.3
-        clean TrailerTooLong (inl past) = omega (arith, past.0, short)
-        clean TrailerTooLong (inr exceeds) = omega (arith, section_exceeds_lines most_fields text exceeds, few)
-        clean Memory shown = shown
-        clean BadLength shown = shown
-        clean BadHead shown = shown
-        clean TooManyInterims shown = shown
-        clean HeadTooLong shown = shown
+    clean : (fault : ReadFault) → TrailerShows text fault → ⊥
+    clean BadChunk never = never so_far.more.0 so_far.more.1 so_far.more.2 [] so_far.more.3
+    clean TrailerTooLong (inl past) = omega (arith, past.0, so_far.short)
+    clean TrailerTooLong (inr exceeds) = omega (arith, section_exceeds_lines most_fields text exceeds, few)
+    clean Memory shown = shown
+    clean BadLength shown = shown
+    clean BadHead shown = shown
+    clean TooManyInterims shown = shown
+    clean HeadTooLong shown = shown
 
 pub trailer_past_limit : (text : List ℕ) → HasNoSection (take most_trailer_bytes text) → MayBecomeSection (take most_trailer_bytes text)
     → length (take most_trailer_bytes text) ≡ most_trailer_bytes → IsFirst TrailerShows (SectionExceeds most_fields) text TrailerTooLong
@@ -93,9 +86,11 @@ trailer_too_many text (front, rest, is, fs, reads, many) = record {
   first = only_too_long front (10 ∷ [], fs, lf, reads);
 }
 
-pub trailer_too_many_lines : (text : List ℕ) → HasNoSection (take most_trailer_bytes text) → MayBecomeSection (take most_trailer_bytes text)
-    → most_fields < line_ends (take most_trailer_bytes text) → IsFirst TrailerShows (SectionExceeds most_fields) text TrailerTooLong
-trailer_too_many_lines text none may over = trailer_too_many text (section_exceeds_cut most_fields (take most_trailer_bytes text) none may over)
+pub trailer_too_many_lines : (text : List ℕ) → IsUnfinishedSection text → most_fields < line_ends text
+    → IsFirst TrailerShows (SectionExceeds most_fields) text TrailerTooLong
+trailer_too_many_lines text so_far over =
+    trailer_too_many text (subst (SectionExceeds most_fields) (sym (take_all most_trailer_bytes text (omega (arith, so_far.short))))
+    (section_exceeds_cut most_fields text so_far.none so_far.more over))
 
 pub bad_trailer : (text : List ℕ) → NeverHasSection (take most_trailer_bytes text) → IsFirst TrailerShows (SectionExceeds most_fields) text BadChunk
 bad_trailer text never = record {

@@ -2,7 +2,7 @@
 use Rattle.std.specs.Char.{is_ascii_hexdigit}
 use Rattle.std.specs.Prelude.{◌≡◌, ℕ, ◌<◌, ◌≤◌, Bool, true, false, ◌==◌, if◌then◌else◌, List, [], ◌∷◌, ◌++◌, length, take, drop, MatchOption, Option, Some, ◌+◌, sum, ◌&&◌, None, ◌-◌}
 use Rattle.std.specs.Str.Parse.{digits_value}
-use Rattle.httparse.specs.Grammar.{print_extension, AllPass, is_ows, IsExtension}
+use Rattle.httparse.specs.Grammar.{print_extension, AllPass, is_ows, IsExtension, HasNoSection, MayBecomeSection}
 use Rattle.httparse.specs.Spans.{SectionExceeds}
 use Rattle.persistence.specs.declared.answer.ReadFault.{ReadFault}
 use Rattle.persistence.specs.declared.answer.ReadFault.TheVariants.{BadChunk}
@@ -171,9 +171,11 @@ TellsSection false text kept = KeepsTrailer text kept
 abbrev pub TellsTrailerStep : List ℕ → List ℕ → List ℕ → TrailerStep → Type 0
 TellsTrailerStep before piece kept step = TellsSection step.whole (before ++ take step.used piece) kept
 
--- a section still comes, and there is room for more of it
-abbrev pub HasRoomForSection : List ℕ → Type 0
-HasRoomForSection text = IsTrailerAwaited text × (length text < most_trailer_bytes)
+-- no section is whole yet, one may still come, however many fields there are, and there is room for a byte more
+pub record IsUnfinishedSection (text : List ℕ) : Type 0 where
+  pub none : HasNoSection text
+  pub more : MayBecomeSection text
+  pub short : length text < most_trailer_bytes
 
 -- the fault that a trailer section shows first
 abbrev pub IsFirstInTrailer : List ℕ → ReadFault → Type 0

@@ -3,10 +3,10 @@ ghost use Rattle.std.specs.Prelude.{◌<◌, ◌≤◌, ◌++◌, length, IfOk, 
 ghost use Rattle.persistence.specs.Limits.{most_trailer_bytes};
 ghost use Rattle.persistence.specs.ReadingHeads.{IsTaken};
 ghost use Rattle.persistence.specs.ReadingChunks.{IsTrailerAwaited, EndsTrailer, TellsTrailerStep};
-ghost use Rattle.persistence.specs.ReadingChunks.{HasRoomForSection, IsFirstInTrailer};
+ghost use Rattle.persistence.specs.ReadingChunks.{IsUnfinishedSection, IsFirstInTrailer};
 
 use crate::ReadFault;
-use crate::head::lines::{is_too_many_fields, line_ends};
+use crate::head::lines::is_too_many_fields;
 use crate::limits::{MOST_FIELDS, MOST_TRAILER_BYTES};
 use crate::reader::buffer::Buffer;
 use httparse::Status;
@@ -33,10 +33,15 @@ pub(crate) fn trailer_step(buffer: &mut Buffer, piece: &[u8]) -> Result<TrailerS
     let before = buffer.len();
     let taken = buffer.fill(piece, MOST_TRAILER_BYTES);
     match buffered_section(buffer.bytes()) {
-        Ok(None) => Ok(TrailerStep {
-            used: taken,
-            whole: false,
-        }),
+        Ok(None) => {
+            if buffer.line_ends() > MOST_FIELDS {
+                return Err(ReadFault::TrailerTooLong);
+            }
+            Ok(TrailerStep {
+                used: taken,
+                whole: false,
+            })
+        }
         Ok(Some(len)) => {
             buffer.clear();
             Ok(TrailerStep {
@@ -48,11 +53,12 @@ pub(crate) fn trailer_step(buffer: &mut Buffer, piece: &[u8]) -> Result<TrailerS
     }
 }
 
-// The length of the trailer section that begins the bytes; nothing where it has not come whole yet.
+// The length of the trailer section that begins the bytes; nothing where it has not come whole yet,
+// whatever the number of its fields.
 fn buffered_section(front: &[u8]) -> Result<Option<usize>, ReadFault>
     requires { length front.now ≤ most_trailer_bytes }
     ensures found { IfOk result
-        (λ found. MatchOption found (HasRoomForSection front.now) (EndsTrailer front.now)) }
+        (λ found. MatchOption found (IsUnfinishedSection front.now) (EndsTrailer front.now)) }
     ensures fault { IfErr result (IsFirstInTrailer front.now) }
 {
     let mut fields = [EMPTY_HEADER_SPAN; MOST_FIELDS];
@@ -60,9 +66,6 @@ fn buffered_section(front: &[u8]) -> Result<Option<usize>, ReadFault>
         Ok(Status::Complete((len, _))) => Ok(Some(len)),
         Ok(Status::Partial) => {
             if front.len() == MOST_TRAILER_BYTES {
-                return Err(ReadFault::TrailerTooLong);
-            }
-            if line_ends(front) > MOST_FIELDS {
                 return Err(ReadFault::TrailerTooLong);
             }
             Ok(None)

@@ -3,9 +3,8 @@ use Rattle.std.proofs.lemmas.List.{take_all}
 use Rattle.httparse.specs.Grammar.{HasNoSection, NeverHasSection, MayBecomeSection}
 use Rattle.httparse.specs.Spans.{IsSectionWithin, IsSectionOf, SectionExceeds}
 use Rattle.persistence.specs.Limits.{most_fields, most_trailer_bytes}
-use Rattle.persistence.specs.ReadingHeads.{line_ends}
 use Rattle.persistence.proofs.NextHead.{at_complete, at_partial, too_many_is, not_too_many}
-use Rattle.persistence.proofs.TrailerLemmas.{ends_trailer, trailer_awaited, trailer_past_limit, trailer_too_many, trailer_too_many_lines, bad_trailer}
+use Rattle.persistence.proofs.TrailerLemmas.{ends_trailer, trailer_past_limit, trailer_too_many, bad_trailer}
 use Rattle.persistence.proofs.chunks.trailer.buffered_section.Goals as goal
 
 -- all bytes are those in which a section has to end
@@ -19,22 +18,12 @@ returns-then-front-eq-MOST_TRAILER_BYTES-clause-fault c =
     (subst MayBecomeSection front (at_partial (MayBecomeSection c.args.front.now) _ c.in-Ok-Partial.field-0-is c.in-Ok-Partial.ensures.unfinished))
     (sym (ap length front) ∙ c.if-front-eq-MOST_TRAILER_BYTES.true)
 
-pub returns-then-line_ends-gt-MOST_FIELDS-clause-fault : goal.returns-then-line_ends-gt-MOST_FIELDS-clause-fault
-returns-then-line_ends-gt-MOST_FIELDS-clause-fault c =
-    let front = all c.args.front.now c.requires in
-    trailer_too_many_lines c.args.front.now (subst HasNoSection front (at_partial (HasNoSection c.args.front.now) _ c.in-Ok-Partial.field-0-is c.in-Ok-Partial.ensures.partial))
-    (subst MayBecomeSection front (at_partial (MayBecomeSection c.args.front.now) _ c.in-Ok-Partial.field-0-is c.in-Ok-Partial.ensures.unfinished))
-    (omega (arith, ap line_ends front, c.line_ends.ensures, c.if-line_ends-gt-MOST_FIELDS.true))
-
-pub returns-else-line_ends-gt-MOST_FIELDS-clause-found : goal.returns-else-line_ends-gt-MOST_FIELDS-clause-found
-returns-else-line_ends-gt-MOST_FIELDS-clause-found c =
-    let front = all c.args.front.now c.requires in (
-      trailer_awaited c.args.front.now (subst HasNoSection front (at_partial (HasNoSection c.args.front.now) _ c.in-Ok-Partial.field-0-is c.in-Ok-Partial.ensures.partial))
-          (subst MayBecomeSection front (at_partial (MayBecomeSection c.args.front.now) _ c.in-Ok-Partial.field-0-is c.in-Ok-Partial.ensures.unfinished))
-          (λ e. c.if-front-eq-MOST_TRAILER_BYTES.false (ap length front ∙ e))
-          (omega (arith, ap line_ends front, c.line_ends.ensures, c.if-line_ends-gt-MOST_FIELDS.false)),
-      omega (arith, c.requires, c.if-front-eq-MOST_TRAILER_BYTES.false),
-    )
+pub returns-else-front-eq-MOST_TRAILER_BYTES-clause-found : goal.returns-else-front-eq-MOST_TRAILER_BYTES-clause-found
+returns-else-front-eq-MOST_TRAILER_BYTES-clause-found c = record {
+  none = at_partial (HasNoSection c.args.front.now) _ c.in-Ok-Partial.field-0-is c.in-Ok-Partial.ensures.partial;
+  more = at_partial (MayBecomeSection c.args.front.now) _ c.in-Ok-Partial.field-0-is c.in-Ok-Partial.ensures.unfinished;
+  short = omega (arith, c.requires, c.if-front-eq-MOST_TRAILER_BYTES.false);
+}
 
 pub returns-then-is_too_many_fields-clause-fault : goal.returns-then-is_too_many_fields-clause-fault
 returns-then-is_too_many_fields-clause-fault c =
