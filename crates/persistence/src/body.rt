@@ -59,6 +59,7 @@ fn begin_counted(count: u64) -> BodyState
 /// lasts until the connection ends has more bytes than a `u64` counts, `BadChunk` where no chunk or
 /// trailer section can come any more, `TrailerTooLong` past 8,192 bytes or 100 fields of a trailer
 /// section.
+#[inline(always)]
 pub(crate) fn feed_body(
     state: &mut BodyState,
     buffer: &mut Buffer,

@@ -27,6 +27,7 @@ pub(crate) struct ChunkStep {
 }
 
 /// Adds the piece to a body in chunks.
+#[inline(never)]
 pub(crate) fn feed_chunks(
     chunks: &mut ChunkedBody,
     buffer: &mut Buffer,

@@ -34,6 +34,7 @@ pub(crate) enum Stage {
 }
 
 /// How far the reading has come after one piece more.
+#[inline(always)]
 pub(crate) fn stage_after(method: Method, buffer: &mut Buffer, stage: Stage, piece: &[u8]) -> Stage
     requires known { (bytes : List ℕ) × IsAtStage method bytes stage buffer.old }
     ensures reached { (bytes : List ℕ) → IsAtStage method bytes stage buffer.old
@@ -47,7 +48,9 @@ pub(crate) fn stage_after(method: Method, buffer: &mut Buffer, stage: Stage, pie
     }
 }
 
-// How far it has come where a head was due before the piece.
+// How far it has come where a head was due before the piece. Not inlined, so that a piece of a body
+// need not make room for the places of a head's fields.
+#[inline(never)]
 fn after_heads(method: Method, buffer: &mut Buffer, skipped: usize, piece: &[u8]) -> Stage
     requires known { (bytes : List ℕ) × AwaitsHeads bytes skipped buffer.old }
     ensures reached { (bytes : List ℕ) → AwaitsHeads bytes skipped buffer.old
@@ -93,6 +96,7 @@ fn after_head(method: Method, head: Head, buffer: &mut Buffer, piece: &[u8]) -> 
 }
 
 // How far it has come where the body was due before the piece.
+#[inline(always)]
 fn after_body(head: Head, body: BodyState, buffer: &mut Buffer, piece: &[u8]) -> Stage
     requires known { (method : Method) × (bytes : List ℕ)
         × IsInBody method bytes head body buffer.old }
