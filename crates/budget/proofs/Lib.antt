@@ -4,4 +4,5 @@ pub mod TallySteps
 pub mod LinkSteps
 pub mod HoldersSteps
 pub mod Queues
+pub mod Totals
 pub mod Sums

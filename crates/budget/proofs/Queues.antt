@@ -1,12 +1,12 @@
 -- The list of hosts that wait: how it stays a list of distinct hosts.
-use Rattle.std.proofs.Common.{◌≡◌, ℕ, ◌<◌, ◌≤◌, Bool, true, false, ◌||◌, ◌==◌, List, [], ◌∷◌, ◌++◌, length, refl, sym, ◌∙◌, inl, inr, eqb, arith}
+use Rattle.std.proofs.Common.{◌≡◌, ℕ, ◌<◌, ◌≤◌, true, false, not, ◌&&◌, ◌||◌, ◌==◌, List, [], ◌∷◌, ◌++◌, length, slice_get, Some, refl, sym, ap, ◌∙◌, inl, inr, eqb, eq-eqb, arith}
 use Rattle.std.specs.List.{IsDistinct, AllByRecursion, list_any}
 use Rattle.std.proofs.lemmas.Bool.Decides.{nat_tests, eqb_tells}
 use Rattle.std.proofs.lemmas.Map.Steps.{length-le_from_distinct_below}
-use Rattle.budget.specs.Lobby.{IsQueue, AreDistinctHosts, is_listed, without_host}
+use Rattle.budget.specs.Lobby.{IsQueue, AreDistinctHosts, is_listed, without_host, turned}
 
 -- a host at the end
-listed_last : (order : List ℕ) (host other : ℕ) → is_listed (order ++ host ∷ []) other ≡ (is_listed order other || (host == other))
+pub listed_last : (order : List ℕ) (host other : ℕ) → is_listed (order ++ host ∷ []) other ≡ (is_listed order other || (host == other))
 listed_last [] host other = grind (arith, nat_tests)
 listed_last (x ∷ order) host other = grind (arith, nat_tests, listed_last order host other)
 
@@ -29,28 +29,29 @@ queue_last hosts order host queue there new = record {
 }
 
 -- a host taken out
-still_out : (order : List ℕ) (host other : ℕ) → is_listed order other ≡ false → is_listed (without_host order host) other ≡ false
-still_out [] host other out = refl
-still_out (x ∷ order) host other out =
-    let apart : (x == other) ≡ false = grind (arith, nat_tests, out) in
-    let rest : is_listed order other ≡ false = grind (arith, nat_tests, out) in
-    elim (eqb_tells x host) [
-      | inl same ↦ rw same.0 (still_out order host other rest)
-      | inr differs ↦ rw (differs.0, apart) (still_out order host other rest)
-    ]
-
-pub gone : (order : List ℕ) (host : ℕ) → is_listed (without_host order host) host ≡ false
-gone [] host = refl
-gone (x ∷ order) host = elim (eqb_tells x host) [
-  | inl same ↦ rw same.0 (gone order host)
-  | inr differs ↦ rw (differs.0, differs.0) (gone order host)
+pub listed_without : (order : List ℕ) (host other : ℕ) → is_listed (without_host order host) other ≡ (is_listed order other && not (host == other))
+listed_without [] host other = refl
+listed_without (x ∷ order) host other = elim (eqb_tells x host) [
+  | inl same ↦ rw same.0 (grind (arith, nat_tests, same.1, listed_without order host other))
+  | inr differs ↦ rw differs.0 (grind (arith, nat_tests, differs.1, listed_without order host other))
 ]
 
+pub gone : (order : List ℕ) (host : ℕ) → is_listed (without_host order host) host ≡ false
+gone order host = grind (arith, nat_tests, listed_without order host host)
+
+still_out : (order : List ℕ) (host other : ℕ) → is_listed order other ≡ false → is_listed (without_host order host) other ≡ false
+still_out order host other out = listed_without order host other ∙ ap (λ b. b && not (host == other)) out
+
 was_listed : (order : List ℕ) (host other : ℕ) → is_listed (without_host order host) other ≡ true → is_listed order other ≡ true
-was_listed order host other listed = elim (is_listed order other) as (λ (b : Bool). is_listed order other ≡ b → b ≡ true) [
-  | true ↦ λ _. refl
-  | false ↦ λ out. sym (still_out order host other out) ∙ listed
-] refl
+was_listed order host other listed = grind (arith, nat_tests, listed_without order host other, listed)
+
+-- a host that isn't listed is not taken out
+without_absent : (order : List ℕ) (host : ℕ) → is_listed order host ≡ false → without_host order host ≡ order
+without_absent [] host out = refl
+without_absent (x ∷ order) host out = elim (eqb_tells x host) [
+  | inl same ↦ absurd (grind (arith, nat_tests, same.0, out))
+  | inr differs ↦ rw differs.0 (ap (λ (l : List ℕ). x ∷ l) (without_absent order host (grind (arith, nat_tests, differs.0, out))))
+]
 
 distinct_without : (order : List ℕ) (host : ℕ) → AreDistinctHosts order → AreDistinctHosts (without_host order host)
 distinct_without [] host once = tt
@@ -71,6 +72,19 @@ queue_turned hosts host order queue = record {
   distinct = distinct_last order host queue.distinct.1 queue.distinct.0;
   there = λ other listed. queue.there other (grind (arith, nat_tests, listed_last order host other, listed));
 }
+
+-- the list turned
+pub listed_turned : (order : List ℕ) (other : ℕ) → is_listed (turned order) other ≡ is_listed order other
+listed_turned [] other = refl
+listed_turned (x ∷ order) other = grind (arith, nat_tests, listed_last order x other)
+
+-- the first host
+pub listed_first : (order : List ℕ) (host : ℕ) → slice_get order 0 ≡ Some host → is_listed order host ≡ true
+listed_first [] host first = absurd (cc)
+listed_first (x ∷ order) host first = grind (arith, nat_tests, first)
+
+pub without_first : (order : List ℕ) (host : ℕ) → AreDistinctHosts (host ∷ order) → without_host (host ∷ order) host ≡ order
+without_first order host once = rw (eq-eqb host host refl) (without_absent order host once.0)
 
 -- distinct hosts are no more than there are hosts
 test_turned : (order : List ℕ) (host : ℕ) → list_any (eqb host) order ≡ is_listed order host

@@ -49,6 +49,7 @@ impl Lobby {
         requires new { is_listed self.old.order host ≡ false }
         ensures hosts { self.new.hosts ≡ self.old.hosts }
         ensures order { self.new.order ≡ self.old.order ++ host ∷ [] }
+        ensures queue { IsQueue self.new }
     {
         self.order.push_back_reserved(host);
     }
@@ -59,6 +60,7 @@ impl Lobby {
         ensures hosts { self.new.hosts ≡ self.old.hosts }
         ensures order { self.new.order ≡ without_host self.old.order host }
         ensures gone { is_listed self.new.order host ≡ false }
+        ensures queue { IsQueue self.new }
     {
         self.order.retain(|listed| *listed != host);
     }
@@ -75,6 +77,7 @@ impl Lobby {
     pub fn rotate(&mut self)
         ensures hosts { self.new.hosts ≡ self.old.hosts }
         ensures order { self.new.order ≡ turned self.old.order }
+        ensures queue { IsQueue self.new }
     {
         if let Some(first) = self.order.pop_front() {
             self.order.push_back_reserved(first);

@@ -24,3 +24,6 @@ returns-clause-gone c =
     let order = c.self.inside.order.items in
     let left : c.retain.new.self.items ≡ without_host order c.args.host = filter_same _ _ _ (λ x b f' k. search rules) _ _ c.retain.ensures.filtered in
     rw left (gone order c.args.host)
+
+pub returns-clause-queue : goal.returns-clause-queue
+returns-clause-queue c = (invariant_of-self c).queue

@@ -18,3 +18,6 @@ invariant_of-self c =
       queue = rw c.push_back_reserved.ensures.items (queue_last _ order c.args.host c.self.invariant.queue (search rules) new);
       room = rw c.push_back_reserved.ensures.capacity c.self.invariant.room;
     }
+
+pub returns-clause-queue : goal.returns-clause-queue
+returns-clause-queue c = (invariant_of-self c).queue

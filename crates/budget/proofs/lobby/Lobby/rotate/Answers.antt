@@ -11,3 +11,6 @@ invariant_of-self c =
       queue = rw c.push_back_reserved.ensures.items (queue_turned hosts c.in-Some.first c.pop_front.new.self.items before);
       room = rw (c.push_back_reserved.ensures.capacity, c.in-Some.ensures.capacity) c.self.invariant.room;
     }
+
+pub returns-in-Some-clause-queue : goal.returns-in-Some-clause-queue
+returns-in-Some-clause-queue c = (invariant_of-self c).queue
