@@ -1,94 +1,30 @@
 -- Each step of a link keeps its rule.
-use Rattle.std.proofs.Common.{◌≡◌, ◌≢◌, ◌⊎◌, ℕ, zero, suc, ◌+◌, ◌<◌, ◌≤◌, ◌==◌, ◌||◌, Bool, true, false, cond, not, eqb, List, [], ◌∷◌, ◌++◌, set, sym, refl, ap, ◌∙◌, subst, inl, inr, ⊎_elim, arith, eq-eqb, ne_eqb}
-use Rattle.std.specs.Prelude.{nat_lt}
-use Rattle.std.specs.List.{sum_by}
-use Rattle.std.proofs.lemmas.List.Sums.{sum_by_push, sum_by-cons}
-use Rattle.std.proofs.lemmas.Bool.Decides.{nat_tests, eqb_tells}
+use Rattle.std.proofs.Common.{◌≡◌, ℕ, zero, suc, ◌+◌, ◌<◌, ◌==◌, Bool, true, false, List, [], ◌∷◌, ◌++◌, set, sym, refl, ap, ◌∙◌, subst, ⊎_elim, eq-eqb, get_or, arith}
+use Rattle.std.specs.Prelude.{nat_lt, count_by}
+use Rattle.std.specs.List.{All}
+use Rattle.std.proofs.lemmas.List.Sums.{sum_by_push}
+use Rattle.std.proofs.lemmas.List.Elements.{All-nil, All-cons, All-set, All-push}
+use Rattle.std.proofs.lemmas.Bool.Decides.{nat_tests}
 use mathlib.Core.Option.{none, some, some-injective, some-ne-none}
-use mathlib.Core.Logic.{dite}
-use native.Mathlib.Decide.{ℕ_discrete}
 use lib.ListN.{get_elem?}
 use Rattle.atomic_table.specs.Table.{Me, step, keeps, Allows, Splits, Joins}
-use Rattle.atomic_table.proofs.Lists.{set_again}
+use Rattle.atomic_table.proofs.Lists.{at_set, set_again}
 use Rattle.budget.specs.declared.link.Listing.{Listing}
 use Rattle.budget.specs.declared.link.Listing.TheVariants.{Lobby, Visited, Mark, Gone}
-use Rattle.budget.specs.Lobby.{is_listed, without_host, turned}
-use Rattle.budget.specs.Marks.{times, one_if, distance, marks, disagreement, first_of, hosts_of, seats_of, host_of, mark_of, Agree, IsLink, KeepsMarks, with_guest, left_alone, mark_alone, left_longer, mark_set, left_shorter, mark_cleared, with_host, first_mark, with_turn, Agrees, SeesMark, Turns}
-use Rattle.budget.proofs.Sums.{sum-set, at-le-sum}
-use Rattle.budget.proofs.Views.{sum_alike, sum_change}
-
-one_if_le : (b : Bool) → one_if b ≤ 1
-one_if_le true = omega arith
-one_if_le false = omega arith
+use Rattle.budget.specs.Lobby.{IsQueue, is_listed, without_host, turned}
+use Rattle.budget.specs.Marks.{shows, IsAsListed, first_of, hosts_of, seats_of, Agree, IsLink, KeepsMarks, MayLeave, with_guest, left_alone, mark_alone, left_longer, mark_set, left_shorter, mark_cleared, with_host, first_mark, with_turn, SeesMark, Turns}
+use Rattle.budget.proofs.Queues.{listed_last, listed_without, listed_turned, gone, queue_last, queue_without, queue_turns}
+use Rattle.budget.proofs.Sums.{one_if, one_if_le, sum-set, sum-cut, sum-join, at-le-sum, uncounted, at_all}
 
 one_if_lt : (a b : ℕ) → one_if (nat_lt a b) ≡ 1 → a < b
 one_if_lt a b e = grind (arith, nat_tests)
 
-one_if_more : (k seats : ℕ) → one_if (nat_lt k seats) + one_if (seats == k) ≡ one_if (nat_lt k (seats + 1))
+one_if_more : (k seats : ℕ) → one_if (nat_lt k seats) + one_if (k == seats) ≡ one_if (nat_lt k (seats + 1))
 one_if_more k seats = grind (arith, nat_tests)
 
--- how often a host is listed, in a list that changes
-
-times_push : (k host : ℕ) (hosts : List ℕ) → times k (hosts ++ host ∷ []) ≡ times k hosts + one_if (host == k)
-times_push k host hosts = sum_by_push (λ (h : ℕ). cond (h == k) 1 0) hosts host
-
-times_cons : (k host : ℕ) (hosts : List ℕ) → times k (host ∷ hosts) ≡ one_if (host == k) + times k hosts
-times_cons k host hosts = sum_by-cons (λ (h : ℕ). cond (h == k) 1 0) host hosts
-
-other_host : (k host : ℕ) → k ≢ host → one_if (host == k) ≡ 0
-other_host k host ne = ap one_if (ne_eqb host k (λ e. ne (sym e)))
-
-same_host : (k host : ℕ) → host ≡ k → one_if (host == k) ≡ 1
-same_host k host e = ap one_if (eq-eqb host k e)
-
-times_turned : (k : ℕ) (hosts : List ℕ) → times k (turned hosts) ≡ times k hosts
-times_turned k [] = refl
-times_turned k (h ∷ hs) = omega (arith, times_push k h hs, times_cons k h hs)
-
-times_without : (k host : ℕ) (hosts : List ℕ) → k ≢ host → times k (without_host hosts host) ≡ times k hosts
-times_without k host [] ne = refl
-times_without k host (h ∷ hs) ne =
-    let rest = times_without k host hs ne in
-    let P : Bool → Type 0 = λ b. times k (cond (not b) (h ∷ without_host hs host) (without_host hs host)) ≡ times k (h ∷ hs) in
-    ⊎_elim
-    (λ (t : (eqb h host ≡ true) × (h ≡ host)). subst P (sym t.0) (omega (arith, times_cons k h hs, other_host k h (λ e. ne (e ∙ t.1)))))
-    (λ (t : (eqb h host ≡ false) × (h ≢ host)). subst P (sym t.0) (omega (arith, times_cons k h hs, times_cons k h (without_host hs host))))
-    (eqb_tells h host)
-
-times_without_it : (host : ℕ) (hosts : List ℕ) → times host (without_host hosts host) ≡ 0
-times_without_it host [] = refl
-times_without_it host (h ∷ hs) =
-    let rest = times_without_it host hs in
-    let P : Bool → Type 0 = λ b. times host (cond (not b) (h ∷ without_host hs host) (without_host hs host)) ≡ 0 in
-    ⊎_elim
-    (λ (t : (eqb h host ≡ true) × (h ≡ host)). subst P (sym t.0) rest)
-    (λ (t : (eqb h host ≡ false) × (h ≢ host)). subst P (sym t.0) (omega (arith, times_cons host h (without_host hs host), ap one_if t.0)))
-    (eqb_tells h host)
-
-listed_tells : (host : ℕ) (hosts : List ℕ) → ((is_listed hosts host ≡ true) × (0 < times host hosts)) ⊎ ((is_listed hosts host ≡ false) × (times host hosts ≡ 0))
-listed_tells host [] = inr (refl, refl)
-listed_tells host (h ∷ hs) =
-    ⊎_elim
-    (λ (t : (eqb h host ≡ true) × (h ≡ host)). inl (ap (λ b. b || is_listed hs host) t.0, omega (arith, times_cons host h hs, ap one_if t.0)))
-    (λ (t : (eqb h host ≡ false) × (h ≢ host)).
-    ⊎_elim
-    (λ (r : (is_listed hs host ≡ true) × (0 < times host hs)). inl (ap (λ b. b || is_listed hs host) t.0 ∙ r.0, omega (arith, times_cons host h hs)))
-    (λ (r : (is_listed hs host ≡ false) × (times host hs ≡ 0)). inr (ap (λ b. b || is_listed hs host) t.0 ∙ r.0, omega (arith, times_cons host h hs, ap one_if t.0)))
-    (listed_tells host hs))
-    (eqb_tells h host)
-
--- a host that is listed as often as its mark says is listed where it is marked
-pub listed_is_mark : (host : ℕ) (hosts : List ℕ) (mark : Bool) → times host hosts ≡ one_if mark → is_listed hosts host ≡ mark
-listed_is_mark host hosts true e =
-    ⊎_elim
-    (λ (r : (is_listed hosts host ≡ true) × (0 < times host hosts)). r.0)
-    (λ (r : (is_listed hosts host ≡ false) × (times host hosts ≡ 0)). absurd (omega arith))
-    (listed_tells host hosts)
-listed_is_mark host hosts false e =
-    ⊎_elim
-    (λ (r : (is_listed hosts host ≡ true) × (0 < times host hosts)). absurd (omega arith))
-    (λ (r : (is_listed hosts host ≡ false) × (times host hosts ≡ 0)). r.0)
-    (listed_tells host hosts)
+-- how much a seat adds to the marks shown of a host
+abbrev shown : ℕ → Listing → ℕ
+shown host v = one_if (shows host v)
 
 -- the first seat's view
 
@@ -116,20 +52,25 @@ closed : (views : List Listing) (w : Listing) → first_of views ≡ w → Agree
 closed views w is = subst (λ (u : Listing). Agree (hosts_of u) (seats_of u) views) (sym is)
 
 pub begins : IsLink (Lobby [] 0 ∷ [])
-begins = record { marked = refl; one_mark = λ host. grind (arith, nat_tests); no_other = λ host _. refl; distinct = λ host. omega arith }
+begins = record {
+  marked = All-cons (IsAsListed []) (Lobby [] 0) [] tt (All-nil (IsAsListed []));
+  one_mark = λ host. grind (arith, nat_tests);
+  queue = record { distinct = tt; there = λ host listed. absurd (cc) };
+}
 
 -- the host's seat becomes the Lobby's guest
 
 visits_first : (hosts : List ℕ) (seats other host : ℕ) (mark : Bool) → Joins KeepsMarks 0 (Lobby hosts seats) other (Mark host mark) (Visited hosts seats host mark) Gone
-visits_first hosts seats other host mark s rule at distance there =
+visits_first hosts seats other host mark s rule at distant there =
     let lobby : Listing = Lobby hosts seats in
     let guest : Listing = Visited hosts seats host mark in
     let r = opened s.views lobby rule at in
-    closed (set (set s.views 0 guest) other Gone) guest (first_joined s.views lobby guest Gone other at distance) (record {
-      marked = omega (arith, r.marked, sum-set (disagreement hosts) s.views 0 lobby guest at, sum-set (disagreement hosts) (set s.views 0 guest) other (Mark host mark) Gone there);
-      one_mark = λ k. omega (arith, r.one_mark k, sum-set (marks k) s.views 0 lobby guest at, sum-set (marks k) (set s.views 0 guest) other (Mark host mark) Gone there);
-      no_other = r.no_other;
-      distinct = r.distinct;
+    let before : get_elem? s.views other ≡ some (Mark host mark) = ⊎_elim (λ here. absurd (distant here.0)) (λ apart. apart.1) (at_set s.views 0 other guest (Mark host mark) there) in
+    let same : is_listed hosts host ≡ mark = at_all (IsAsListed hosts) s.views other (Mark host mark) before r.marked in
+    closed (set (set s.views 0 guest) other Gone) guest (first_joined s.views lobby guest Gone other at distant) (record {
+      marked = All-set (IsAsListed hosts) (set s.views 0 guest) other Gone tt (All-set (IsAsListed hosts) s.views 0 guest same r.marked);
+      one_mark = λ k. sym (sum-join (shown k) s.views 0 lobby other (Mark host mark) guest Gone at there (omega arith)) ∙ r.one_mark k;
+      queue = r.queue;
     })
 
 pub visits : (id : ℕ) (v : Listing) (other : ℕ) (w : Listing) (hosts : List ℕ) (seats host : ℕ) (mark : Bool) → id ≡ 0 → v ≡ Lobby hosts seats → w ≡ Mark host mark
@@ -143,60 +84,68 @@ sees slots id me hosts seats host mark first is s rule len at small =
     let guest : Listing = Visited hosts seats host mark in
     let at_first : get_elem? s.views 0 ≡ some guest = subst (λ (z : ℕ × Listing). get_elem? s.views z.0 ≡ some z.1) (λ i. (first i, is i)) at in
     let r = opened s.views guest rule at_first in
-    let part = at-le-sum (disagreement hosts) s.views 0 guest at_first in
-    let same : times host hosts ≡ one_if mark = omega (arith, r.marked) in
-    (me.0, keeps, tt, subst IsLink (sym (set_again s.views id me.0 at)) rule, (refl, subst Agrees (sym is) same))
+    let same = at_all (IsAsListed hosts) s.views 0 guest at_first r.marked in
+    (me.0, keeps, tt, subst IsLink (sym (set_again s.views id me.0 at)) rule, (refl, subst (λ (u : Listing). IsAsListed (hosts_of u) u) (sym is) same))
 
 -- the guest leaves with new values
 
-same_disagreement : (hosts hosts' : List ℕ) (host : ℕ) → ((k : ℕ) → k ≢ host → times k hosts' ≡ times k hosts) → (u : Listing) → marks host u ≡ 0 → disagreement hosts u ≡ disagreement hosts' u
-same_disagreement hosts hosts' host others (Lobby a b) none_here = refl
-same_disagreement hosts hosts' host others (Visited a b guest mark) none_here = ap (λ (n : ℕ). distance n (one_if mark)) (sym (others guest (λ e. let one = same_host host guest e in absurd (omega arith))))
-same_disagreement hosts hosts' host others (Mark h mark) none_here = ap (λ (n : ℕ). distance n (one_if mark)) (sym (others h (λ e. let one = same_host host h e in absurd (omega arith))))
-same_disagreement hosts hosts' host others Gone none_here = refl
+-- what leaves the other hosts listed as they were leaves their marks right
+same_mark : (hosts hosts' : List ℕ) (host : ℕ) → ((k : ℕ) → (host == k) ≡ false → is_listed hosts' k ≡ is_listed hosts k) → (u : Listing) → shows host u ≡ false → IsAsListed hosts u → IsAsListed hosts' u
+same_mark hosts hosts' host others (Lobby a b) apart is = tt
+same_mark hosts hosts' host others (Visited a b guest mark) apart is = others guest apart ∙ is
+same_mark hosts hosts' host others (Mark h mark) apart is = others h apart ∙ is
+same_mark hosts hosts' host others Gone apart is = tt
 
-leaves_first : (hosts hosts' : List ℕ) (seats host : ℕ) (mark mark' : Bool) → ((k : ℕ) → k ≢ host → times k hosts' ≡ times k hosts) → times host hosts' ≡ one_if mark'
+leaves_first : (hosts hosts' : List ℕ) (seats host : ℕ) (mark mark' : Bool) → ((k : ℕ) → (host == k) ≡ false → is_listed hosts' k ≡ is_listed hosts k) → is_listed hosts' host ≡ mark'
+    → (IsQueue record { hosts = seats; order = hosts } → host < seats → IsQueue record { hosts = seats; order = hosts' })
     → Splits KeepsMarks 0 (Visited hosts seats host mark) (Lobby hosts' seats) (Mark host mark')
-leaves_first hosts hosts' seats host mark mark' others mine s rule at =
+leaves_first hosts hosts' seats host mark mark' others mine queue s rule at =
     let guest : Listing = Visited hosts seats host mark in
     let lobby : Listing = Lobby hosts' seats in
     let new : Listing = Mark host mark' in
+    let left : List Listing = set s.views 0 lobby in
     let r = opened s.views guest rule at in
-    let one = same_host host host refl in
+    let one : one_if (host == host) ≡ 1 = ap one_if (eq-eqb host host refl) in
+    let count = r.one_mark host in
     let most = one_if_le (nat_lt host seats) in
-    let part = at-le-sum (marks host) s.views 0 guest at in
-    let mark_count = r.one_mark host in
-    let only : sum_by (marks host) s.views ≡ marks host guest = omega arith in
-    let inside : host < seats = one_if_lt host seats (omega arith) in
-    let change = sum_change (disagreement hosts) (disagreement hosts') (marks host) s.views 0 guest at only (same_disagreement hosts hosts' host others) in
-    closed (set s.views 0 lobby ++ new ∷ []) lobby (first_cut s.views guest lobby new at) (record {
-      marked = omega (arith, r.marked, sum-set (disagreement hosts') s.views 0 guest lobby at, sum_by_push (disagreement hosts') (set s.views 0 lobby) new);
-      one_mark = λ k. omega (arith, r.one_mark k, sum-set (marks k) s.views 0 guest lobby at, sum_by_push (marks k) (set s.views 0 lobby) new);
-      no_other = λ k above. others k (λ e. absurd (omega arith)) ∙ r.no_other k above;
-      distinct = λ k. dite (ℕ_discrete k host)
-          (λ e. subst (λ (n : ℕ). times n hosts' ≤ 1) (sym e) (omega (arith, one_if_le mark')))
-          (λ ne. omega (arith, others k ne, r.distinct k));
+    let part = at-le-sum (shown host) s.views 0 guest at in
+    let nobody : count_by (shows host) left ≡ 0 = omega (arith, sum-set (shown host) s.views 0 guest lobby at) in
+    let before = All-set (IsAsListed hosts) s.views 0 lobby tt r.marked in
+    let after : All (IsAsListed hosts') left = λ k d there. same_mark hosts hosts' host others (get_or left k d) (uncounted (shows host) left nobody k d there) (before k d there) in
+    closed (left ++ new ∷ []) lobby (first_cut s.views guest lobby new at) (record {
+      marked = All-push (IsAsListed hosts') left new after mine;
+      one_mark = λ k. sym (sum-cut (shown k) s.views 0 guest lobby new at (omega arith)) ∙ r.one_mark k;
+      queue = queue r.queue (one_if_lt host seats (omega arith));
     })
 
-pub leaves : (id : ℕ) (v : Listing) (hosts : List ℕ) (seats host : ℕ) (mark : Bool) → id ≡ 0 → v ≡ Visited hosts seats host mark → times host hosts ≡ one_if mark
-    → Splits KeepsMarks id v (left_alone v) (mark_alone v)
-leaves id v hosts seats host mark first is same =
-    subst (λ (z : ℕ × Listing). Splits KeepsMarks z.0 z.1 (left_alone z.1) (mark_alone z.1)) (λ i. (sym first i, sym is i)) (leaves_first hosts hosts seats host mark mark (λ k _. refl) same)
+-- each way to leave, once the guest's mark is whether it is listed
 
-pub leaves_listed : (id : ℕ) (v : Listing) (hosts : List ℕ) (seats host : ℕ) (mark : Bool) → id ≡ 0 → v ≡ Visited hosts seats host mark → times host hosts ≡ one_if mark → mark ≡ false
-    → Splits KeepsMarks id v (left_longer v) (mark_set v)
-leaves_listed id v hosts seats host mark first is same unmarked =
-    let none_there : times host hosts ≡ 0 = same ∙ ap one_if unmarked in
-    subst (λ (z : ℕ × Listing). Splits KeepsMarks z.0 z.1 (left_longer z.1) (mark_set z.1)) (λ i. (sym first i, sym is i))
-    (leaves_first hosts (hosts ++ host ∷ []) seats host mark true
-    (λ k ne. omega (arith, times_push k host hosts, other_host k host ne))
-    (omega (arith, times_push host host hosts, same_host host host refl)))
+pub leaves : (hosts : List ℕ) (seats host : ℕ) (mark : Bool) → is_listed hosts host ≡ mark → MayLeave left_alone mark_alone (Visited hosts seats host mark)
+leaves hosts seats host mark same = record {
+  splits = leaves_first hosts hosts seats host mark mark (λ k _. refl) same (λ queue _. queue);
+  lobby = refl;
+  mark = refl;
+}
 
-pub leaves_unlisted : (id : ℕ) (v : Listing) (hosts : List ℕ) (seats host : ℕ) (mark : Bool) → id ≡ 0 → v ≡ Visited hosts seats host mark
-    → Splits KeepsMarks id v (left_shorter v) (mark_cleared v)
-leaves_unlisted id v hosts seats host mark first is =
-    subst (λ (z : ℕ × Listing). Splits KeepsMarks z.0 z.1 (left_shorter z.1) (mark_cleared z.1)) (λ i. (sym first i, sym is i))
-    (leaves_first hosts (without_host hosts host) seats host mark false (λ k ne. times_without k host hosts ne) (times_without_it host hosts))
+pub leaves_listed : (hosts : List ℕ) (seats host : ℕ) (mark : Bool) → is_listed hosts host ≡ mark → mark ≡ false → MayLeave left_longer mark_set (Visited hosts seats host mark)
+leaves_listed hosts seats host mark same unmarked = record {
+  splits = leaves_first hosts (hosts ++ host ∷ []) seats host mark true
+      (λ k apart. grind (arith, nat_tests, listed_last hosts host k, apart))
+      (grind (arith, nat_tests, listed_last hosts host host))
+      (λ queue there. queue_last seats hosts host queue there (same ∙ unmarked));
+  lobby = refl;
+  mark = refl;
+}
+
+pub leaves_unlisted : (hosts : List ℕ) (seats host : ℕ) (mark : Bool) → MayLeave left_shorter mark_cleared (Visited hosts seats host mark)
+leaves_unlisted hosts seats host mark = record {
+  splits = leaves_first hosts (without_host hosts host) seats host mark false
+      (λ k apart. grind (arith, nat_tests, listed_without hosts host k, apart))
+      (gone hosts host)
+      (λ queue there. queue_without seats hosts host queue);
+  lobby = refl;
+  mark = refl;
+}
 
 -- the next host gets its mark
 
@@ -206,12 +155,16 @@ seats_next hosts seats s rule at =
     let next : Listing = Lobby hosts (seats + 1) in
     let new : Listing = Mark seats false in
     let r = opened s.views lobby rule at in
-    closed (set s.views 0 next ++ new ∷ []) next (first_cut s.views lobby next new at) (record {
-      marked = omega (arith, r.marked, r.no_other seats (omega arith), sum-set (disagreement hosts) s.views 0 lobby next at, sum_by_push (disagreement hosts) (set s.views 0 next) new);
-      one_mark = λ k. omega (arith, r.one_mark k, one_if_more k seats, sum-set (marks k) s.views 0 lobby next at, sum_by_push (marks k) (set s.views 0 next) new);
-      no_other = λ k above. r.no_other k (omega arith);
-      distinct = r.distinct;
+    let left : List Listing = set s.views 0 next in
+    closed (left ++ new ∷ []) next (first_cut s.views lobby next new at) (record {
+      marked = All-push (IsAsListed hosts) left new (All-set (IsAsListed hosts) s.views 0 next tt r.marked) (unlisted (is_listed hosts seats) refl);
+      one_mark = λ k. omega (arith, r.one_mark k, one_if_more k seats, sum-set (shown k) s.views 0 lobby next at, sum_by_push (shown k) left new);
+      queue = record { distinct = r.queue.distinct; there = λ host listed. omega (arith, r.queue.there host listed) };
     })
+  where
+    unlisted : (b : Bool) → is_listed hosts seats ≡ b → is_listed hosts seats ≡ false
+    unlisted false e = e
+    unlisted true e = absurd (omega (arith, (opened s.views (Lobby hosts seats) rule at).queue.there seats e))
 
 pub seats_host : (id : ℕ) (v : Listing) (hosts : List ℕ) (seats : ℕ) → id ≡ 0 → v ≡ Lobby hosts seats → Splits KeepsMarks id v (with_host v) (first_mark v)
 seats_host id v hosts seats first is =
@@ -219,11 +172,11 @@ seats_host id v hosts seats first is =
 
 -- the list turns
 
-turned_disagreement : (hosts : List ℕ) (u : Listing) → disagreement (turned hosts) u ≡ disagreement hosts u
-turned_disagreement hosts (Lobby a b) = refl
-turned_disagreement hosts (Visited a b guest mark) = ap (λ (n : ℕ). distance n (one_if mark)) (times_turned guest hosts)
-turned_disagreement hosts (Mark host mark) = ap (λ (n : ℕ). distance n (one_if mark)) (times_turned host hosts)
-turned_disagreement hosts Gone = refl
+turned_mark : (hosts : List ℕ) (u : Listing) → IsAsListed hosts u → IsAsListed (turned hosts) u
+turned_mark hosts (Lobby a b) is = tt
+turned_mark hosts (Visited a b guest mark) is = listed_turned hosts guest ∙ is
+turned_mark hosts (Mark host mark) is = listed_turned hosts host ∙ is
+turned_mark hosts Gone is = tt
 
 turns_first : (views : List Listing) (hosts : List ℕ) (seats : ℕ) → IsLink views → get_elem? views 0 ≡ some (Lobby hosts seats) → IsLink (set views 0 (Lobby (turned hosts) seats))
 turns_first views hosts seats rule at =
@@ -231,10 +184,9 @@ turns_first views hosts seats rule at =
     let next : Listing = Lobby (turned hosts) seats in
     let r = opened views lobby rule at in
     closed (set views 0 next) next (first_set views lobby next at) (record {
-      marked = omega (arith, r.marked, sum_alike (disagreement (turned hosts)) (disagreement hosts) views (turned_disagreement hosts), sum-set (disagreement (turned hosts)) views 0 lobby next at);
-      one_mark = λ k. omega (arith, r.one_mark k, sum-set (marks k) views 0 lobby next at);
-      no_other = λ k above. times_turned k hosts ∙ r.no_other k above;
-      distinct = λ k. omega (arith, times_turned k hosts, r.distinct k);
+      marked = All-set (IsAsListed (turned hosts)) views 0 next tt (λ k d there. turned_mark hosts (get_or views k d) (r.marked k d there));
+      one_mark = λ k. omega (arith, r.one_mark k, sum-set (shown k) views 0 lobby next at);
+      queue = queue_turns seats hosts r.queue;
     })
 
 pub turns : (slots id : ℕ) (me : Me (Unit {0}) Listing) (hosts : List ℕ) (seats : ℕ) → id ≡ 0 → me.0 ≡ Lobby hosts seats
@@ -242,11 +194,3 @@ pub turns : (slots id : ℕ) (me : Me (Unit {0}) Listing) (hosts : List ℕ) (se
 turns slots id me hosts seats first is s rule len at small =
     let at_first : get_elem? s.views 0 ≡ some (Lobby hosts seats) = subst (λ (z : ℕ × Listing). get_elem? s.views z.0 ≡ some z.1) (λ i. (first i, is i)) at in
     (with_turn me.0, keeps, tt, subst (λ (z : ℕ × Listing). IsLink (set s.views z.0 (with_turn z.1))) (λ i. (sym first i, sym is i)) (turns_first s.views hosts seats rule at_first), (refl, refl))
-
--- how a seat shows its view
-
-pub lobby_is : (u : Listing) (hosts : List ℕ) (seats : ℕ) → u ≡ Lobby hosts seats → u ≡ Lobby (hosts_of u) (seats_of u)
-lobby_is u hosts seats is = subst (λ (v : Listing). v ≡ Lobby (hosts_of v) (seats_of v)) (sym is) refl
-
-pub mark_is : (u : Listing) (host : ℕ) (mark : Bool) → u ≡ Mark host mark → u ≡ Mark (host_of u) (mark_of u)
-mark_is u host mark is = subst (λ (v : Listing). v ≡ Mark (host_of v) (mark_of v)) (sym is) refl

@@ -74,6 +74,10 @@ queue_turned hosts host order queue = record {
 }
 
 -- the list turned
+pub queue_turns : (hosts : ℕ) (order : List ℕ) → IsQueue record { hosts = hosts; order = order } → IsQueue record { hosts = hosts; order = turned order }
+queue_turns hosts [] queue = queue
+queue_turns hosts (host ∷ order) queue = queue_turned hosts host order queue
+
 pub listed_turned : (order : List ℕ) (other : ℕ) → is_listed (turned order) other ≡ is_listed order other
 listed_turned [] other = refl
 listed_turned (x ∷ order) other = grind (arith, nat_tests, listed_last order x other)

@@ -1,10 +1,10 @@
 -- The hosts listed for the total, and the mark of each host.
-use Rattle.std.specs.Prelude.{◌≡◌, ℕ, ◌+◌, ◌-◌, ◌≤◌, ◌==◌, List, [], ◌∷◌, ◌++◌, Bool, true, false, if◌then◌else◌, nat_lt, count_by, Option, Some, None}
-use Rattle.std.specs.List.{sum_by}
-use Rattle.atomic_table.specs.Table.{State, Me, Step}
+use Rattle.std.specs.Prelude.{◌≡◌, ℕ, ◌+◌, ◌==◌, List, [], ◌∷◌, ◌++◌, Bool, true, false, if◌then◌else◌, nat_lt, count_by, Option, Some, None}
+use Rattle.std.specs.List.{All}
+use Rattle.atomic_table.specs.Table.{State, Me, Step, Splits}
 use Rattle.atomic_table.specs.Seated.{TableId}
 use Rattle.atomic_table.specs.declared.shared.Seat.{Seat}
-use Rattle.budget.specs.Lobby.{without_host, turned}
+use Rattle.budget.specs.Lobby.{IsQueue, is_listed, without_host, turned}
 use Rattle.budget.specs.declared.link.Listing.{Listing}
 use Rattle.budget.specs.declared.link.Listing.TheVariants.{Lobby, Visited, Mark, Gone}
 
@@ -20,30 +20,19 @@ pub record Marked : Type 0 where
   pub host : ℕ
   pub mark : Bool
 
--- how often the host is listed
-abbrev pub times : ℕ → List ℕ → ℕ
-times host hosts = count_by (λ h. h == host) hosts
+-- whether a seat shows the mark of the host
+abbrev pub shows : ℕ → Listing → Bool
+shows host (Lobby hosts seats) = false
+shows host (Visited hosts seats guest mark) = host == guest
+shows host (Mark h mark) = host == h
+shows host Gone = false
 
-abbrev pub one_if : Bool → ℕ
-one_if b = if b then 1 else 0
-
--- how far apart two numbers are
-abbrev pub distance : ℕ → ℕ → ℕ
-distance a b = (a - b) + (b - a)
-
--- how many marks of the host a seat shows
-abbrev pub marks : ℕ → Listing → ℕ
-marks host (Lobby hosts seats) = 0
-marks host (Visited hosts seats guest mark) = one_if (guest == host)
-marks host (Mark h mark) = one_if (h == host)
-marks host Gone = 0
-
--- how far a seat's mark is from whether its host is listed
-abbrev pub disagreement : List ℕ → Listing → ℕ
-disagreement listed (Lobby hosts seats) = 0
-disagreement listed (Visited hosts seats guest mark) = distance (times guest listed) (one_if mark)
-disagreement listed (Mark host mark) = distance (times host listed) (one_if mark)
-disagreement listed Gone = 0
+-- the mark that a seat shows is whether its host is listed
+abbrev pub IsAsListed : List ℕ → Listing → Type 0
+IsAsListed listed (Lobby hosts seats) = Unit {0}
+IsAsListed listed (Visited hosts seats guest mark) = is_listed listed guest ≡ mark
+IsAsListed listed (Mark host mark) = is_listed listed host ≡ mark
+IsAsListed listed Gone = Unit {0}
 
 -- the view of the table's first seat, which is the Lobby's
 abbrev pub first_of : List Listing → Listing
@@ -62,13 +51,20 @@ seats_of (Visited hosts seats guest mark) = seats
 seats_of (Mark host mark) = 0
 seats_of Gone = 0
 
--- A mark is whether its host is listed: none is apart from that. Each host that was given a seat
--- shows its mark once, and no other host is listed. No host is listed twice.
+abbrev pub host_of : Listing → ℕ
+host_of (Mark host mark) = host
+host_of v = 0
+
+abbrev pub mark_of : Listing → Bool
+mark_of (Mark host mark) = mark
+mark_of v = false
+
+-- Each mark is whether its host is listed. Each host that was given a seat shows its mark once. The
+-- listed ones are distinct hosts of these.
 pub record Agree (listed : List ℕ) (seats : ℕ) (views : List Listing) : Type 0 where
-  pub marked : sum_by (disagreement listed) views ≡ 0
-  pub one_mark : (host : ℕ) → sum_by (marks host) views ≡ one_if (nat_lt host seats)
-  pub no_other : (host : ℕ) → seats ≤ host → times host listed ≡ 0
-  pub distinct : (host : ℕ) → times host listed ≤ 1
+  pub marked : All (IsAsListed listed) views
+  pub one_mark : (host : ℕ) → count_by (shows host) views ≡ if nat_lt host seats then 1 else 0
+  pub queue : IsQueue record { hosts = seats; order = listed }
 
 abbrev pub IsLink : List Listing → Type 0
 IsLink views = Agree (hosts_of (first_of views)) (seats_of (first_of views)) views
@@ -122,12 +118,8 @@ with_turn (Lobby hosts seats) = Lobby (turned hosts) seats
 with_turn v = v
 
 -- the guest's mark is whether it is listed
-abbrev pub Agrees : Listing → Type 0
-Agrees (Visited hosts seats host mark) = times host hosts ≡ one_if mark
-Agrees v = Unit {0}
-
 abbrev pub SeesMark : Step (Unit {0}) → Me (Unit {0}) Listing → ℕ → Me (Unit {0}) Listing → Type 0
-SeesMark step before found after = (after ≡ before) × Agrees before.0
+SeesMark step before found after = (after ≡ before) × IsAsListed (hosts_of before.0) before.0
 
 abbrev pub Turns : Step (Unit {0}) → Me (Unit {0}) Listing → ℕ → Me (Unit {0}) Listing → Type 0
 Turns step before found after = (after.0 ≡ with_turn before.0) × (after.1 ≡ before.1)
@@ -135,6 +127,20 @@ Turns step before found after = (after.0 ≡ with_turn before.0) × (after.1 ≡
 -- what the Lobby's seat shows its owner
 abbrev pub list_shown : TableId → Listing → Listed
 list_shown table view = record { table = table; hosts = hosts_of view; seats = seats_of view }
+
+-- what a host's seat shows its owner
+abbrev pub mark_shown : TableId → Listing → Marked
+mark_shown table view = record { table = table; host = host_of view; mark = mark_of view }
+
+-- the Lobby's seat as the owners of both see it while the host is its guest
+abbrev pub visited : Listed → Marked → Listing
+visited lobby host = Visited lobby.hosts lobby.seats host.host host.mark
+
+-- the guest may leave so: the rule stands, and the two are a Lobby's seat and a host's again
+pub record MayLeave (left right : Listing → Listing) (guest : Listing) : Type 0 where
+  pub splits : Splits KeepsMarks 0 guest (left guest) (right guest)
+  pub lobby : left guest ≡ Lobby (hosts_of (left guest)) (seats_of (left guest))
+  pub mark : right guest ≡ Mark (host_of (right guest)) (mark_of (right guest))
 
 -- the host is listed too, behind the others
 abbrev pub with_listed : ℕ → Listed → Listed
@@ -156,22 +162,6 @@ pub record IsLobbySeat (id : ℕ) (me : Me (Unit {0}) Listing) : Type 0 where
   pub first : id ≡ 0
   pub lobby : me.0 ≡ Lobby (hosts_of me.0) (seats_of me.0)
 
-abbrev pub host_of : Listing → ℕ
-host_of (Mark host mark) = host
-host_of v = 0
-
-abbrev pub mark_of : Listing → Bool
-mark_of (Mark host mark) = mark
-mark_of v = false
-
--- the Lobby's seat with the host of another as its guest
-abbrev pub joined_mark : Listing → Listing → Listing
-joined_mark lobby host = Visited (hosts_of lobby) (seats_of lobby) (host_of host) (mark_of host)
-
--- the host is listed as often as its mark says
-abbrev pub IsAsMarked : Listing → Listing → Type 0
-IsAsMarked lobby host = times (host_of host) (hosts_of lobby) ≡ one_if (mark_of host)
-
 pub record IsMarkSeat (me : Me (Unit {0}) Listing) : Type 0 where
   pub mark : me.0 ≡ Mark (host_of me.0) (mark_of me.0)
   pub bare : me.1 ≡ []
@@ -187,4 +177,4 @@ no_table = record { words = 0; slots = 0; views_name = 0; atom = 0; block = 0; o
 
 abbrev pub marked_by : Option (Seat (Unit {0}) Listing) → Marked
 marked_by None = record { table = no_table; host = 0; mark = false }
-marked_by (Some seat) = record { table = seat.table_id; host = host_of seat.me.0; mark = mark_of seat.me.0 }
+marked_by (Some seat) = mark_shown seat.table_id seat.me.0

@@ -6,7 +6,7 @@
 ghost use Rattle.std.specs.Prelude.{◌≡◌, ◌+◌, [], true, false, IfOk, IfErr};
 ghost use Rattle.budget.specs.Lobby.{is_listed, turned};
 ghost use Rattle.budget.specs.Marks.{with_listed, with_unlisted, next_mark};
-ghost use Rattle.budget.specs.Marks.{IsLobbySeat, IsMarkSeat, IsAsMarked, joined_mark};
+ghost use Rattle.budget.specs.Marks.{list_shown, mark_shown, visited, MayLeave};
 
 use crate::refusal::Refusal;
 use atomic_table::{Join, Play, Seat, Split, Table, TableRule};
@@ -158,25 +158,6 @@ impl Model for MarkSeat {
     ghost invariant = { λ host. HasMark host.seat };
 }
 
-// The host's seat becomes the Lobby's guest, and the load tells that the two agree.
-fn join_mark(
-    table: &Table<(), Listing, (), Marks, Global>,
-    lobby: &mut Seat<(), Listing>,
-    host: Seat<(), Listing>,
-)
-    requires lobby_table { lobby.old.table_id ≡ table.now.shared.table_id }
-    requires host_table { host.table_id ≡ table.now.shared.table_id }
-    requires one_word { table.now.shared.table_id.words ≡ 1 }
-    requires lobby { IsLobbySeat lobby.old.id lobby.old.me }
-    requires host { IsMarkSeat host.me }
-    ensures same { (lobby.new.table_id ≡ lobby.old.table_id) × (lobby.new.id ≡ lobby.old.id) }
-    ensures guest { lobby.new.me.0 ≡ joined_mark lobby.old.me.0 host.me.0 }
-    ensures agree { IsAsMarked lobby.old.me.0 host.me.0 }
-{
-    table.shared.join_seat::<JoinMark>(lobby, host);
-    table.shared.load::<See>(lobby, 0);
-}
-
 impl Link {
     /// A link without a mark, and the Lobby's seat.
     ///
@@ -211,13 +192,7 @@ impl Link {
         ensures lobby { lobby.new ≡ lobby.old }
         ensures host { host.new ≡ host.old }
     {
-        let Some(guest) = host.seat.take() else {
-            unreachable!()
-        };
-        join_mark(&self.table, &mut lobby.seat, guest);
-        let table = &self.table;
-        let seat = table.shared.split_seat::<Leave>(&mut lobby.seat);
-        host.seat = Some(seat);
+        self.visit::<Leave>(lobby, host);
     }
 
     /// Lists a host that isn't marked, behind the others, and marks it.
@@ -229,13 +204,7 @@ impl Link {
         ensures lobby { lobby.new ≡ with_listed host.old.host lobby.old }
         ensures host { host.new ≡ record host.old { mark = true } }
     {
-        let Some(guest) = host.seat.take() else {
-            unreachable!()
-        };
-        join_mark(&self.table, &mut lobby.seat, guest);
-        let table = &self.table;
-        let seat = table.shared.split_seat::<LeaveListed>(&mut lobby.seat);
-        host.seat = Some(seat);
+        self.visit::<LeaveListed>(lobby, host);
     }
 
     /// Takes a marked host off the list, and its mark.
@@ -247,13 +216,7 @@ impl Link {
         ensures lobby { lobby.new ≡ with_unlisted host.old.host lobby.old }
         ensures host { host.new ≡ record host.old { mark = false } }
     {
-        let Some(guest) = host.seat.take() else {
-            unreachable!()
-        };
-        join_mark(&self.table, &mut lobby.seat, guest);
-        let table = &self.table;
-        let seat = table.shared.split_seat::<LeaveUnlisted>(&mut lobby.seat);
-        host.seat = Some(seat);
+        self.visit::<LeaveUnlisted>(lobby, host);
     }
 
     /// The first host of the list goes behind the others.
@@ -263,5 +226,25 @@ impl Link {
     {
         let table = &self.table;
         table.shared.load::<Turn>(&mut lobby.seat, 0);
+    }
+    // The host's seat becomes the Lobby's guest, a load tells that its mark is whether it is listed,
+    // and it leaves as L says.
+    fn visit<L: Split<Listing>>(&self, lobby: &mut LobbySeat, host: &mut MarkSeat)
+        requires lobby { lobby.old.table ≡ self.now }
+        requires host { host.old.table ≡ self.now }
+        requires leaves { is_listed lobby.old.hosts host.old.host ≡ host.old.mark
+            → MayLeave L.left L.right (visited lobby.old host.old) }
+        ensures agree { is_listed lobby.old.hosts host.old.host ≡ host.old.mark }
+        ensures lobby { lobby.new ≡ list_shown self.now (L.left (visited lobby.old host.old)) }
+        ensures host { host.new ≡ mark_shown self.now (L.right (visited lobby.old host.old)) }
+    {
+        let Some(guest) = host.seat.take() else {
+            unreachable!()
+        };
+        let table = &self.table;
+        table.shared.join_seat::<JoinMark>(&mut lobby.seat, guest);
+        table.shared.load::<See>(&mut lobby.seat, 0);
+        let seat = table.shared.split_seat::<L>(&mut lobby.seat);
+        host.seat = Some(seat);
     }
 }
