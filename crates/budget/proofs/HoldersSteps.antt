@@ -1,6 +1,6 @@
 -- Each step of the holders keeps their rule.
-use Rattle.std.proofs.Common.{◌≡◌, ◌≢◌, ◌⊎◌, ℕ, suc, ◌+◌, ◌-◌, ◌%◌, ◌^◌, ◌<◌, ◌≤◌, ◌&&◌, Bool, true, false, cond, not, eqb, List, [], ◌∷◌, ◌++◌, length, get_or, set, sym, refl, ap, ◌∙◌, subst, inl, inr, ⊎_elim, arith, length-set, get_or-set_same}
-use Rattle.std.specs.Prelude.{Option, Some, None, IsSome, IfSome}
+use Rattle.std.proofs.Common.{◌≡◌, ◌≢◌, ◌⊎◌, ℕ, suc, ◌+◌, ◌-◌, ◌%◌, ◌^◌, ◌<◌, ◌≤◌, ◌&&◌, Bool, true, false, cond, not, eqb, List, [], ◌∷◌, ◌++◌, length, get_or, set, sym, refl, ap, ◌∙◌, subst, inl, inr, ⊎_elim, arith, length-set}
+use Rattle.std.specs.Prelude.{Option, Some, None, IsSome, IfSome, count_by}
 use Rattle.std.specs.List.{sum_by}
 use Rattle.std.proofs.lemmas.List.Sums.{sum_by_push, sum_by-cons}
 use Rattle.std.proofs.lemmas.Bool.Decides.{eqb_tells}
@@ -9,9 +9,8 @@ use lib.ListN.{get_elem?}
 use Rattle.atomic_table.specs.Table.{Me, step, keeps, Allows, Splits, Joins}
 use Rattle.budget.specs.declared.holders.Holding.{Holding}
 use Rattle.budget.specs.declared.holders.Holding.TheVariants.{Host, Taking, Lease, Gone}
-use Rattle.budget.specs.Pairs.{Pair, is_pair, one_if, pair_count, without_pair, count_of, host_seats, stands, flags, leases, IsHeld, KeepsPairs, with_pair, with_lease, with_back, without_back, lease_back, cleared, IsFlagged, MarksPair, ReadsHeld, ClearsPair, host_view}
-use Rattle.budget.proofs.Sums.{sum-set, at-le-sum}
-use Rattle.budget.proofs.Views.{sum_only}
+use Rattle.budget.specs.Pairs.{Pair, is_pair, pair_count, without_pair, count_of, is_host, stands, flags, is_lease_of, IsHeld, KeepsPairs, with_pair, with_lease, with_back, without_back, lease_back, cleared, IsFlagged, MarksPair, ReadsHeld, ClearsPair, host_view}
+use Rattle.budget.proofs.Sums.{one_if, sum-set, sum-cut, sum-join, word-set, at-le-sum, only_of_kind}
 
 -- pairs, and how often one stands in a list that changes
 
@@ -82,9 +81,12 @@ without_one q p pairs once =
     (λ (t : (is_pair q p ≡ false) × (q ≢ p)). omega (arith, times_without q p pairs t.1, ap one_if t.0))
     (pair_tells q p)
 
-one_if_le : (b : Bool) → one_if b ≤ 1
-one_if_le true = omega arith
-one_if_le false = omega arith
+-- how much a seat adds to the host's seats, and to the leases of a pair
+abbrev hosts : Holding → ℕ
+hosts v = one_if (is_host v)
+
+abbrev leases : Pair → Holding → ℕ
+leases p v = one_if (is_lease_of p v)
 
 -- the rule, as views change
 
@@ -92,47 +94,41 @@ pub begins : IsHeld (0 ∷ []) (Host [] [] ∷ [])
 begins = record { one_word = refl; counts = refl; one_host = refl; flagged = λ p. refl; distinct = λ p. omega arith }
 
 set_view : (words : List ℕ) (views : List Holding) (seat n : ℕ) (v w : Holding) → IsHeld words views → get_elem? views seat ≡ some v
-    → n + count_of v ≡ get_or words 0 0 + count_of w → host_seats w ≡ host_seats v
+    → n + count_of v ≡ get_or words 0 0 + count_of w → is_host w ≡ is_host v
     → ((p : Pair) → leases p w + flags p v ≡ leases p v + flags p w)
     → ((p : Pair) → sum_by (stands p) views + stands p w ≤ 1 + stands p v)
     → IsHeld (set words 0 n) (set views seat w)
-set_view words views seat n v w rule at count host flag room =
-    let one = rule.one_word in
-    let a = rule.counts in
-    let b = rule.one_host in
-    let read : get_or (set words 0 n) 0 0 ≡ n = get_or-set_same words 0 n 0 (omega arith) in
-    record {
-      one_word = length-set words 0 n ∙ one;
-      counts = read ∙ omega (arith, sum-set count_of views seat v w at);
-      one_host = omega (arith, sum-set host_seats views seat v w at);
-      flagged = λ p. omega (arith, rule.flagged p, flag p, sum-set (leases p) views seat v w at, sum-set (flags p) views seat v w at);
-      distinct = λ p. omega (arith, room p, sum-set (stands p) views seat v w at);
-    }
+set_view words views seat n v w rule at count host flag room = record {
+  one_word = length-set words 0 n ∙ rule.one_word;
+  counts = word-set count_of words views seat n v w rule.one_word rule.counts at count;
+  one_host = omega (arith, rule.one_host, ap one_if host, sum-set hosts views seat v w at);
+  flagged = λ p. omega (arith, rule.flagged p, flag p, sum-set (leases p) views seat v w at, sum-set (flags p) views seat v w at);
+  distinct = λ p. omega (arith, room p, sum-set (stands p) views seat v w at);
+}
 
 cut_view : (words : List ℕ) (views : List Holding) (seat : ℕ) (v w new : Holding) → IsHeld words views → get_elem? views seat ≡ some v
-    → count_of w + count_of new ≡ count_of v → host_seats w + host_seats new ≡ host_seats v
+    → count_of w + count_of new ≡ count_of v → hosts w + hosts new ≡ hosts v
     → ((p : Pair) → leases p w + leases p new + flags p v ≡ leases p v + flags p w + flags p new)
     → ((p : Pair) → stands p w + stands p new ≤ stands p v)
     → IsHeld words (set views seat w ++ new ∷ [])
 cut_view words views seat v w new rule at count host flag room =
-    let a = rule.counts in
-    let b = rule.one_host in
+    let left : List Holding = set views seat w in
     record {
       one_word = rule.one_word;
-      counts = omega (arith, sum-set count_of views seat v w at, sum_by_push count_of (set views seat w) new);
-      one_host = omega (arith, sum-set host_seats views seat v w at, sum_by_push host_seats (set views seat w) new);
-      flagged = λ p. omega (arith, rule.flagged p, flag p, sum-set (leases p) views seat v w at, sum_by_push (leases p) (set views seat w) new, sum-set (flags p) views seat v w at, sum_by_push (flags p) (set views seat w) new);
-      distinct = λ p. omega (arith, rule.distinct p, room p, sum-set (stands p) views seat v w at, sum_by_push (stands p) (set views seat w) new);
+      counts = rule.counts ∙ sum-cut count_of views seat v w new at count;
+      one_host = sym (sum-cut hosts views seat v w new at host) ∙ rule.one_host;
+      flagged = λ p. omega (arith, rule.flagged p, flag p, sum-set (leases p) views seat v w at, sum_by_push (leases p) left new, sum-set (flags p) views seat v w at, sum_by_push (flags p) left new);
+      distinct = λ p. omega (arith, rule.distinct p, room p, sum-set (stands p) views seat v w at, sum_by_push (stands p) left new);
     }
 
 -- the host has all that is held
-host_has : (f : Holding → ℕ) (views : List Holding) (seat : ℕ) (v : Holding) → sum_by host_seats views ≡ 1 → get_elem? views seat ≡ some v → host_seats v ≡ 1
+host_has : (f : Holding → ℕ) (views : List Holding) (seat : ℕ) (v : Holding) → count_by is_host views ≡ 1 → get_elem? views seat ≡ some v → is_host v ≡ true
     → ((pair : Pair) → f (Lease pair) ≡ 0) → f Gone ≡ 0 → sum_by f views ≡ f v
-host_has f views seat v one at host lease gone = sum_only f host_seats views seat v at (one ∙ sym host) none_else
+host_has f views seat v one at host lease gone = only_of_kind is_host f views seat v one at host none_else
   where
-    none_else : (u : Holding) → host_seats u ≡ 0 → f u ≡ 0
-    none_else (Host granted leased) h = absurd (omega arith)
-    none_else (Taking granted leased pair) h = absurd (omega arith)
+    none_else : (u : Holding) → is_host u ≡ false → f u ≡ 0
+    none_else (Host granted leased) h = absurd (cc)
+    none_else (Taking granted leased pair) h = absurd (cc)
     none_else (Lease pair) h = lease pair
     none_else Gone h = gone
 
@@ -173,18 +169,15 @@ takes_back seat v other w granted leased p is lease = subst (λ (z : Holding × 
   where
     from_host : Joins KeepsPairs seat (Host granted leased) other (Lease p) (Taking granted leased p) Gone
     from_host s rule at apart there =
-        let views = s.views in
         let before : Holding = Host granted leased in
         let both : Holding = Taking granted leased p in
-        let left : Holding = Lease p in
-        let a = rule.counts in
-        let b = rule.one_host in
+        let same : (f : Holding → ℕ) → f both + f Gone ≡ f before + f (Lease p) → sum_by f s.views ≡ sum_by f (set (set s.views seat both) other Gone) = λ f. sum-join f s.views seat before other (Lease p) both Gone at there in
         record {
           one_word = rule.one_word;
-          counts = omega (arith, sum-set count_of views seat before both at, sum-set count_of (set views seat both) other left Gone there);
-          one_host = omega (arith, sum-set host_seats views seat before both at, sum-set host_seats (set views seat both) other left Gone there);
-          flagged = λ q. omega (arith, rule.flagged q, sum-set (leases q) views seat before both at, sum-set (leases q) (set views seat both) other left Gone there, sum-set (flags q) views seat before both at, sum-set (flags q) (set views seat both) other left Gone there);
-          distinct = λ q. omega (arith, rule.distinct q, sum-set (stands q) views seat before both at, sum-set (stands q) (set views seat both) other left Gone there);
+          counts = rule.counts ∙ same count_of (omega arith);
+          one_host = sym (same hosts refl) ∙ rule.one_host;
+          flagged = λ q. sym (same (leases q) (omega arith)) ∙ rule.flagged q ∙ same (flags q) (omega arith);
+          distinct = λ q. subst (λ (n : ℕ). n ≤ 1) (same (stands q) (omega arith)) (rule.distinct q);
         }
 
 unmoved : (words : List ℕ) (views : List Holding) (seat : ℕ) (v : Holding) → IsHeld words views → get_elem? views seat ≡ some v → IsHeld (set words 0 (get_or words 0 0)) (set views seat v)

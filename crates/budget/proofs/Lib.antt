@@ -1,5 +1,4 @@
 pub mod Keeps
-pub mod Views
 pub mod TallySteps
 pub mod LinkSteps
 pub mod HoldersSteps

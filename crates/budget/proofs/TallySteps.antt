@@ -1,72 +1,60 @@
 -- Each step of a tally keeps its rule.
-use Rattle.std.proofs.Common.{◌≡◌, ℕ, ◌+◌, ◌-◌, ◌%◌, ◌^◌, ◌<◌, List, [], ◌∷◌, ◌++◌, get_or, set, sym, refl, ap, ◌∙◌, subst, arith, length-set, get_or-set_same}
-use Rattle.std.proofs.lemmas.List.Sums.{sum_by_push}
+use Rattle.std.proofs.Common.{◌≡◌, ℕ, ◌+◌, ◌-◌, ◌%◌, ◌^◌, ◌<◌, true, false, List, [], ◌∷◌, ◌++◌, get_or, set, sym, refl, ap, ◌∙◌, subst, arith, length-set}
 use mathlib.Core.Option.{none, some}
 use lib.ListN.{get_elem?}
 use Rattle.atomic_table.specs.Table.{Me, step, keeps, Allows, Splits, Joins}
 use Rattle.budget.specs.declared.tally.Standing.{Standing}
 use Rattle.budget.specs.declared.tally.Standing.TheVariants.{Host, Lease, Pass, Gone}
-use Rattle.budget.specs.Starts.{counted, stands_for, host_seats, IsTally, KeepsStarts, started, without_one, with_one, CountsStart, ReadsStarts, ReadsMore}
-use Rattle.budget.proofs.Sums.{sum-set, at-le-sum}
-use Rattle.budget.proofs.Views.{sum_only}
+use Rattle.budget.specs.Starts.{counted, stands_for, is_host, IsTally, KeepsStarts, started, without_one, with_one, CountsStart, ReadsStarts, ReadsMore}
+use Rattle.budget.proofs.Sums.{one_if, sum-set, sum-cut, sum-join, word-set, at-le-sum, only_of_kind}
 
 pub begins : IsTally (0 ∷ []) (Host 0 0 ∷ [])
 begins = record { one_word = refl; counts = refl; stood_for = refl; one_host = refl }
 
+-- how much a seat adds to the host's seats
+abbrev hosts : Standing → ℕ
+hosts v = one_if (is_host v)
+
 -- the word may change as one view does
 set_view : (words : List ℕ) (views : List Standing) (seat n : ℕ) (v w : Standing) → IsTally words views → get_elem? views seat ≡ some v
-    → n + counted v ≡ get_or words 0 0 + counted w → n + stands_for v ≡ get_or words 0 0 + stands_for w → host_seats w ≡ host_seats v
+    → n + counted v ≡ get_or words 0 0 + counted w → n + stands_for v ≡ get_or words 0 0 + stands_for w → is_host w ≡ is_host v
     → IsTally (set words 0 n) (set views seat w)
-set_view words views seat n v w rule at starts stands host =
-    let one = rule.one_word in
-    let a = rule.counts in
-    let b = rule.stood_for in
-    let c = rule.one_host in
-    let read : get_or (set words 0 n) 0 0 ≡ n = get_or-set_same words 0 n 0 (omega arith) in
-    record {
-      one_word = length-set words 0 n ∙ one;
-      counts = read ∙ omega (arith, sum-set counted views seat v w at);
-      stood_for = read ∙ omega (arith, sum-set stands_for views seat v w at);
-      one_host = omega (arith, sum-set host_seats views seat v w at);
-    }
+set_view words views seat n v w rule at starts stands host = record {
+  one_word = length-set words 0 n ∙ rule.one_word;
+  counts = word-set counted words views seat n v w rule.one_word rule.counts at starts;
+  stood_for = word-set stands_for words views seat n v w rule.one_word rule.stood_for at stands;
+  one_host = omega (arith, rule.one_host, ap one_if host, sum-set hosts views seat v w at);
+}
 
 -- one view may be cut in two
 cut_view : (words : List ℕ) (views : List Standing) (seat : ℕ) (v w new : Standing) → IsTally words views → get_elem? views seat ≡ some v
-    → counted w + counted new ≡ counted v → stands_for w + stands_for new ≡ stands_for v → host_seats w + host_seats new ≡ host_seats v
+    → counted w + counted new ≡ counted v → stands_for w + stands_for new ≡ stands_for v → hosts w + hosts new ≡ hosts v
     → IsTally words (set views seat w ++ new ∷ [])
-cut_view words views seat v w new rule at starts stands host =
-    let a = rule.counts in
-    let b = rule.stood_for in
-    let c = rule.one_host in
-    record {
-      one_word = rule.one_word;
-      counts = omega (arith, sum-set counted views seat v w at, sum_by_push counted (set views seat w) new);
-      stood_for = omega (arith, sum-set stands_for views seat v w at, sum_by_push stands_for (set views seat w) new);
-      one_host = omega (arith, sum-set host_seats views seat v w at, sum_by_push host_seats (set views seat w) new);
-    }
+cut_view words views seat v w new rule at starts stands host = record {
+  one_word = rule.one_word;
+  counts = rule.counts ∙ sum-cut counted views seat v w new at starts;
+  stood_for = rule.stood_for ∙ sum-cut stands_for views seat v w new at stands;
+  one_host = sym (sum-cut hosts views seat v w new at host) ∙ rule.one_host;
+}
 
 -- two views may be put together
 join_views : (words : List ℕ) (views : List Standing) (seat : ℕ) (v : Standing) (other : ℕ) (w both spent : Standing) → IsTally words views → get_elem? views seat ≡ some v
     → get_elem? (set views seat both) other ≡ some w
-    → counted both + counted spent ≡ counted v + counted w → stands_for both + stands_for spent ≡ stands_for v + stands_for w → host_seats both + host_seats spent ≡ host_seats v + host_seats w
+    → counted both + counted spent ≡ counted v + counted w → stands_for both + stands_for spent ≡ stands_for v + stands_for w → hosts both + hosts spent ≡ hosts v + hosts w
     → IsTally words (set (set views seat both) other spent)
-join_views words views seat v other w both spent rule at there starts stands host =
-    let a = rule.counts in
-    let b = rule.stood_for in
-    let c = rule.one_host in
-    record {
-      one_word = rule.one_word;
-      counts = omega (arith, sum-set counted views seat v both at, sum-set counted (set views seat both) other w spent there);
-      stood_for = omega (arith, sum-set stands_for views seat v both at, sum-set stands_for (set views seat both) other w spent there);
-      one_host = omega (arith, sum-set host_seats views seat v both at, sum-set host_seats (set views seat both) other w spent there);
-    }
+join_views words views seat v other w both spent rule at there starts stands host = record {
+  one_word = rule.one_word;
+  counts = rule.counts ∙ sum-join counted views seat v other w both spent at there starts;
+  stood_for = rule.stood_for ∙ sum-join stands_for views seat v other w both spent at there stands;
+  one_host = sym (sum-join hosts views seat v other w both spent at there host) ∙ rule.one_host;
+}
 
 -- the host's view has the word
-host_counts : (words : List ℕ) (views : List Standing) (seat : ℕ) (v : Standing) → IsTally words views → get_elem? views seat ≡ some v → host_seats v ≡ 1 → get_or words 0 0 ≡ counted v
-host_counts words views seat v rule at host = rule.counts ∙ sum_only counted host_seats views seat v at (rule.one_host ∙ sym host) none_else
+host_counts : (words : List ℕ) (views : List Standing) (seat : ℕ) (v : Standing) → IsTally words views → get_elem? views seat ≡ some v → is_host v ≡ true → get_or words 0 0 ≡ counted v
+host_counts words views seat v rule at host = rule.counts ∙ only_of_kind is_host counted views seat v rule.one_host at host none_else
   where
-    none_else : (u : Standing) → host_seats u ≡ 0 → counted u ≡ 0
-    none_else (Host starts unsplit) h = absurd (omega arith)
+    none_else : (u : Standing) → is_host u ≡ false → counted u ≡ 0
+    none_else (Host starts unsplit) h = absurd (cc)
     none_else Lease h = refl
     none_else (Pass spent) h = refl
     none_else Gone h = refl

@@ -1,5 +1,5 @@
 -- The pairs of a connection and a transfer that hold each other at one host, and their leases.
-use Rattle.std.specs.Prelude.{◌≡◌, ℕ, ◌+◌, ◌^◌, ◌<◌, ◌≤◌, ◌==◌, ◌&&◌, List, [], ◌∷◌, length, slice_index, Bool, if◌then◌else◌, not, count_by, Option, Some, None}
+use Rattle.std.specs.Prelude.{◌≡◌, ℕ, ◌+◌, ◌^◌, ◌<◌, ◌≤◌, ◌==◌, ◌&&◌, List, [], ◌∷◌, length, slice_index, Bool, true, false, not, count_by, Option, Some, None}
 use Rattle.std.specs.List.{sum_by, filter}
 use Rattle.atomic_table.specs.Table.{State, Me, Step}
 use Rattle.atomic_table.specs.Seated.{TableId}
@@ -27,9 +27,6 @@ pub record LeaseOf : Type 0 where
 abbrev pub is_pair : Pair → Pair → Bool
 is_pair p q = (p.0 == q.0) && (p.1 == q.1)
 
-abbrev pub one_if : Bool → ℕ
-one_if b = if b then 1 else 0
-
 -- how often the pair stands in a list
 abbrev pub pair_count : Pair → List Pair → ℕ
 pair_count p pairs = count_by (is_pair p) pairs
@@ -45,11 +42,11 @@ count_of (Taking granted leased pair) = length granted + length leased
 count_of (Lease pair) = 0
 count_of Gone = 0
 
-abbrev pub host_seats : Holding → ℕ
-host_seats (Host granted leased) = 1
-host_seats (Taking granted leased pair) = 1
-host_seats (Lease pair) = 0
-host_seats Gone = 0
+abbrev pub is_host : Holding → Bool
+is_host (Host granted leased) = true
+is_host (Taking granted leased pair) = true
+is_host (Lease pair) = false
+is_host Gone = false
 
 -- how often the pair stands in the host's lists
 abbrev pub stands : Pair → Holding → ℕ
@@ -65,20 +62,20 @@ flags p (Taking granted leased pair) = pair_count p leased
 flags p (Lease pair) = 0
 flags p Gone = 0
 
--- how many leases of the pair a seat is
-abbrev pub leases : Pair → Holding → ℕ
-leases p (Host granted leased) = 0
-leases p (Taking granted leased pair) = one_if (is_pair p pair)
-leases p (Lease pair) = one_if (is_pair p pair)
-leases p Gone = 0
+-- whether a seat is a lease of the pair, or took one back
+abbrev pub is_lease_of : Pair → Holding → Bool
+is_lease_of p (Host granted leased) = false
+is_lease_of p (Taking granted leased pair) = is_pair p pair
+is_lease_of p (Lease pair) = is_pair p pair
+is_lease_of p Gone = false
 
 -- The word is the number of pairs held. Each lease's pair stands flagged in the host's list, and each
 -- flagged pair has one lease. No pair stands there twice, so no two leases have the same pair.
 pub record IsHeld (words : List ℕ) (views : List Holding) : Type 0 where
   pub one_word : length words ≡ 1
   pub counts : slice_index words 0 ≡ sum_by count_of views
-  pub one_host : sum_by host_seats views ≡ 1
-  pub flagged : (p : Pair) → sum_by (leases p) views ≡ sum_by (flags p) views
+  pub one_host : count_by is_host views ≡ 1
+  pub flagged : (p : Pair) → count_by (is_lease_of p) views ≡ sum_by (flags p) views
   pub distinct : (p : Pair) → sum_by (stands p) views ≤ 1
 
 abbrev pub KeepsPairs : State (Unit {0}) Holding → Type 0

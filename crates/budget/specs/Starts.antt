@@ -1,5 +1,5 @@
 -- The starts of one host, and the seats that stand for them.
-use Rattle.std.specs.Prelude.{◌≡◌, ℕ, ◌+◌, ◌-◌, ◌≤◌, List, [], length, slice_index}
+use Rattle.std.specs.Prelude.{◌≡◌, ℕ, ◌+◌, ◌-◌, ◌≤◌, Bool, true, false, List, [], length, slice_index, count_by}
 use Rattle.std.specs.List.{sum_by}
 use Rattle.atomic_table.specs.Table.{State, Me, Step}
 use Rattle.atomic_table.specs.Seated.{TableId}
@@ -44,11 +44,11 @@ one_start_more starts = record starts { counted = starts.counted + 1; unsplit = 
 abbrev pub one_split : Starts → Starts
 one_split starts = record starts { unsplit = starts.unsplit - 1 }
 
-abbrev pub host_seats : Standing → ℕ
-host_seats (Host starts unsplit) = 1
-host_seats Lease = 0
-host_seats (Pass spent) = 0
-host_seats Gone = 0
+abbrev pub is_host : Standing → Bool
+is_host (Host starts unsplit) = true
+is_host Lease = false
+is_host (Pass spent) = false
+is_host Gone = false
 
 -- The word is the number of starts. It is also the starts not split off, the leases' seats, and what
 -- the passes have spent. One seat is the host's.
@@ -56,7 +56,7 @@ pub record IsTally (words : List ℕ) (views : List Standing) : Type 0 where
   pub one_word : length words ≡ 1
   pub counts : slice_index words 0 ≡ sum_by counted views
   pub stood_for : slice_index words 0 ≡ sum_by stands_for views
-  pub one_host : sum_by host_seats views ≡ 1
+  pub one_host : count_by is_host views ≡ 1
 
 abbrev pub KeepsStarts : State (Unit {0}) Standing → Type 0
 KeepsStarts s = IsTally s.words s.views
