@@ -1,6 +1,6 @@
 use Rattle.std.proofs.Common.{rules}
-use Rattle.budget.proofs.Keeps.{gives_open}
+use Rattle.budget.proofs.Keeps.{total_word, gives}
 use Rattle.budget.proofs.words.budget.WordBudget.free_open.Goals as goal
 
 pub fetch_sub-requires : goal.fetch_sub-requires
-fetch_sub-requires c = (search rules, search rules, gives_open _ _ _ _ c.seat.invariant.share (search rules))
+fetch_sub-requires c = (search rules, search rules, gives _ (total_word _) _ _ _ c.seat.invariant.share (search rules))
