@@ -151,9 +151,7 @@ impl Holders {
         ensures ok { IfOk result HoldsNone }
         ensures err { IfErr result (λ refusal. refusal ≡ Refusal.Memory) }
     {
-        let Ok((table, seat)) = Table::of_words(alloc, &[0], &()) else {
-            return Err(Refusal::Memory);
-        };
+        let (table, seat) = Table::of_words(alloc, &[0], &())?;
         Ok(Holders { table, seat })
     }
 

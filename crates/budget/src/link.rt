@@ -167,9 +167,7 @@ impl Link {
         ensures err { IfErr result (λ refusal. refusal ≡ Refusal.Memory) }
         ensures empty { IfOk result (λ made. (made.1.hosts ≡ []) × (made.1.seats ≡ 0)) }
     {
-        let Ok((table, seat)) = Table::of_words(alloc, &[0], &()) else {
-            return Err(Refusal::Memory);
-        };
+        let (table, seat) = Table::of_words(alloc, &[0], &())?;
         Ok((Link { table }, LobbySeat { seat }))
     }
 

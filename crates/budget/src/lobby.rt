@@ -37,9 +37,7 @@ impl Lobby {
         ensures ok { IfOk result (λ lobby. lobby ≡ record { hosts = hosts; order = [] }) }
         ensures err { IfErr result (λ refusal. refusal ≡ Refusal.Memory) }
     {
-        let Ok(order) = VecDeque::with_capacity(alloc, hosts as usize) else {
-            return Err(Refusal::Memory);
-        };
+        let order = VecDeque::with_capacity(alloc, hosts as usize)?;
         Ok(Lobby { hosts, order })
     }
 

@@ -42,9 +42,7 @@ impl<D: Copy + Drop> Pass<D> {
         ensures ok { IfOk result (λ pass. pass ≡ replicate hosts vacant) }
         ensures err { IfErr result (λ refusal. refusal ≡ Refusal.Memory) }
     {
-        let Ok(mut accounts) = Vec::with_capacity(alloc, hosts) else {
-            return Err(Refusal::Memory);
-        };
+        let mut accounts = Vec::with_capacity(alloc, hosts)?;
         while accounts.len() < hosts {
             accounts.push_reserved(Account {
                 seat: None,

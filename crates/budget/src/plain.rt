@@ -45,9 +45,7 @@ impl PlainBudget {
     {
         let nothing = Held { alive: 0, kept: 0 };
         let mut parts = Vec::new(alloc);
-        let Ok(()) = parts.resize(hosts as usize, nothing) else {
-            return Err(Refusal::Memory);
-        };
+        parts.resize(hosts as usize, nothing)?;
         Ok(PlainBudget {
             limits,
             total: 0,

@@ -1,4 +1,5 @@
 use crate::limits::LimitsFault;
+use std::alloc::AllocError;
 use thiserror::Error;
 
 /// Why a call was refused. A refused call changes nothing.
@@ -35,6 +36,17 @@ pub enum Refusal {
     /// The numbers are no limits.
     #[error("bad limits")]
     BadLimit,
+}
+
+impl From<AllocError> for Refusal {
+    ghost use Rattle.std.specs.Prelude.{◌≡◌};
+    ghost use Rattle.budget.specs.declared.refusal.Refusal.TheVariants.{Memory};
+
+    ghost from_gives = { λ fault refusal. refusal ≡ Memory };
+
+    fn from(_: AllocError) -> Self {
+        Refusal::Memory
+    }
 }
 
 impl From<LimitsFault> for Refusal {

@@ -158,9 +158,7 @@ impl Tally {
         ensures ok { IfOk result (λ tally. (tally.counted ≡ 0) × (tally.unsplit ≡ 0)) }
         ensures err { IfErr result (λ refusal. refusal ≡ Refusal.Memory) }
     {
-        let Ok((table, seat)) = Table::of_words(alloc, &[0], &()) else {
-            return Err(Refusal::Memory);
-        };
+        let (table, seat) = Table::of_words(alloc, &[0], &())?;
         Ok(Tally { table, seat })
     }
 

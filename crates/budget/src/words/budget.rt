@@ -108,9 +108,7 @@ impl WordBudget {
         ensures err { IfErr result (λ refusal. refusal ≡ Refusal.Memory) }
     {
         let _connects = limits.connects();
-        let Ok((table, seat)) = Table::of_words(alloc, &[0, 0], &limits) else {
-            return Err(Refusal::Memory);
-        };
+        let (table, seat) = Table::of_words(alloc, &[0, 0], &limits)?;
         Ok((WordBudget { table, limits }, BudgetSeat::new(seat)))
     }
 
