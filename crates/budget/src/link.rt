@@ -225,8 +225,9 @@ impl Link {
         let table = &self.table;
         table.shared.load::<Turn>(&mut lobby.seat, 0);
     }
-    // The host's seat becomes the Lobby's guest, a load tells that its mark is whether it is listed,
-    // and it leaves as L says.
+
+    // The host's seat becomes the Lobby's guest, a load tells that its mark is whether it is
+    // listed, and it leaves as L says.
     fn visit<L: Split<Listing>>(&self, lobby: &mut LobbySeat, host: &mut MarkSeat)
         requires lobby { lobby.old.table ≡ self.now }
         requires host { host.old.table ≡ self.now }

@@ -12,9 +12,9 @@ returns-clause-streams g c d =
     let grants = c.self.inside.grants.items in
     let inv = c.self.invariant in
     rw (← c.self.view_is) (
-      some_behind (grant_streams grants) state.streams d
-      ∙ ap (λ b. b || is_some (stream_of state.streams d)) (granted_streams state.settings state.log inv.settled.sound.orderly d grants inv.grants)
-      ∙ rw (c.log.ensures.streams d) (turned _ (is_idle state.log d)))
+    some_behind (grant_streams grants) state.streams d
+    ∙ ap (λ b. b || is_some (stream_of state.streams d)) (granted_streams state.settings state.log inv.settled.sound.orderly d grants inv.grants)
+    ∙ rw (c.log.ensures.streams d) (turned _ (is_idle state.log d)))
   where
     turned : (a b : Bool) → (a || b) ≡ (b || a)
     turned true true = refl
