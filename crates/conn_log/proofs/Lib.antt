@@ -1,7 +1,10 @@
 pub mod Logs
 pub mod Waits
+pub mod Opens
 pub mod Queues
 pub mod Numbers
 pub mod Steps
 pub mod Soundness
 pub mod Firsts
+pub mod Sorted
+pub mod Order

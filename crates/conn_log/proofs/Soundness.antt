@@ -9,15 +9,15 @@ use Rattle.persistence.specs.declared.facts.Facts.{Facts}
 use Rattle.conn_log.specs.declared.entry.Want.{Want}
 use Rattle.conn_log.specs.declared.entry.Cause.{Cause}
 use Rattle.conn_log.specs.declared.entry.Cause.TheVariants.{NotPersistent, Cut, Forbidden, TooOld, HostRoom, TotalRoom, CacheFull, Dropped, Withdrawn, Pruned}
-use Rattle.conn_log.specs.declared.entry.Event.TheVariants.{Opened, Leased, Returned, Closed, Waited, Left}
+use Rattle.conn_log.specs.declared.entry.Event.TheVariants.{Opened, Leased, Returned, Closed, Waited, Left, Limit}
 use Rattle.conn_log.specs.declared.entry.Entry.{Entry}
 use Rattle.conn_log.specs.Connections.{held_number, is_among, last_moment, opened, greatest, open_connections, is_open, holder_want, is_held_by, holds, idle_connections, is_idle}
 use Rattle.conn_log.specs.Waiting.{waiting, waits}
 use Rattle.conn_log.specs.Fit.{is_fit, suits}
-use Rattle.conn_log.specs.Legal.{LimitAndFirst, ends_use, ending_cause, owed, MayStartAmong, MayStart, IsQuiet, IsAnyone, MayClose}
+use Rattle.conn_log.specs.Legal.{LimitAndFirst, limit_in_force, ends_use, ending_cause, owed, MayStartAmong, MayStart, IsQuiet, IsAnyone, MayClose}
 use Rattle.conn_log.specs.Sound.{IsOrderly, IsSound, IsNextAmong, IsNext, is_of_holder, is_of_idle, has_number}
 use Rattle.conn_log.proofs.Numbers.{le-greatest}
-use Rattle.conn_log.proofs.Steps.{idle_open_unheld, gone_closed, gone_ended, orderly_open, orderly_lease, orderly_return, orderly_gone, orderly_wait, orderly_leave}
+use Rattle.conn_log.proofs.Steps.{idle_open_unheld, gone_closed, gone_ended, orderly_open, orderly_lease, orderly_return, orderly_gone, orderly_wait, orderly_leave, orderly_limit}
 use Rattle.conn_log.proofs.Queues.{is_waiting, first_waits}
 
 pub and_left : (a b : Bool) → (a && b) ≡ true → a ≡ true
@@ -117,7 +117,7 @@ module _ (settings : LimitAndFirst) (log : List Entry) (orderly : IsOrderly sett
   ] refl
 
 module _ (settings : LimitAndFirst) (log : List Entry) (sound : IsSound settings log) (moment : ℕ) (later : last_moment log ≤ moment) where
-  pub sound_open : (c : ℕ) (want : Want) → c ≡ greatest settings.first (opened log) + 1 → length (open_connections log) < settings.limit → IsNext log want → IsSound settings (record { moment = moment; event = Opened c want } ∷ log)
+  pub sound_open : (c : ℕ) (want : Want) → c ≡ greatest settings.first (opened log) + 1 → length (open_connections log) < limit_in_force settings log → IsNext log want → IsSound settings (record { moment = moment; event = Opened c want } ∷ log)
   sound_open c want next room first = record {
     legal = (later, (sound.settled, record { next = next; room = room; start = may_start settings log sound.orderly want first }), sound.legal);
     settled = refl;
@@ -167,6 +167,14 @@ module _ (settings : LimitAndFirst) (log : List Entry) (sound : IsSound settings
     legal = (later, (sound.settled, there), sound.legal);
     settled = refl;
     orderly = orderly_leave settings log sound.orderly moment transfer;
+  }
+
+  -- the host's limit changes to one that what is open keeps
+  pub sound_limit : (n : ℕ) → length (open_connections log) ≤ n → IsSound settings (record { moment = moment; event = Limit n } ∷ log)
+  sound_limit n within = record {
+    legal = (later, (sound.settled, within), sound.legal);
+    settled = refl;
+    orderly = orderly_limit settings log sound.orderly moment n within;
   }
 
   -- an idle one is closed, for a cause that is for idle ones

@@ -1,5 +1,5 @@
 -- What a step adds keeps a log orderly.
-use Rattle.std.proofs.Common.{◌≡◌, ℕ, ◌+◌, ◌<◌, Bool, true, false, not, ◌&&◌, ◌||◌, List, ◌∷◌, length, filter, Option, Some, None, is_some, is_none, refl, sym, ap, subst, inl, inr, ◌∙◌, arith}
+use Rattle.std.proofs.Common.{◌≡◌, ℕ, ◌+◌, ◌<◌, ◌≤◌, Bool, true, false, not, ◌&&◌, ◌||◌, List, ◌∷◌, length, filter, Option, Some, None, is_some, is_none, refl, sym, ap, subst, inl, inr, ◌∙◌, arith}
 use Rattle.std.specs.Prelude.{◌==◌, if◌then◌else◌}
 use Rattle.std.specs.Option.{option_map, option_map_or}
 use Rattle.std.proofs.lemmas.Bool.Decides.{nat_tests, eqb_tells}
@@ -7,11 +7,11 @@ use Rattle.persistence.specs.declared.facts.Facts.{Facts}
 use Rattle.persistence.specs.Persistent.{is_persistent}
 use Rattle.conn_log.specs.declared.entry.Want.{Want}
 use Rattle.conn_log.specs.declared.entry.Cause.{Cause}
-use Rattle.conn_log.specs.declared.entry.Event.TheVariants.{Opened, Leased, Returned, Closed, Waited, Left}
+use Rattle.conn_log.specs.declared.entry.Event.TheVariants.{Opened, Leased, Returned, Closed, Waited, Left, Limit}
 use Rattle.conn_log.specs.declared.entry.Entry.{Entry}
 use Rattle.conn_log.specs.Connections.{held_number, unless_it_is, is_among, opened, is_closed, open_connections, is_open, holder_want, is_held_by, idle_connections, is_idle, born, since, lane, came_back_persistent}
 use Rattle.conn_log.specs.Waiting.{waiting, without, waits}
-use Rattle.conn_log.specs.Legal.{LimitAndFirst}
+use Rattle.conn_log.specs.Legal.{LimitAndFirst, limit_in_force}
 use Rattle.conn_log.specs.Sound.{IsOrderly, has_number, IdleFacts, idle_facts, held_facts, facts_if_held}
 use Rattle.conn_log.proofs.Waits.{filter-filter}
 use Rattle.conn_log.proofs.Queues.{is_waiting, once_without, once_last, waits_without, waits_last}
@@ -34,7 +34,7 @@ idle_open_unheld log c idle = grind (arith, is_idle_is log c, idle)
 abbrev pub is_free : List Entry → ℕ → Bool
 is_free log c = not (is_closed log c) && is_none (holder_want log c)
 
-idle_of_opened : (log : List Entry) → idle_connections log ≡ filter (is_free log) (opened log)
+pub idle_of_opened : (log : List Entry) → idle_connections log ≡ filter (is_free log) (opened log)
 idle_of_opened log = filter-filter (λ c. is_none (holder_want log c)) (λ c. not (is_closed log c)) (is_free log) (λ c. refl) (opened log)
 
 -- what is open beside the one just opened was open before
@@ -52,6 +52,7 @@ pub record IsGone (c : ℕ) (log after : List Entry) : Type 0 where
   pub born : (d : ℕ) → born after d ≡ born log d
   pub since : (d : ℕ) → (c == d) ≡ false → since after d ≡ since log d
   pub persists : (d : ℕ) → (c == d) ≡ false → came_back_persistent after d ≡ came_back_persistent log d
+  pub limit : (settings : LimitAndFirst) → limit_in_force settings after ≡ limit_in_force settings log
 
 -- a close makes a connection gone, and so does a return with the close that it owes
 pub gone_closed : (moment c : ℕ) (cause : Cause) (log : List Entry) → IsGone c log (record { moment = moment; event = Closed c cause } ∷ log)
@@ -65,6 +66,7 @@ gone_closed moment c cause log = record {
   born = λ d. refl;
   since = λ d other. refl;
   persists = λ d other. refl;
+  limit = λ settings. refl;
 }
 
 pub gone_ended : (moment c : ℕ) (facts : Facts) (cause : Cause) (log : List Entry) → IsGone c log (record { moment = moment; event = Closed c cause } ∷ record { moment = moment; event = Returned c facts } ∷ log)
@@ -78,6 +80,7 @@ gone_ended moment c facts cause log = record {
   born = λ d. refl;
   since = λ d other. rw other refl;
   persists = λ d other. rw other refl;
+  limit = λ settings. refl;
 }
   where
     twice : (held : Option ℕ) → unless_it_is c (unless_it_is c held) ≡ unless_it_is c held
@@ -188,8 +191,21 @@ module _ (settings : LimitAndFirst) (log : List Entry) (orderly : IsOrderly sett
     waiting_free = λ t left. orderly.waiting_free t (and_parts (not (transfer == t)) (is_waiting (waiting log) t) (sym (waits_without transfer t (waiting log)) ∙ left)).1;
   }
 
+  -- the host's limit changes
+  pub orderly_limit : (moment n : ℕ) → length (open_connections log) ≤ n → IsOrderly settings (record { moment = moment; event = Limit n } ∷ log)
+  orderly_limit moment n within = record {
+    distinct = orderly.distinct;
+    closed_opened = orderly.closed_opened;
+    held_open = orderly.held_open;
+    held_once = orderly.held_once;
+    idle_persists = orderly.idle_persists;
+    within = within;
+    wait_once = orderly.wait_once;
+    waiting_free = orderly.waiting_free;
+  }
+
   -- a new connection for a transfer that holds none
-  module _ (moment c : ℕ) (want : Want) (new : is_among c (opened log) ≡ false) (free : held_number log want.transfer ≡ None) (room : length (open_connections log) < settings.limit) where
+  module _ (moment c : ℕ) (want : Want) (new : is_among c (opened log) ≡ false) (free : held_number log want.transfer ≡ None) (room : length (open_connections log) < limit_in_force settings log) where
     idle_same_open : (d : ℕ) → is_idle (record { moment = moment; event = Opened c want } ∷ log) d ≡ is_idle log d
     idle_same_open d = grind (arith, nat_tests, is_idle_is (record { moment = moment; event = Opened c want } ∷ log) d, is_open_is (record { moment = moment; event = Opened c want } ∷ log) d, is_idle_is log d, is_open_is log d, λ (e : c ≡ d). ap (λ (n : ℕ). is_among n (opened log)) e, new)
 
@@ -416,7 +432,7 @@ module _ (settings : LimitAndFirst) (log : List Entry) (orderly : IsOrderly sett
       held_open = λ d held. grind (arith, nat_tests, gone_open d, gone.held d, orderly.held_open d);
       held_once = λ d transfer. rw (gone.held d, gone.taken transfer) (held_once_end c d transfer);
       idle_persists = λ d still. grind (arith, nat_tests, is_idle_is after d, is_idle_is log d, gone_open d, gone.held d, gone.persists d, orderly.idle_persists d);
-      within = omega (arith, orderly.within, fewer_open was_open);
+      within = omega (arith, orderly.within, fewer_open was_open, gone.limit settings);
       wait_once = rw gone.waiting orderly.wait_once;
       waiting_free = λ transfer left. gone.taken transfer ∙ ap (unless_it_is c) (orderly.waiting_free transfer (ap (λ wants. is_waiting wants transfer) (sym gone.waiting) ∙ left));
     }

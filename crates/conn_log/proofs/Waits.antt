@@ -6,7 +6,7 @@ use Rattle.conn_log.proofs.Logs.{reverse_take_more, rest_whole}
 use Rattle.std.proofs.lemmas.Bool.Decides.{nat_tests}
 use Rattle.conn_log.specs.declared.entry.Want.{Want}
 use Rattle.conn_log.specs.declared.entry.Event.{Event}
-use Rattle.conn_log.specs.declared.entry.Event.TheVariants.{Opened, Leased, Returned, Closed, Waited, Left}
+use Rattle.conn_log.specs.declared.entry.Event.TheVariants.{Opened, Leased, Returned, Closed, Waited, Left, Limit}
 use Rattle.conn_log.specs.declared.entry.Entry.{Entry}
 use Rattle.conn_log.specs.Waiting.{waiting}
 use Rattle.conn_log.specs.Scan.{is_wait_ended, is_left_waiting}
@@ -38,6 +38,7 @@ module _ (moment : ℕ) (front later : List Entry) where
       let same : with_it (Left transfer) ≡ without_it (Left transfer) = ap length (filter-filter _ _ _ (λ x. grind (arith, nat_tests)) (waiting front)) in omega (arith, same)
   left_after (Returned c facts) = omega arith
   left_after (Closed c cause) = omega arith
+  left_after (Limit n) = omega arith
   left_after (Waited want) =
       let split = filter-append (is_untaken later) (waiting front) (want ∷ []) in
       let counted = ap length split ∙ length-append (filter (is_untaken later) (waiting front)) (filter (is_untaken later) (want ∷ [])) in

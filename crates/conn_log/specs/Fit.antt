@@ -48,6 +48,19 @@ newest_fit log want moment = first_by (λ c d. is_idle_longer log d c) (filter (
 abbrev pub oldest : List Entry → Option ℕ
 oldest log = first_by (is_idle_longer log) (idle_connections log)
 
+-- in order: each after those that go before it
+abbrev pub put_in_order : (ℕ → ℕ → Bool) → ℕ → List ℕ → List ℕ
+put_in_order goes_before c [] = c ∷ []
+put_in_order goes_before c (d ∷ numbers) = if goes_before c d then c ∷ d ∷ numbers else d ∷ put_in_order goes_before c numbers
+
+abbrev pub in_order : (ℕ → ℕ → Bool) → List ℕ → List ℕ
+in_order goes_before [] = []
+in_order goes_before (c ∷ numbers) = put_in_order goes_before c (in_order goes_before numbers)
+
+-- the idle ones, the one idle for the longest first
+abbrev pub idle_in_order : List Entry → List ℕ
+idle_in_order log = in_order (is_idle_longer log) (idle_connections log)
+
 -- too old in its lane: of the want's lane, where the want is not for a new one, and too old for it
 abbrev pub is_too_old_in_lane : List Entry → Want → ℕ → ℕ → Bool
 is_too_old_in_lane log want moment c = (lane log c == want.lane) && not want.fresh && is_too_old log want moment c

@@ -7,16 +7,26 @@ use Rattle.conn_log.specs.declared.entry.Want.{Want}
 use Rattle.conn_log.specs.declared.entry.Cause.{Cause}
 use Rattle.conn_log.specs.declared.entry.Cause.TheVariants.{NotPersistent, Cut, Forbidden, Dropped, Withdrawn}
 use Rattle.conn_log.specs.declared.entry.Event.{Event}
-use Rattle.conn_log.specs.declared.entry.Event.TheVariants.{Opened, Leased, Returned, Closed, Waited, Left}
+use Rattle.conn_log.specs.declared.entry.Event.TheVariants.{Opened, Leased, Returned, Closed, Waited, Left, Limit}
 use Rattle.conn_log.specs.declared.entry.Entry.{Entry}
 use Rattle.conn_log.specs.Connections.{last_moment, opened, greatest, open_connections, holder_want, holds, idle_connections, is_idle}
 use Rattle.conn_log.specs.Waiting.{waiting, waits}
 use Rattle.conn_log.specs.Fit.{is_fit}
 
--- the host's limit on open connections (CURLMOPT_MAX_HOST_CONNECTIONS) and its first connection number
+-- the limit on open connections with which a host began (CURLMOPT_MAX_HOST_CONNECTIONS), and its first
+-- connection number
 pub record LimitAndFirst : Type 0 where
   pub limit : ℕ
   pub first : ℕ
+
+-- the limit in force: that of the last change of the host's limit; before any, the one with which it began
+abbrev pub limit_after : Event → ℕ → ℕ
+limit_after (Limit n) limit = n
+limit_after _ limit = limit
+
+abbrev pub limit_in_force : LimitAndFirst → List Entry → ℕ
+limit_in_force settings [] = settings.limit
+limit_in_force settings (e ∷ before) = limit_after e.event (limit_in_force settings before)
 
 -- a use ends with facts that do not let the connection persist, or with a want that forbids reuse
 -- (CURLOPT_FORBID_REUSE); then this is why it is closed
@@ -49,7 +59,7 @@ MayStart log want = MayStartAmong (waiting log) (holds log want.transfer) want
 -- the number is the next one, there is room at the host, and the transfer may start
 pub record MayOpen (settings : LimitAndFirst) (before : List Entry) (c : ℕ) (want : Want) : Type 0 where
   pub next : c ≡ greatest settings.first (opened before) + 1
-  pub room : length (open_connections before) < settings.limit
+  pub room : length (open_connections before) < limit_in_force settings before
   pub start : MayStart before want
 
 -- the connection is fit for the want at that moment, and the transfer may start
@@ -81,6 +91,7 @@ Allows settings before moment (Returned c facts) = (owed before ≡ None) × IsS
 Allows settings before moment (Closed c cause) = MayClose before c cause
 Allows settings before moment (Waited want) = (owed before ≡ None) × MayWait before want
 Allows settings before moment (Left transfer) = (owed before ≡ None) × IsTrue (waits before transfer)
+Allows settings before moment (Limit n) = (owed before ≡ None) × (length (open_connections before) ≤ n)
 
 -- legal: no moment is below the one before it, and each entry is one that the log before it allows
 abbrev pub IsLegal : LimitAndFirst → List Entry → Type 0
@@ -96,6 +107,6 @@ IsAnyone (want ∷ others) = Unit {0}
 -- hosts; it is queued only where someone waits and the host has room; and no close is owed
 pub record IsQuiet (settings : LimitAndFirst) (queued : Bool) (log : List Entry) : Type 0 where
   pub none_idle : IsAnyone (waiting log) → idle_connections log ≡ []
-  pub no_room : IsAnyone (waiting log) → (length (open_connections log) ≡ settings.limit) ⊎ IsTrue queued
-  pub queued_for : IsTrue queued → IsAnyone (waiting log) × (length (open_connections log) < settings.limit)
+  pub no_room : IsAnyone (waiting log) → (length (open_connections log) ≡ limit_in_force settings log) ⊎ IsTrue queued
+  pub queued_for : IsTrue queued → IsAnyone (waiting log) × (length (open_connections log) < limit_in_force settings log)
   pub settled : owed log ≡ None

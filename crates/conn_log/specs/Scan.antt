@@ -1,9 +1,11 @@
 -- What the plain readers ask of a part of a log: whether what waits in one entry still waits after
--- the entries that came later. The model of a log needs none of it.
+-- the entries that came later, and whether what one opens stays open. The model of a log needs none of
+-- it.
 use Rattle.std.specs.Prelude.{ℕ, Bool, false, not, ◌==◌, ◌||◌, List, [], ◌∷◌}
 use Rattle.conn_log.specs.declared.entry.Event.{Event}
 use Rattle.conn_log.specs.declared.entry.Event.TheVariants.{Opened, Leased, Waited, Left}
 use Rattle.conn_log.specs.declared.entry.Entry.{Entry}
+use Rattle.conn_log.specs.Connections.{is_closed}
 
 -- the event ends that transfer's wait: it starts, or leaves
 abbrev pub ends_wait : Event → ℕ → Bool
@@ -21,3 +23,8 @@ is_wait_ended (e ∷ others) transfer = ends_wait e.event transfer || is_wait_en
 abbrev pub is_left_waiting : Event → List Entry → Bool
 is_left_waiting (Waited want) others = not (is_wait_ended others want.transfer)
 is_left_waiting _ others = false
+
+-- the event opens a connection that the log does not close
+abbrev pub is_left_open : Event → List Entry → Bool
+is_left_open (Opened c want) log = not (is_closed log c)
+is_left_open _ log = false

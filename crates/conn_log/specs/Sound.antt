@@ -7,7 +7,7 @@ use Rattle.conn_log.specs.declared.entry.Cause.TheVariants.{NotPersistent, Cut, 
 use Rattle.conn_log.specs.declared.entry.Entry.{Entry}
 use Rattle.conn_log.specs.Connections.{is_among, opened, is_closed, open_connections, is_open, holder_want, is_held_by, is_idle, born, since, lane, came_back_persistent, held_number}
 use Rattle.conn_log.specs.Waiting.{without, waiting, waits}
-use Rattle.conn_log.specs.Legal.{LimitAndFirst, owed, IsLegal}
+use Rattle.conn_log.specs.Legal.{LimitAndFirst, limit_in_force, owed, IsLegal}
 
 -- each number stands once
 abbrev pub AreDistinct : List ℕ → Type 0
@@ -32,7 +32,7 @@ pub record IsOrderly (settings : LimitAndFirst) (log : List Entry) : Type 0 wher
   pub held_open : (c : ℕ) → is_some (holder_want log c) ≡ true → is_open log c ≡ true
   pub held_once : (c transfer : ℕ) → is_held_by log transfer c ≡ has_number (held_number log transfer) c
   pub idle_persists : (c : ℕ) → is_idle log c ≡ true → came_back_persistent log c ≡ true
-  pub within : length (open_connections log) ≤ settings.limit
+  pub within : length (open_connections log) ≤ limit_in_force settings log
   pub wait_once : WaitOnce (waiting log)
   pub waiting_free : (transfer : ℕ) → waits log transfer ≡ true → held_number log transfer ≡ None
 

@@ -7,12 +7,12 @@ use Rattle.persistence.specs.declared.facts.Version.TheVariants.{V11}
 use Rattle.conn_log.specs.declared.entry.Want.{Want}
 use Rattle.conn_log.specs.declared.entry.Cause.{Cause}
 use Rattle.conn_log.specs.declared.entry.Cause.TheVariants.{NotPersistent, Cut, Forbidden, TooOld, HostRoom, Dropped, Withdrawn}
-use Rattle.conn_log.specs.declared.entry.Event.TheVariants.{Opened, Leased, Returned, Closed, Waited}
+use Rattle.conn_log.specs.declared.entry.Event.TheVariants.{Opened, Leased, Returned, Closed, Waited, Limit}
 use Rattle.conn_log.specs.declared.entry.Entry.{Entry}
 use Rattle.conn_log.specs.Connections.{open_connections, idle_connections, holder, holds, is_held_by, since, born, lane}
 use Rattle.conn_log.specs.Waiting.{waiting}
-use Rattle.conn_log.specs.Fit.{is_too_old, newest_fit, oldest}
-use Rattle.conn_log.specs.Legal.{LimitAndFirst, owed, IsLegal, IsQuiet}
+use Rattle.conn_log.specs.Fit.{is_too_old, newest_fit, oldest, idle_in_order}
+use Rattle.conn_log.specs.Legal.{LimitAndFirst, limit_in_force, owed, IsLegal, IsQuiet}
 
 -- the entries of a transcript
 infix 80 opened◌for◌at◌
@@ -34,6 +34,10 @@ closed c for cause at moment = record { moment = moment; event = Closed c cause 
 infix 80 waits◌at◌
 abbrev pub waits◌at◌ : Want → ℕ → Entry
 waits want at moment = record { moment = moment; event = Waited want }
+
+infix 80 limit◌at◌
+abbrev pub limit◌at◌ : ℕ → ℕ → Entry
+limit n at moment = record { moment = moment; event = Limit n }
 
 -- the log after the first lines of a transcript
 abbrev pub log_after : ℕ → List Entry → List Entry
@@ -295,3 +299,52 @@ pub record MomentsClampedPerHost : Type 0 where
   pub nobody_waits : waiting (log_after 5 moments_clamped_per_host) ≡ []
   pub legal : IsLegal (limits 1) (log_after 5 moments_clamped_per_host)
   pub quiet : IsQuiet (limits 1) false (log_after 5 moments_clamped_per_host)
+
+-- a limit that is raised lets the first one start, and what is open keeps it from being lowered again
+abbrev pub limit_raised : List Entry
+limit_raised =
+    opened 1 for get 1 at 0
+    ∷ waits get 2 at 1
+    ∷ waits get 3 at 2
+    ∷ limit 2 at 5
+    ∷ opened 2 for get 2 at 5
+    ∷ returned 1 with keep at 7
+    ∷ leased 1 to get 3 at 7
+    ∷ []
+
+pub record LimitRaised : Type 0 where
+  pub first_limit : limit_in_force (limits 1) (log_after 3 limit_raised) ≡ 1
+  pub new_limit : limit_in_force (limits 1) (log_after 5 limit_raised) ≡ 2
+  pub beside_room : IsQuiet (limits 1) false (log_after 4 limit_raised) → ⊥
+  pub queued : IsQuiet (limits 1) true (log_after 4 limit_raised)
+  pub two_open : open_connections (log_after 5 limit_raised) ≡ 2 ∷ 1 ∷ []
+  pub waits_quietly : IsQuiet (limits 1) false (log_after 5 limit_raised)
+  pub too_low : IsLegal (limits 1) (limit 1 at 6 ∷ log_after 5 limit_raised) → ⊥
+  pub nobody_waits : waiting (log_after 7 limit_raised) ≡ []
+  pub legal : IsLegal (limits 1) (log_after 7 limit_raised)
+
+-- before a limit is lowered the oldest idle connections make room; of two idle since one moment the one of the
+-- lower number goes first
+abbrev pub limit_lowered : List Entry
+limit_lowered =
+    opened 1 for get 1 at 0
+    ∷ opened 2 for get 2 at 0
+    ∷ opened 3 for get 3 at 0
+    ∷ returned 2 with keep at 4
+    ∷ returned 1 with keep at 4
+    ∷ closed 1 for HostRoom at 6
+    ∷ limit 2 at 6
+    ∷ limit 3 at 8
+    ∷ opened 4 for get 4 at 8
+    ∷ []
+
+pub record LimitLowered : Type 0 where
+  pub both_idle : idle_in_order (log_after 5 limit_lowered) ≡ 1 ∷ 2 ∷ []
+  pub longest_idle : oldest (log_after 5 limit_lowered) ≡ Some 1
+  pub too_low : IsLegal (limits 4) (limit 2 at 6 ∷ log_after 5 limit_lowered) → ⊥
+  pub left_idle : idle_in_order (log_after 6 limit_lowered) ≡ 2 ∷ []
+  pub lowered : limit_in_force (limits 4) (log_after 7 limit_lowered) ≡ 2
+  pub no_room : IsLegal (limits 4) (opened 4 for get 4 at 8 ∷ log_after 7 limit_lowered) → ⊥
+  pub raised : limit_in_force (limits 4) (log_after 9 limit_lowered) ≡ 3
+  pub legal : IsLegal (limits 4) (log_after 9 limit_lowered)
+  pub quiet : IsQuiet (limits 4) false (log_after 9 limit_lowered)

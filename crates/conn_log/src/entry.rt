@@ -78,6 +78,11 @@ pub enum Event {
         /// The transfer's number.
         transfer: u64,
     },
+    /// The most connections that may be open at the host was changed.
+    Limit {
+        /// The limit from then on.
+        limit: u32,
+    },
 }
 
 /// An event with its moment.

@@ -4,7 +4,7 @@ ghost use Rattle.std.specs.Prelude.{◌≡◌, ℕ, ◌+◌, ◌<◌, ◌≤◌,
 ghost use Rattle.conn_log.specs.Connections.{open_connections, is_closed, holder as holder_of};
 ghost use Rattle.conn_log.specs.Connections.{since as since_of};
 ghost use Rattle.conn_log.specs.Waiting.{waiting};
-ghost use Rattle.conn_log.specs.Scan.{is_wait_ended, is_left_waiting};
+ghost use Rattle.conn_log.specs.Scan.{is_wait_ended, is_left_waiting, is_left_open};
 ghost use Rattle.conn_log.specs.Fit.{oldest_stamp};
 
 use crate::entry::{Entry, Event};
@@ -18,10 +18,8 @@ pub fn open_count(log: &Log) -> usize
     let entries = log.since(0);
     let mut count = 0;
     for entry in entries {
-        if let Event::Opened { connection, .. } = entry.event {
-            if !was_closed(entries, connection) {
-                count += 1;
-            }
+        if stays_open(entry, entries) {
+            count += 1;
         }
     }
     count
@@ -72,6 +70,16 @@ pub fn waiting_len(log: &Log) -> usize
     count
 }
 
+// Whether the entry opens a connection that none of the entries closes.
+fn stays_open(entry: &Entry, entries: &[Entry]) -> bool
+    ensures { result ≡ is_left_open entry.now.event (reverse entries.now) }
+{
+    match entry.event {
+        Event::Opened { connection, .. } => !was_closed(entries, connection),
+        _ => false,
+    }
+}
+
 // Whether the entries close the connection.
 fn was_closed(entries: &[Entry], connection: u32) -> bool
     ensures { result ≡ is_closed (reverse entries.now) connection }
@@ -120,7 +128,7 @@ fn held_by(entries: &[Entry], connection: u32) -> Option<u64>
                     holder = None;
                 }
             }
-            Event::Waited { .. } | Event::Left { .. } => {}
+            Event::Waited { .. } | Event::Left { .. } | Event::Limit { .. } => {}
         }
     }
     holder

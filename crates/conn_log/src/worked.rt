@@ -5,7 +5,8 @@ ghost use Rattle.conn_log.specs.Worked.{NotPersistentAtTheLimit, IdleAsLongAsThe
 ghost use Rattle.conn_log.specs.Worked.{IdleLongerThanTheAge, AsOldAsTheLifetime};
 ghost use Rattle.conn_log.specs.Worked.{OlderThanTheLifetime, AnotherLaneAtTheHostLimit};
 ghost use Rattle.conn_log.specs.Worked.{ForbiddenAndCut, MomentGoesBack, WaitThenClaim};
-ghost use Rattle.conn_log.specs.Worked.{WithdrawAGrant, MomentsClampedPerHost};
+ghost use Rattle.conn_log.specs.Worked.{WithdrawAGrant, MomentsClampedPerHost, LimitRaised};
+ghost use Rattle.conn_log.specs.Worked.{LimitLowered};
 
 /// What small logs say, by computation: each clause is named for the script of its log.
 pub fn worked_logs()
@@ -23,4 +24,6 @@ pub fn worked_logs()
     ensures wait_then_claim { WaitThenClaim }
     ensures withdraw_a_grant { WithdrawAGrant }
     ensures moments_clamped_per_host { MomentsClampedPerHost }
+    ensures limit_raised { LimitRaised }
+    ensures limit_lowered { LimitLowered }
 {}
