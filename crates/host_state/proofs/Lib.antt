@@ -1,6 +1,8 @@
 pub mod Order
 pub mod Waits
 pub mod Kept
+pub mod Picking
 pub mod Replaying
 pub mod Transitions
+pub mod Limits
 pub mod TooOld

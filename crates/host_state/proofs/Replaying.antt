@@ -1,24 +1,30 @@
 -- What the state tells of its log.
-use Rattle.std.proofs.Common.{◌≡◌, ℕ, ◌<◌, Bool, true, false, ◌&&◌, List, length, get_or, Option, Some, None, is_some, is_none, refl, sym, ap, subst, ◌∙◌, arith}
+use Rattle.std.proofs.Common.{◌≡◌, ℕ, ◌-◌, ◌<◌, Bool, true, false, ◌&&◌, List, length, filter, take, get_or, AllPairs, Option, Some, None, is_some, is_none, refl, sym, ap, subst, ◌∙◌, arith}
 use Rattle.std.specs.Prelude.{◌==◌, if◌then◌else◌}
 use Rattle.std.specs.Option.{option_map}
 use mathlib.Core.Bool.{false≢true}
 use Rattle.std.proofs.lemmas.Bool.Decides.{nat_tests}
-use Rattle.std.proofs.lemmas.List.{get_or_default}
+use Rattle.std.proofs.lemmas.List.{get_or_default, take-map}
 use Rattle.conn_log.specs.declared.entry.Want.{Want}
 use Rattle.conn_log.specs.declared.entry.Entry.{Entry}
-use Rattle.conn_log.specs.Connections.{is_idle, is_held_by, holds, holder_want, held_number, born, since, lane, came_back_persistent}
-use Rattle.conn_log.specs.Fit.{is_idle_longer, suits, newest_fit, is_too_old_in_lane, oldest_too_old, oldest, oldest_stamp}
+use Rattle.conn_log.specs.Connections.{is_among, open_connections, is_idle, is_held_by, holds, holder_want, held_number, born, since, lane, came_back_persistent}
+use Rattle.conn_log.specs.Fit.{is_older, is_idle_longer, idle_in_order, suits, newest_fit, is_too_old_in_lane, oldest_too_old, oldest, oldest_stamp}
 use Rattle.conn_log.specs.Legal.{LimitAndFirst}
 use Rattle.conn_log.specs.Sound.{has_number, IdleFacts, HeldFacts, facts_if_idle, facts_if_held, held_facts}
 use Rattle.conn_log.proofs.Steps.{idle_open_unheld}
 use Rattle.conn_log.proofs.Soundness.{holds_is}
-use Rattle.conn_log.proofs.Firsts.{newest_is, newest_none, oldest_too_old_is, none_too_old, oldest_is}
+use Rattle.conn_log.proofs.Firsts.{newest_is, newest_none, none_too_old, oldest_is}
+use Rattle.conn_log.proofs.Sorted.{in_order_by_pairs}
+use Rattle.conn_log.proofs.Order.{idle_in_order_is}
+use Rattle.host_state.specs.declared.closing.Closing.{Closing}
+use Rattle.host_state.specs.declared.closing.Closing.TheVariants.{TooOld, Pruned, Above}
 use Rattle.host_state.specs.declared.idle.Idle.{Idle}
 use Rattle.host_state.specs.declared.held.Held.{Held}
-use Rattle.host_state.specs.Idle.{find_number, facts_of_idle, item_before, item_suits, item_too_old, LastSuits, NoneSuits, FirstTooOld, NoneTooOld}
+use Rattle.host_state.specs.Steps.{picked}
+use Rattle.host_state.specs.Idle.{find_number, numbers, facts_of_idle, item_before, item_suits, item_too_old, item_older, picked_items, LastSuits, NoneSuits, NoneTooOld}
 use Rattle.host_state.specs.State.{Replays, facts_of_held, is_that}
-use Rattle.host_state.proofs.Kept.{find_number_place, place_of}
+use Rattle.host_state.proofs.Kept.{is_some-find_number, find_number_place, place_of}
+use Rattle.host_state.proofs.Picking.{filter_numbers}
 
 -- two options that agree in a view are there alike
 some_alike : {A B C : Type 0} (f : A → C) (h : B → C) (a : Option A) (b : Option B) → option_map f a ≡ option_map h b → is_some a ≡ is_some b
@@ -166,25 +172,7 @@ module _ {S : Type 0} {settings : LimitAndFirst} {log : List Entry} {greatest_us
       let s : since log x.number ≡ x.since = sym (ap (λ (f : IdleFacts). f.since) told.1) in
       rw (l, b, s) refl
 
-  -- the first that is too old is the oldest too old
-  pub oldest_too_old_read : (want : Want) (moment place : ℕ) (x : Idle S) → FirstTooOld want moment idle place → x ≡ get_or idle place x → oldest_too_old log want moment ≡ Some x.number
-  oldest_too_old_read want moment place x first is =
-      let x_there = at_place place x first.in_range is in
-      oldest_too_old_is log want moment x.number (found_idle x.number x x_there).0 (too_old_is want moment x x_there ∙ subst (λ (y : Idle S). item_too_old want moment y ≡ true) (sym is) (first.here x))
-      (λ d d_idle d_old other.
-      let found = idle_found d d_idle in
-      let y = found.0 in
-      let where_it_is = place_of idle d y found.1 in
-      let y_there : find_number idle y.number ≡ Some y = ap (find_number idle) where_it_is.3 ∙ found.1 in
-      let y_old : item_too_old want moment y ≡ true = sym (too_old_is want moment y y_there) ∙ ap (is_too_old_in_lane log want moment) where_it_is.3 ∙ d_old in
-      let not_before : where_it_is.0 < place → ⊥ = λ sooner. false≢true (sym (first.none_before where_it_is.0 y sooner) ∙ ap (item_too_old want moment) (sym where_it_is.2) ∙ y_old) in
-      let apart : where_it_is.0 ≡ place → ⊥ = λ same_place.
-      let same : x ≡ y = is ∙ get_or_default idle place x y first.in_range ∙ sym (where_it_is.2 ∙ ap (λ (k : ℕ). get_or idle k y) same_place) in
-      let equal : x.number ≡ d = ap (λ (z : Idle S). z.number) same ∙ where_it_is.3 in
-      false≢true (sym other ∙ grind (arith, nat_tests, equal)) in
-      let before : item_before x y ≡ true = subst (λ (z : Idle S). item_before z y ≡ true) (sym (is ∙ get_or_default idle place x y first.in_range)) (subst (λ (z : Idle S). item_before (get_or idle place y) z ≡ true) (sym where_it_is.2) (r.idle_in_order place where_it_is.0 y (omega (arith, not_before, apart)) where_it_is.1)) in
-      subst (λ (n : ℕ). is_idle_longer log x.number n ≡ true) where_it_is.3 (order_told x y x_there y_there before))
-
+  -- where none is too old as it was read, none is
   pub none_too_old_read : (want : Want) (moment : ℕ) → NoneTooOld want moment idle → oldest_too_old log want moment ≡ None
   none_too_old_read want moment none = none_too_old log want moment (λ d d_idle.
       let found = idle_found d d_idle in
@@ -219,3 +207,46 @@ module _ {S : Type 0} {settings : LimitAndFirst} {log : List Entry} {greatest_us
       let where_it_is = place_of idle d y found.1 in
       let y_there : find_number idle y.number ≡ Some y = ap (find_number idle) where_it_is.3 ∙ found.1 in
       ap (suits log want moment) (sym where_it_is.3) ∙ suits_is want moment y y_there ∙ ap (item_suits want moment) where_it_is.2 ∙ none where_it_is.0 y where_it_is.1)
+
+  -- the numbers as they are kept are those of the log in its order
+  pub numbers_in_order : numbers idle ≡ idle_in_order log
+  numbers_in_order = idle_in_order_is log r.sound.orderly.distinct (numbers idle) (in_order_by_pairs (is_idle_longer log) (λ (x : Idle S). x.number) idle pairs) same
+    where
+      pairs : AllPairs (λ (x y : Idle S). is_idle_longer log x.number y.number ≡ true) idle
+      pairs i j d lt range =
+          let x_there = find_number_place idle i d r.idle_distinct (omega (arith, lt, range)) in
+          let y_there = find_number_place idle j d r.idle_distinct range in
+          order_told (get_or idle i d) (get_or idle j d) x_there y_there (r.idle_in_order i j d lt range)
+
+      alike : (f : Option (Idle S)) (b : Bool) (facts : IdleFacts) → option_map facts_of_idle f ≡ (if b then Some facts else None) → is_some f ≡ b
+      alike None true facts e = absurd (cc)
+      alike None false facts e = refl
+      alike (Some x) true facts e = refl
+      alike (Some x) false facts e = absurd (cc)
+
+      same : (c : ℕ) → is_among c (numbers idle) ≡ is_idle log c
+      same c = sym (is_some-find_number idle c) ∙ alike (find_number idle c) (is_idle log c) (facts_if_idle log c) (r.idle_at c)
+
+  -- one that is idle is older than two numbers allow as the log has it
+  pub older_is : (max_age max_life moment : ℕ) (x : Idle S) → find_number idle x.number ≡ Some x → is_older (since log x.number) (born log x.number) max_age max_life moment ≡ item_older max_age max_life moment x
+  older_is max_age max_life moment x there =
+      let told = found_idle x.number x there in
+      let b : born log x.number ≡ x.born = sym (ap (λ (f : IdleFacts). f.born) told.1) in
+      let s : since log x.number ≡ x.since = sym (ap (λ (f : IdleFacts). f.since) told.1) in
+      rw (b, s) refl
+
+  -- a closing picks the same as they are kept
+  pub picked_read : (closing : Closing) (moment : ℕ) → picked closing moment log ≡ numbers (picked_items closing moment (length (open_connections log)) idle)
+  picked_read (TooOld want) moment =
+      ap (filter (is_too_old_in_lane log want moment)) (sym numbers_in_order)
+      ∙ filter_numbers (is_too_old_in_lane log want moment) (item_too_old want moment) idle (λ k d below. too_old_is want moment (get_or idle k d) (find_number_place idle k d r.idle_distinct below))
+  picked_read (Pruned max_age max_life) moment =
+      ap (filter (λ c. is_older (since log c) (born log c) max_age max_life moment)) (sym numbers_in_order)
+      ∙ filter_numbers (λ c. is_older (since log c) (born log c) max_age max_life moment) (item_older max_age max_life moment) idle (λ k d below. older_is max_age max_life moment (get_or idle k d) (find_number_place idle k d r.idle_distinct below))
+  picked_read (Above limit) moment =
+      ap (take (length (open_connections log) - limit)) (sym numbers_in_order)
+      ∙ take-map (λ (x : Idle S). x.number) (length (open_connections log) - limit) idle
+
+  -- a connection that would stay is held
+  pub would_stay_held : (transfer c : ℕ) (h : Held) → held_facts log transfer ≡ Some (facts_of_held h) → h.number ≡ c → is_held_by log transfer c ≡ true
+  would_stay_held transfer c h shown is = ap (is_held_by log transfer) (sym is) ∙ table_held transfer h (table_from_log transfer h shown)

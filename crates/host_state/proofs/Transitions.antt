@@ -10,28 +10,36 @@ use Rattle.persistence.specs.declared.facts.Facts.{Facts}
 use Rattle.persistence.specs.Persistent.{is_persistent}
 use Rattle.conn_log.specs.declared.entry.Want.{Want}
 use Rattle.conn_log.specs.declared.entry.Cause.{Cause}
-use Rattle.conn_log.specs.declared.entry.Cause.TheVariants.{TooOld}
-use Rattle.conn_log.specs.declared.entry.Event.TheVariants.{Opened, Leased, Returned, Closed, Waited, Left}
+use Rattle.conn_log.specs.declared.entry.Cause.TheVariants.{CacheFull}
+use Rattle.conn_log.specs.declared.entry.Event.TheVariants.{Opened, Leased, Returned, Closed, Waited, Left, Limit}
 use Rattle.conn_log.specs.declared.entry.Entry.{Entry}
 use Rattle.conn_log.specs.Connections.{last_moment, is_among, opened, greatest, open_connections, is_open, idle_connections, is_idle, holder_want, held_number, born, lane}
 use Rattle.conn_log.specs.Fit.{is_fit}
 use Rattle.conn_log.specs.Waiting.{waits}
-use Rattle.conn_log.specs.Legal.{LimitAndFirst, ends_use, ending_cause, owed}
+use Rattle.conn_log.specs.Legal.{LimitAndFirst, limit_in_force, ends_use, ending_cause, owed}
 use Rattle.conn_log.specs.Sound.{IsSound, IsNext, is_of_holder, is_of_idle, IdleFacts, HeldFacts, facts_if_idle, facts_if_held, idle_facts, held_facts}
-use Rattle.conn_log.proofs.Steps.{IsGone, gone_closed, gone_ended, is_idle_is, idle_open_unheld, gone_open, taken_same, idle_facts_open, held_facts_open, more_open, as_many_idle_open, idle_facts_lease, held_facts_lease, fewer_idle_lease, idle_facts_return, held_facts_return, more_idle, fewer_open, as_many_idle, fewer_idle, idle_facts_gone, held_facts_gone, others_kept}
-use Rattle.conn_log.proofs.Soundness.{next_is_new, and_left, and_right, sound_open, sound_lease, sound_return, sound_end, sound_drop, sound_wait, sound_leave, sound_close, sound_empty, next_free, idle_may_close}
+use Rattle.conn_log.proofs.Steps.{IsGone, gone_closed, gone_ended, is_idle_is, idle_open_unheld, gone_open, taken_end, taken_same, idle_facts_open, held_facts_open, more_open, as_many_idle_open, idle_facts_lease, held_facts_lease, fewer_idle_lease, idle_facts_return, held_facts_return, more_idle, fewer_open, as_many_idle, fewer_idle, idle_facts_gone, held_facts_gone, others_kept}
+use Rattle.conn_log.proofs.Soundness.{next_is_new, and_left, and_right, sound_open, sound_lease, sound_return, sound_end, sound_drop, sound_wait, sound_leave, sound_limit, sound_close, sound_empty, next_free, idle_may_close}
 use Rattle.host_state.specs.declared.idle.Idle.{Idle}
 use Rattle.host_state.specs.declared.held.Held.{Held}
-use Rattle.host_state.specs.Steps.{add, is_full}
-use Rattle.host_state.specs.Idle.{find_number, numbers, facts_of_idle, streams_of, stream_of, item_suits, LastSuits, FirstTooOld, IsPlaceFor}
-use Rattle.host_state.specs.State.{Replays, ClosesIdle, ClosesOldest, ClosesFirst, EndsUse, facts_of_held}
+use Rattle.host_state.specs.declared.closing.Closing.{Closing}
+use Rattle.host_state.specs.declared.closing.Closing.TheVariants.{TooOld, Pruned, Above}
+use Rattle.host_state.specs.Steps.{add, is_full, cause_of, picked}
+use Rattle.host_state.specs.Idle.{find_number, numbers, facts_of_idle, streams_of, stream_of, item_suits, LastSuits, PicksFirst, picked_items, IsPlaceFor}
+use Rattle.host_state.specs.State.{Replays, ClosesIdle, ClosesNext, ClosesFirst, EndsUse, IsFreeOf, facts_of_held}
 use Rattle.host_state.proofs.Kept.{is_some-find_number, find_number-insert, find_number-remove, distinct-insert, distinct-remove, order-insert, order-remove, stream_of-streams_of, stream_of-remove}
-use Rattle.host_state.proofs.Replaying.{found_idle, at_place, idle_nobodys, suits_is, oldest_first, oldest_too_old_read, table_some, table_number, table_held}
+use Rattle.host_state.proofs.Replaying.{found_idle, at_place, idle_nobodys, suits_is, oldest_first, picked_read, table_some, table_number, table_held}
 
 -- a fact that holds whatever the option
 pub if_none_always : {A : Type 0} {P : Type 0} (x : Option A) → P → IfNone x P
 if_none_always None p = p
 if_none_always (Some y) p = tt
+
+-- why a closing closes is why an idle connection may be closed
+pub of_idle : (closing : Closing) → is_of_idle (cause_of closing) ≡ true
+of_idle (TooOld want) = refl
+of_idle (Pruned max_age max_life) = refl
+of_idle (Above limit) = refl
 
 -- a map over a choice
 map_if : {A B : Type 0} (f : A → B) (b : Bool) (x y : Option A) → option_map f (if b then x else y) ≡ (if b then option_map f x else option_map f y)
@@ -45,6 +53,14 @@ if_alike false x y u v e f = f
 none_of : {A B : Type 0} (f : A → B) (x : Option A) → option_map f x ≡ None → x ≡ None
 none_of f None e = refl
 none_of f (Some y) e = absurd (cc)
+
+-- what a transfer held is gone: it is open no more, the transfer is free, and all else stays
+pub record HasGone (settings : LimitAndFirst) (log after : List Entry) (transfer c : ℕ) : Type 0 where
+  pub closed : is_open after c ≡ false
+  pub holders : IsFreeOf log after transfer
+  pub fewer_open : length (open_connections log) ≡ length (open_connections after) + 1
+  pub as_many_idle : length (idle_connections after) ≡ length (idle_connections log)
+  pub limit : limit_in_force settings after ≡ limit_in_force settings log
 
 module _ {S : Type 0} (settings : LimitAndFirst) (log : List Entry) (greatest_used : ℕ) (idle : List (Idle S)) (held : ℕ → Option Held) (held_len : ℕ) (r : Replays {S = S} settings log greatest_used idle held held_len) where
   pub table_absent : (transfer : ℕ) → held_number log transfer ≡ None → held transfer ≡ None
@@ -66,7 +82,7 @@ module _ {S : Type 0} (settings : LimitAndFirst) (log : List Entry) (greatest_us
     open_len = omega (arith, r.open_len, counted);
   }
 
-  pub below_limit : is_full settings log ≡ false → length (open_connections log) < settings.limit
+  pub below_limit : is_full settings log ≡ false → length (open_connections log) < limit_in_force settings log
   below_limit not_full = grind (arith, nat_tests, not_full, r.sound.orderly.within)
 
   -- the one that was read is fit
@@ -118,7 +134,7 @@ module _ {S : Type 0} (settings : LimitAndFirst) (log : List Entry) (greatest_us
         same_parts n l b k a f e g = cc
 
     -- a new connection
-    pub replays_open : (want : Want) (c : ℕ) → c ≡ greatest_used + 1 → length (open_connections log) < settings.limit → IsNext log want → (held' : ℕ → Option Held) (more : ℕ) → more ≡ held_len + 1 → ((t : ℕ) → held' t ≡ (if want.transfer == t then Some (record { number = c; lane = want.lane; born = moment; forbids_reuse = want.forbid_reuse }) else held t)) → Replays settings (record { moment = moment; event = Opened c want } ∷ log) c idle held' more
+    pub replays_open : (want : Want) (c : ℕ) → c ≡ greatest_used + 1 → length (open_connections log) < limit_in_force settings log → IsNext log want → (held' : ℕ → Option Held) (more : ℕ) → more ≡ held_len + 1 → ((t : ℕ) → held' t ≡ (if want.transfer == t then Some (record { number = c; lane = want.lane; born = moment; forbids_reuse = want.forbid_reuse }) else held t)) → Replays settings (record { moment = moment; event = Opened c want } ∷ log) c idle held' more
     replays_open want c next room first held' more counted put =
         let after = record { moment = moment; event = Opened c want } ∷ log in
         let h : Held = record { number = c; lane = want.lane; born = moment; forbids_reuse = want.forbid_reuse } in
@@ -135,6 +151,17 @@ module _ {S : Type 0} (settings : LimitAndFirst) (log : List Entry) (greatest_us
           held_at = held_with want.transfer h after held' put (held_facts_open settings log r.sound.orderly moment c want new nothing room);
           open_len = omega (arith, r.open_len, counted, more_open settings log r.sound.orderly moment c want new nothing room);
         }
+
+  -- how many are open and idle once one was opened
+  module _ (moment : ℕ) (want : Want) (c : ℕ) (next : c ≡ greatest_used + 1) (not_full : is_full settings log ≡ false) (first : IsNext log want) where
+    is_new : is_among c (opened log) ≡ false
+    is_new = next_is_new settings log r.sound.orderly c (omega (arith, next, r.greatest_is))
+
+    pub more_open_at : length (open_connections (record { moment = moment; event = Opened c want } ∷ log)) ≡ length (open_connections log) + 1
+    more_open_at = more_open settings log r.sound.orderly moment c want is_new (next_free settings log r.sound.orderly want first) (below_limit not_full)
+
+    pub as_many_idle_at : length (idle_connections (record { moment = moment; event = Opened c want } ∷ log)) ≡ length (idle_connections log)
+    as_many_idle_at = as_many_idle_open settings log r.sound.orderly moment c want is_new (next_free settings log r.sound.orderly want first) (below_limit not_full)
 
   -- who holds a connection that the table has
   pub want_of_held : (transfer : ℕ) (h : Held) → held transfer ≡ Some h → (want : Want) × (holder_want log h.number ≡ Some want) × (want.forbid_reuse ≡ h.forbids_reuse)
@@ -169,6 +196,23 @@ module _ {S : Type 0} (settings : LimitAndFirst) (log : List Entry) (greatest_us
   module _ (transfer : ℕ) (h : Held) (is : held transfer ≡ Some h) where
     is_held : is_some (holder_want log h.number) ≡ true
     is_held = let w = want_of_held transfer h is in ap is_some w.1
+
+    -- one that came back stays open, with one more idle
+    pub more_idle_back : (moment : ℕ) (facts : Facts) → (is_persistent facts && not h.forbids_reuse) ≡ true → length (idle_connections (record { moment = moment; event = Returned h.number facts } ∷ log)) ≡ length (idle_connections log) + 1
+    more_idle_back moment facts stays = more_idle settings log r.sound.orderly moment h.number facts (and_left (is_persistent facts) (not h.forbids_reuse) stays) (r.sound.orderly.held_open h.number is_held) is_held
+
+    -- one that is gone is open no more, and its transfer is free
+    pub has_gone : (after : List Entry) → IsGone h.number log after → HasGone settings log after transfer h.number
+    has_gone after gone =
+        let was_open = r.sound.orderly.held_open h.number is_held in
+        let it : (h.number == h.number) ≡ true = grind (arith, nat_tests) in
+        record {
+          closed = gone_open settings log r.sound.orderly h.number after gone h.number ∙ ap (λ b. not b && is_open log h.number) it;
+          holders = λ t. gone.taken t ∙ taken_end settings log r.sound.orderly h.number transfer (table_number r transfer h is) t;
+          fewer_open = fewer_open settings log r.sound.orderly h.number after gone was_open;
+          as_many_idle = as_many_idle settings log r.sound.orderly h.number after gone is_held;
+          limit = gone.limit settings;
+        }
 
     pub held_not_found : find_number idle h.number ≡ None
     held_not_found =
@@ -256,6 +300,23 @@ module _ {S : Type 0} (settings : LimitAndFirst) (log : List Entry) (greatest_us
           log = refl;
         }
 
+    -- or at once, since the cache is full
+    pub replays_unkept : (facts : Facts) → (is_persistent facts && not h.forbids_reuse) ≡ true → (held' : ℕ → Option Held) (less : ℕ) → ((t : ℕ) → held' t ≡ (if transfer == t then None else held t)) → less + 1 ≡ held_len → Replays settings (record { moment = moment; event = Closed h.number CacheFull } ∷ record { moment = moment; event = Returned h.number facts } ∷ log) greatest_used idle held' less
+    replays_unkept facts stays held' less cut counted =
+        let n = h.number in
+        let w = want_of_held transfer h is in
+        let back = record { moment = moment; event = Returned n facts } ∷ log in
+        let on : ends_use facts w.0 ≡ false = rw w.2 (ap not stays) in
+        let sound = sound_return settings log r.sound moment later n facts w.0 w.1 on in
+        let it : (n == n) ≡ true = grind (arith, nat_tests) in
+        let unheld : is_none (if n == n then None else holder_want log n) ≡ true = rw it refl in
+        let was_open : is_open log n ≡ true = r.sound.orderly.held_open n (is_held transfer h is) in
+        let idle_now : is_idle back n ≡ true = is_idle_is back n ∙ both (is_open log n) (is_none (if n == n then None else holder_want log n)) was_open unheld in
+        replays_gone transfer h is (record { moment = moment; event = Closed n CacheFull } ∷ back) (gone_ended moment n facts CacheFull log) (sound_close settings back sound moment (omega arith) n CacheFull (idle_may_close back n CacheFull refl sound.settled idle_now) idle_now) held' less cut counted
+      where
+        both : (a b : Bool) → a ≡ true → b ≡ true → (a && b) ≡ true
+        both a b e f = rw (e, f) refl
+
     pub none_owed : (facts : Facts) → (is_persistent facts && not h.forbids_reuse) ≡ true → owed (add moment (Returned h.number facts) log) ≡ None
     none_owed facts stays =
         let w = want_of_held transfer h is in
@@ -276,6 +337,16 @@ module _ {S : Type 0} (settings : LimitAndFirst) (log : List Entry) (greatest_us
   -- one idle fewer
   pub fewer_idle_at : (moment : ℕ) (cause : Cause) (place : ℕ) (x : Idle S) → place < length idle → x ≡ get_or idle place x → length (idle_connections log) ≡ length (idle_connections (record { moment = moment; event = Closed x.number cause } ∷ log)) + 1
   fewer_idle_at moment cause place x within is = fewer_idle settings log r.sound.orderly x.number _ (gone_closed moment x.number cause log) (found_idle r x.number x (at_place r place x within is)).0
+
+  -- one open fewer
+  pub fewer_open_at : (moment : ℕ) (cause : Cause) (place : ℕ) (x : Idle S) → place < length idle → x ≡ get_or idle place x → length (open_connections log) ≡ length (open_connections (record { moment = moment; event = Closed x.number cause } ∷ log)) + 1
+  fewer_open_at moment cause place x within is =
+      let open_unheld = idle_open_unheld log x.number (found_idle r x.number x (at_place r place x within is)).0 in
+      fewer_open settings log r.sound.orderly x.number _ (gone_closed moment x.number cause log) open_unheld.0
+
+  -- one idle fewer, where it is leased
+  pub fewer_idle_leased : (moment : ℕ) (want : Want) (place : ℕ) (x : Idle S) → place < length idle → x ≡ get_or idle place x → IsNext log want → length (idle_connections log) ≡ length (idle_connections (record { moment = moment; event = Leased x.number want } ∷ log)) + 1
+  fewer_idle_leased moment want place x within is first = fewer_idle_lease settings log r.sound.orderly moment x.number want (found_idle r x.number x (at_place r place x within is)).0 (next_free settings log r.sound.orderly want first)
 
   -- the idle one at a place is closed
   pub replays_close : (moment : ℕ) → last_moment log ≤ moment → (cause : Cause) (place : ℕ) (x : Idle S) → place < length idle → x ≡ get_or idle place x → is_of_idle cause ≡ true → Replays settings (record { moment = moment; event = Closed x.number cause } ∷ log) greatest_used (remove idle place) held held_len
@@ -318,15 +389,28 @@ module _ {S : Type 0} (settings : LimitAndFirst) (log : List Entry) (greatest_us
       other : (d : ℕ) → not (x.number == d) ≡ true → (x.number == d) ≡ false
       other d apart = grind (arith, apart)
 
-  -- the oldest too old was closed
-  pub closes_oldest : (want : Want) (moment place : ℕ) (x : Idle S) (host booked : ℕ) → FirstTooOld want moment idle place → x ≡ get_or idle place x → ClosesOldest want moment (record { log = log; settings = settings; host = host; streams = streams_of idle; booked = booked }) (record { log = record { moment = moment; event = Closed x.number TooOld } ∷ log; settings = settings; host = host; streams = streams_of (remove idle place); booked = booked })
-  closes_oldest want moment place x host booked first is = record {
+  -- the first that a closing picks was closed
+  pub closes_next : (closing : Closing) (moment place : ℕ) (x : Idle S) (host booked : ℕ) → last_moment log ≤ moment → PicksFirst closing moment (length (open_connections log)) idle place → x ≡ get_or idle place x → ClosesNext closing moment (record { log = log; settings = settings; host = host; streams = streams_of idle; booked = booked }) (record { log = record { moment = moment; event = Closed x.number (cause_of closing) } ∷ log; settings = settings; host = host; streams = streams_of (remove idle place); booked = booked })
+  closes_next closing moment place x host booked later first is = record {
     number = x.number;
-    oldest = oldest_too_old_read r want moment place x first is;
+    picked = picked_read r closing moment ∙ ap numbers (first.picks x is) ∙ ap (λ ns. x.number ∷ ns) others;
     log = refl;
-    fewer = fewer_idle_at moment TooOld place x first.in_range is;
-    closes = closes_one moment TooOld place x host booked first.in_range is;
+    fewer_open = fewer_open_at moment (cause_of closing) place x first.in_range is;
+    fewer_idle = fewer_idle_at moment (cause_of closing) place x first.in_range is;
+    limit = refl;
+    closes = closes_one moment (cause_of closing) place x host booked first.in_range is;
   }
+    where
+      after : List Entry
+      after = record { moment = moment; event = Closed x.number (cause_of closing) } ∷ log
+
+      fewer : length (open_connections log) - 1 ≡ length (open_connections after)
+      fewer = omega (arith, fewer_open_at moment (cause_of closing) place x first.in_range is)
+
+      others : numbers (picked_items closing moment (length (open_connections log) - 1) (remove idle place)) ≡ picked closing moment after
+      others =
+          ap (λ n. numbers (picked_items closing moment n (remove idle place))) fewer
+          ∙ sym (picked_read (replays_close moment later (cause_of closing) place x first.in_range is (of_idle closing)) closing moment)
 
   -- the first one was closed
   pub closes_first : (cause : Cause) (moment : ℕ) (x : Idle S) (host booked : ℕ) → 0 < length idle → x ≡ get_or idle 0 x → ClosesFirst cause moment (record { log = log; settings = settings; host = host; streams = streams_of idle; booked = booked }) (record { log = record { moment = moment; event = Closed x.number cause } ∷ log; settings = settings; host = host; streams = streams_of (remove idle 0); booked = booked })
@@ -336,6 +420,9 @@ module _ {S : Type 0} (settings : LimitAndFirst) (log : List Entry) (greatest_us
     log = refl;
     room = room_made moment cause 0 x some is;
     others = λ d apart. stream_of-remove idle 0 x d r.idle_distinct some is apart;
+    fewer_open = fewer_open_at moment cause 0 x some is;
+    fewer_idle = fewer_idle_at moment cause 0 x some is;
+    limit = refl;
     closes = closes_one moment cause 0 x host booked some is;
   }
 
@@ -355,6 +442,19 @@ module _ {S : Type 0} (settings : LimitAndFirst) (log : List Entry) (greatest_us
   pub replays_leave : (moment : ℕ) → last_moment log ≤ moment → (transfer : ℕ) → waits log transfer ≡ true → Replays settings (record { moment = moment; event = Left transfer } ∷ log) greatest_used idle held held_len
   replays_leave moment later transfer there = record {
     sound = sound_leave settings log r.sound moment later transfer there;
+    greatest_is = r.greatest_is;
+    idle_at = r.idle_at;
+    idle_distinct = r.idle_distinct;
+    idle_in_order = r.idle_in_order;
+    idle_len = r.idle_len;
+    held_at = r.held_at;
+    open_len = r.open_len;
+  }
+
+  -- the limit changes
+  pub replays_limit : (moment : ℕ) → last_moment log ≤ moment → (most : ℕ) → length (open_connections log) ≤ most → Replays settings (record { moment = moment; event = Limit most } ∷ log) greatest_used idle held held_len
+  replays_limit moment later most within = record {
+    sound = sound_limit settings log r.sound moment later most within;
     greatest_is = r.greatest_is;
     idle_at = r.idle_at;
     idle_distinct = r.idle_distinct;

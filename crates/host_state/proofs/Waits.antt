@@ -85,9 +85,9 @@ pub record IsSpent (len booked len_after booked_after : ℕ) : Type 0 where
   pub entries : 4 * booked_after + 3 * len_after + 3 ≤ 4 * booked + 3 * len
   pub fewer : booked_after ≤ booked
 
-pub spent_on : (old new : List Want) (booked booked_after : ℕ) → (old ≡ [] → booked ≡ 1) → new ≡ drop 1 old → booked_after ≡ booked_after_start old booked → IsSpent (length old) booked (length new) booked_after
+pub spent_on : (old new : List Want) (booked booked_after : ℕ) → (old ≡ [] → 0 < booked) → new ≡ drop 1 old → booked_after ≡ booked_after_start old booked → IsSpent (length old) booked (length new) booked_after
 spent_on [] new booked booked_after had taken spent =
-    let one : booked ≡ 1 = had refl in
+    let one : 0 < booked = had refl in
     let none : length new ≡ 0 = ap length taken in
     record { places = omega (arith, one, none, spent); entries = omega (arith, one, none, spent); fewer = omega (arith, one, none, spent) }
 spent_on (x ∷ old) new booked booked_after had taken spent =

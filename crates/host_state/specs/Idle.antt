@@ -1,9 +1,11 @@
 -- The list of idle connections that a bundle keeps, oldest first.
-use Rattle.std.specs.Prelude.{◌≡◌, ℕ, ◌<◌, ◌≤◌, Bool, true, false, not, ◌&&◌, ◌==◌, if◌then◌else◌, List, [], ◌∷◌, length, map, slice_index_or, Option, Some, None}
-use Rattle.std.specs.List.{AllPairs}
+use Rattle.std.specs.Prelude.{◌≡◌, ℕ, ◌-◌, ◌<◌, ◌≤◌, Bool, true, false, not, ◌&&◌, ◌==◌, if◌then◌else◌, List, [], ◌∷◌, length, map, filter, take, slice_index_or, Option, Some, None}
+use Rattle.std.specs.List.{AllPairs, remove}
 use Rattle.conn_log.specs.declared.entry.Want.{Want}
 use Rattle.conn_log.specs.Fit.{is_older, is_earlier}
 use Rattle.conn_log.specs.Sound.{IdleFacts}
+use Rattle.host_state.specs.declared.closing.Closing.{Closing}
+use Rattle.host_state.specs.declared.closing.Closing.TheVariants.{TooOld, Pruned, Above}
 use Rattle.host_state.specs.declared.idle.Idle.{Idle}
 
 -- it suits a want, as one that came back persistent does
@@ -46,6 +48,30 @@ pub record FirstTooOld {S : Type 0} (want : Want) (moment : ℕ) (idle : List (I
 
 abbrev pub NoneTooOld : {S : Type 0} → Want → ℕ → List (Idle S) → Type 0
 NoneTooOld {S} want moment idle = (k : ℕ) (d : Idle S) → k < length idle → item_too_old want moment (slice_index_or idle k d) ≡ false
+
+-- idle, or open, for longer than two numbers allow, whatever its lane
+abbrev pub item_older : {S : Type 0} → ℕ → ℕ → ℕ → Idle S → Bool
+item_older max_age max_life moment kept = is_older kept.since kept.born max_age max_life moment
+
+-- the one at that place is older than two numbers allow, and none before it is
+pub record FirstOlder {S : Type 0} (max_age max_life moment : ℕ) (idle : List (Idle S)) (place : ℕ) : Type 0 where
+  pub in_range : place < length idle
+  pub here : (d : Idle S) → item_older max_age max_life moment (slice_index_or idle place d) ≡ true
+  pub none_before : (k : ℕ) (d : Idle S) → k < place → item_older max_age max_life moment (slice_index_or idle k d) ≡ false
+
+abbrev pub NoneOlder : {S : Type 0} → ℕ → ℕ → ℕ → List (Idle S) → Type 0
+NoneOlder {S} max_age max_life moment idle = (k : ℕ) (d : Idle S) → k < length idle → item_older max_age max_life moment (slice_index_or idle k d) ≡ false
+
+-- what a closing picks of them, where so many connections are open
+abbrev pub picked_items : {S : Type 0} → Closing → ℕ → ℕ → List (Idle S) → List (Idle S)
+picked_items (TooOld want) moment open_len idle = filter (item_too_old want moment) idle
+picked_items (Pruned max_age max_life) moment open_len idle = filter (item_older max_age max_life moment) idle
+picked_items (Above limit) moment open_len idle = take (open_len - limit) idle
+
+-- a closing picks the one at that place, and then what it picks once that one is closed
+pub record PicksFirst {S : Type 0} (closing : Closing) (moment open_len : ℕ) (idle : List (Idle S)) (place : ℕ) : Type 0 where
+  pub in_range : place < length idle
+  pub picks : (x : Idle S) → x ≡ slice_index_or idle place x → picked_items closing moment open_len idle ≡ x ∷ picked_items closing moment (open_len - 1) (remove idle place)
 
 -- all before the place go before such a one, and none from the place on does
 pub record IsPlaceFor {S : Type 0} (since number : ℕ) (idle : List (Idle S)) (place : ℕ) : Type 0 where

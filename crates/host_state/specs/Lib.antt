@@ -2,3 +2,4 @@ pub mod Steps
 pub mod Queue
 pub mod Idle
 pub mod State
+pub mod Returning

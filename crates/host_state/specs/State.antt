@@ -5,21 +5,23 @@ use Rattle.persistence.specs.declared.facts.Facts.{Facts}
 use Rattle.persistence.specs.Persistent.{is_persistent}
 use Rattle.conn_log.specs.declared.entry.Want.{Want}
 use Rattle.conn_log.specs.declared.entry.Cause.{Cause}
-use Rattle.conn_log.specs.declared.entry.Cause.TheVariants.{TooOld}
-use Rattle.conn_log.specs.declared.entry.Event.TheVariants.{Leased, Returned, Closed}
+use Rattle.conn_log.specs.declared.entry.Cause.TheVariants.{CacheFull}
+use Rattle.conn_log.specs.declared.entry.Event.TheVariants.{Leased, Returned, Closed, Limit}
 use Rattle.conn_log.specs.declared.entry.Entry.{Entry}
 use Rattle.conn_log.specs.Connections.{last_moment, opened, greatest, is_open, held_number, open_connections, idle_connections}
 use Rattle.conn_log.specs.Waiting.{waiting}
-use Rattle.conn_log.specs.Fit.{newest_fit, oldest_too_old, oldest}
-use Rattle.conn_log.specs.Legal.{LimitAndFirst, owed}
+use Rattle.conn_log.specs.Fit.{newest_fit, oldest}
+use Rattle.conn_log.specs.Legal.{LimitAndFirst, limit_in_force, owed}
 use Rattle.conn_log.specs.Sound.{IsSound, AreDistinct, HeldFacts, idle_facts, held_facts}
 use Rattle.host_state.specs.declared.idle.Idle.{Idle}
 use Rattle.host_state.specs.declared.held.Held.{Held}
-use Rattle.host_state.specs.Steps.{add, is_full}
+use Rattle.host_state.specs.declared.closing.Closing.{Closing}
+use Rattle.host_state.specs.declared.closing.Closing.TheVariants.{Above}
+use Rattle.host_state.specs.Steps.{add, is_full, cause_of, picked, without_picked}
 use Rattle.host_state.specs.Idle.{find_number, numbers, facts_of_idle, stream_of, AreInOrder}
 
--- a host as a step sees it: its log, its limit and first number, its index, the streams of its idle
--- connections by number, and how many acquires are halfway
+-- a host as a step sees it: its log, the limit with which it began and its first number, its index, the
+-- streams of its idle connections by number, and how many acquires are halfway
 pub record HostState (S : Type 0) : Type 0 where
   pub log : List Entry
   pub settings : LimitAndFirst
@@ -52,15 +54,26 @@ pub record HasRoom (booked idle_len held_len waiting_len free_entries idle_capac
   pub held_room : booked + waiting_len ≤ held_spare
   pub queue_room : booked ≤ queue_spare
 
--- what is booked once a transfer has started: where nobody waited it took what was booked
+-- what is booked once a transfer has started: where nobody waited it was one of those booked
 abbrev pub booked_after_start : List Want → ℕ → ℕ
-booked_after_start [] booked = 0
+booked_after_start [] booked = booked - 1
 booked_after_start (head ∷ others) booked = booked
 
--- the host stays, with its limit and first number
+-- the host stays, with the limit with which it began and its first number
 pub record IsSameHost {S : Type 0} (old new : HostState S) : Type 0 where
   pub settings : new.settings ≡ old.settings
   pub host : new.host ≡ old.host
+
+-- the limit in force
+abbrev pub limit_of : {S : Type 0} → HostState S → ℕ
+limit_of state = limit_in_force state.settings state.log
+
+-- how many connections are open, and how many idle
+abbrev pub open_len : {S : Type 0} → HostState S → ℕ
+open_len state = length (open_connections state.log)
+
+abbrev pub idle_len : {S : Type 0} → HostState S → ℕ
+idle_len state = length (idle_connections state.log)
 
 -- each connection that is open has its stream; and so has each but one
 abbrev pub KeepsOpen : {S : Type 0} → HostState S → HostState S → Type 0
@@ -69,8 +82,8 @@ KeepsOpen old new = (d : ℕ) → is_open new.log d ≡ true → stream_of new.s
 abbrev pub KeepsOpenBut : {S : Type 0} → ℕ → HostState S → HostState S → Type 0
 KeepsOpenBut c old new = (d : ℕ) → (c == d) ≡ false → is_open new.log d ≡ true → stream_of new.streams d ≡ stream_of old.streams d
 
--- idle connections were closed, and nothing else: the same were opened, none is open that was not, those that
--- are open have their streams, and who holds what and who waits stay
+-- of a host's connections only idle ones were closed: the same were opened, none is open that was not, those
+-- that are open have their streams, and who holds what and who waits stay
 pub record ClosesIdle {S : Type 0} (moment : ℕ) (old new : HostState S) : Type 0 where
   pub opened : opened new.log ≡ opened old.log
   pub still : (d : ℕ) → is_open new.log d ≡ true → is_open old.log d ≡ true
@@ -81,12 +94,14 @@ pub record ClosesIdle {S : Type 0} (moment : ℕ) (old new : HostState S) : Type
   pub booked : new.booked ≡ old.booked
   pub same : IsSameHost old new
 
--- the oldest that is too old in its lane was closed
-pub record ClosesOldest {S : Type 0} (want : Want) (moment : ℕ) (old new : HostState S) : Type 0 where
+-- the first one that a closing picks was closed; it picks the others still
+pub record ClosesNext {S : Type 0} (closing : Closing) (moment : ℕ) (old new : HostState S) : Type 0 where
   pub number : ℕ
-  pub oldest : oldest_too_old old.log want moment ≡ Some number
-  pub log : new.log ≡ add moment (Closed number TooOld) old.log
-  pub fewer : length (idle_connections old.log) ≡ length (idle_connections new.log) + 1
+  pub picked : picked closing moment old.log ≡ number ∷ picked closing moment new.log
+  pub log : new.log ≡ add moment (Closed number (cause_of closing)) old.log
+  pub fewer_open : open_len old ≡ open_len new + 1
+  pub fewer_idle : idle_len old ≡ idle_len new + 1
+  pub limit : limit_of new ≡ limit_of old
   pub closes : ClosesIdle moment old new
 
 -- the one that is idle for the longest was closed, so that the host has room
@@ -96,6 +111,17 @@ pub record ClosesFirst {S : Type 0} (cause : Cause) (moment : ℕ) (old new : Ho
   pub log : new.log ≡ add moment (Closed number cause) old.log
   pub room : is_full new.settings new.log ≡ false
   pub others : (d : ℕ) → (number == d) ≡ false → stream_of new.streams d ≡ stream_of old.streams d
+  pub fewer_open : open_len old ≡ open_len new + 1
+  pub fewer_idle : idle_len old ≡ idle_len new + 1
+  pub limit : limit_of new ≡ limit_of old
+  pub closes : ClosesIdle moment old new
+
+-- the limit is a new one, once so many of the oldest were closed that no more connections are open
+pub record SetsLimit {S : Type 0} (most moment closed : ℕ) (old new : HostState S) : Type 0 where
+  pub log : new.log ≡ add moment (Limit most) (without_picked (Above most) moment old.log)
+  pub fewer_open : open_len old ≡ open_len new + closed
+  pub fewer_idle : idle_len old ≡ idle_len new + closed
+  pub limit : limit_of new ≡ most
   pub closes : ClosesIdle moment old new
 
 -- a connection came back after a response that ends its use, and was closed at once, as is owed then
@@ -116,6 +142,9 @@ pub record LeasesNewest {S : Type 0} (old new : HostState S) (want : Want) (mome
   pub log : new.log ≡ add moment (Leased c want) old.log
   pub kept : stream_of old.streams c ≡ Some stream
   pub others : (d : ℕ) → (c == d) ≡ false → stream_of new.streams d ≡ stream_of old.streams d
+  pub as_many_open : open_len new ≡ open_len old
+  pub fewer_idle : idle_len old ≡ idle_len new + 1
+  pub limit : limit_of new ≡ limit_of old
   pub booked : new.booked ≡ booked_after_start (waiting old.log) old.booked
   pub same : IsSameHost old new
 
@@ -168,6 +197,9 @@ pub record ComesBack {S : Type 0} (old new : HostState S) (transfer : ℕ) (held
   pub holders : IsFreeOf old.log new.log transfer
   pub kept : stream_of new.streams held.number ≡ Some stream
   pub others : (d : ℕ) → (held.number == d) ≡ false → stream_of new.streams d ≡ stream_of old.streams d
+  pub as_many_open : open_len new ≡ open_len old
+  pub more_idle : idle_len new ≡ idle_len old + 1
+  pub limit : limit_of new ≡ limit_of old
   pub booked : new.booked ≡ old.booked
   pub same : IsSameHost old new
 
@@ -178,5 +210,27 @@ pub record ComesBackToClose {S : Type 0} (old new : HostState S) (transfer c : �
   pub closed : is_open new.log c ≡ false
   pub holders : IsFreeOf old.log new.log transfer
   pub streams : new.streams ≡ old.streams
+  pub fewer_open : open_len old ≡ open_len new + 1
+  pub as_many_idle : idle_len new ≡ idle_len old
+  pub limit : limit_of new ≡ limit_of old
+  pub booked : new.booked ≡ old.booked
+  pub same : IsSameHost old new
+
+-- the transfer holds that connection, which would stay open after that response
+pub record WouldStay {S : Type 0} (state : HostState S) (transfer c : ℕ) (facts : Facts) : Type 0 where
+  pub held : Held
+  pub was_held : IsHeldAs state transfer held
+  pub number : held.number ≡ c
+  pub stays : stays_open facts held ≡ true
+
+-- a connection came back that would stay open, and is closed since the cache is full
+pub record ComesBackUnkept {S : Type 0} (old new : HostState S) (transfer c : ℕ) (facts : Facts) (moment : ℕ) : Type 0 where
+  pub log : new.log ≡ add moment (Closed c CacheFull) (add moment (Returned c facts) old.log)
+  pub closed : is_open new.log c ≡ false
+  pub holders : IsFreeOf old.log new.log transfer
+  pub streams : new.streams ≡ old.streams
+  pub fewer_open : open_len old ≡ open_len new + 1
+  pub as_many_idle : idle_len new ≡ idle_len old
+  pub limit : limit_of new ≡ limit_of old
   pub booked : new.booked ≡ old.booked
   pub same : IsSameHost old new

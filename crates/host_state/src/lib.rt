@@ -2,10 +2,14 @@
 //! is named for.
 #![tactic(auto)]
 
+mod closing;
 mod held;
 mod idle;
 mod queue;
+mod returned;
 mod state;
 
+pub use closing::Closing;
 pub use held::Held;
+pub use returned::Returned;
 pub use state::State;

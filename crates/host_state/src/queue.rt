@@ -130,16 +130,17 @@ impl Queue {
     }
 }
 
-/// A transfer that starts is the first one that waits, or where nobody waits the one that was
-/// booked.
+/// A transfer that starts is the first one that waits, or where nobody waits one of those that
+/// are booked.
 #[inline(always)]
 pub(crate) fn start_next(queue: &mut Queue, booked: &mut u32)
+    requires { queue.old.wants ≡ [] → 0 < booked.old }
     ensures wants { queue.new.wants ≡ drop 1 queue.old.wants }
     ensures room { queue.old.room ≤ queue.new.room }
     ensures booked { booked.new ≡ booked_after_start queue.old.wants booked.old }
 {
     if queue.is_empty() {
-        *booked = 0;
+        *booked -= 1;
         return;
     }
     queue.pop();

@@ -1,32 +1,38 @@
 ghost use Rattle.std.specs.Prelude.{◌≡◌, ℕ, ◌+◌, ◌-◌, ◌*◌, ◌<◌, ◌≤◌, [], true, false, ◌&&◌, ◌==◌};
 ghost use Rattle.std.specs.Prelude.{length, Some, None, IfOk, IfErr, OnOk, OnErr, IfSome, IfNone};
-ghost use Rattle.std.specs.Prelude.{OnSome, is_some, if◌then◌else◌};
+ghost use Rattle.std.specs.Prelude.{OnSome, is_some, if◌then◌else◌, take, drop};
+ghost use Rattle.std.specs.VecDeque.{deque_capacity};
 ghost use Rattle.conn_log.specs.declared.entry.Entry.{Entry};
-ghost use Rattle.conn_log.specs.declared.entry.Event.TheVariants.{Opened, Leased, Returned, Closed};
-ghost use Rattle.conn_log.specs.declared.entry.Event.TheVariants.{Waited, Left};
+ghost use Rattle.conn_log.specs.declared.entry.Event.TheVariants.{Opened, Closed, Waited, Left};
 ghost use Rattle.conn_log.specs.Connections.{last_moment, held_number, is_open, is_idle};
 ghost use Rattle.conn_log.specs.Connections.{open_connections, idle_connections, holds, is_held_by};
 ghost use Rattle.conn_log.specs.Waiting.{waiting, waits};
 ghost use Rattle.conn_log.specs.Fit.{newest_fit, oldest_too_old, oldest_stamp};
 ghost use Rattle.conn_log.specs.Sound.{IsSound, IsNext, is_of_holder, is_of_idle};
-ghost use Rattle.host_state.specs.Steps.{add, next_number, without_too_old, with_host_room};
-ghost use Rattle.host_state.specs.Steps.{is_full, is_exhausted, moment_at};
-ghost use Rattle.host_state.specs.Idle.{stream_of};
+ghost use Rattle.host_state.specs.Steps.{add, next_number, picked, with_host_room};
+ghost use Rattle.host_state.specs.Steps.{is_full, is_exhausted, moment_at, close_each};
+ghost use Rattle.host_state.specs.Idle.{stream_of, numbers};
 ghost use Rattle.host_state.specs.Queue.{waiting_want};
-ghost use Rattle.host_state.specs.State.{HostState, IsSameHost, ClosesIdle, ClosesOldest};
+ghost use Rattle.host_state.specs.State.{HostState, IsSameHost, ClosesIdle, ClosesNext, SetsLimit};
+ghost use Rattle.host_state.specs.State.{open_len, idle_len, limit_of};
 ghost use Rattle.host_state.specs.State.{ClosesFirst, LeasesNewest, EndsUse, WaitsFirst, IsHeldAs};
 ghost use Rattle.host_state.specs.State.{IsFreeOf, OpensOnly, IsNewState, HasRoomToSpend};
 ghost use Rattle.host_state.specs.State.{ComesBack, ComesBackToClose, idle_since, stays_open};
+ghost use Rattle.host_state.specs.State.{WouldStay, ComesBackUnkept};
+ghost use Rattle.host_state.specs.Returning.{OnHeld, IfIdle, OnEnded, IfUnkept, IfStrange};
 ghost use Rattle.host_state.specs.State.{booked_after_start};
-ghost use Rattle.conn_log.specs.Legal.{IsAnyone, owed, ending_cause};
+ghost use Rattle.conn_log.specs.Legal.{IsAnyone, limit_in_force, ending_cause};
 ghost use Rattle.conn_log.specs.declared.entry.Want.{Want};
+ghost use Rattle.conn_log.specs.declared.entry.Cause.TheVariants.{HostRoom};
 
+use crate::closing::{Closing, cause_of, first_picked};
 use crate::held::{Held, enter, enter_if_free, take_out, take_out_number};
 use crate::idle::{
     Idle, first_too_old, is_any_too_old, newest_if_suiting, newest_suiting, place_for, put_in,
     take_from, take_last,
 };
 use crate::queue::{Queue, start_next};
+use crate::returned::Returned;
 use conn_log::{Cause, Entry, Event, Log, LogFault, Stamp, Want};
 use persistence::{Facts, persists};
 use std::alloc::Global;
@@ -46,6 +52,7 @@ const ENTRIES_OF_A_WAIT: usize = 3;
 #[derive(Drop)]
 pub struct State<S: Drop> {
     host_limit: u32,
+    limit: u32,
     host: u32,
     first: u32,
     greatest: u32,
@@ -61,6 +68,7 @@ impl<S: Drop> Model for State<S> {
     ghost use Rattle.std.specs.HashMap.{get, hash_map_len, spare};
     ghost use Rattle.std.specs.VecDeque.{deque_len, deque_capacity};
     ghost use Rattle.conn_log.specs.Waiting.{waiting};
+    ghost use Rattle.conn_log.specs.Legal.{limit_in_force};
     ghost use Rattle.host_state.specs.Steps.{last_number};
     ghost use Rattle.host_state.specs.State.{HostState, Replays, HasRoom};
     ghost use Rattle.host_state.specs.Idle.{streams_of};
@@ -80,6 +88,9 @@ impl<S: Drop> Model for State<S> {
           Replays (record { limit = state.host_limit; first = state.first })
           state.log.entries state.greatest
           state.idle.items (get nat_eq state.held) (hash_map_len state.held);
+      limit :
+          state.limit ≡ limit_in_force (record { limit = state.host_limit; first = state.first })
+          state.log.entries;
       queue : state.queue.wants ≡ waiting state.log.entries;
       numbers : state.greatest + (length state.queue.wants + state.booked) ≤ last_number;
       room :
@@ -98,6 +109,7 @@ impl<S: Drop> State<S> {
     {
         Ok(State {
             host_limit,
+            limit: host_limit,
             host,
             first,
             greatest: first.saturating_sub(1),
@@ -131,7 +143,7 @@ impl<S: Drop> State<S> {
     pub fn idle_len(&self) -> u32
         ensures { result ≡ length (idle_connections self.now.log) }
     {
-        let _limit = self.host_limit;
+        let _limit = self.limit;
         self.idle.len() as u32
     }
 
@@ -139,7 +151,7 @@ impl<S: Drop> State<S> {
     pub fn open_len(&self) -> u32
         ensures { result ≡ length (open_connections self.now.log) }
     {
-        let _limit = self.host_limit;
+        let _limit = self.limit;
         (self.idle.len() + self.held.len()) as u32
     }
 
@@ -148,22 +160,30 @@ impl<S: Drop> State<S> {
         ensures { let log = self.now.log in
             result ≡ length (open_connections log) - length (idle_connections log) }
     {
-        let _limit = self.host_limit;
+        let _limit = self.limit;
         self.held.len() as u32
+    }
+
+    /// The most connections that may be open.
+    pub fn limit(&self) -> u32
+        ensures { result ≡ limit_of self.now }
+    {
+        self.limit
     }
 
     /// Whether as many connections are open as the host may have.
     pub fn is_full(&self) -> bool
         ensures { result ≡ is_full self.now.settings self.now.log }
     {
-        self.open_len() == self.host_limit
+        self.open_len() == self.limit
     }
 
-    /// Whether the connection numbers that are left are those that the waiting transfers may need.
+    /// Whether the connection numbers that are left are those that the waiting transfers and the
+    /// acquires halfway may need.
     pub fn is_exhausted(&self) -> bool
-        ensures { result ≡ is_exhausted self.now.settings self.now.log }
+        ensures { result ≡ is_exhausted self.now.settings self.now.log self.now.booked }
     {
-        u32::MAX - self.greatest <= self.queue.len() as u32
+        u32::MAX - self.greatest <= self.queue.len() as u32 + self.booked
     }
 
     /// How many transfers wait.
@@ -247,23 +267,24 @@ impl<S: Drop> State<S> {
         })
     }
 
-    /// Makes room for all that an acquire, the end of its wait and the end of its lease will add.
-    /// No other step takes memory.
+    /// Makes room for all that one more acquire, the end of its wait and the end of its lease will
+    /// add.
     #[inline(always)]
     pub fn book(&mut self) -> Result<(), LogFault>
-        requires none { self.old.booked ≡ 0 }
-        requires number { is_exhausted self.old.settings self.old.log ≡ false }
-        ensures ok { OnOk result (self.new ≡ record self.old { booked = 1 }) }
+        requires { is_exhausted self.old.settings self.old.log self.old.booked ≡ false }
+        ensures ok { OnOk result (self.new ≡ record self.old { booked = self.old.booked + 1 }) }
         ensures err { OnErr result (self.new ≡ self.old) }
     {
         let held = self.held.len();
         let waiting = self.queue.len();
         let open = self.idle.len() + held;
-        self.log.reserve(ENTRIES_OF_AN_ACQUIRE + ENTRIES_OF_A_WAIT * waiting + open + held)?;
-        self.idle.reserve(held + waiting + 1)?;
-        self.queue.reserve(1)?;
-        self.held.reserve(waiting + 1)?;
-        self.booked = 1;
+        let booked = self.booked as usize + 1;
+        let entries = ENTRIES_OF_AN_ACQUIRE * booked + ENTRIES_OF_A_WAIT * waiting + open + held;
+        self.log.reserve(entries)?;
+        self.idle.reserve(held + waiting + booked)?;
+        self.queue.reserve(booked)?;
+        self.held.reserve(waiting + booked)?;
+        self.booked += 1;
         Ok(())
     }
 
@@ -277,7 +298,8 @@ impl<S: Drop> State<S> {
         ensures none { IfNone result (self.new ≡ self.old) }
         ensures free { OnSome result (held_number self.old.log want.now.transfer ≡ None) }
         ensures alone { OnSome result (waiting self.old.log ≡ []) }
-        ensures number { OnSome result (is_exhausted self.old.settings self.old.log ≡ false) }
+        ensures number { let booked = self.old.booked in
+            OnSome result (is_exhausted self.old.settings self.old.log booked ≡ false) }
         ensures none_too_old { OnSome result (oldest_too_old self.old.log want.now moment ≡ None) }
         ensures some { IfSome result
             (λ leased. LeasesNewest self.old self.new want.now moment leased.0 leased.1) }
@@ -318,7 +340,7 @@ impl<S: Drop> State<S> {
     #[inline(always)]
     pub fn lease_newest_fit(&mut self, want: &Want, moment: u64) -> Option<(u32, S)>
         requires next { IsNext self.old.log want.now }
-        requires booked { waiting self.old.log ≡ [] → self.old.booked ≡ 1 }
+        requires booked { waiting self.old.log ≡ [] → 0 < self.old.booked }
         requires later { last_moment self.old.log ≤ moment }
         ensures none { let fit = newest_fit self.old.log want.now moment in
             IfNone result ((fit ≡ None) × (self.new ≡ self.old)) }
@@ -351,37 +373,52 @@ impl<S: Drop> State<S> {
         Some((number, stream))
     }
 
-    /// Closes the idle connections of the want's lane that are too old for it, the one idle for the
-    /// longest first.
+    /// Closes the first of the connections that the closing picks, if it picks one.
     #[inline(always)]
-    pub fn close_too_old(&mut self, want: &Want, moment: u64)
+    pub fn close_next(&mut self, closing: &Closing, moment: u64) -> bool
         requires { last_moment self.old.log ≤ moment }
-        ensures log { self.new.log ≡ without_too_old want.now moment self.old.log }
-        ensures closes { ClosesIdle moment self.old self.new }
+        ensures none { result ≡ false →
+            (picked closing.now moment self.old.log ≡ []) × (self.new ≡ self.old) }
+        ensures some { result ≡ true → ClosesNext closing.now moment self.old self.new }
     {
-        while self.close_oldest_too_old(want, moment) {}
-    }
-
-    // Closes the one of them that is idle for the longest, if there is one.
-    #[inline(always)]
-    fn close_oldest_too_old(&mut self, want: &Want, moment: u64) -> bool
-        requires { last_moment self.old.log ≤ moment }
-        ensures none { let oldest = oldest_too_old self.old.log want.now moment in
-            result ≡ false → (oldest ≡ None) × (self.new ≡ self.old) }
-        ensures some { result ≡ true → ClosesOldest want.now moment self.old self.new }
-    {
-        let Some(place) = first_too_old(&self.idle, want, moment) else {
+        let open_len = self.open_len();
+        let Some(place) = first_picked(&self.idle, closing, open_len, moment) else {
             return false;
         };
-        let oldest = take_from(&mut self.idle, place);
+        let picked = take_from(&mut self.idle, place);
         self.log.append(Entry {
             moment,
             event: Event::Closed {
-                connection: oldest.number,
-                cause: Cause::TooOld,
+                connection: picked.number,
+                cause: cause_of(closing),
             },
         });
         true
+    }
+
+    /// Changes the most connections that may be open. Where more are, it first closes so many of
+    /// those that are idle for the longest; it answers how many. Where memory runs out nothing has
+    /// changed.
+    pub fn set_limit(&mut self, limit: u32, moment: u64) -> Result<u32, LogFault>
+        requires held { open_len self.old ≤ idle_len self.old + limit }
+        requires later { last_moment self.old.log ≤ moment }
+        ensures ok { IfOk result (λ closed. SetsLimit limit moment closed self.old self.new) }
+        ensures err { OnErr result (self.new ≡ self.old) }
+    {
+        let open_len = self.open_len();
+        let acquires = ENTRIES_OF_AN_ACQUIRE * self.booked as usize;
+        let waits = ENTRIES_OF_A_WAIT * self.queue.len();
+        let held = self.held.len();
+        self.log
+            .reserve(acquires + waits + self.idle.len() + 2 * held + 1)?;
+        let above = open_len.saturating_sub(limit);
+        close_oldest_of(&mut self.idle, &mut self.log, above, moment);
+        self.limit = limit;
+        self.log.append(Entry {
+            moment,
+            event: Event::Limit { limit },
+        });
+        Ok(above)
     }
 
     /// At the host's limit, closes the connection that is idle for the longest, if one is idle.
@@ -390,6 +427,7 @@ impl<S: Drop> State<S> {
         ensures log { self.new.log ≡ with_host_room self.old.settings moment self.old.log }
         ensures room { is_full self.new.settings self.new.log ≡ true →
             idle_connections self.new.log ≡ [] }
+        ensures limit { limit_of self.new ≡ limit_of self.old }
         ensures closes { ClosesIdle moment self.old self.new }
     {
         if self.is_full() && self.idle_len() > 0 {
@@ -418,13 +456,16 @@ impl<S: Drop> State<S> {
     /// waits; where nobody waits, any that holds nothing, for which room was made.
     pub fn open(&mut self, want: &Want, moment: u64) -> u32
         requires next { IsNext self.old.log want.now }
-        requires booked { waiting self.old.log ≡ [] → self.old.booked ≡ 1 }
+        requires booked { waiting self.old.log ≡ [] → 0 < self.old.booked }
         requires later { last_moment self.old.log ≤ moment }
         requires room { is_full self.old.settings self.old.log ≡ false }
         ensures number { result ≡ next_number self.old.settings self.old.log }
         ensures log { self.new.log ≡ add moment (Opened result want.now) self.old.log }
         ensures opened { OpensOnly result self.old.log self.new.log }
         ensures streams { self.new.streams ≡ self.old.streams }
+        ensures more_open { open_len self.new ≡ open_len self.old + 1 }
+        ensures as_many_idle { idle_len self.new ≡ idle_len self.old }
+        ensures limit { limit_of self.new ≡ limit_of self.old }
         ensures booked { let wants = waiting self.old.log in
             self.new.booked ≡ booked_after_start wants self.old.booked }
         ensures same { IsSameHost self.old self.new }
@@ -451,17 +492,20 @@ impl<S: Drop> State<S> {
 
     /// The transfer waits after all others, for which room was made.
     pub fn wait(&mut self, want: Want, moment: u64)
-        requires booked { self.old.booked ≡ 1 }
+        requires booked { 0 < self.old.booked }
         requires later { last_moment self.old.log ≤ moment }
         requires free { held_number self.old.log want.transfer ≡ None }
         requires once { waits self.old.log want.transfer ≡ false }
         requires none_idle { idle_connections self.old.log ≡ [] }
         ensures log { self.new.log ≡ add moment (Waited want) self.old.log }
         ensures streams { self.new.streams ≡ self.old.streams }
-        ensures booked { self.new.booked ≡ 0 }
+        ensures as_many_open { open_len self.new ≡ open_len self.old }
+        ensures as_many_idle { idle_len self.new ≡ idle_len self.old }
+        ensures limit { limit_of self.new ≡ limit_of self.old }
+        ensures booked { self.new.booked + 1 ≡ self.old.booked }
         ensures same { IsSameHost self.old self.new }
     {
-        self.booked = 0;
+        self.booked -= 1;
         self.queue.push(want);
         self.log.append(Entry {
             moment,
@@ -475,6 +519,9 @@ impl<S: Drop> State<S> {
         requires later { last_moment self.old.log ≤ moment }
         ensures log { self.new.log ≡ add moment (Left transfer) self.old.log }
         ensures streams { self.new.streams ≡ self.old.streams }
+        ensures as_many_open { open_len self.new ≡ open_len self.old }
+        ensures as_many_idle { idle_len self.new ≡ idle_len self.old }
+        ensures limit { limit_of self.new ≡ limit_of self.old }
         ensures booked { self.new.booked ≡ self.old.booked }
         ensures same { IsSameHost self.old self.new }
     {
@@ -485,10 +532,10 @@ impl<S: Drop> State<S> {
         });
     }
 
-    /// The transfer gives a connection back after a response. Where it stays open it is idle from
-    /// then on, with its stream, and what was kept of it is answered; else it is closed, and its
-    /// stream dropped. Where the transfer does not hold it the stream comes back, and nothing has
-    /// changed.
+    /// The transfer gives a connection back after a response. Where it stays open and may be kept
+    /// it is idle from then on, with its stream, and what was kept of it is answered; where its use
+    /// ends it is closed, and its stream dropped. Where it would stay open but may not be kept, and
+    /// where the transfer does not hold it, the stream comes back, and nothing has changed.
     #[inline(always)]
     pub fn give_back(
         &mut self,
@@ -497,21 +544,31 @@ impl<S: Drop> State<S> {
         facts: Facts,
         stream: S,
         moment: u64,
-    ) -> Result<Option<Held>, S>
+        may_keep: bool,
+    ) -> Returned<S>
         requires { last_moment self.old.log ≤ moment }
-        ensures known { OnOk result (is_held_by self.old.log transfer number ≡ true) }
-        ensures strange { OnErr result (is_held_by self.old.log transfer number ≡ false) }
-        ensures stream { IfErr result (λ back. back ≡ stream) }
-        ensures err { OnErr result (self.new ≡ self.old) }
-        ensures number { IfOk result (λ kept. IfSome kept (λ held. held.number ≡ number)) }
-        ensures idle { IfOk result (λ kept. IfSome kept (λ held.
-            ComesBack self.old self.new transfer held facts stream moment)) }
-        ensures closed { IfOk result (λ kept. IfNone kept
-            (ComesBackToClose self.old self.new transfer number facts moment)) }
+        ensures known { OnHeld result (is_held_by self.old.log transfer number ≡ true) }
+        ensures number { IfIdle result (λ held. held.number ≡ number) }
+        ensures kept { IfIdle result (λ held. may_keep ≡ true) }
+        ensures idle { IfIdle result (λ held.
+            ComesBack self.old self.new transfer held facts stream moment) }
+        ensures closed { OnEnded result
+            (ComesBackToClose self.old self.new transfer number facts moment) }
+        ensures unkept { IfUnkept result (λ back. (may_keep ≡ false) ×
+            WouldStay self.old transfer number facts) }
+        ensures unkept_same { IfUnkept result (λ back.
+            (back ≡ stream) × (self.new ≡ self.old)) }
+        ensures strange { IfStrange result (λ back.
+            is_held_by self.old.log transfer number ≡ false) }
+        ensures strange_same { IfStrange result (λ back.
+            (back ≡ stream) × (self.new ≡ self.old)) }
     {
+        if !may_keep && self.would_stay(transfer, number, &facts) {
+            return Returned::Unkept(stream);
+        }
         let more = self.booked as usize + self.queue.len();
         let Some(held) = take_out_number(&mut self.held, transfer, number, more) else {
-            return Err(stream);
+            return Returned::Strange(stream);
         };
         self.log.append(Entry {
             moment,
@@ -528,11 +585,55 @@ impl<S: Drop> State<S> {
                     cause: ending_cause(&facts, held.forbids_reuse),
                 },
             });
-            return Ok(None);
+            return Returned::Ended;
         }
         let place = place_for(&self.idle, moment, held.number);
         put_in(&mut self.idle, place, idle_since(&held, moment, stream));
-        Ok(Some(held))
+        Returned::Idle(held)
+    }
+
+    // Whether the transfer holds that connection, and it would stay open after that response.
+    fn would_stay(&self, transfer: u64, number: u32, facts: &Facts) -> bool
+        ensures yes { result ≡ true → WouldStay self.now transfer number facts.now }
+        ensures no { result ≡ false → WouldStay self.now transfer number facts.now → ⊥ }
+    {
+        let _limit = self.limit;
+        match self.held(transfer, number) {
+            Some(held) => stays_open(facts, &held),
+            None => false,
+        }
+    }
+
+    /// The transfer gives a connection back after a response that would let it stay open, and it is
+    /// closed at once, since the cache is full. Its stream is dropped.
+    pub fn give_back_to_close(
+        &mut self,
+        transfer: u64,
+        number: u32,
+        facts: Facts,
+        stream: S,
+        moment: u64,
+    )
+        requires stays { WouldStay self.old transfer number facts }
+        requires later { last_moment self.old.log ≤ moment }
+        ensures { ComesBackUnkept self.old self.new transfer number facts moment }
+    {
+        drop(stream);
+        take_out(&mut self.held, transfer);
+        self.log.append(Entry {
+            moment,
+            event: Event::Returned {
+                connection: number,
+                facts,
+            },
+        });
+        self.log.append(Entry {
+            moment,
+            event: Event::Closed {
+                connection: number,
+                cause: Cause::CacheFull,
+            },
+        });
     }
 
     /// The connection is closed without a response.
@@ -543,6 +644,9 @@ impl<S: Drop> State<S> {
         ensures log { self.new.log ≡ add moment (Closed held.number cause) self.old.log }
         ensures holders { IsFreeOf self.old.log self.new.log transfer }
         ensures streams { self.new.streams ≡ self.old.streams }
+        ensures fewer_open { open_len self.old ≡ open_len self.new + 1 }
+        ensures as_many_idle { idle_len self.new ≡ idle_len self.old }
+        ensures limit { limit_of self.new ≡ limit_of self.old }
         ensures booked { self.new.booked ≡ self.old.booked }
         ensures same { IsSameHost self.old self.new }
     {
@@ -552,6 +656,31 @@ impl<S: Drop> State<S> {
             event: Event::Closed {
                 connection: held.number,
                 cause,
+            },
+        });
+    }
+}
+
+// Closes so many of the connections that are idle for the longest, to make room at their host.
+fn close_oldest_of<S: Drop>(idle: &mut VecDeque<Idle<S>>, log: &mut Log, count: u32, moment: u64)
+    requires later { last_moment log.old.entries ≤ moment }
+    requires idle { count ≤ length idle.old.items }
+    requires room { count ≤ log.old.room }
+    ensures items { idle.new.items ≡ drop count idle.old.items }
+    ensures capacity { deque_capacity idle.new ≡ deque_capacity idle.old }
+    ensures entries { let closed = take count (numbers idle.old.items) in
+        log.new.entries ≡ close_each HostRoom moment closed log.old.entries }
+    ensures room { log.old.room ≤ log.new.room + count }
+{
+    let mut left = count;
+    while left > 0 {
+        left -= 1;
+        let oldest = take_from(idle, 0);
+        log.append(Entry {
+            moment,
+            event: Event::Closed {
+                connection: oldest.number,
+                cause: Cause::HostRoom,
             },
         });
     }

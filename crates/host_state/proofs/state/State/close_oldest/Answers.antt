@@ -24,6 +24,7 @@ invariant_of-self g c =
     let later = subst (λ log. last_moment log ≤ c.args.moment) (sym log_is) c.requires.later in
     record {
       replays = rw (c.append.ensures.entries, c.take_from-oldest.ensures.items) (replays_close _ _ _ _ _ _ kept c.args.moment later c.args.cause 0 c.take_from-oldest.result some c.take_from-oldest.ensures.value c.requires.cause);
+      limit = rw c.append.ensures.entries c.self.invariant.limit;
       queue = rw c.append.ensures.entries c.self.invariant.queue;
       numbers = c.self.invariant.numbers;
       room = record {

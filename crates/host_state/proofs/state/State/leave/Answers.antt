@@ -1,5 +1,5 @@
 use Rattle.std.proofs.Common.{◌≡◌, ◌≤◌, ◌+◌, true, length, sym, ap, subst, ◌∙◌, arith}
-use Rattle.conn_log.specs.Connections.{last_moment}
+use Rattle.conn_log.specs.Connections.{last_moment, open_connections, idle_connections}
 use Rattle.conn_log.specs.Waiting.{without, waits}
 use Rattle.conn_log.proofs.Queues.{length_without}
 use Rattle.host_state.specs.State.{HostState}
@@ -19,6 +19,7 @@ invariant_of-self g c =
     let len : length c.self.inside.queue.wants ≡ length c.take_out.new.self.wants + 1 = ap length queue ∙ fewer ∙ ap (λ wants. length wants + 1) (sym (left ∙ ap (without c.args.transfer) queue)) in
     record {
       replays = rw c.append.ensures.entries (replays_leave _ _ _ _ _ _ kept c.args.moment later c.args.transfer there);
+      limit = rw c.append.ensures.entries c.self.invariant.limit;
       queue = rw c.append.ensures.entries (left ∙ ap (without c.args.transfer) queue);
       numbers = omega (arith, c.self.invariant.numbers, len);
       room = record {
@@ -28,3 +29,11 @@ invariant_of-self g c =
         queue_room = omega (arith, room.queue_room, c.take_out.ensures.room);
       };
     }
+
+pub returns-clause-as_many_open : goal.returns-clause-as_many_open
+returns-clause-as_many_open g c =
+    ap (λ log. length (open_connections log)) c.append.ensures.entries ∙ ap (λ (v : HostState g.row.S.Denot). length (open_connections v.log)) c.self.view_is
+
+pub returns-clause-as_many_idle : goal.returns-clause-as_many_idle
+returns-clause-as_many_idle g c =
+    ap (λ log. length (idle_connections log)) c.append.ensures.entries ∙ ap (λ (v : HostState g.row.S.Denot). length (idle_connections v.log)) c.self.view_is
