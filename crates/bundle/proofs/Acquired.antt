@@ -1,24 +1,26 @@
 -- What an acquire that is not refused tells of transfers: one starts, or begins to wait.
-use Rattle.std.proofs.Common.{◌≡◌, ℕ, zero, suc, ◌+◌, ◌≤◌, ◌⊎◌, Bool, true, false, List, [], ◌∷◌, length, filter, Option, Some, None, is_none, refl, sym, ap, inl, inr, ◌∙◌, arith}
+use Rattle.std.proofs.Common.{◌≡◌, ℕ, ◌+◌, ◌≤◌, ◌⊎◌, Bool, true, false, List, [], ◌∷◌, length, filter, Option, Some, None, is_none, refl, sym, ap, inl, inr, ◌∙◌, arith}
 use Rattle.std.specs.Prelude.{◌==◌, if◌then◌else◌}
 use mathlib.Core.Bool.{false≢true}
 use Rattle.conn_log.specs.declared.entry.Want.{Want}
-use Rattle.conn_log.specs.declared.entry.Cause.TheVariants.{TooOld, HostRoom}
+use Rattle.conn_log.specs.declared.entry.Cause.{Cause}
+use Rattle.conn_log.specs.declared.entry.Cause.TheVariants.{TooOld as ForAge, HostRoom}
 use Rattle.conn_log.specs.declared.entry.Event.TheVariants.{Leased, Closed, Waited}
 use Rattle.conn_log.specs.declared.entry.Entry.{Entry}
 use Rattle.conn_log.specs.Connections.{idle_connections, is_idle, holds, holder_want, held_number}
 use Rattle.conn_log.specs.Waiting.{waiting, waits, without}
-use Rattle.conn_log.specs.Fit.{suits, is_idle_longer, first_by, newest_fit, is_too_old_in_lane, oldest_too_old, oldest}
+use Rattle.conn_log.specs.Fit.{suits, is_idle_longer, first_by, newest_fit, is_too_old_in_lane, idle_in_order, oldest}
 use Rattle.conn_log.specs.Legal.{LimitAndFirst}
-use Rattle.conn_log.specs.Sound.{IsOrderly, IsSound}
+use Rattle.conn_log.specs.Sound.{IsOrderly, IsSound, is_of_idle}
 use Rattle.conn_log.proofs.Numbers.{is_among-filter}
 use Rattle.conn_log.proofs.Queues.{length_last}
 use Rattle.conn_log.proofs.Steps.{idle_open_unheld}
 use Rattle.conn_log.proofs.Firsts.{first_among}
-use Rattle.conn_log.proofs.Soundness.{and_left, sound_close}
-use Rattle.host_state.specs.Steps.{moment_at, add, close_before, close_too_old, without_too_old, is_full, is_exhausted, close_for_room, next_number}
+use Rattle.conn_log.proofs.Soundness.{and_left, idle_may_close, sound_close}
+use Rattle.host_state.specs.declared.closing.Closing.TheVariants.{TooOld}
+use Rattle.host_state.specs.Steps.{moment_at, add, close_each, without_picked, is_full, is_exhausted, close_for_room, next_number}
 use Rattle.bundle.specs.Calls.{Start, newest_start, newest_wait, with_start, is_busy, start_new, start_or_wait, start_on, start_unless, after_acquire, refusal}
-use Rattle.bundle.proofs.KeptSound.{later, neither, not_refused, free_of, newest_is_fit, AfterClosing, closing_keeps, none_waits}
+use Rattle.bundle.proofs.KeptSound.{later, neither, not_refused, free_of, newest_is_fit, AfterClosing, AreIdle, passing_idle, left_idle, first_idle, closing_keeps, none_waits}
 use Rattle.bundle.proofs.Told.{told, IsStarted, freed_closed, started_open, started_lease, told_unheld, told_others, told_started, told_waited_others, awaited_last, none_awaited}
 use Rattle.bundle.proofs.Served.{new_unheld}
 
@@ -46,22 +48,15 @@ nobody (Some want) e = absurd (false≢true e)
 pub unheld_idle : (log : List Entry) (c : ℕ) → is_idle log c ≡ true → holder_want log c ≡ None
 unheld_idle log c idle = let open_unheld = idle_open_unheld log c idle in nobody (holder_want log c) open_unheld.1
 
--- what closing the too old ones tells: nothing new
-closing_tells : (settings : LimitAndFirst) (want : Want) (moment transfer : ℕ) (n : ℕ) (log : List Entry) → AfterClosing settings moment transfer log → (u : ℕ) → told (close_too_old n want moment log) u ≡ told log u
-closing_tells settings want moment transfer zero log before u = refl
-closing_tells settings want moment transfer (suc n) log before u = by_first (oldest_too_old log want moment) refl (λ c closed. closing_tells settings want moment transfer n (add moment (Closed c TooOld) log) closed u)
-  where
-    among_idle : (goes_before : ℕ → ℕ → Bool) (test : ℕ → Bool) (c : ℕ) → first_by goes_before (filter test (idle_connections log)) ≡ Some c → is_idle log c ≡ true
-    among_idle goes_before test c is = and_left (is_idle log c) (test c) (sym (is_among-filter test c (idle_connections log)) ∙ first_among goes_before (filter test (idle_connections log)) c is)
-
-    by_first : (first : Option ℕ) → oldest_too_old log want moment ≡ first → ((c : ℕ) → AfterClosing settings moment transfer (add moment (Closed c TooOld) log) → told (close_too_old n want moment (add moment (Closed c TooOld) log)) u ≡ told (add moment (Closed c TooOld) log) u) → told (close_before moment log first (close_too_old n want moment)) u ≡ told log u
-    by_first None is rest = refl
-    by_first (Some c) is rest =
-        let idle = among_idle (is_idle_longer log) (is_too_old_in_lane log want moment) c is in
-        let none = unheld_idle log c idle in
-        let same = told_unheld settings log before.sound.orderly c none (add moment (Closed c TooOld) log) (freed_closed moment c TooOld log) u in
-        let closed : AfterClosing settings moment transfer (add moment (Closed c TooOld) log) = record { sound = sound_close settings log before.sound moment before.later c TooOld (before.sound.settled, idle) idle; later = omega arith; free = rw before.free refl; nobody = before.nobody } in
-        rest c closed ∙ same
+-- what closing idle ones tells: nothing new
+closing_tells : (settings : LimitAndFirst) (cause : Cause) → is_of_idle cause ≡ true → (moment transfer : ℕ) (numbers : List ℕ) (log : List Entry) → AreIdle log numbers → AfterClosing settings moment transfer log → (u : ℕ) → told (close_each cause moment numbers log) u ≡ told log u
+closing_tells settings cause fits moment transfer [] log are before u = refl
+closing_tells settings cause fits moment transfer (c ∷ numbers) log are before u =
+    let idle = first_idle log c numbers are in
+    let none = unheld_idle log c idle in
+    let same = told_unheld settings log before.sound.orderly c none (add moment (Closed c cause) log) (freed_closed moment c cause log) u in
+    let closed : AfterClosing settings moment transfer (add moment (Closed c cause) log) = record { sound = sound_close settings log before.sound moment before.later c cause (idle_may_close log c cause fits before.sound.settled idle) idle; later = omega arith; free = rw before.free refl; nobody = before.nobody } in
+    closing_tells settings cause fits moment transfer numbers (add moment (Closed c cause) log) (left_idle moment c cause log numbers are) closed u ∙ same
 
 -- a start after some closings
 starts_after : (settings : LimitAndFirst) (log young : List Entry) → ((u : ℕ) → told young u ≡ told log u) → IsOrderly settings young → waiting young ≡ [] → (start : Start) → holder_want young start.number ≡ None → (after : List Entry) → IsStarted start young after → newest_start after ≡ Some start → newest_wait after ≡ None → Starts start.want log after
@@ -117,7 +112,7 @@ pub record IsAllowed (settings : LimitAndFirst) (log : List Entry) (want : Want)
 
 pub allowed_by : (settings : LimitAndFirst) (log : List Entry) (want : Want) → IsSound settings log → refusal settings log want ≡ None → IsAllowed settings log want
 allowed_by settings log want sound allowed =
-    let both = neither (holds log want.transfer) (waits log want.transfer) (not_refused (is_busy log want.transfer) (is_exhausted settings log) allowed) in
+    let both = neither (holds log want.transfer) (waits log want.transfer) (not_refused (is_busy log want.transfer) (is_exhausted settings log 0) allowed) in
     record { free = free_of settings log sound want.transfer both.0; waits_not = both.1 }
 
 pub begun : (settings : LimitAndFirst) (log : List Entry) (want : Want) (now : ℕ) → IsSound settings log → refusal settings log want ≡ None → Starts want log (after_acquire settings log want now) ⊎ Waits want log (after_acquire settings log want now)
@@ -128,8 +123,9 @@ begun settings log want now sound allowed = by_queue (waiting log) refl
         let m = moment_at log now in
         let may = allowed_by settings log want sound allowed in
         let before : AfterClosing settings m want.transfer log = record { sound = sound; later = later log now; free = may.free; nobody = is } in
-        let n = length (idle_connections log) in
-        begun_start settings log want m (without_too_old want m log) (closing_tells settings want m want.transfer n log before) (closing_keeps settings want m want.transfer n log before)
+        let numbers = filter (is_too_old_in_lane log want m) (idle_in_order log) in
+        let are = passing_idle settings log sound (is_too_old_in_lane log want m) in
+        begun_start settings log want m (without_picked (TooOld want) m log) (closing_tells settings ForAge refl m want.transfer numbers log are before) (closing_keeps settings ForAge refl m want.transfer numbers log are before)
     by_queue (head ∷ others) is =
         let may = allowed_by settings log want sound allowed in
         inr (waits_after log log (λ u. refl) (omega arith) (moment_at log now) want may.free may.waits_not)

@@ -30,7 +30,7 @@ reused_at_once settings log after want now moment c moment_is nobody none newest
     ∙ sym (ap (λ wants. start_unless wants settings want moment log) nobody ∙ ap (with_start settings want moment) (none_closed want moment log none) ∙ ap (start_on settings want moment log) newest)
     ∙ ap (λ k. start_unless (waiting log) settings want k log) moment_is
 
-pub not_refused_at_once : (settings : LimitAndFirst) (log : List Entry) (want : Want) → IsSound settings log → held_number log want.transfer ≡ None → waiting log ≡ [] → is_exhausted settings log ≡ false → refusal settings log want ≡ None
+pub not_refused_at_once : (settings : LimitAndFirst) (log : List Entry) (want : Want) → IsSound settings log → held_number log want.transfer ≡ None → waiting log ≡ [] → is_exhausted settings log 0 ≡ false → refusal settings log want ≡ None
 not_refused_at_once settings log want sound free nobody left =
     let held : holds log want.transfer ≡ false = holds_is settings log sound.orderly want.transfer ∙ ap is_some free in
     let waiting_not : waits log want.transfer ≡ false = ap (λ wants. is_waiting wants want.transfer) nobody in

@@ -1,18 +1,19 @@
 -- Each call's log grows from the log before it.
-use Rattle.std.proofs.Common.{ℕ, zero, suc, length, Bool, true, false, List, [], ◌∷◌, Option, Some, None, refl, ap}
+use Rattle.std.proofs.Common.{ℕ, length, Bool, true, false, List, [], ◌∷◌, Option, Some, None, refl, ap}
 use Rattle.std.specs.Prelude.{if◌then◌else◌}
 use Rattle.persistence.specs.declared.facts.Facts.{Facts}
 use Rattle.conn_log.specs.declared.entry.Want.{Want}
 use Rattle.conn_log.specs.declared.entry.Cause.{Cause}
-use Rattle.conn_log.specs.declared.entry.Cause.TheVariants.{TooOld, HostRoom, Dropped, Withdrawn}
+use Rattle.conn_log.specs.declared.entry.Cause.TheVariants.{TooOld as ForAge, HostRoom, Dropped, Withdrawn}
 use Rattle.conn_log.specs.declared.entry.Event.{Event}
 use Rattle.conn_log.specs.declared.entry.Event.TheVariants.{Leased, Returned, Closed, Waited, Left}
 use Rattle.conn_log.specs.declared.entry.Entry.{Entry}
 use Rattle.conn_log.specs.Connections.{idle_connections, held_number}
 use Rattle.conn_log.specs.Waiting.{waiting, waits}
-use Rattle.conn_log.specs.Fit.{is_fit, newest_fit, oldest_too_old, oldest}
+use Rattle.conn_log.specs.Fit.{is_fit, newest_fit, oldest}
 use Rattle.conn_log.specs.Legal.{LimitAndFirst, owed}
-use Rattle.host_state.specs.Steps.{add, moment_at, close_before, close_too_old, close_for_room, with_host_room, is_full}
+use Rattle.host_state.specs.declared.closing.Closing.TheVariants.{TooOld}
+use Rattle.host_state.specs.Steps.{add, moment_at, close_each, picked, without_picked, close_for_room, with_host_room, is_full}
 use Rattle.bundle.specs.Calls.{start_new, start_on, start_unless, after_acquire, open_for, unfit_cause, pass_to, settle, after_give_back, after_close, after_abandon, close_granted, after_withdraw, GrowsBy}
 
 pub grows_same : (log : List Entry) → GrowsBy log log
@@ -26,13 +27,9 @@ grows_either : (old log other : List Entry) (first : Bool) → GrowsBy old log �
 grows_either old log other true grew also = grew
 grows_either old log other false grew also = also
 
-grows_too_old : (n : ℕ) (want : Want) (moment : ℕ) (old log : List Entry) → GrowsBy old log → GrowsBy old (close_too_old n want moment log)
-grows_too_old zero want moment old log grew = grew
-grows_too_old (suc n) want moment old log grew = by_first (oldest_too_old log want moment) (λ c. grows_too_old n want moment old (add moment (Closed c TooOld) log) (grows_by_one moment (Closed c TooOld) old log grew))
-  where
-    by_first : (first : Option ℕ) → ((c : ℕ) → GrowsBy old (close_too_old n want moment (add moment (Closed c TooOld) log))) → GrowsBy old (close_before moment log first (close_too_old n want moment))
-    by_first None rest = grew
-    by_first (Some c) rest = rest c
+grows_closing : (cause : Cause) (moment : ℕ) (numbers : List ℕ) (old log : List Entry) → GrowsBy old log → GrowsBy old (close_each cause moment numbers log)
+grows_closing cause moment [] old log grew = grew
+grows_closing cause moment (c ∷ numbers) old log grew = grows_closing cause moment numbers old (add moment (Closed c cause) log) (grows_by_one moment (Closed c cause) old log grew)
 
 module _ (settings : LimitAndFirst) (moment : ℕ) (old : List Entry) where
   grows_for_room : (log : List Entry) (first : Option ℕ) → GrowsBy old log → GrowsBy old (close_for_room moment log first)
@@ -67,8 +64,8 @@ grows_acquire settings log want now = by_queue (waiting log)
     by_queue : (wants : List Want) → GrowsBy log (start_unless wants settings want (moment_at log now) log)
     by_queue [] =
         let moment = moment_at log now in
-        let young = close_too_old (length (idle_connections log)) want moment log in
-        grows_start settings moment log want young (grows_too_old (length (idle_connections log)) want moment log log (grows_same log)) (newest_fit young want moment)
+        let young = without_picked (TooOld want) moment log in
+        grows_start settings moment log want young (grows_closing ForAge moment (picked (TooOld want) moment log) log log (grows_same log)) (newest_fit young want moment)
     by_queue (head ∷ others) = grows_by_one (moment_at log now) (Waited want) log log (grows_same log)
 
 pub grows_give_back : (settings : LimitAndFirst) (log : List Entry) (c : ℕ) (facts : Facts) (now : ℕ) → GrowsBy log (after_give_back settings log c facts now)

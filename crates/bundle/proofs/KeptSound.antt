@@ -1,5 +1,5 @@
 -- What a call answers is a sound and quiet log, where the log before it is.
-use Rattle.std.proofs.Common.{◌≡◌, ℕ, zero, suc, ◌+◌, ◌<◌, ◌≤◌, Bool, true, false, not, ◌&&◌, ◌||◌, List, [], ◌∷◌, length, filter, Option, Some, None, is_some, refl, sym, ap, subst, inl, inr, ◌∙◌, arith}
+use Rattle.std.proofs.Common.{◌≡◌, ℕ, ◌+◌, ◌<◌, ◌≤◌, Bool, true, false, not, ◌&&◌, ◌||◌, List, [], ◌∷◌, length, filter, Option, Some, None, is_some, refl, sym, ap, subst, inl, inr, ◌∙◌, arith}
 use Rattle.std.specs.Prelude.{◌==◌, if◌then◌else◌}
 use Rattle.std.specs.Option.{option_map_or}
 use Rattle.std.specs.List.{list_any}
@@ -9,20 +9,23 @@ use Rattle.persistence.specs.declared.facts.Facts.{Facts}
 use Rattle.persistence.specs.Persistent.{is_persistent}
 use Rattle.conn_log.specs.declared.entry.Want.{Want}
 use Rattle.conn_log.specs.declared.entry.Cause.{Cause}
-use Rattle.conn_log.specs.declared.entry.Cause.TheVariants.{TooOld, HostRoom, TotalRoom, Dropped, Withdrawn}
+use Rattle.conn_log.specs.declared.entry.Cause.TheVariants.{TooOld as ForAge, HostRoom, TotalRoom, Dropped, Withdrawn}
 use Rattle.conn_log.specs.declared.entry.Event.TheVariants.{Leased, Returned, Closed, Waited, Left}
 use Rattle.conn_log.specs.declared.entry.Entry.{Entry}
 use Rattle.conn_log.specs.Connections.{last_moment, open_connections, idle_connections, is_among, is_idle, holds, holder_want, held_number}
 use Rattle.conn_log.specs.Waiting.{waiting, waits, without}
-use Rattle.conn_log.specs.Fit.{suits, is_fit, is_idle_longer, first_by, newest_fit, is_too_old_in_lane, oldest_too_old, oldest}
-use Rattle.conn_log.specs.Legal.{LimitAndFirst, ends_use, ending_cause, owed, IsAnyone, IsQuiet}
-use Rattle.conn_log.specs.Sound.{IsSound, IsNextAmong, IsNext, is_of_holder, is_of_idle, has_number}
-use Rattle.conn_log.proofs.Numbers.{is_among-filter}
-use Rattle.conn_log.proofs.Steps.{IsGone, idle_open_unheld, fewer_open, fewer_idle, as_many_idle, as_many_idle_open, more_open, more_idle, fewer_idle_lease, gone_closed, gone_ended, is_idle_is}
+use Rattle.conn_log.specs.Fit.{suits, is_fit, is_idle_longer, first_by, newest_fit, is_too_old_in_lane, idle_in_order, oldest}
+use Rattle.conn_log.specs.Legal.{LimitAndFirst, limit_in_force, ends_use, ending_cause, owed, IsAnyone, IsQuiet}
+use Rattle.conn_log.specs.Sound.{AreDistinct, IsSound, IsNextAmong, IsNext, is_of_holder, is_of_idle, has_number}
+use Rattle.conn_log.proofs.Numbers.{is_among-filter, parted}
+use Rattle.conn_log.proofs.Sorted.{distinct-filter}
+use Rattle.conn_log.proofs.Order.{among_idle_in_order, distinct_idle_in_order}
+use Rattle.conn_log.proofs.Steps.{IsGone, idle_open_unheld, fewer_open, fewer_idle, as_many_idle, as_many_idle_open, more_open, more_idle, fewer_idle_lease, gone_closed, gone_ended, is_idle_is, is_open_is}
 use Rattle.conn_log.proofs.Firsts.{first_among}
 use Rattle.conn_log.proofs.Soundness.{and_left, holds_is, next_free, next_is_new, quiet, sound_open, sound_lease, sound_return, sound_end, sound_drop, sound_wait, sound_leave, sound_close, idle_may_close}
 use Rattle.bundle.specs.declared.refusal.Refusal.TheVariants.{TransferBusy, Exhausted}
-use Rattle.host_state.specs.Steps.{moment_at, add, close_before, close_too_old, without_too_old, is_full, is_exhausted, close_for_room, next_number}
+use Rattle.host_state.specs.declared.closing.Closing.TheVariants.{TooOld}
+use Rattle.host_state.specs.Steps.{moment_at, add, close_each, without_picked, is_full, is_exhausted, close_for_room, next_number}
 use Rattle.bundle.specs.Calls.{with_start, is_busy, start_new, start_or_wait, start_on, start_unless, after_acquire, open_for, open_for_head, unfit_cause, pass_to, settle, after_give_back, after_close, after_abandon, close_granted, after_withdraw, refusal}
 use Rattle.bundle.specs.Laws.{IsSoundAndQuiet}
 
@@ -56,7 +59,7 @@ none_first goes_before [] is = refl
 none_first goes_before (c ∷ numbers) is = absurd (cc)
 
 -- a log is quiet where nothing is idle and the host is at its limit
-quiet_full : (settings : LimitAndFirst) (log : List Entry) → idle_connections log ≡ [] → length (open_connections log) ≡ settings.limit → owed log ≡ None → IsQuiet settings false log
+quiet_full : (settings : LimitAndFirst) (log : List Entry) → idle_connections log ≡ [] → length (open_connections log) ≡ limit_in_force settings log → owed log ≡ None → IsQuiet settings false log
 quiet_full settings log none full settled = record {
   none_idle = λ anyone. none;
   no_room = λ anyone. inl full;
@@ -67,7 +70,7 @@ quiet_full settings log none full settled = record {
 -- where one waits in a quiet log, nothing is idle and the host is at its limit
 pub record IsCrowded (settings : LimitAndFirst) (log : List Entry) : Type 0 where
   pub none_idle : idle_connections log ≡ []
-  pub full : length (open_connections log) ≡ settings.limit
+  pub full : length (open_connections log) ≡ limit_in_force settings log
 
 pub crowded : (settings : LimitAndFirst) (log : List Entry) → IsQuiet settings false log → IsAnyone (waiting log) → IsCrowded settings log
 crowded settings log calm anyone = record {
@@ -118,13 +121,13 @@ module _ (settings : LimitAndFirst) (log : List Entry) (sound : IsSound settings
   -- one is opened for the next to start, where the host has room
   open_with_room : (want : Want) (moment : ℕ) → last_moment log ≤ moment → IsNext log want → is_full settings log ≡ false → IsSound settings (start_new settings want moment log)
   open_with_room want moment le next room =
-      sound_open settings log sound moment le (next_number settings log) want refl (not_full_is (length (open_connections log)) settings.limit room sound.orderly.within) next
+      sound_open settings log sound moment le (next_number settings log) want refl (not_full_is (length (open_connections log)) (limit_in_force settings log) room sound.orderly.within) next
 
   -- one is opened for the first that waits, where nothing is idle and one fewer is open than may be
-  head_opened : (moment : ℕ) → last_moment log ≤ moment → (head : Want) (others : List Want) → waiting log ≡ head ∷ others → idle_connections log ≡ [] → length (open_connections log) + 1 ≡ settings.limit → IsSoundAndQuiet settings (start_new settings head moment log)
+  head_opened : (moment : ℕ) → last_moment log ≤ moment → (head : Want) (others : List Want) → waiting log ≡ head ∷ others → idle_connections log ≡ [] → length (open_connections log) + 1 ≡ limit_in_force settings log → IsSoundAndQuiet settings (start_new settings head moment log)
   head_opened moment le head others is none one_fewer =
       let next = head_is_next log head others is in
-      let room : length (open_connections log) < settings.limit = omega (arith, one_fewer) in
+      let room : length (open_connections log) < limit_in_force settings log = omega (arith, one_fewer) in
       let new = next_is_new settings log sound.orderly (next_number settings log) refl in
       let free = next_free settings log sound.orderly head next in
       let as_many = as_many_idle_open settings log sound.orderly moment (next_number settings log) head new free room in
@@ -136,7 +139,7 @@ module _ (settings : LimitAndFirst) (log : List Entry) (sound : IsSound settings
       }
 
   -- one is opened for the first that waits, if one does
-  opened_for_head : (moment : ℕ) → last_moment log ≤ moment → ((head : Want) (others : List Want) → waiting log ≡ head ∷ others → (idle_connections log ≡ []) × (length (open_connections log) + 1 ≡ settings.limit)) → IsSoundAndQuiet settings (open_for_head settings moment log)
+  opened_for_head : (moment : ℕ) → last_moment log ≤ moment → ((head : Want) (others : List Want) → waiting log ≡ head ∷ others → (idle_connections log ≡ []) × (length (open_connections log) + 1 ≡ limit_in_force settings log)) → IsSoundAndQuiet settings (open_for_head settings moment log)
   opened_for_head moment le place = by_queue (waiting log) refl
     where
       by_queue : (wants : List Want) → waiting log ≡ wants → IsSoundAndQuiet settings (open_for settings moment log wants)
@@ -150,16 +153,41 @@ pub record AfterClosing (settings : LimitAndFirst) (moment transfer : ℕ) (afte
   pub free : held_number after transfer ≡ None
   pub nobody : waiting after ≡ []
 
-pub closing_keeps : (settings : LimitAndFirst) (want : Want) (moment transfer : ℕ) (n : ℕ) (log : List Entry) → AfterClosing settings moment transfer log → AfterClosing settings moment transfer (close_too_old n want moment log)
-closing_keeps settings want moment transfer zero log before = before
-closing_keeps settings want moment transfer (suc n) log before = by_first (oldest_too_old log want moment) refl (λ c idle. closing_keeps settings want moment transfer n (add moment (Closed c TooOld) log) (record { sound = sound_close settings log before.sound moment before.later c TooOld (before.sound.settled, idle) idle; later = omega arith; free = still_free settings log before.sound moment c TooOld transfer idle before.free; nobody = before.nobody }))
-  where
-    among_idle : (goes_before : ℕ → ℕ → Bool) (test : ℕ → Bool) (c : ℕ) → first_by goes_before (filter test (idle_connections log)) ≡ Some c → is_idle log c ≡ true
-    among_idle goes_before test c is = and_left (is_idle log c) (test c) (sym (is_among-filter test c (idle_connections log)) ∙ first_among goes_before (filter test (idle_connections log)) c is)
+-- these are idle connections, each once
+pub record AreIdle (log : List Entry) (numbers : List ℕ) : Type 0 where
+  pub distinct : AreDistinct numbers
+  pub idle : (c : ℕ) → is_among c numbers ≡ true → is_idle log c ≡ true
 
-    by_first : (first : Option ℕ) → oldest_too_old log want moment ≡ first → ((c : ℕ) → is_idle log c ≡ true → AfterClosing settings moment transfer (close_too_old n want moment (add moment (Closed c TooOld) log))) → AfterClosing settings moment transfer (close_before moment log first (close_too_old n want moment))
-    by_first None is rest = before
-    by_first (Some c) is rest = rest c (among_idle (is_idle_longer log) (is_too_old_in_lane log want moment) c is)
+-- the idle ones that pass a test are
+pub passing_idle : (settings : LimitAndFirst) (log : List Entry) → IsSound settings log → (test : ℕ → Bool) → AreIdle log (filter test (idle_in_order log))
+passing_idle settings log sound test = record {
+  distinct = distinct-filter test (idle_in_order log) (distinct_idle_in_order log sound.orderly.distinct);
+  idle = λ c among. sym (among_idle_in_order log c) ∙ and_left (is_among c (idle_in_order log)) (test c) (sym (is_among-filter test c (idle_in_order log)) ∙ among);
+}
+
+-- and those that are left once one is closed
+pub left_idle : (moment c : ℕ) (cause : Cause) (log : List Entry) (numbers : List ℕ) → AreIdle log (c ∷ numbers) → AreIdle (add moment (Closed c cause) log) numbers
+left_idle moment c cause log numbers are = record {
+  distinct = are.distinct.1;
+  idle = λ d among.
+      let apart = parted c d numbers are.distinct.0 among in
+      let was : is_idle log d ≡ true = are.idle d (grind (arith, among)) in
+      grind (arith, nat_tests, apart, was, is_idle_is (add moment (Closed c cause) log) d, is_open_is (add moment (Closed c cause) log) d, is_idle_is log d, is_open_is log d);
+}
+
+pub first_idle : (log : List Entry) (c : ℕ) (numbers : List ℕ) → AreIdle log (c ∷ numbers) → is_idle log c ≡ true
+first_idle log c numbers are = are.idle c (grind (arith, nat_tests))
+
+pub closing_keeps : (settings : LimitAndFirst) (cause : Cause) → is_of_idle cause ≡ true → (moment transfer : ℕ) (numbers : List ℕ) (log : List Entry) → AreIdle log numbers → AfterClosing settings moment transfer log → AfterClosing settings moment transfer (close_each cause moment numbers log)
+closing_keeps settings cause fits moment transfer [] log are before = before
+closing_keeps settings cause fits moment transfer (c ∷ numbers) log are before =
+    let idle = first_idle log c numbers are in
+    closing_keeps settings cause fits moment transfer numbers (add moment (Closed c cause) log) (left_idle moment c cause log numbers are) (record {
+      sound = sound_close settings log before.sound moment before.later c cause (idle_may_close log c cause fits before.sound.settled idle) idle;
+      later = omega arith;
+      free = still_free settings log before.sound moment c cause transfer idle before.free;
+      nobody = before.nobody;
+    })
 
 -- the log after a start where nobody waited
 pub nobody_after : (settings : LimitAndFirst) (after : List Entry) → IsSound settings after → waiting after ≡ [] → IsSoundAndQuiet settings after
@@ -186,7 +214,7 @@ kept_start settings want m log before new = by_fit (newest_fit log want m) refl
     with_room true is None none =
         let no_idle = none_first (is_idle_longer log) (idle_connections log) none in
         let after = sound_wait settings log before.sound m before.later want before.free new no_idle in
-        or_else settings (is_full settings log) (add m (Waited want) log) (start_new settings want m log) is (record { sound = after; quiet = quiet_full settings (add m (Waited want) log) no_idle (full_is (length (open_connections log)) settings.limit is) after.settled })
+        or_else settings (is_full settings log) (add m (Waited want) log) (start_new settings want m log) is (record { sound = after; quiet = quiet_full settings (add m (Waited want) log) no_idle (full_is (length (open_connections log)) (limit_in_force settings log) is) after.settled })
     with_room true is (Some c) first_is =
         let idle = first_among (is_idle_longer log) (idle_connections log) c first_is in
         starts_new (add m (Closed c HostRoom) log) (sound_close settings log before.sound m before.later c HostRoom (before.sound.settled, idle) idle) (omega arith) before.nobody (still_free settings log before.sound m c HostRoom want.transfer idle before.free) (not_full_after settings log before.sound m c HostRoom idle)
@@ -203,7 +231,7 @@ pub kept_acquire : (settings : LimitAndFirst) (log : List Entry) (want : Want) (
 kept_acquire settings log want now kept allowed = by_queue (waiting log) refl
   where
     neither_yet : (holds log want.transfer ≡ false) × (waits log want.transfer ≡ false)
-    neither_yet = neither (holds log want.transfer) (waits log want.transfer) (not_refused (is_busy log want.transfer) (is_exhausted settings log) allowed)
+    neither_yet = neither (holds log want.transfer) (waits log want.transfer) (not_refused (is_busy log want.transfer) (is_exhausted settings log 0) allowed)
 
     free : held_number log want.transfer ≡ None
     free = free_of settings log kept.sound want.transfer neither_yet.0
@@ -212,8 +240,8 @@ kept_acquire settings log want now kept allowed = by_queue (waiting log) refl
     by_queue [] is =
         let m = moment_at log now in
         let before : AfterClosing settings m want.transfer log = record { sound = kept.sound; later = later log now; free = free; nobody = is } in
-        let closed = closing_keeps settings want m want.transfer (length (idle_connections log)) log before in
-        kept_start settings want m (without_too_old want m log) closed (none_waits (without_too_old want m log) want.transfer closed.nobody)
+        let closed = closing_keeps settings ForAge refl m want.transfer (filter (is_too_old_in_lane log want m) (idle_in_order log)) log (passing_idle settings log kept.sound (is_too_old_in_lane log want m)) before in
+        kept_start settings want m (without_picked (TooOld want) m log) closed (none_waits (without_picked (TooOld want) m log) want.transfer closed.nobody)
     by_queue (head ∷ others) is =
         let m = moment_at log now in
         let before = crowded settings log kept.quiet (someone log head others is) in
@@ -232,17 +260,17 @@ held_want settings log sound transfer c held = seen (holder_want log c) refl (so
 kept_gone : (settings : LimitAndFirst) (log : List Entry) → IsSoundAndQuiet settings log → (c : ℕ) → is_some (holder_want log c) ≡ true → (after : List Entry) → IsGone c log after → IsSound settings after → (m : ℕ) → last_moment after ≤ m → IsSoundAndQuiet settings (open_for_head settings m after)
 kept_gone settings log kept c held after gone sound m le = opened_for_head settings after sound m le place
   where
-    place : (head : Want) (others : List Want) → waiting after ≡ head ∷ others → (idle_connections after ≡ []) × (length (open_connections after) + 1 ≡ settings.limit)
+    place : (head : Want) (others : List Want) → waiting after ≡ head ∷ others → (idle_connections after ≡ []) × (length (open_connections after) + 1 ≡ limit_in_force settings after)
     place head others is =
         let before = crowded settings log kept.quiet (someone log head others (sym gone.waiting ∙ is)) in
         let as_many = as_many_idle settings log kept.sound.orderly c after gone held in
         let fewer = fewer_open settings log kept.sound.orderly c after gone (kept.sound.orderly.held_open c held) in
-        (no_length _ (as_many ∙ ap length before.none_idle), sym fewer ∙ before.full)
+        (no_length _ (as_many ∙ ap length before.none_idle), sym fewer ∙ before.full ∙ sym (gone.limit settings))
 
 -- what was held came back and is the only idle one, while someone waits
 pub record IsOnlyIdle (settings : LimitAndFirst) (after : List Entry) (c : ℕ) : Type 0 where
   pub only : idle_connections after ≡ c ∷ []
-  pub full : length (open_connections after) ≡ settings.limit
+  pub full : length (open_connections after) ≡ limit_in_force settings after
 
 pub only_idle : (settings : LimitAndFirst) (log : List Entry) → IsSoundAndQuiet settings log → (c : ℕ) → is_some (holder_want log c) ≡ true → (m : ℕ) (facts : Facts) → IsAnyone (waiting log) → is_persistent facts ≡ true → IsOnlyIdle settings (add m (Returned c facts) log) c
 only_idle settings log kept c held m facts anyone persists =
@@ -253,7 +281,7 @@ only_idle settings log kept c held m facts anyone persists =
     let there : is_idle (add m (Returned c facts) log) c ≡ true = grind (arith, nat_tests, is_idle_is (add m (Returned c facts) log) c, was_open) in
     record { only = only_one _ c one there; full = before.full }
 
-unfit_of_idle : (too_old full : Bool) → is_of_idle (if too_old then TooOld else (if full then HostRoom else TotalRoom)) ≡ true
+unfit_of_idle : (too_old full : Bool) → is_of_idle (if too_old then ForAge else (if full then HostRoom else TotalRoom)) ≡ true
 unfit_of_idle true full = refl
 unfit_of_idle false true = refl
 unfit_of_idle false false = refl

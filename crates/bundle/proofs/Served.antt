@@ -5,7 +5,7 @@ use mathlib.Core.Bool.{false≢true}
 use Rattle.std.proofs.lemmas.Bool.Decides.{nat_tests}
 use Rattle.conn_log.specs.declared.entry.Want.{Want}
 use Rattle.conn_log.specs.declared.entry.Cause.{Cause}
-use Rattle.conn_log.specs.declared.entry.Cause.TheVariants.{TooOld, HostRoom, TotalRoom}
+use Rattle.conn_log.specs.declared.entry.Cause.TheVariants.{TooOld as ForAge, HostRoom, TotalRoom}
 use Rattle.conn_log.specs.declared.entry.Event.TheVariants.{Opened, Leased, Closed, Waited}
 use Rattle.conn_log.specs.declared.entry.Entry.{Entry}
 use Rattle.conn_log.specs.Connections.{last_moment, is_among, is_idle, idle_connections, holder_want, born}
@@ -17,7 +17,8 @@ use Rattle.conn_log.proofs.Steps.{idle_open_unheld, new_not_held, unheld}
 use Rattle.conn_log.proofs.Soundness.{next_is_new, idle_may_close, sound_close}
 use Rattle.bundle.specs.declared.grant.Grant.{Grant}
 use Rattle.host_state.specs.declared.held.Held.{Held}
-use Rattle.host_state.specs.Steps.{add, next_number, without_too_old, with_host_room, is_full}
+use Rattle.host_state.specs.declared.closing.Closing.TheVariants.{TooOld}
+use Rattle.host_state.specs.Steps.{add, next_number, without_picked, with_host_room, is_full}
 use Rattle.bundle.specs.Calls.{start_new, start_or_wait, start_on, with_start, start_unless, open_for, open_for_head, unfit_cause, pass_to}
 use Rattle.host_state.specs.Idle.{stream_of}
 use Rattle.bundle.specs.Grants.{with_new, with_passed, GrantsKept, IsAlone}
@@ -30,7 +31,7 @@ pub waited_behind : (settings : LimitAndFirst) (want : Want) (m : ℕ) (log afte
 waited_behind settings want m log after [] anyone is = absurd anyone
 waited_behind settings want m log after (head ∷ others) anyone is = is
 
-module _ (settings : LimitAndFirst) (want : Want) (m : ℕ) (log young : List Entry) (nobody : waiting log ≡ []) (closed : young ≡ without_too_old want m log) where
+module _ (settings : LimitAndFirst) (want : Want) (m : ℕ) (log young : List Entry) (nobody : waiting log ≡ []) (closed : young ≡ without_picked (TooOld want) m log) where
   start_is : start_on settings want m young (newest_fit young want m) ≡ start_unless (waiting log) settings want m log
   start_is = ap (with_start settings want m) closed ∙ sym (ap (λ wants. start_unless wants settings want m log) nobody)
 
@@ -93,10 +94,10 @@ alone_oldest log c d alone is =
     cc
 
 -- why it is closed, in the words of what is kept of it
-pub unfit_by : (settings : LimitAndFirst) (log : List Entry) (held : Held) (head : Want) (m : ℕ) → IsAlone log held m → unfit_cause settings log head m held.number ≡ (if (held.lane == head.lane) && not head.fresh && is_older m held.born head.max_age head.max_life m then TooOld else (if is_full settings log then HostRoom else TotalRoom))
+pub unfit_by : (settings : LimitAndFirst) (log : List Entry) (held : Held) (head : Want) (m : ℕ) → IsAlone log held m → unfit_cause settings log head m held.number ≡ (if (held.lane == head.lane) && not head.fresh && is_older m held.born head.max_age head.max_life m then ForAge else (if is_full settings log then HostRoom else TotalRoom))
 unfit_by settings log held head m alone =
     let same : is_too_old_in_lane log head m held.number ≡ ((held.lane == head.lane) && not head.fresh && is_older m held.born head.max_age head.max_life m) = grind (arith, ap (λ (n : ℕ). n == head.lane) alone.lane, ap (λ (n : ℕ). is_older n (born log held.number) head.max_age head.max_life m) alone.since, ap (λ (n : ℕ). is_older m n head.max_age head.max_life m) alone.born) in
-    ap (λ b. if b then TooOld else (if is_full settings log then HostRoom else TotalRoom)) same
+    ap (λ b. if b then ForAge else (if is_full settings log then HostRoom else TotalRoom)) same
 
 -- where nobody waits nothing is opened or passed on; else one is opened for the first that waits
 pub nobody_opened : (settings : LimitAndFirst) (m : ℕ) (log : List Entry) → waiting log ≡ [] → log ≡ open_for_head settings m log

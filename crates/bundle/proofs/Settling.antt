@@ -13,7 +13,7 @@ use Rattle.conn_log.specs.declared.entry.Event.TheVariants.{Returned, Closed, Le
 use Rattle.conn_log.specs.declared.entry.Entry.{Entry}
 use Rattle.conn_log.specs.Connections.{is_open, open_connections, idle_connections, held_number, holder_want}
 use Rattle.conn_log.specs.Waiting.{waiting, waits}
-use Rattle.conn_log.specs.Legal.{LimitAndFirst, IsAnyone, ends_use, ending_cause, owed, owed_for}
+use Rattle.conn_log.specs.Legal.{LimitAndFirst, limit_in_force, IsAnyone, ends_use, ending_cause, owed, owed_for}
 use Rattle.conn_log.specs.Sound.{IsOrderly, IsSound, is_of_holder, held_facts}
 use Rattle.conn_log.proofs.Steps.{IsGone, gone_closed, gone_ended, fewer_open}
 use Rattle.conn_log.proofs.Soundness.{sound_return, sound_end, sound_drop}
@@ -37,7 +37,7 @@ pub room_gone : (settings : LimitAndFirst) (log : List Entry) → IsSoundAndQuie
 room_gone settings log kept c held after gone anyone =
     let before = crowded settings log kept.quiet (subst IsAnyone gone.waiting anyone) in
     let fewer = fewer_open settings log kept.sound.orderly c after gone (kept.sound.orderly.held_open c held) in
-    differs (length (open_connections after)) settings.limit (omega (arith, fewer, before.full))
+    differs (length (open_connections after)) (limit_in_force settings after) (omega (arith, fewer, before.full))
   where
     differs : (a b : ℕ) → a < b → (a == b) ≡ false
     differs a b lt = grind (arith, nat_tests, lt)

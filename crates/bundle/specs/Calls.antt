@@ -5,7 +5,7 @@ use Rattle.std.specs.Prelude.{◌≡◌, ℕ, Bool, true, false, not, ◌==◌, 
 use Rattle.persistence.specs.declared.facts.Facts.{Facts}
 use Rattle.conn_log.specs.declared.entry.Want.{Want}
 use Rattle.conn_log.specs.declared.entry.Cause.{Cause}
-use Rattle.conn_log.specs.declared.entry.Cause.TheVariants.{TooOld, HostRoom, TotalRoom, Dropped, Withdrawn}
+use Rattle.conn_log.specs.declared.entry.Cause.TheVariants.{TooOld as ForAge, HostRoom, TotalRoom, Dropped, Withdrawn}
 use Rattle.conn_log.specs.declared.entry.Event.{Event}
 use Rattle.conn_log.specs.declared.entry.Event.TheVariants.{Opened, Leased, Returned, Closed, Waited, Left}
 use Rattle.conn_log.specs.declared.entry.Entry.{Entry}
@@ -13,7 +13,8 @@ use Rattle.conn_log.specs.Connections.{holds, is_held_by, held_number}
 use Rattle.conn_log.specs.Waiting.{waiting, waits}
 use Rattle.conn_log.specs.Fit.{is_fit, newest_fit, is_too_old_in_lane}
 use Rattle.conn_log.specs.Legal.{LimitAndFirst, owed}
-use Rattle.host_state.specs.Steps.{moment_at, add, next_number, is_full, is_exhausted, without_too_old, with_host_room}
+use Rattle.host_state.specs.Steps.{moment_at, add, next_number, is_full, is_exhausted, without_picked, with_host_room}
+use Rattle.host_state.specs.declared.closing.Closing.TheVariants.{TooOld}
 use Rattle.bundle.specs.declared.refusal.Refusal.{Refusal}
 use Rattle.bundle.specs.declared.refusal.Refusal.TheVariants.{TransferBusy, Exhausted}
 
@@ -35,7 +36,7 @@ with_start settings want moment log = start_on settings want moment log (newest_
 
 -- where others wait the transfer waits after them; else it starts, once what is too old is closed
 abbrev pub start_unless : List Want → LimitAndFirst → Want → ℕ → List Entry → List Entry
-start_unless [] settings want moment log = with_start settings want moment (without_too_old want moment log)
+start_unless [] settings want moment log = with_start settings want moment (without_picked (TooOld want) moment log)
 start_unless (head ∷ others) settings want moment log = add moment (Waited want) log
 
 -- the log after an acquire that is not refused
@@ -52,7 +53,7 @@ open_for_head settings moment log = open_for settings moment log (waiting log)
 
 -- why a connection that came back is closed where it does not fit the first transfer that waits
 abbrev pub unfit_cause : LimitAndFirst → List Entry → Want → ℕ → ℕ → Cause
-unfit_cause settings log head moment c = if is_too_old_in_lane log head moment c then TooOld else (if is_full settings log then HostRoom else TotalRoom)
+unfit_cause settings log head moment c = if is_too_old_in_lane log head moment c then ForAge else (if is_full settings log then HostRoom else TotalRoom)
 
 -- a connection that came back goes to the first transfer that waits, where it fits; where it does not,
 -- it is closed and one is opened for that transfer; where nobody waits it is idle
@@ -97,7 +98,7 @@ is_busy log transfer = holds log transfer || waits log transfer
 abbrev pub refusal : LimitAndFirst → List Entry → Want → Option Refusal
 refusal settings log want =
     if is_busy log want.transfer then Some TransferBusy else (
-    if is_exhausted settings log then Some Exhausted else None)
+    if is_exhausted settings log 0 then Some Exhausted else None)
 
 -- a stranger: a lease of a connection that the log does not show held by that transfer
 abbrev pub is_stranger : List Entry → ℕ → ℕ → Bool

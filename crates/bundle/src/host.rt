@@ -6,7 +6,7 @@ ghost use Rattle.conn_log.specs.Connections.{is_open, is_held_by, held_number, o
 ghost use Rattle.conn_log.specs.Connections.{idle_connections};
 ghost use Rattle.conn_log.specs.Waiting.{waiting, waits};
 ghost use Rattle.conn_log.specs.Fit.{oldest_stamp};
-ghost use Rattle.conn_log.specs.Legal.{IsLegal, IsQuiet};
+ghost use Rattle.conn_log.specs.Legal.{IsLegal, IsQuiet, limit_in_force};
 ghost use Rattle.conn_log.specs.Sound.{IsSound};
 ghost use Rattle.host_state.specs.Steps.{is_exhausted};
 ghost use Rattle.bundle.specs.Calls.{after_acquire, after_give_back, after_abandon, after_withdraw};
@@ -28,7 +28,7 @@ use crate::serving::{open_for_head, pass_to_head, start_or_wait};
 use crate::snapshot::Snapshot;
 use crate::ticket::Ticket;
 use conn_log::{Cause, Log, Stamp, Want};
-use host_state::State;
+use host_state::{Returned, State};
 use persistence::Facts;
 use std::alloc::Global;
 use std::marker::Model;
@@ -97,7 +97,8 @@ impl<S: Drop> Bundle<S> {
         ensures sound { IsSound self.now.settings self.now.log }
         ensures legal { IsLegal self.now.settings self.now.log }
         ensures quiet { IsQuiet self.now.settings false self.now.log }
-        ensures within { length (open_connections self.now.log) ≤ self.now.settings.limit }
+        ensures within { let most = limit_in_force self.now.settings self.now.log in
+            length (open_connections self.now.log) ≤ most }
         ensures room { HasRoomToSpend self.now.log result.now.room }
         ensures streams { HasItsStreams self.now }
         ensures unclaimed { UnclaimedAreHeld self.now }
@@ -263,21 +264,21 @@ impl<S: Drop> Bundle<S> {
         let stream = lease.detach();
         match self
             .state
-            .give_back(transfer, number, facts, stream, moment)
+            .give_back(transfer, number, facts, stream, moment, true)
         {
-            Ok(Some(held)) => {
+            Returned::Idle(held) => {
                 let _ = lease.into_stream();
                 let _ = take_grant(&mut self.grants, transfer);
                 pass_to_head(&mut self.state, &mut self.grants, &held, moment);
                 Ok(())
             }
-            Ok(None) => {
+            Returned::Ended => {
                 let _ = lease.into_stream();
                 let _ = take_grant(&mut self.grants, transfer);
                 open_for_head(&mut self.state, &mut self.grants, moment);
                 Ok(())
             }
-            Err(stream) => {
+            Returned::Unkept(stream) | Returned::Strange(stream) => {
                 lease.attach(stream);
                 Err(Stray::new(lease))
             }
@@ -353,10 +354,11 @@ impl<S: Drop> Bundle<S> {
 
 // Why the log is against an acquire, if it is.
 fn reason_against<S: Drop>(state: &State<S>, want: &Want) -> Option<Refusal>
+    requires none { state.now.booked ≡ 0 }
     ensures reason { result ≡ refusal state.now.settings state.now.log want.now }
     ensures free { IfNone result (held_number state.now.log want.now.transfer ≡ None) }
     ensures once { IfNone result (waits state.now.log want.now.transfer ≡ false) }
-    ensures number { IfNone result (is_exhausted state.now.settings state.now.log ≡ false) }
+    ensures number { IfNone result (is_exhausted state.now.settings state.now.log 0 ≡ false) }
 {
     if state.holds(want.transfer) || state.waits(want.transfer) {
         return Some(Refusal::TransferBusy);

@@ -7,21 +7,21 @@ ghost use Rattle.conn_log.specs.Connections.{last_moment, held_number, is_open, 
 ghost use Rattle.conn_log.specs.Waiting.{waiting, waits};
 ghost use Rattle.conn_log.specs.Fit.{is_older};
 ghost use Rattle.conn_log.specs.Legal.{IsAnyone};
-ghost use Rattle.host_state.specs.Steps.{add, is_full};
+ghost use Rattle.host_state.specs.Steps.{add, is_full, without_picked};
 ghost use Rattle.bundle.specs.Calls.{start_unless, pass_to, open_for_head, newest_start};
 ghost use Rattle.bundle.specs.Calls.{newest_wait};
 ghost use Rattle.bundle.specs.Grants.{with_new, with_passed, IsAlone, HasSpare};
 ghost use Rattle.bundle.specs.Lease.{IsLeaseOf, IsTicketOf, HasItsStream};
 ghost use Rattle.host_state.specs.Idle.{stream_of};
 ghost use Rattle.bundle.specs.Replies.{GivesLease, GivesTicket};
-ghost use Rattle.host_state.specs.State.{IsSameHost, KeepsOpen, KeepsOpenBut};
+ghost use Rattle.host_state.specs.State.{IsSameHost, KeepsOpen, KeepsOpenBut, ClosesIdle};
 
 use crate::answers::Got;
 use crate::grant::Grant;
 use crate::lease::Lease;
 use crate::ticket::Ticket;
 use conn_log::{Cause, Want};
-use host_state::{Held, State};
+use host_state::{Closing, Held, State};
 
 /// Starts the transfer on the newest idle connection that fits, or on a new one; where others wait,
 /// or the host has no room, it waits.
@@ -47,7 +47,7 @@ pub(crate) fn start_or_wait<S: Drop>(state: &mut State<S>, want: Want, moment: u
     if state.anyone_waits() {
         return Got::Wait(wait_last(state, want, moment));
     }
-    state.close_too_old(&want, moment);
+    close_idle(state, &Closing::TooOld(want), moment);
     if let Some((number, stream)) = state.lease_newest_fit(&want, moment) {
         return Got::Lease(Lease::reusing(state.host(), number, want, moment, stream));
     }
@@ -57,6 +57,16 @@ pub(crate) fn start_or_wait<S: Drop>(state: &mut State<S>, want: Want, moment: u
     }
     let number = state.open(&want, moment);
     Got::Lease(Lease::opened(state.host(), number, want, moment))
+}
+
+// Closes the idle connections that the closing picks, the one idle for the longest first.
+#[inline(always)]
+fn close_idle<S: Drop>(state: &mut State<S>, closing: &Closing, moment: u64)
+    requires { last_moment state.old.log ≤ moment }
+    ensures log { state.new.log ≡ without_picked closing.now moment state.old.log }
+    ensures closes { ClosesIdle moment state.old state.new }
+{
+    while state.close_next(closing, moment) {}
 }
 
 // The transfer waits after all others.

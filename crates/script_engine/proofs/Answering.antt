@@ -2,7 +2,7 @@
 use Rattle.std.proofs.Common.{◌≡◌, ℕ, Bool, true, false, cond, List, [], ◌∷◌, length, drop, reverse, flat_map, refl, ap, sym, ◌∙◌, Option, Some, None, inl, inr, IfSome, Result, Ok, Err, is_some}
 use Rattle.std.specs.Option.{option_map}
 use Rattle.conn_log.specs.declared.entry.Event.{Event}
-use Rattle.conn_log.specs.declared.entry.Event.TheVariants.{Opened, Leased, Returned, Closed, Waited, Left}
+use Rattle.conn_log.specs.declared.entry.Event.TheVariants.{Opened, Leased, Returned, Closed, Waited, Left, Limit}
 use Rattle.conn_log.specs.declared.entry.Entry.{Entry}
 use Rattle.conn_log.specs.declared.entry.Want.{Want}
 use Rattle.conn_log.specs.Connections.{is_among, held_number}
@@ -11,7 +11,8 @@ use Rattle.conn_log.specs.Legal.{LimitAndFirst}
 use Rattle.conn_log.specs.Fit.{newest_fit}
 use Rattle.bundle.specs.declared.refusal.Refusal.{Refusal}
 use Rattle.bundle.specs.declared.snapshot.Snapshot.{Snapshot}
-use Rattle.host_state.specs.Steps.{without_too_old, with_host_room, is_full, next_number, moment_at}
+use Rattle.host_state.specs.declared.closing.Closing.TheVariants.{TooOld}
+use Rattle.host_state.specs.Steps.{without_picked, with_host_room, is_full, next_number, moment_at}
 use Rattle.bundle.specs.Calls.{after_acquire, after_give_back, after_abandon, refusal, start_on, start_unless, Start, start_by, newest_start, Wait, wait_by, newest_wait}
 use Rattle.bundle.specs.Lease.{HostShown, Leasing, lease_number, snapshot_of}
 use Rattle.script_text.specs.declared.command.Action.{Action}
@@ -69,6 +70,7 @@ no-wait moment (Returned c facts) start e = refl
 no-wait moment (Closed c cause) start e = refl
 no-wait moment (Waited want) start e = cc
 no-wait moment (Left transfer) start e = refl
+no-wait moment (Limit n) start e = refl
 
 started-no-wait : (log : List Entry) (start : Start) → newest_start log ≡ Some start → newest_wait log ≡ None
 started-no-wait [] start e = refl
@@ -122,7 +124,7 @@ acquired-of settings log want now = by_waiting (waiting log)
     moment = moment_at log now
 
     by_waiting : (wants : List Want) → IsOf want (start_unless wants settings want moment log)
-    by_waiting [] = let closed = without_too_old want moment log in start-of settings want moment closed (newest_fit closed want moment)
+    by_waiting [] = let closed = without_picked (TooOld want) moment log in start-of settings want moment closed (newest_fit closed want moment)
     by_waiting (head ∷ others) = waited-of want moment log
 
 -- back and drop

@@ -8,7 +8,7 @@ use Rattle.std.specs.Prelude.{codes}
 use Rattle.std.specs.List.{list_all}
 use Rattle.std.specs.Fmt.{decimal}
 use Rattle.conn_log.specs.declared.entry.Event.{Event}
-use Rattle.conn_log.specs.declared.entry.Event.TheVariants.{Opened, Leased, Returned, Closed, Waited, Left}
+use Rattle.conn_log.specs.declared.entry.Event.TheVariants.{Opened, Leased, Returned, Closed, Waited, Left, Limit}
 use Rattle.conn_log.specs.declared.entry.Cause.{Cause}
 use Rattle.conn_log.specs.declared.entry.Cause.TheVariants.{NotPersistent, Cut, Forbidden, TooOld, HostRoom, TotalRoom, CacheFull, Dropped, Withdrawn, Pruned}
 use Rattle.conn_log.specs.declared.entry.Entry.{Entry}
@@ -86,6 +86,7 @@ event-one-line by (Returned c facts) = number-then 0 _ (number-then c _ (decimal
 event-one-line by (Closed c cause) = number-then 0 _ (number-then c _ (cause-one-line cause))
 event-one-line by (Waited want) = number-then want.transfer _ (decimal-one-line 0)
 event-one-line by (Left transfer) = number-then transfer _ (decimal-one-line 0)
+event-one-line by (Limit n) = number-then 0 _ (decimal-one-line n)
 
 entry-one-line : (before : List Entry) (e : Entry) → is_one_line (entry_text before e) ≡ true
 entry-one-line before e = one-line-both (event_text 0 (returned_by before e.event) e.event) (codes " at " ++ decimal e.moment) (event-one-line (returned_by before e.event) e.event) (decimal-one-line e.moment)
@@ -97,6 +98,7 @@ event-is-event by (Returned c facts) rest = refl
 event-is-event by (Closed c cause) rest = refl
 event-is-event by (Waited want) rest = refl
 event-is-event by (Left transfer) rest = refl
+event-is-event by (Limit n) rest = refl
 
 entry-is-event : (before : List Entry) (e : Entry) → is_event_line (entry_text before e) ≡ true
 entry-is-event before e = event-is-event (returned_by before e.event) e.event (codes " at " ++ decimal e.moment)

@@ -10,13 +10,14 @@ use Rattle.conn_log.specs.declared.entry.Want.{Want}
 use Rattle.conn_log.specs.declared.entry.Cause.{Cause}
 use Rattle.conn_log.specs.declared.entry.Cause.TheVariants as cause
 use Rattle.conn_log.specs.declared.entry.Event.{Event}
-use Rattle.conn_log.specs.declared.entry.Event.TheVariants.{Opened, Leased, Returned, Closed, Waited, Left}
+use Rattle.conn_log.specs.declared.entry.Event.TheVariants.{Opened, Leased, Returned, Closed, Waited, Left, Limit}
 use Rattle.conn_log.specs.declared.entry.Entry.{Entry}
 use Rattle.conn_log.specs.Connections.{idle_connections, holder, is_held_by, holder_want, held_number}
 use Rattle.conn_log.specs.Waiting.{waiting, waits}
 use Rattle.conn_log.specs.Legal.{LimitAndFirst, owed}
-use Rattle.conn_log.specs.Fit.{is_fit, newest_fit, oldest_too_old, oldest}
-use Rattle.host_state.specs.Steps.{add, moment_at, close_before, close_too_old, without_too_old, with_host_room, is_full, close_for_room}
+use Rattle.conn_log.specs.Fit.{is_fit, newest_fit, oldest}
+use Rattle.host_state.specs.declared.closing.Closing.TheVariants.{TooOld}
+use Rattle.host_state.specs.Steps.{add, moment_at, close_each, picked, without_picked, with_host_room, is_full, close_for_room}
 use Rattle.bundle.specs.Calls.{after_acquire, after_give_back, after_close, after_abandon, after_withdraw, start_new, start_on, start_unless, open_for, unfit_cause, pass_to, settle, close_granted, GrowsBy}
 use Rattle.script_text.specs.Printing.{entry_line, event_text, returned_by, newest_lines, lines_since}
 
@@ -48,6 +49,7 @@ event-says by (Returned c facts) before says = rw says refl
 event-says by (Closed c cause) before says = refl
 event-says by (Waited want) before says = refl
 event-says by (Left transfer) before says = refl
+event-says by (Limit n) before says = refl
 
 entry-says : (by : ℕ) (e : Entry) (before : List Entry) → SaysIt by e.event before → entry_line 0 (returned_by before e.event) e ≡ entry_line 0 by e
 entry-says by e before says = rw (event-says by e.event before says) refl
@@ -107,14 +109,9 @@ module _ (Says : Event → List Entry → Type 0) (silent : (event : Event) (bef
   either true x y p q = p
   either false x y p q = q
 
-  adds_closes : (n : ℕ) (want : Want) (moment : ℕ) (log : List Entry) → Adds Says old log → Adds Says old (close_too_old n want moment log)
-  adds_closes zero want moment log so_far = so_far
-  adds_closes (suc n) want moment log so_far =
-      by_first (oldest_too_old log want moment) (λ c. adds_closes n want moment (add moment (Closed c cause.TooOld) log) (adds_other moment (Closed c cause.TooOld) log refl so_far))
-    where
-      by_first : (first : Option ℕ) → ((c : ℕ) → Adds Says old (close_too_old n want moment (add moment (Closed c cause.TooOld) log))) → Adds Says old (close_before moment log first (close_too_old n want moment))
-      by_first None rest = so_far
-      by_first (Some c) rest = rest c
+  adds_closes : (why : Cause) (moment : ℕ) (numbers : List ℕ) (log : List Entry) → Adds Says old log → Adds Says old (close_each why moment numbers log)
+  adds_closes why moment [] log so_far = so_far
+  adds_closes why moment (c ∷ numbers) log so_far = adds_closes why moment numbers (add moment (Closed c why) log) (adds_other moment (Closed c why) log refl so_far)
 
   adds_room : (settings : LimitAndFirst) (moment : ℕ) (log : List Entry) → Adds Says old log → Adds Says old (with_host_room settings moment log)
   adds_room settings moment log so_far = either (is_full settings log) _ _ (by_oldest (oldest log)) so_far
@@ -135,8 +132,8 @@ module _ (Says : Event → List Entry → Type 0) (silent : (event : Event) (bef
 
   adds_start_unless : (settings : LimitAndFirst) (want : Want) (moment : ℕ) (wants : List Want) → Adds Says old (start_unless wants settings want moment old)
   adds_start_unless settings want moment [] =
-      let closed = without_too_old want moment old in
-      adds_start_on settings want moment closed (newest_fit closed want moment) (adds_closes (length (idle_connections old)) want moment old nothing)
+      let closed = without_picked (TooOld want) moment old in
+      adds_start_on settings want moment closed (newest_fit closed want moment) (adds_closes cause.TooOld moment (picked (TooOld want) moment old) old nothing)
   adds_start_unless settings want moment (head ∷ others) = adds_other moment (Waited want) old refl nothing
 
   pub adds_acquire : (settings : LimitAndFirst) (want : Want) (now : ℕ) → Adds Says old (after_acquire settings old want now)
@@ -189,6 +186,7 @@ silent-by by (Returned c facts) before other = absurd (cc)
 silent-by by (Closed c cause) before other = tt
 silent-by by (Waited want) before other = tt
 silent-by by (Left transfer) before other = tt
+silent-by by (Limit n) before other = tt
 
 held-holder : (by : ℕ) (want : Option Want) → option_map_or (λ (w : Want). w.transfer == by) want false ≡ true → option_map (λ (w : Want). w.transfer) want ≡ Some by
 held-holder by None h = cc

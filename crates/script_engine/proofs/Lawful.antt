@@ -4,7 +4,7 @@ use Rattle.std.specs.Prelude.{◌==◌, nat_lt, if◌then◌else◌, cond, lengt
 use Rattle.std.specs.Option.{option_map}
 use mathlib.Core.Bool.{false≢true}
 use Rattle.conn_log.specs.declared.entry.Event.{Event}
-use Rattle.conn_log.specs.declared.entry.Event.TheVariants.{Opened, Leased, Returned, Closed, Waited, Left}
+use Rattle.conn_log.specs.declared.entry.Event.TheVariants.{Opened, Leased, Returned, Closed, Waited, Left, Limit}
 use Rattle.conn_log.specs.declared.entry.Want.{Want}
 use Rattle.conn_log.specs.declared.entry.Entry.{Entry}
 use Rattle.conn_log.specs.Connections.{is_among, is_idle, holder_want, held_number, holds, came_back_persistent}
@@ -232,6 +232,7 @@ leases_free settings before moment (Returned c facts) allowed = tt
 leases_free settings before moment (Closed c cause) allowed = tt
 leases_free settings before moment (Waited want) allowed = tt
 leases_free settings before moment (Left transfer) allowed = tt
+leases_free settings before moment (Limit n) allowed = tt
 
 each_lease : (settings : LimitAndFirst) (log : List Entry) → IsLegal settings log → EachLeaseWasFree log
 each_lease settings [] legal = tt
@@ -256,6 +257,7 @@ starts_the_head settings before moment (Returned c facts) allowed = tt
 starts_the_head settings before moment (Closed c cause) allowed = tt
 starts_the_head settings before moment (Waited want) allowed = tt
 starts_the_head settings before moment (Left transfer) allowed = tt
+starts_the_head settings before moment (Limit n) allowed = tt
 
 each_start : (settings : LimitAndFirst) (log : List Entry) → IsLegal settings log → EachStartIsOfTheHead log
 each_start settings [] legal = tt

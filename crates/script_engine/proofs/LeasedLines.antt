@@ -8,7 +8,7 @@ use Rattle.std.specs.List.{All}
 use Rattle.std.specs.Fmt.{decimal, digits}
 use Rattle.conn_log.specs.declared.entry.Want.{Want}
 use Rattle.conn_log.specs.declared.entry.Event.{Event}
-use Rattle.conn_log.specs.declared.entry.Event.TheVariants.{Opened, Leased, Returned, Closed, Waited, Left}
+use Rattle.conn_log.specs.declared.entry.Event.TheVariants.{Opened, Leased, Returned, Closed, Waited, Left, Limit}
 use Rattle.conn_log.specs.declared.entry.Entry.{Entry}
 use Rattle.conn_log.proofs.Soundness.{and_left}
 use Rattle.script_text.specs.Printing.{event_text, returned_by}
@@ -54,6 +54,7 @@ leased-event by moment (Returned c facts) = refl
 leased-event by moment (Closed c cause) = refl
 leased-event by moment (Waited want) = refl
 leased-event by moment (Left transfer) = refl
+leased-event by moment (Limit n) = refl
 
 leased-in : (log : List Entry) → filter begins_leased (event_lines log) ≡ leased_lines log
 leased-in [] = refl
@@ -79,6 +80,7 @@ free-entry after before moment (Returned c facts) free = All-nil _
 free-entry after before moment (Closed c cause) free = All-nil _
 free-entry after before moment (Waited want) free = All-nil _
 free-entry after before moment (Left transfer) free = All-nil _
+free-entry after before moment (Limit n) free = All-nil _
 
 free-lines : (after log : List Entry) → EachLeaseWasFree log → All (TellsOfFreeLease (after ++ log)) (leased_lines log)
 free-lines after [] each = All-nil _

@@ -46,7 +46,7 @@ none-held (Some c) e = cc
 pub accepted-free : (settings : LimitAndFirst) (log : List Entry) → IsSound settings log → (want : Want) → refusal settings log want ≡ None
     → (held_number log want.transfer ≡ None) × (waits log want.transfer ≡ false)
 accepted-free settings log sound want e =
-    let free = neither (holds log want.transfer) (waits log want.transfer) (not-busy (is_busy log want.transfer) (is_exhausted settings log) e) in
+    let free = neither (holds log want.transfer) (waits log want.transfer) (not-busy (is_busy log want.transfer) (is_exhausted settings log 0) e) in
     (none-held (held_number log want.transfer) (sym (holds_is settings log sound.orderly want.transfer) ∙ free.0), free.1)
 
 -- who waits, by its want

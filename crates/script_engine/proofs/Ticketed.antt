@@ -11,7 +11,8 @@ use Rattle.conn_log.specs.Fit.{newest_fit}
 use Rattle.conn_log.specs.Legal.{LimitAndFirst}
 use Rattle.conn_log.specs.Sound.{AreDistinct, IsSound}
 use Rattle.bundle.specs.declared.refusal.Refusal.{Refusal}
-use Rattle.host_state.specs.Steps.{moment_at, without_too_old, with_host_room, is_full, next_number}
+use Rattle.host_state.specs.declared.closing.Closing.TheVariants.{TooOld}
+use Rattle.host_state.specs.Steps.{moment_at, without_picked, with_host_room, is_full, next_number}
 use Rattle.bundle.specs.Calls.{refusal, after_acquire, start_on, start_unless, newest_start, Wait, newest_wait}
 use Rattle.bundle.proofs.Told.{told, Told}
 use Rattle.bundle.proofs.Acquired.{begun, Starts, Waits}
@@ -152,7 +153,7 @@ either-start settings log want now = by_waiting (waiting log)
     moment = moment_at log now
 
     by_waiting : (wants : List Want) → IsEither (start_unless wants settings want moment log)
-    by_waiting [] = let closed = without_too_old want moment log in either-on settings want moment closed (newest_fit closed want moment)
+    by_waiting [] = let closed = without_picked (TooOld want) moment log in either-on settings want moment closed (newest_fit closed want moment)
     by_waiting (head ∷ others) = λ none. refl
 
 module _ (settings : LimitAndFirst) (host : ScriptHost) (sound : IsSound settings host.log) (fits : Fits host) where

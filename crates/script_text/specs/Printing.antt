@@ -4,7 +4,7 @@ use Rattle.std.specs.Fmt.{decimal}
 use Rattle.conn_log.specs.declared.entry.Cause.{Cause}
 use Rattle.conn_log.specs.declared.entry.Cause.TheVariants.{NotPersistent, Cut, Forbidden, TooOld, HostRoom, TotalRoom, CacheFull, Dropped, Withdrawn, Pruned}
 use Rattle.conn_log.specs.declared.entry.Event.{Event}
-use Rattle.conn_log.specs.declared.entry.Event.TheVariants.{Opened, Leased, Returned, Closed, Waited, Left}
+use Rattle.conn_log.specs.declared.entry.Event.TheVariants.{Opened, Leased, Returned, Closed, Waited, Left, Limit}
 use Rattle.conn_log.specs.declared.entry.Entry.{Entry}
 use Rattle.conn_log.specs.Connections.{holder}
 use Rattle.script_text.specs.declared.fault.FaultKind.{FaultKind}
@@ -31,6 +31,7 @@ event_text host by (Returned c facts) = codes "returned " ++ (decimal host ++ (c
 event_text host by (Closed c cause) = codes "closed " ++ (decimal host ++ (codes "." ++ (decimal c ++ (codes " " ++ cause_word cause))))
 event_text host by (Waited want) = codes "waits " ++ (decimal want.transfer ++ (codes " host " ++ decimal host))
 event_text host by (Left transfer) = codes "left " ++ (decimal transfer ++ (codes " host " ++ decimal host))
+event_text host by (Limit n) = codes "limit " ++ (decimal host ++ (codes " " ++ decimal n))
 
 abbrev pub entry_line : ℕ → ℕ → Entry → List ℕ
 entry_line host by e = event_text host by e.event ++ (codes " at " ++ (decimal e.moment ++ codes "\n"))

@@ -65,6 +65,7 @@ impl fmt::Display for EventText {
                 write!(f, "waits {transfer} host {host}")
             }
             Event::Left { transfer } => write!(f, "left {transfer} host {host}"),
+            Event::Limit { limit } => write!(f, "limit {host} {limit}"),
         }
     }
 }

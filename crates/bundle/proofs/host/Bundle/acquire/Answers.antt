@@ -1,7 +1,7 @@
-use Rattle.std.proofs.Common.{◌≡◌, ℕ, ◌⊎◌, ◌++◌, length, Some, None, is_some, refl, sym, ap, subst, ◌∙◌, arith}
+use Rattle.std.proofs.Common.{◌≡◌, ℕ, ◌⊎◌, ◌++◌, ◌+◌, ◌-◌, length, Some, None, is_some, refl, sym, ap, subst, ◌∙◌, arith}
 use Rattle.std.specs.Prelude.{◌==◌, if◌then◌else◌}
 use Rattle.conn_log.specs.Waiting.{waiting, without}
-use Rattle.host_state.specs.Steps.{moment_at}
+use Rattle.host_state.specs.Steps.{moment_at, is_exhausted}
 use Rattle.bundle.specs.Calls.{start_unless, after_acquire, newest_start, refusal}
 use Rattle.bundle.specs.Grants.{GrantsKept, grant_streams}
 use Rattle.host_state.specs.Idle.{stream_of}
@@ -22,13 +22,13 @@ invariant_of-self g c =
     let inv = c.self.invariant in
     let told = c.in-Some.ensures in
     let leased = told.some in
-    let allowed = not_refused_at_once state.settings state.log c.args.want inv.settled.sound told.free told.alone told.number in
+    let allowed = not_refused_at_once state.settings state.log c.args.want inv.settled.sound told.free told.alone (ap (is_exhausted state.settings state.log) (sym c.self.invariant.booked) ∙ told.number) in
     let is = reused_at_once state.settings state.log c.lease_last.new.self.log c.args.want c.args.now c.moment-moment.result c.in-Some.number c.moment-moment.ensures told.alone told.none_too_old leased.newest leased.log in
     let may = allowed_by state.settings state.log c.args.want inv.settled.sound allowed in
     let started = subst (λ log. Starts c.args.want state.log log ⊎ Waits c.args.want state.log log) (sym is) (begun state.settings state.log c.args.want c.args.now inv.settled.sound allowed) in
     let nobody : length (waiting c.lease_last.new.self.log) ≡ 0 = ap (λ log. length (waiting log)) leased.log ∙ ap (λ wants. length (without c.args.want.transfer wants)) told.alone in
     record {
-      booked = leased.booked ∙ ap (λ wants. booked_after_start wants state.booked) told.alone;
+      booked = leased.booked ∙ ap (λ wants. booked_after_start wants state.booked) told.alone ∙ ap (λ (n : ℕ). n - 1) inv.booked;
       settled = subst (λ settings. IsSoundAndQuiet settings c.lease_last.new.self.log) (sym leased.same.settings) (subst (λ log. IsSoundAndQuiet state.settings log) (sym is) (kept_acquire state.settings state.log c.args.want c.args.now inv.settled allowed));
       grants = kept_begun state.settings state.log c.lease_last.new.self.log c.self.inside.grants.items inv.grants c.args.want may.free started;
       spare = omega (arith, inv.spare, nobody);
@@ -40,7 +40,7 @@ returns-in-Some-clause-log g c =
     let inv = c.self.invariant in
     let told = c.in-Some.ensures in
     let leased = told.some in
-    let allowed = not_refused_at_once state.settings state.log c.args.want inv.settled.sound told.free told.alone told.number in
+    let allowed = not_refused_at_once state.settings state.log c.args.want inv.settled.sound told.free told.alone (ap (is_exhausted state.settings state.log) (sym c.self.invariant.booked) ∙ told.number) in
     let is = reused_at_once state.settings state.log c.lease_last.new.self.log c.args.want c.args.now c.moment-moment.result c.in-Some.number c.moment-moment.ensures told.alone told.none_too_old leased.newest leased.log in
     is ∙ ap (λ (v : HostShown g.row.S.Denot). after_acquire v.settings v.log c.args.want c.args.now) c.self.view_is
 
@@ -50,7 +50,7 @@ returns-in-Some-clause-stream g c =
     let inv = c.self.invariant in
     let told = c.in-Some.ensures in
     let leased = told.some in
-    let allowed = not_refused_at_once state.settings state.log c.args.want inv.settled.sound told.free told.alone told.number in
+    let allowed = not_refused_at_once state.settings state.log c.args.want inv.settled.sound told.free told.alone (ap (is_exhausted state.settings state.log) (sym c.self.invariant.booked) ∙ told.number) in
     let is = reused_at_once state.settings state.log c.lease_last.new.self.log c.args.want c.args.now c.moment-moment.result c.in-Some.number c.moment-moment.ensures told.alone told.none_too_old leased.newest leased.log in
     let may = allowed_by state.settings state.log c.args.want inv.settled.sound allowed in
     let started = subst (λ log. Starts c.args.want state.log log ⊎ Waits c.args.want state.log log) (sym is) (begun state.settings state.log c.args.want c.args.now inv.settled.sound allowed) in
@@ -75,7 +75,7 @@ pub returns-in-Some-clause-refused : goal.returns-in-Some-clause-refused
 returns-in-Some-clause-refused g c =
     let state = c.self.inside.state in
     let told = c.in-Some.ensures in
-    let allowed = not_refused_at_once state.settings state.log c.args.want c.self.invariant.settled.sound told.free told.alone told.number in
+    let allowed = not_refused_at_once state.settings state.log c.args.want c.self.invariant.settled.sound told.free told.alone (ap (is_exhausted state.settings state.log) (sym c.self.invariant.booked) ∙ told.number) in
     let shown : refusal c.args.self.now.settings c.args.self.now.log c.args.want ≡ None = ap (λ (v : HostShown g.row.S.Denot). refusal v.settings v.log c.args.want) (sym c.self.view_is) ∙ allowed in
     rw shown tt
 
@@ -85,7 +85,7 @@ returns-in-Some-clause-gets_lease g c =
     let inv = c.self.invariant in
     let told = c.in-Some.ensures in
     let leased = told.some in
-    let allowed = not_refused_at_once state.settings state.log c.args.want inv.settled.sound told.free told.alone told.number in
+    let allowed = not_refused_at_once state.settings state.log c.args.want inv.settled.sound told.free told.alone (ap (is_exhausted state.settings state.log) (sym c.self.invariant.booked) ∙ told.number) in
     let is = reused_at_once state.settings state.log c.lease_last.new.self.log c.args.want c.args.now c.moment-moment.result c.in-Some.number c.moment-moment.ensures told.alone told.none_too_old leased.newest leased.log in
     let may = allowed_by state.settings state.log c.args.want inv.settled.sound allowed in
     let started = subst (λ log. Starts c.args.want state.log log ⊎ Waits c.args.want state.log log) (sym is) (begun state.settings state.log c.args.want c.args.now inv.settled.sound allowed) in
@@ -101,7 +101,7 @@ returns-in-Some-clause-grew g c =
     let inv = c.self.invariant in
     let told = c.in-Some.ensures in
     let leased = told.some in
-    let allowed = not_refused_at_once state.settings state.log c.args.want inv.settled.sound told.free told.alone told.number in
+    let allowed = not_refused_at_once state.settings state.log c.args.want inv.settled.sound told.free told.alone (ap (is_exhausted state.settings state.log) (sym c.self.invariant.booked) ∙ told.number) in
     let is = reused_at_once state.settings state.log c.lease_last.new.self.log c.args.want c.args.now c.moment-moment.result c.in-Some.number c.moment-moment.ensures told.alone told.none_too_old leased.newest leased.log in
     let grew = grows_acquire state.settings state.log c.args.want c.args.now in
     grows_from state.log c.args.self.now.log c.lease_last.new.self.log (ap (λ (v : HostShown g.row.S.Denot). v.log) c.self.view_is) (grew.0, is ∙ grew.1)
@@ -112,7 +112,7 @@ invariant_of-self-2 g c =
     let grants = c.self.inside.grants.items in
     let inv = c.self.invariant in
     let same = c.in_default.ensures.none in
-    let booked = c.in-Ok-book.ensures.ok ∙ ap (λ (v : HostState g.row.S.Denot). record v { booked = 1 }) same in
+    let booked = c.in-Ok-book.ensures.ok ∙ ap (λ (v : HostState g.row.S.Denot). record v { booked = v.booked + 1 }) same ∙ ap (λ (n : ℕ). record state { booked = n + 1 }) inv.booked in
     let allowed : refusal state.settings state.log c.args.want ≡ None = sym (c.in_default-reason_against.ensures.reason ∙ ap (λ (v : HostState g.row.S.Denot). refusal v.settings v.log c.args.want) same) in
     let moment_is : c.moment-moment.result ≡ moment_at state.log c.args.now = c.moment-moment.ensures in
     let is : c.start_or_wait.new.state.log ≡ after_acquire state.settings state.log c.args.want c.args.now = c.start_or_wait.ensures.log ∙ ap (λ (v : HostState g.row.S.Denot). start_unless (waiting v.log) v.settings c.args.want c.moment-moment.result v.log) booked ∙ ap (λ k. start_unless (waiting state.log) state.settings c.args.want k state.log) moment_is in
@@ -132,7 +132,7 @@ returns-clause-stream g c =
     let grants = c.self.inside.grants.items in
     let inv = c.self.invariant in
     let same = c.in_default.ensures.none in
-    let booked = c.in-Ok-book.ensures.ok ∙ ap (λ (v : HostState g.row.S.Denot). record v { booked = 1 }) same in
+    let booked = c.in-Ok-book.ensures.ok ∙ ap (λ (v : HostState g.row.S.Denot). record v { booked = v.booked + 1 }) same ∙ ap (λ (n : ℕ). record state { booked = n + 1 }) inv.booked in
     let allowed : refusal state.settings state.log c.args.want ≡ None = sym (c.in_default-reason_against.ensures.reason ∙ ap (λ (v : HostState g.row.S.Denot). refusal v.settings v.log c.args.want) same) in
     let moment_is : c.moment-moment.result ≡ moment_at state.log c.args.now = c.moment-moment.ensures in
     let is : c.start_or_wait.new.state.log ≡ after_acquire state.settings state.log c.args.want c.args.now = c.start_or_wait.ensures.log ∙ ap (λ (v : HostState g.row.S.Denot). start_unless (waiting v.log) v.settings c.args.want c.moment-moment.result v.log) booked ∙ ap (λ k. start_unless (waiting state.log) state.settings c.args.want k state.log) moment_is in
@@ -147,7 +147,7 @@ returns-clause-streams g c =
     let grants = c.self.inside.grants.items in
     let inv = c.self.invariant in
     let same = c.in_default.ensures.none in
-    let booked = c.in-Ok-book.ensures.ok ∙ ap (λ (v : HostState g.row.S.Denot). record v { booked = 1 }) same in
+    let booked = c.in-Ok-book.ensures.ok ∙ ap (λ (v : HostState g.row.S.Denot). record v { booked = v.booked + 1 }) same ∙ ap (λ (n : ℕ). record state { booked = n + 1 }) inv.booked in
     let allowed : refusal state.settings state.log c.args.want ≡ None = sym (c.in_default-reason_against.ensures.reason ∙ ap (λ (v : HostState g.row.S.Denot). refusal v.settings v.log c.args.want) same) in
     let moment_is : c.moment-moment.result ≡ moment_at state.log c.args.now = c.moment-moment.ensures in
     let is : c.start_or_wait.new.state.log ≡ after_acquire state.settings state.log c.args.want c.args.now = c.start_or_wait.ensures.log ∙ ap (λ (v : HostState g.row.S.Denot). start_unless (waiting v.log) v.settings c.args.want c.moment-moment.result v.log) booked ∙ ap (λ k. start_unless (waiting state.log) state.settings c.args.want k state.log) moment_is in
@@ -161,7 +161,7 @@ returns-clause-kept g c =
     let grants = c.self.inside.grants.items in
     let inv = c.self.invariant in
     let same = c.in_default.ensures.none in
-    let booked = c.in-Ok-book.ensures.ok ∙ ap (λ (v : HostState g.row.S.Denot). record v { booked = 1 }) same in
+    let booked = c.in-Ok-book.ensures.ok ∙ ap (λ (v : HostState g.row.S.Denot). record v { booked = v.booked + 1 }) same ∙ ap (λ (n : ℕ). record state { booked = n + 1 }) inv.booked in
     let allowed : refusal state.settings state.log c.args.want ≡ None = sym (c.in_default-reason_against.ensures.reason ∙ ap (λ (v : HostState g.row.S.Denot). refusal v.settings v.log c.args.want) same) in
     let moment_is : c.moment-moment.result ≡ moment_at state.log c.args.now = c.moment-moment.ensures in
     let is : c.start_or_wait.new.state.log ≡ after_acquire state.settings state.log c.args.want c.args.now = c.start_or_wait.ensures.log ∙ ap (λ (v : HostState g.row.S.Denot). start_unless (waiting v.log) v.settings c.args.want c.moment-moment.result v.log) booked ∙ ap (λ k. start_unless (waiting state.log) state.settings c.args.want k state.log) moment_is in
@@ -175,7 +175,7 @@ returns-clause-gets_lease g c =
     let grants = c.self.inside.grants.items in
     let inv = c.self.invariant in
     let same = c.in_default.ensures.none in
-    let booked = c.in-Ok-book.ensures.ok ∙ ap (λ (v : HostState g.row.S.Denot). record v { booked = 1 }) same in
+    let booked = c.in-Ok-book.ensures.ok ∙ ap (λ (v : HostState g.row.S.Denot). record v { booked = v.booked + 1 }) same ∙ ap (λ (n : ℕ). record state { booked = n + 1 }) inv.booked in
     let allowed : refusal state.settings state.log c.args.want ≡ None = sym (c.in_default-reason_against.ensures.reason ∙ ap (λ (v : HostState g.row.S.Denot). refusal v.settings v.log c.args.want) same) in
     let moment_is : c.moment-moment.result ≡ moment_at state.log c.args.now = c.moment-moment.ensures in
     let is : c.start_or_wait.new.state.log ≡ after_acquire state.settings state.log c.args.want c.args.now = c.start_or_wait.ensures.log ∙ ap (λ (v : HostState g.row.S.Denot). start_unless (waiting v.log) v.settings c.args.want c.moment-moment.result v.log) booked ∙ ap (λ k. start_unless (waiting state.log) state.settings c.args.want k state.log) moment_is in
@@ -189,7 +189,7 @@ returns-clause-gets_ticket g c =
     let grants = c.self.inside.grants.items in
     let inv = c.self.invariant in
     let same = c.in_default.ensures.none in
-    let booked = c.in-Ok-book.ensures.ok ∙ ap (λ (v : HostState g.row.S.Denot). record v { booked = 1 }) same in
+    let booked = c.in-Ok-book.ensures.ok ∙ ap (λ (v : HostState g.row.S.Denot). record v { booked = v.booked + 1 }) same ∙ ap (λ (n : ℕ). record state { booked = n + 1 }) inv.booked in
     let allowed : refusal state.settings state.log c.args.want ≡ None = sym (c.in_default-reason_against.ensures.reason ∙ ap (λ (v : HostState g.row.S.Denot). refusal v.settings v.log c.args.want) same) in
     let moment_is : c.moment-moment.result ≡ moment_at state.log c.args.now = c.moment-moment.ensures in
     let is : c.start_or_wait.new.state.log ≡ after_acquire state.settings state.log c.args.want c.args.now = c.start_or_wait.ensures.log ∙ ap (λ (v : HostState g.row.S.Denot). start_unless (waiting v.log) v.settings c.args.want c.moment-moment.result v.log) booked ∙ ap (λ k. start_unless (waiting state.log) state.settings c.args.want k state.log) moment_is in
@@ -203,7 +203,7 @@ returns-clause-grew g c =
     let grants = c.self.inside.grants.items in
     let inv = c.self.invariant in
     let same = c.in_default.ensures.none in
-    let booked = c.in-Ok-book.ensures.ok ∙ ap (λ (v : HostState g.row.S.Denot). record v { booked = 1 }) same in
+    let booked = c.in-Ok-book.ensures.ok ∙ ap (λ (v : HostState g.row.S.Denot). record v { booked = v.booked + 1 }) same ∙ ap (λ (n : ℕ). record state { booked = n + 1 }) inv.booked in
     let allowed : refusal state.settings state.log c.args.want ≡ None = sym (c.in_default-reason_against.ensures.reason ∙ ap (λ (v : HostState g.row.S.Denot). refusal v.settings v.log c.args.want) same) in
     let moment_is : c.moment-moment.result ≡ moment_at state.log c.args.now = c.moment-moment.ensures in
     let is : c.start_or_wait.new.state.log ≡ after_acquire state.settings state.log c.args.want c.args.now = c.start_or_wait.ensures.log ∙ ap (λ (v : HostState g.row.S.Denot). start_unless (waiting v.log) v.settings c.args.want c.moment-moment.result v.log) booked ∙ ap (λ k. start_unless (waiting state.log) state.settings c.args.want k state.log) moment_is in
