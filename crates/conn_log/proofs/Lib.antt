@@ -3,8 +3,9 @@ pub mod Waits
 pub mod Opens
 pub mod Queues
 pub mod Numbers
+pub mod Sorted
+pub mod Holdings
 pub mod Steps
 pub mod Soundness
 pub mod Firsts
-pub mod Sorted
 pub mod Order

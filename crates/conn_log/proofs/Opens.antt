@@ -1,5 +1,5 @@
 -- Counting those that are open entry by entry.
-use Rattle.std.proofs.Common.{◌≡◌, ℕ, ◌+◌, ◌<◌, Bool, not, List, ◌∷◌, length, get_or, take, reverse, filter, if◌then◌else◌, refl, ap, ◌∙◌, arith}
+use Rattle.std.proofs.Common.{◌≡◌, ℕ, ◌+◌, ◌<◌, Bool, not, List, length, get_or, take, reverse, filter, if◌then◌else◌, ap, ◌∙◌, arith}
 use Rattle.conn_log.proofs.Logs.{reverse_take_more}
 use Rattle.conn_log.specs.declared.entry.Event.{Event}
 use Rattle.conn_log.specs.declared.entry.Event.TheVariants.{Opened, Leased, Returned, Closed, Waited, Left, Limit}

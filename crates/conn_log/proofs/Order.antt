@@ -1,16 +1,15 @@
 -- The idle connections in the order in which they are closed.
-use Rattle.std.proofs.Common.{◌≡◌, ℕ, Bool, true, false, not, ◌&&◌, ◌||◌, List, [], ◌∷◌, length, filter, slice_get, Option, Some, None, is_none, refl, sym, ap, subst, inl, inr, ◌∙◌, arith}
-use Rattle.std.specs.Prelude.{◌==◌, if◌then◌else◌, nat_lt}
+use Rattle.std.proofs.Common.{◌≡◌, ℕ, Bool, true, false, not, ◌&&◌, ◌||◌, List, [], ◌∷◌, length, filter, slice_get, is_none, refl, sym, ap, subst, inl, inr, ◌∙◌, arith}
+use Rattle.std.specs.Prelude.{◌==◌, nat_lt}
 use Rattle.std.proofs.lemmas.Bool.Decides.{nat_tests, eqb_tells}
 use Rattle.conn_log.specs.declared.entry.Entry.{Entry}
 use Rattle.conn_log.specs.Connections.{is_among, opened, is_closed, holder_want, since, idle_connections, is_idle}
-use Rattle.conn_log.specs.Fit.{first_by, is_idle_longer, in_order, idle_in_order, oldest}
-use Rattle.conn_log.specs.Legal.{LimitAndFirst}
-use Rattle.conn_log.specs.Sound.{AreDistinct, IsOrderly}
-use Rattle.conn_log.proofs.Numbers.{is_among-filter, filter_agree, parted}
+use Rattle.conn_log.specs.Fit.{first_by, is_idle_longer, idle_in_order, oldest}
+use Rattle.conn_log.specs.Sound.{AreDistinct}
+use Rattle.conn_log.proofs.Numbers.{is_among-filter, parted}
 use Rattle.conn_log.proofs.Waits.{filter-filter}
 use Rattle.conn_log.proofs.Steps.{IsGone, is_free, idle_of_opened}
-use Rattle.conn_log.proofs.Sorted.{IsStrictOrder, IsInOrder, HasSameNumbers, distinct-filter, among_in_order, length_in_order, distinct_in_order, in_order-filter, in_order_agree, is_in_order, in_order_is, filter_in_order, first_in_order}
+use Rattle.conn_log.proofs.Sorted.{IsStrictOrder, IsInOrder, distinct-filter, among_in_order, length_in_order, distinct_in_order, in_order-filter, in_order_agree, is_in_order, in_order_is, filter_in_order, first_in_order}
 
 -- earlier, at one host
 abbrev is_earlier_here : ℕ → ℕ → ℕ → ℕ → Bool

@@ -1,5 +1,5 @@
 -- Numbers put in order, where the order tells any two apart.
-use Rattle.std.proofs.Common.{◌≡◌, ℕ, suc, ◌+◌, ◌<◌, Bool, true, false, not, ◌&&◌, ◌||◌, List, [], ◌∷◌, length, map, filter, get_or, slice_get, AllPairs, Option, Some, None, refl, sym, ap, subst, inl, inr, ◌∙◌, arith}
+use Rattle.std.proofs.Common.{◌≡◌, ℕ, suc, ◌+◌, ◌<◌, Bool, true, false, ◌&&◌, ◌||◌, List, [], ◌∷◌, length, map, filter, get_or, slice_get, AllPairs, Some, refl, sym, ap, subst, inl, inr, ◌∙◌, arith}
 use Rattle.std.specs.Prelude.{◌==◌, if◌then◌else◌, ◌⊎◌}
 use Rattle.std.specs.Option.{option_map_or}
 use mathlib.Core.Bool.{false≢true}
@@ -28,7 +28,7 @@ IsInOrder goes_before (c ∷ numbers) = GoesBeforeAll goes_before c numbers × I
 abbrev pub HasSameNumbers : List ℕ → List ℕ → Type 0
 HasSameNumbers xs ys = (d : ℕ) → is_among d xs ≡ is_among d ys
 
-told : (b : Bool) → (b ≡ true) ⊎ (b ≡ false)
+pub told : (b : Bool) → (b ≡ true) ⊎ (b ≡ false)
 told true = inl refl
 told false = inr refl
 

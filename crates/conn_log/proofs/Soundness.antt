@@ -1,22 +1,20 @@
 -- What a step adds keeps a log sound.
-use Rattle.std.proofs.Common.{◌≡◌, ℕ, ◌+◌, ◌<◌, ◌≤◌, Bool, true, false, not, ◌&&◌, List, [], ◌∷◌, length, Option, Some, None, is_some, refl, sym, ap, subst, ◌∙◌, arith}
-use Rattle.std.specs.Prelude.{◌==◌, if◌then◌else◌}
-use Rattle.std.specs.Option.{option_map_or}
-use Rattle.std.specs.List.{list_any}
+use Rattle.std.proofs.Common.{◌≡◌, ℕ, ◌+◌, ◌<◌, ◌≤◌, Bool, true, false, not, ◌&&◌, List, [], ◌∷◌, length, Some, None, is_some, refl, sym, ap, subst, ◌∙◌, arith}
+use Rattle.std.specs.Prelude.{if◌then◌else◌}
 use mathlib.Core.Bool.{false≢true}
-use Rattle.std.proofs.lemmas.Bool.Decides.{nat_tests}
 use Rattle.persistence.specs.declared.facts.Facts.{Facts}
 use Rattle.conn_log.specs.declared.entry.Want.{Want}
 use Rattle.conn_log.specs.declared.entry.Cause.{Cause}
 use Rattle.conn_log.specs.declared.entry.Cause.TheVariants.{NotPersistent, Cut, Forbidden, TooOld, HostRoom, TotalRoom, CacheFull, Dropped, Withdrawn, Pruned}
 use Rattle.conn_log.specs.declared.entry.Event.TheVariants.{Opened, Leased, Returned, Closed, Waited, Left, Limit}
 use Rattle.conn_log.specs.declared.entry.Entry.{Entry}
-use Rattle.conn_log.specs.Connections.{held_number, is_among, last_moment, opened, greatest, open_connections, is_open, holder_want, is_held_by, holds, idle_connections, is_idle}
+use Rattle.conn_log.specs.Connections.{holdings, held_number, is_among, last_moment, opened, greatest, open_connections, holder_want, holds, idle_connections, is_idle}
 use Rattle.conn_log.specs.Waiting.{waiting, waits}
 use Rattle.conn_log.specs.Fit.{is_fit, suits}
 use Rattle.conn_log.specs.Legal.{LimitAndFirst, limit_in_force, ends_use, ending_cause, owed, MayStartAmong, MayStart, IsQuiet, IsAnyone, MayClose}
-use Rattle.conn_log.specs.Sound.{IsOrderly, IsSound, IsNextAmong, IsNext, is_of_holder, is_of_idle, has_number}
+use Rattle.conn_log.specs.Sound.{IsOrderly, IsSound, IsNextAmong, IsNext, is_of_holder, is_of_idle}
 use Rattle.conn_log.proofs.Numbers.{le-greatest}
+use Rattle.conn_log.proofs.Holdings.{among_has_number}
 use Rattle.conn_log.proofs.Steps.{idle_open_unheld, gone_closed, gone_ended, orderly_open, orderly_lease, orderly_return, orderly_gone, orderly_wait, orderly_leave, orderly_limit}
 use Rattle.conn_log.proofs.Queues.{is_waiting, first_waits}
 
@@ -59,31 +57,10 @@ idle_may_close log c TotalRoom fits settled idle = (settled, idle)
 idle_may_close log c CacheFull fits settled idle = (settled, idle)
 idle_may_close log c Pruned fits settled idle = (settled, idle)
 
-any_passes : (p : ℕ → Bool) (c : ℕ) (xs : List ℕ) → is_among c xs ≡ true → p c ≡ true → list_any p xs ≡ true
-any_passes p c [] among passes = grind arith
-any_passes p c (x ∷ xs) among passes = grind (arith, nat_tests, λ (e : x ≡ c). ap p e, passes, λ (h : is_among c xs ≡ true). any_passes p c xs h passes)
-
-none_passes : (p : ℕ → Bool) (xs : List ℕ) → ((c : ℕ) → p c ≡ false) → list_any p xs ≡ false
-none_passes p [] none = refl
-none_passes p (x ∷ xs) none = grind (arith, none x, none_passes p xs none)
-
 module _ (settings : LimitAndFirst) (log : List Entry) (orderly : IsOrderly settings log) where
-  held_is_open : (c transfer : ℕ) → is_held_by log transfer c ≡ true → is_open log c ≡ true
-  held_is_open c transfer held = orderly.held_open c (some_held (holder_want log c) held)
-    where
-      some_held : (want : Option Want) → option_map_or (λ (w : Want). w.transfer == transfer) want false ≡ true → is_some want ≡ true
-      some_held None held' = absurd (false≢true held')
-      some_held (Some w) held' = refl
-
   -- a transfer holds where it has a number
   pub holds_is : (transfer : ℕ) → holds log transfer ≡ is_some (held_number log transfer)
-  holds_is transfer = numbered (held_number log transfer) refl
-    where
-      numbered : (held : Option ℕ) → held_number log transfer ≡ held → holds log transfer ≡ is_some held
-      numbered None is = none_passes (is_held_by log transfer) (open_connections log) (λ c. orderly.held_once c transfer ∙ ap (λ h. has_number h c) is)
-      numbered (Some c) is =
-          let held : is_held_by log transfer c ≡ true = orderly.held_once c transfer ∙ ap (λ h. has_number h c) is ∙ grind (arith, nat_tests) in
-          any_passes (is_held_by log transfer) c (open_connections log) (held_is_open c transfer held) held
+  holds_is transfer = among_has_number transfer (holdings log)
 
   -- the next to start holds nothing, and may start
   pub next_free : (want : Want) → IsNext log want → held_number log want.transfer ≡ None
@@ -194,6 +171,8 @@ sound_empty settings = record {
     distinct = tt;
     closed_opened = λ c closed. absurd (false≢true closed);
     held_open = λ c held. absurd (false≢true held);
+    connections_once = tt;
+    transfers_once = tt;
     held_once = λ c transfer. refl;
     idle_persists = λ c idle. absurd (false≢true idle);
     within = omega arith;

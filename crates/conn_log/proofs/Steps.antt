@@ -9,12 +9,13 @@ use Rattle.conn_log.specs.declared.entry.Want.{Want}
 use Rattle.conn_log.specs.declared.entry.Cause.{Cause}
 use Rattle.conn_log.specs.declared.entry.Event.TheVariants.{Opened, Leased, Returned, Closed, Waited, Left, Limit}
 use Rattle.conn_log.specs.declared.entry.Entry.{Entry}
-use Rattle.conn_log.specs.Connections.{held_number, unless_it_is, is_among, opened, is_closed, open_connections, is_open, holder_want, is_held_by, idle_connections, is_idle, born, since, lane, came_back_persistent}
+use Rattle.conn_log.specs.Connections.{is_among, opened, is_closed, open_connections, is_open, without_connection, holdings, want_among, number_among, held_number, holder_want, is_held_by, idle_connections, is_idle, born, since, lane, came_back_persistent}
 use Rattle.conn_log.specs.Waiting.{waiting, without, waits}
 use Rattle.conn_log.specs.Legal.{LimitAndFirst, limit_in_force}
 use Rattle.conn_log.specs.Sound.{IsOrderly, has_number, IdleFacts, idle_facts, held_facts, facts_if_held}
 use Rattle.conn_log.proofs.Waits.{filter-filter}
 use Rattle.conn_log.proofs.Queues.{is_waiting, once_without, once_last, waits_without, waits_last}
+use Rattle.conn_log.proofs.Holdings.{unless_it_is, free_not_among, nobodys_not_among, connections_without, transfers_without, want_without, number_without, without_twice, holder_returned, number_returned}
 use Rattle.conn_log.proofs.Numbers.{is_among-filter, filter_agree, parted, length-filter_flip}
 
 -- open and idle, as tests of one number
@@ -46,7 +47,7 @@ pub record IsGone (c : ℕ) (log after : List Entry) : Type 0 where
   pub opened : opened after ≡ opened log
   pub closed : (d : ℕ) → is_closed after d ≡ ((c == d) || is_closed log d)
   pub held : (d : ℕ) → holder_want after d ≡ (if c == d then None else holder_want log d)
-  pub taken : (transfer : ℕ) → held_number after transfer ≡ unless_it_is c (held_number log transfer)
+  pub holdings : holdings after ≡ without_connection c (holdings log)
   pub waiting : waiting after ≡ waiting log
   pub lane : (d : ℕ) → lane after d ≡ lane log d
   pub born : (d : ℕ) → born after d ≡ born log d
@@ -59,8 +60,8 @@ pub gone_closed : (moment c : ℕ) (cause : Cause) (log : List Entry) → IsGone
 gone_closed moment c cause log = record {
   opened = refl;
   closed = λ d. refl;
-  held = λ d. refl;
-  taken = λ transfer. refl;
+  held = λ d. want_without c d (holdings log);
+  holdings = refl;
   waiting = refl;
   lane = λ d. refl;
   born = λ d. refl;
@@ -73,8 +74,8 @@ pub gone_ended : (moment c : ℕ) (facts : Facts) (cause : Cause) (log : List En
 gone_ended moment c facts cause log = record {
   opened = refl;
   closed = λ d. refl;
-  held = λ d. grind (arith, nat_tests);
-  taken = λ transfer. twice (held_number log transfer);
+  held = λ d. ap (λ held. want_among held d) (without_twice c (holdings log)) ∙ want_without c d (holdings log);
+  holdings = without_twice c (holdings log);
   waiting = refl;
   lane = λ d. refl;
   born = λ d. refl;
@@ -82,13 +83,6 @@ gone_ended moment c facts cause log = record {
   persists = λ d other. rw other refl;
   limit = λ settings. refl;
 }
-  where
-    twice : (held : Option ℕ) → unless_it_is c (unless_it_is c held) ≡ unless_it_is c held
-    twice None = refl
-    twice (Some d) = elim (eqb_tells d c) [
-      | inl same ↦ rw same.0 refl
-      | inr other ↦ rw other.0 (rw other.0 refl)
-    ]
 
 -- a use ends
 ends_once : (was : Bool) (held : Option ℕ) (c d : ℕ) → was ≡ has_number held d → (if c == d then false else was) ≡ has_number (unless_it_is c held) d
@@ -165,6 +159,8 @@ module _ (settings : LimitAndFirst) (log : List Entry) (orderly : IsOrderly sett
     distinct = orderly.distinct;
     closed_opened = orderly.closed_opened;
     held_open = orderly.held_open;
+    connections_once = orderly.connections_once;
+    transfers_once = orderly.transfers_once;
     held_once = orderly.held_once;
     idle_persists = orderly.idle_persists;
     within = orderly.within;
@@ -184,6 +180,8 @@ module _ (settings : LimitAndFirst) (log : List Entry) (orderly : IsOrderly sett
     distinct = orderly.distinct;
     closed_opened = orderly.closed_opened;
     held_open = orderly.held_open;
+    connections_once = orderly.connections_once;
+    transfers_once = orderly.transfers_once;
     held_once = orderly.held_once;
     idle_persists = orderly.idle_persists;
     within = orderly.within;
@@ -197,6 +195,8 @@ module _ (settings : LimitAndFirst) (log : List Entry) (orderly : IsOrderly sett
     distinct = orderly.distinct;
     closed_opened = orderly.closed_opened;
     held_open = orderly.held_open;
+    connections_once = orderly.connections_once;
+    transfers_once = orderly.transfers_once;
     held_once = orderly.held_once;
     idle_persists = orderly.idle_persists;
     within = within;
@@ -249,6 +249,8 @@ module _ (settings : LimitAndFirst) (log : List Entry) (orderly : IsOrderly sett
       distinct = (new, orderly.distinct);
       closed_opened = λ d closed. grind (arith, nat_tests, orderly.closed_opened d);
       held_open = λ d held. rw (is_open_is (record { moment = moment; event = Opened c want } ∷ log) d) (grind (arith, nat_tests, new_not_closed c new, orderly.held_open d, is_open_is log d));
+      connections_once = (nobodys_not_among c (holdings log) (unheld c (new_not_held c new)), orderly.connections_once);
+      transfers_once = (free_not_among want.transfer (holdings log) free, orderly.transfers_once);
       held_once = λ d transfer. held_once_start c d transfer want (unheld c (new_not_held c new)) free;
       idle_persists = λ d idle. let was = is_idle_is (record { moment = moment; event = Opened c want } ∷ log) d in let open_was = is_open_is (record { moment = moment; event = Opened c want } ∷ log) d in grind (arith, nat_tests, was, open_was, is_idle_is log d, is_open_is log d, orderly.idle_persists d);
       within = rw (new_not_closed c new) (omega (arith, room));
@@ -341,6 +343,8 @@ module _ (settings : LimitAndFirst) (log : List Entry) (orderly : IsOrderly sett
       distinct = orderly.distinct;
       closed_opened = orderly.closed_opened;
       held_open = λ d held. grind (arith, nat_tests, orderly.held_open d, is_idle_is log c, idle, λ (e : c ≡ d). ap (is_open log) e);
+      connections_once = (nobodys_not_among c (holdings log) (unheld c idle_unheld), orderly.connections_once);
+      transfers_once = (free_not_among want.transfer (holdings log) free, orderly.transfers_once);
       held_once = λ d transfer. held_once_start c d transfer want (unheld c idle_unheld) free;
       idle_persists = λ d still. grind (arith, nat_tests, is_idle_is (record { moment = moment; event = Leased c want } ∷ log) d, is_idle_is log d, orderly.idle_persists d);
       within = orderly.within;
@@ -350,45 +354,60 @@ module _ (settings : LimitAndFirst) (log : List Entry) (orderly : IsOrderly sett
 
   -- a connection comes back and stays
   module _ (moment c : ℕ) (facts : Facts) (persists : is_persistent facts ≡ true) where
+    abbrev back : List Entry
+    back = record { moment = moment; event = Returned c facts } ∷ log
+
+    unheld_now : (d : ℕ) → holder_want back d ≡ (if c == d then None else holder_want log d)
+    unheld_now d = holder_returned moment c facts log d
+
+    pub taken_back : (t : ℕ) → held_number back t ≡ unless_it_is c (held_number log t)
+    taken_back t = number_returned moment c facts log t orderly.transfers_once
+
     -- what is kept of idle ones
-    pub idle_facts_return : is_open log c ≡ true → (d : ℕ) → idle_facts (record { moment = moment; event = Returned c facts } ∷ log) d ≡ (if c == d then Some (record { lane = lane log c; born = born log c; since = moment }) else idle_facts log d)
+    pub idle_facts_return : is_open log c ≡ true → (d : ℕ) → idle_facts back d ≡ (if c == d then Some (record { lane = lane log c; born = born log c; since = moment }) else idle_facts log d)
     idle_facts_return was_open d = elim (eqb_tells c d) [
       | inl here ↦
-          let there : is_idle (record { moment = moment; event = Returned c facts } ∷ log) c ≡ true = grind (arith, nat_tests, is_idle_is (record { moment = moment; event = Returned c facts } ∷ log) c, was_open) in
-          let back : Option IdleFacts = Some (record { lane = lane log c; born = born log c; since = moment }) in
-          subst (λ (n : ℕ). idle_facts (record { moment = moment; event = Returned c facts } ∷ log) n ≡ back) here.1 (returned_facts there) ∙ sym (ap (λ b. if b then back else idle_facts log d) here.0)
+          let there : is_idle back c ≡ true = grind (arith, nat_tests, is_idle_is back c, was_open, unheld_now c) in
+          let now : Option IdleFacts = Some (record { lane = lane log c; born = born log c; since = moment }) in
+          subst (λ (n : ℕ). idle_facts back n ≡ now) here.1 (returned_facts there) ∙ sym (ap (λ b. if b then now else idle_facts log d) here.0)
       | inr other ↦
-          let back : Option IdleFacts = Some (record { lane = lane log c; born = born log c; since = moment }) in
-          same_facts log (record { moment = moment; event = Returned c facts } ∷ log) d (grind (arith, other.0, is_idle_is (record { moment = moment; event = Returned c facts } ∷ log) d, is_idle_is log d)) refl refl (rw other.0 refl) ∙ sym (ap (λ b. if b then back else idle_facts log d) other.0)
+          let now : Option IdleFacts = Some (record { lane = lane log c; born = born log c; since = moment }) in
+          same_facts log back d (grind (arith, other.0, is_idle_is back d, is_idle_is log d, unheld_now d)) refl refl (rw other.0 refl) ∙ sym (ap (λ b. if b then now else idle_facts log d) other.0)
     ]
       where
-        returned_facts : is_idle (record { moment = moment; event = Returned c facts } ∷ log) c ≡ true → idle_facts (record { moment = moment; event = Returned c facts } ∷ log) c ≡ Some (record { lane = lane log c; born = born log c; since = moment })
+        returned_facts : is_idle back c ≡ true → idle_facts back c ≡ Some (record { lane = lane log c; born = born log c; since = moment })
         returned_facts there = grind (arith, nat_tests, there)
 
     -- what is kept of held ones
-    pub held_facts_return : (transfer : ℕ) → held_number log transfer ≡ Some c → (t : ℕ) → held_facts (record { moment = moment; event = Returned c facts } ∷ log) t ≡ (if transfer == t then None else held_facts log t)
-    held_facts_return transfer holds t = held_facts_end c transfer holds (record { moment = moment; event = Returned c facts } ∷ log) (λ d. refl) (λ d. refl) (λ d. refl) t
+    pub held_facts_return : (transfer : ℕ) → held_number log transfer ≡ Some c → (t : ℕ) → held_facts back t ≡ (if transfer == t then None else held_facts log t)
+    held_facts_return transfer holds t = ap (option_map (facts_if_held back)) (taken_back t) ∙ held_facts_end c transfer holds back unheld_now (λ d. refl) (λ d. refl) t
 
     -- one more is idle
-    pub more_idle : is_open log c ≡ true → is_some (holder_want log c) ≡ true → length (idle_connections (record { moment = moment; event = Returned c facts } ∷ log)) ≡ length (idle_connections log) + 1
+    pub more_idle : is_open log c ≡ true → is_some (holder_want log c) ≡ true → length (idle_connections back) ≡ length (idle_connections log) + 1
     more_idle was_open held =
         let opened_closed = opened_not_closed log c was_open in
-        rw (idle_of_opened (record { moment = moment; event = Returned c facts } ∷ log), idle_of_opened log) (length-filter_flip (is_free (record { moment = moment; event = Returned c facts } ∷ log)) (is_free log) c (opened log) orderly.distinct opened_closed.0 (grind (arith, nat_tests, opened_closed.1)) (grind (arith, held)) (λ d other. grind (arith, other)))
+        rw (idle_of_opened back, idle_of_opened log) (length-filter_flip (is_free back) (is_free log) c (opened log) orderly.distinct opened_closed.0 (grind (arith, nat_tests, opened_closed.1, unheld_now c)) (grind (arith, held)) (λ d other. grind (arith, other, unheld_now d)))
 
-    pub orderly_return : IsOrderly settings (record { moment = moment; event = Returned c facts } ∷ log)
+    pub orderly_return : IsOrderly settings back
     orderly_return = record {
       distinct = orderly.distinct;
       closed_opened = orderly.closed_opened;
-      held_open = λ d held. grind (arith, nat_tests, orderly.held_open d);
-      held_once = λ d transfer. held_once_end c d transfer;
-      idle_persists = λ d still. grind (arith, nat_tests, persists, is_idle_is (record { moment = moment; event = Returned c facts } ∷ log) d, is_idle_is log d, orderly.idle_persists d);
+      held_open = λ d held. grind (arith, nat_tests, orderly.held_open d, unheld_now d);
+      connections_once = connections_without c (holdings log) orderly.connections_once;
+      transfers_once = transfers_without c (holdings log) orderly.transfers_once;
+      held_once = λ d transfer. rw (unheld_now d, taken_back transfer) (held_once_end c d transfer);
+      idle_persists = λ d still. grind (arith, nat_tests, persists, is_idle_is back d, is_idle_is log d, orderly.idle_persists d, unheld_now d);
       within = orderly.within;
       wait_once = orderly.wait_once;
-      waiting_free = λ transfer left. ap (unless_it_is c) (orderly.waiting_free transfer left);
+      waiting_free = λ transfer left. taken_back transfer ∙ ap (unless_it_is c) (orderly.waiting_free transfer left);
     }
 
   -- a connection is gone
   module _ (c : ℕ) (after : List Entry) (gone : IsGone c log after) where
+    -- whoever held it holds nothing
+    pub gone_taken : (transfer : ℕ) → held_number after transfer ≡ unless_it_is c (held_number log transfer)
+    gone_taken transfer = ap (λ held. number_among held transfer) gone.holdings ∙ number_without c transfer (holdings log) orderly.transfers_once
+
     pub gone_open : (d : ℕ) → is_open after d ≡ (not (c == d) && is_open log d)
     gone_open d = grind (arith, nat_tests, is_open_is after d, is_open_is log d, gone.closed d, ap (is_among d) gone.opened)
 
@@ -423,16 +442,18 @@ module _ (settings : LimitAndFirst) (log : List Entry) (orderly : IsOrderly sett
 
     -- what is kept of those that are held by others
     pub held_facts_gone : (transfer : ℕ) → held_number log transfer ≡ Some c → (t : ℕ) → held_facts after t ≡ (if transfer == t then None else held_facts log t)
-    held_facts_gone transfer holds t = rw (gone.taken t) (held_facts_end c transfer holds after gone.held gone.lane gone.born t)
+    held_facts_gone transfer holds t = rw (gone_taken t) (held_facts_end c transfer holds after gone.held gone.lane gone.born t)
 
     pub orderly_gone : is_open log c ≡ true → IsOrderly settings after
     orderly_gone was_open = record {
       distinct = rw gone.opened orderly.distinct;
       closed_opened = λ d closed. rw gone.opened (grind (arith, nat_tests, gone.closed d, orderly.closed_opened d, is_open_is log c, was_open, λ (e : c ≡ d). ap (λ (n : ℕ). is_among n (opened log)) e));
       held_open = λ d held. grind (arith, nat_tests, gone_open d, gone.held d, orderly.held_open d);
-      held_once = λ d transfer. rw (gone.held d, gone.taken transfer) (held_once_end c d transfer);
+      connections_once = rw gone.holdings (connections_without c (holdings log) orderly.connections_once);
+      transfers_once = rw gone.holdings (transfers_without c (holdings log) orderly.transfers_once);
+      held_once = λ d transfer. rw (gone.held d, gone_taken transfer) (held_once_end c d transfer);
       idle_persists = λ d still. grind (arith, nat_tests, is_idle_is after d, is_idle_is log d, gone_open d, gone.held d, gone.persists d, orderly.idle_persists d);
       within = omega (arith, orderly.within, fewer_open was_open, gone.limit settings);
       wait_once = rw gone.waiting orderly.wait_once;
-      waiting_free = λ transfer left. gone.taken transfer ∙ ap (unless_it_is c) (orderly.waiting_free transfer (ap (λ wants. is_waiting wants transfer) (sym gone.waiting) ∙ left));
+      waiting_free = λ transfer left. gone_taken transfer ∙ ap (unless_it_is c) (orderly.waiting_free transfer (ap (λ wants. is_waiting wants transfer) (sym gone.waiting) ∙ left));
     }

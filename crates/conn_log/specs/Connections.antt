@@ -1,6 +1,6 @@
 -- What a log says of its connections. A log is read with its newest entry first, so that the entries
 -- before an entry are the rest of the list.
-use Rattle.std.specs.Prelude.{ℕ, ◌-◌, max, Bool, false, not, ◌||◌, ◌==◌, if◌then◌else◌, List, [], ◌∷◌, filter, Option, Some, None, is_none}
+use Rattle.std.specs.Prelude.{ℕ, ◌-◌, max, Bool, false, not, ◌||◌, ◌==◌, if◌then◌else◌, List, [], ◌∷◌, map, filter, Option, Some, None, is_none}
 use Rattle.std.specs.Option.{option_map, option_map_or}
 use Rattle.std.specs.List.{list_any}
 use Rattle.persistence.specs.Persistent.{is_persistent}
@@ -48,18 +48,41 @@ open_connections log = filter (λ c. not (is_closed log c)) (opened log)
 abbrev pub is_open : List Entry → ℕ → Bool
 is_open log c = is_among c (open_connections log)
 
--- holder: the transfer of the connection's last start, unless it came back or was closed since; told
--- with all that this transfer wanted
-abbrev pub held_after : Event → ℕ → Option Want → Option Want
-held_after (Opened d want) c held = if d == c then Some want else held
-held_after (Leased d want) c held = if d == c then Some want else held
-held_after (Returned d facts) c held = if d == c then None else held
-held_after (Closed d cause) c held = if d == c then None else held
-held_after _ c held = held
+-- what a transfer holds: the connection, and all that the transfer wanted of it
+pub record Holding : Type 0 where
+  pub connection : ℕ
+  pub want : Want
+
+abbrev pub connections_of : List Holding → List ℕ
+connections_of held = map (λ (h : Holding). h.connection) held
+
+abbrev pub transfers_of : List Holding → List ℕ
+transfers_of held = map (λ (h : Holding). h.want.transfer) held
+
+-- what is held of the other connections
+abbrev pub without_connection : ℕ → List Holding → List Holding
+without_connection c held = filter (λ (h : Holding). not (h.connection == c)) held
+
+-- holdings: who holds what, the newest start first; a connection is held from its start until it comes back or is
+-- closed
+abbrev pub holdings_after : Event → List Holding → List Holding
+holdings_after (Opened c want) held = record { connection = c; want = want } ∷ held
+holdings_after (Leased c want) held = record { connection = c; want = want } ∷ held
+holdings_after (Returned c facts) held = without_connection c held
+holdings_after (Closed c cause) held = without_connection c held
+holdings_after _ held = held
+
+abbrev pub holdings : List Entry → List Holding
+holdings [] = []
+holdings (e ∷ before) = holdings_after e.event (holdings before)
+
+-- holder: the transfer that holds the connection; told with all that this transfer wanted
+abbrev pub want_among : List Holding → ℕ → Option Want
+want_among [] c = None
+want_among (h ∷ held) c = if h.connection == c then Some h.want else want_among held c
 
 abbrev pub holder_want : List Entry → ℕ → Option Want
-holder_want [] c = None
-holder_want (e ∷ before) c = held_after e.event c (holder_want before c)
+holder_want log c = want_among (holdings log) c
 
 abbrev pub holder : List Entry → ℕ → Option ℕ
 holder log c = option_map (λ (want : Want). want.transfer) (holder_want log c)
@@ -68,26 +91,17 @@ holder log c = option_map (λ (want : Want). want.transfer) (holder_want log c)
 abbrev pub is_held_by : List Entry → ℕ → ℕ → Bool
 is_held_by log transfer c = option_map_or (λ (want : Want). want.transfer == transfer) (holder_want log c) false
 
--- the transfer holds an open connection
-abbrev pub holds : List Entry → ℕ → Bool
-holds log transfer = list_any (is_held_by log transfer) (open_connections log)
+-- the connection that a transfer holds
+abbrev pub number_among : List Holding → ℕ → Option ℕ
+number_among [] transfer = None
+number_among (h ∷ held) transfer = if h.want.transfer == transfer then Some h.connection else number_among held transfer
 
--- none, where it is that one
-abbrev pub unless_it_is : ℕ → Option ℕ → Option ℕ
-unless_it_is c None = None
-unless_it_is c (Some d) = if d == c then None else Some d
-
-abbrev pub held_number_after : Event → ℕ → Option ℕ → Option ℕ
-held_number_after (Opened c want) transfer held = if want.transfer == transfer then Some c else held
-held_number_after (Leased c want) transfer held = if want.transfer == transfer then Some c else held
-held_number_after (Returned c facts) transfer held = unless_it_is c held
-held_number_after (Closed c cause) transfer held = unless_it_is c held
-held_number_after _ transfer held = held
-
--- the connection that a transfer holds: that of its last start, unless it came back or was closed since
 abbrev pub held_number : List Entry → ℕ → Option ℕ
-held_number [] transfer = None
-held_number (e ∷ before) transfer = held_number_after e.event transfer (held_number before transfer)
+held_number log transfer = number_among (holdings log) transfer
+
+-- the transfer holds a connection
+abbrev pub holds : List Entry → ℕ → Bool
+holds log transfer = is_among transfer (transfers_of (holdings log))
 
 -- idle: open and without a holder
 abbrev pub idle_connections : List Entry → List ℕ

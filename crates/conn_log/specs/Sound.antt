@@ -5,7 +5,7 @@ use Rattle.conn_log.specs.declared.entry.Want.{Want}
 use Rattle.conn_log.specs.declared.entry.Cause.{Cause}
 use Rattle.conn_log.specs.declared.entry.Cause.TheVariants.{NotPersistent, Cut, Forbidden, Dropped, Withdrawn}
 use Rattle.conn_log.specs.declared.entry.Entry.{Entry}
-use Rattle.conn_log.specs.Connections.{is_among, opened, is_closed, open_connections, is_open, holder_want, is_held_by, is_idle, born, since, lane, came_back_persistent, held_number}
+use Rattle.conn_log.specs.Connections.{is_among, opened, is_closed, open_connections, is_open, connections_of, transfers_of, holdings, holder_want, is_held_by, is_idle, born, since, lane, came_back_persistent, held_number}
 use Rattle.conn_log.specs.Waiting.{without, waiting, waits}
 use Rattle.conn_log.specs.Legal.{LimitAndFirst, limit_in_force, owed, IsLegal}
 
@@ -23,13 +23,15 @@ abbrev pub WaitOnce : List Want → Type 0
 WaitOnce [] = Unit {0}
 WaitOnce (want ∷ others) = (without want.transfer others ≡ others) × WaitOnce others
 
--- numbers stand once; a closed or held connection was opened, and a held one is open; each transfer
--- holds one connection at most; each idle connection came back persistent; each transfer waits once,
--- and one that waits holds nothing
+-- numbers stand once; a closed or held connection was opened, and a held one is open; each connection is held
+-- once, and each transfer holds one connection at most; each idle connection came back persistent; each
+-- transfer waits once, and one that waits holds nothing
 pub record IsOrderly (settings : LimitAndFirst) (log : List Entry) : Type 0 where
   pub distinct : AreDistinct (opened log)
   pub closed_opened : (c : ℕ) → is_closed log c ≡ true → is_among c (opened log) ≡ true
   pub held_open : (c : ℕ) → is_some (holder_want log c) ≡ true → is_open log c ≡ true
+  pub connections_once : AreDistinct (connections_of (holdings log))
+  pub transfers_once : AreDistinct (transfers_of (holdings log))
   pub held_once : (c transfer : ℕ) → is_held_by log transfer c ≡ has_number (held_number log transfer) c
   pub idle_persists : (c : ℕ) → is_idle log c ≡ true → came_back_persistent log c ≡ true
   pub within : length (open_connections log) ≤ limit_in_force settings log

@@ -9,7 +9,7 @@ use Rattle.conn_log.specs.declared.entry.Cause.{Cause}
 use Rattle.conn_log.specs.declared.entry.Cause.TheVariants.{NotPersistent, Cut, Forbidden, TooOld, HostRoom, Dropped, Withdrawn}
 use Rattle.conn_log.specs.declared.entry.Event.TheVariants.{Opened, Leased, Returned, Closed, Waited, Limit}
 use Rattle.conn_log.specs.declared.entry.Entry.{Entry}
-use Rattle.conn_log.specs.Connections.{open_connections, idle_connections, holder, holds, is_held_by, since, born, lane}
+use Rattle.conn_log.specs.Connections.{open_connections, idle_connections, Holding, holdings, held_number, holder, holds, is_held_by, since, born, lane}
 use Rattle.conn_log.specs.Waiting.{waiting}
 use Rattle.conn_log.specs.Fit.{is_too_old, newest_fit, oldest, idle_in_order}
 use Rattle.conn_log.specs.Legal.{LimitAndFirst, limit_in_force, owed, IsLegal, IsQuiet}
@@ -102,11 +102,20 @@ newest_is_reused =
     ∷ leased 2 to get 3 at 9
     ∷ []
 
+-- the transfer holds that connection, with what it wanted
+infix 80 ◌of◌
+abbrev pub ◌of◌ : ℕ → Want → Holding
+c of want = record { connection = c; want = want }
+
 pub record NewestIsReused : Type 0 where
+  pub both_held : holdings (log_after 2 newest_is_reused) ≡ (2 of get 2) ∷ (1 of get 1) ∷ []
+  pub one_held : holdings (log_after 3 newest_is_reused) ≡ (2 of get 2) ∷ []
+  pub none_held : held_number (log_after 4 newest_is_reused) 2 ≡ None
   pub both_idle : idle_connections (log_after 4 newest_is_reused) ≡ 2 ∷ 1 ∷ []
   pub newest : newest_fit (log_after 4 newest_is_reused) (get 3) 9 ≡ Some 2
   pub longest_idle : oldest (log_after 4 newest_is_reused) ≡ Some 1
   pub reused : holder (log_after 5 newest_is_reused) 2 ≡ Some 3
+  pub holds_it : held_number (log_after 5 newest_is_reused) 3 ≡ Some 2
   pub left_idle : idle_connections (log_after 5 newest_is_reused) ≡ 1 ∷ []
   pub legal : IsLegal (limits 4) (log_after 5 newest_is_reused)
   pub quiet : IsQuiet (limits 4) false (log_after 5 newest_is_reused)

@@ -18,7 +18,8 @@ use Rattle.conn_log.specs.Fit.{is_fit}
 use Rattle.conn_log.specs.Waiting.{waits}
 use Rattle.conn_log.specs.Legal.{LimitAndFirst, limit_in_force, ends_use, ending_cause, owed}
 use Rattle.conn_log.specs.Sound.{IsSound, IsNext, is_of_holder, is_of_idle, IdleFacts, HeldFacts, facts_if_idle, facts_if_held, idle_facts, held_facts}
-use Rattle.conn_log.proofs.Steps.{IsGone, gone_closed, gone_ended, is_idle_is, idle_open_unheld, gone_open, taken_end, taken_same, idle_facts_open, held_facts_open, more_open, as_many_idle_open, idle_facts_lease, held_facts_lease, fewer_idle_lease, idle_facts_return, held_facts_return, more_idle, fewer_open, as_many_idle, fewer_idle, idle_facts_gone, held_facts_gone, others_kept}
+use Rattle.conn_log.proofs.Steps.{IsGone, gone_taken, gone_closed, gone_ended, is_idle_is, idle_open_unheld, gone_open, taken_end, taken_same, idle_facts_open, held_facts_open, more_open, as_many_idle_open, idle_facts_lease, held_facts_lease, fewer_idle_lease, idle_facts_return, held_facts_return, more_idle, fewer_open, as_many_idle, fewer_idle, idle_facts_gone, held_facts_gone, others_kept}
+use Rattle.conn_log.proofs.Holdings.{holder_returned}
 use Rattle.conn_log.proofs.Soundness.{next_is_new, and_left, and_right, sound_open, sound_lease, sound_return, sound_end, sound_drop, sound_wait, sound_leave, sound_limit, sound_close, sound_empty, next_free, idle_may_close}
 use Rattle.host_state.specs.declared.idle.Idle.{Idle}
 use Rattle.host_state.specs.declared.held.Held.{Held}
@@ -208,7 +209,7 @@ module _ {S : Type 0} (settings : LimitAndFirst) (log : List Entry) (greatest_us
         let it : (h.number == h.number) ≡ true = grind (arith, nat_tests) in
         record {
           closed = gone_open settings log r.sound.orderly h.number after gone h.number ∙ ap (λ b. not b && is_open log h.number) it;
-          holders = λ t. gone.taken t ∙ taken_end settings log r.sound.orderly h.number transfer (table_number r transfer h is) t;
+          holders = λ t. gone_taken settings log r.sound.orderly h.number after gone t ∙ taken_end settings log r.sound.orderly h.number transfer (table_number r transfer h is) t;
           fewer_open = fewer_open settings log r.sound.orderly h.number after gone was_open;
           as_many_idle = as_many_idle settings log r.sound.orderly h.number after gone is_held;
           limit = gone.limit settings;
@@ -309,9 +310,9 @@ module _ {S : Type 0} (settings : LimitAndFirst) (log : List Entry) (greatest_us
         let on : ends_use facts w.0 ≡ false = rw w.2 (ap not stays) in
         let sound = sound_return settings log r.sound moment later n facts w.0 w.1 on in
         let it : (n == n) ≡ true = grind (arith, nat_tests) in
-        let unheld : is_none (if n == n then None else holder_want log n) ≡ true = rw it refl in
+        let unheld : is_none (holder_want back n) ≡ true = ap is_none (holder_returned moment n facts log n ∙ ap (λ b. if b then None else holder_want log n) it) in
         let was_open : is_open log n ≡ true = r.sound.orderly.held_open n (is_held transfer h is) in
-        let idle_now : is_idle back n ≡ true = is_idle_is back n ∙ both (is_open log n) (is_none (if n == n then None else holder_want log n)) was_open unheld in
+        let idle_now : is_idle back n ≡ true = is_idle_is back n ∙ both (is_open log n) (is_none (holder_want back n)) was_open unheld in
         replays_gone transfer h is (record { moment = moment; event = Closed n CacheFull } ∷ back) (gone_ended moment n facts CacheFull log) (sound_close settings back sound moment (omega arith) n CacheFull (idle_may_close back n CacheFull refl sound.settled idle_now) idle_now) held' less cut counted
       where
         both : (a b : Bool) → a ≡ true → b ≡ true → (a && b) ≡ true
@@ -362,7 +363,7 @@ module _ {S : Type 0} (settings : LimitAndFirst) (log : List Entry) (greatest_us
         idle_distinct = distinct-remove idle place r.idle_distinct;
         idle_in_order = order-remove idle place within r.idle_in_order;
         idle_len = omega (arith, length-remove idle place within, r.idle_len, fewer_idle settings log r.sound.orderly x.number after gone told.0);
-        held_at = λ t. r.held_at t ∙ sym (others_kept settings log r.sound.orderly x.number t after gone.held gone.lane gone.born (held_number log t) (sym (r.sound.orderly.held_once x.number t) ∙ nobodys (holder_want log x.number) t open_unheld.1));
+        held_at = λ t. r.held_at t ∙ sym (ap (option_map (facts_if_held after)) (gone_taken settings log r.sound.orderly x.number after gone t) ∙ others_kept settings log r.sound.orderly x.number t after gone.held gone.lane gone.born (held_number log t) (sym (r.sound.orderly.held_once x.number t) ∙ nobodys (holder_want log x.number) t open_unheld.1));
         open_len = omega (arith, length-remove idle place within, r.open_len, fewer_open settings log r.sound.orderly x.number after gone open_unheld.0);
       }
     where
@@ -376,7 +377,7 @@ module _ {S : Type 0} (settings : LimitAndFirst) (log : List Entry) (greatest_us
     opened = refl;
     still = λ d now. and_right (not (x.number == d)) (is_open log d) (sym (gone d) ∙ now);
     streams = λ d now. stream_of-remove idle place x d r.idle_distinct within is (other d (and_left (not (x.number == d)) (is_open log d) (sym (gone d) ∙ now)));
-    holders = taken_same settings log r.sound.orderly x.number (idle_nobodys r x (at_place r place x within is));
+    holders = λ t. gone_taken settings log r.sound.orderly x.number _ (gone_closed moment x.number cause log) t ∙ taken_same settings log r.sound.orderly x.number (idle_nobodys r x (at_place r place x within is)) t;
     waiting = refl;
     later = omega arith;
     booked = refl;

@@ -5,6 +5,7 @@ use Rattle.std.proofs.lemmas.Bool.Decides.{nat_tests}
 use Rattle.conn_log.specs.declared.entry.Event.TheVariants.{Returned, Closed}
 use Rattle.conn_log.specs.Connections.{last_moment, held_number, is_held_by, open_connections, idle_connections}
 use Rattle.conn_log.specs.Sound.{held_facts}
+use Rattle.conn_log.proofs.Holdings.{number_returned}
 use Rattle.conn_log.proofs.Steps.{taken_end, gone_ended}
 use Rattle.conn_log.specs.Legal.{limit_in_force}
 use Rattle.host_state.specs.declared.idle.Idle.{Idle}
@@ -119,7 +120,7 @@ returns-clause-idle g c =
       stays = stays;
       log = c.append.ensures.entries ∙ ap (λ log. add c.args.moment (Returned n c.args.facts) log) log_is;
       settled = rw c.append.ensures.entries (none_owed _ _ _ _ _ _ kept c.args.transfer held there c.args.moment later c.args.facts stays);
-      holders = λ t. ap (λ log. held_number log t) c.append.ensures.entries ∙ taken_end _ _ kept.sound.orderly n c.args.transfer (table_number kept c.args.transfer held there) t ∙ ap (λ log. if c.args.transfer == t then None else held_number log t) log_is;
+      holders = λ t. ap (λ log. held_number log t) c.append.ensures.entries ∙ number_returned c.args.moment n c.args.facts c.self-2.inside.log.entries t kept.sound.orderly.transfers_once ∙ taken_end _ _ kept.sound.orderly n c.args.transfer (table_number kept c.args.transfer held there) t ∙ ap (λ log. if c.args.transfer == t then None else held_number log t) log_is;
       kept = rw (c.put_in.ensures.items, c.idle_since.ensures) (at_it ∙ ap (λ b. if b then Some c.args.stream else stream_of (streams_of c.self-2.inside.idle.items) n) it);
       others = λ d other. rw (c.put_in.ensures.items, c.idle_since.ensures) (stream_of-insert c.self-2.inside.idle.items c.place_for-place.result x d absent ∙ ap (λ b. if b then Some c.args.stream else stream_of (streams_of c.self-2.inside.idle.items) d) other ∙ ap (λ (v : HostState g.row.S.Denot). stream_of v.streams d) c.self-2.view_is);
       as_many_open = ap (λ log. length (open_connections log)) (c.append.ensures.entries ∙ ap (λ log. add c.args.moment (Returned n c.args.facts) log) log_is);

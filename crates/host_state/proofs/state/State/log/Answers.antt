@@ -1,7 +1,3 @@
-use Rattle.std.proofs.Common.{◌≡◌, is_some}
-use Rattle.conn_log.specs.Connections.{is_idle}
-use Rattle.host_state.specs.Idle.{stream_of}
-use Rattle.host_state.specs.State.{HostState}
 use Rattle.host_state.proofs.Transitions.{has_stream}
 use Rattle.host_state.proofs.state.State.log.Goals as goal
 
