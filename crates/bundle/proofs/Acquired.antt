@@ -20,7 +20,7 @@ use Rattle.conn_log.proofs.Soundness.{and_left, idle_may_close, sound_close}
 use Rattle.host_state.specs.declared.closing.Closing.TheVariants.{TooOld}
 use Rattle.host_state.specs.Steps.{moment_at, add, close_each, without_picked, is_full, is_exhausted, close_for_room, next_number}
 use Rattle.bundle.specs.Calls.{Start, newest_start, newest_wait, with_start, is_busy, start_new, start_or_wait, start_on, start_unless, after_acquire, refusal}
-use Rattle.bundle.proofs.KeptSound.{later, neither, not_refused, free_of, newest_is_fit, AfterClosing, AreIdle, passing_idle, left_idle, first_idle, closing_keeps, none_waits}
+use Rattle.bundle.proofs.KeptSound.{later, neither, not_refused, free_of, newest_is_fit, AfterClosing, AreIdle, passing_idle, left_idle, first_idle, still_free, closing_keeps, none_waits}
 use Rattle.bundle.proofs.Told.{told, IsStarted, freed_closed, started_open, started_lease, told_unheld, told_others, told_started, told_waited_others, awaited_last, none_awaited}
 use Rattle.bundle.proofs.Served.{new_unheld}
 
@@ -54,8 +54,8 @@ closing_tells settings cause fits moment transfer [] log are before u = refl
 closing_tells settings cause fits moment transfer (c ∷ numbers) log are before u =
     let idle = first_idle log c numbers are in
     let none = unheld_idle log c idle in
-    let same = told_unheld settings log before.sound.orderly c none (add moment (Closed c cause) log) (freed_closed moment c cause log) u in
-    let closed : AfterClosing settings moment transfer (add moment (Closed c cause) log) = record { sound = sound_close settings log before.sound moment before.later c cause (idle_may_close log c cause fits before.sound.settled idle) idle; later = omega arith; free = rw before.free refl; nobody = before.nobody } in
+    let same = told_unheld settings log before.sound.orderly c none (add moment (Closed c cause) log) (freed_closed moment c cause log before.sound.orderly.transfers_once) u in
+    let closed : AfterClosing settings moment transfer (add moment (Closed c cause) log) = record { sound = sound_close settings log before.sound moment before.later c cause (idle_may_close log c cause fits before.sound.settled idle) idle; later = omega arith; free = still_free settings log before.sound moment c cause transfer idle before.free; nobody = before.nobody } in
     closing_tells settings cause fits moment transfer numbers (add moment (Closed c cause) log) (left_idle moment c cause log numbers are) closed u ∙ same
 
 -- a start after some closings
@@ -95,8 +95,8 @@ begun_start settings log want m young same before = by_fit (newest_fit young wan
         let idle = first_among (is_idle_longer young) (idle_connections young) c first_is in
         let roomy = add m (Closed c HostRoom) young in
         let sound = sound_close settings young before.sound m before.later c HostRoom (before.sound.settled, idle) idle in
-        let same' = λ (u : ℕ). told_unheld settings young before.sound.orderly c (unheld_idle young c idle) roomy (freed_closed m c HostRoom young) u ∙ same u in
-        starts_new roomy same' sound before.nobody (rw before.free refl) (is_full settings roomy)
+        let same' = λ (u : ℕ). told_unheld settings young before.sound.orderly c (unheld_idle young c idle) roomy (freed_closed m c HostRoom young before.sound.orderly.transfers_once) u ∙ same u in
+        starts_new roomy same' sound before.nobody (still_free settings young before.sound m c HostRoom want.transfer idle before.free) (is_full settings roomy)
 
     by_fit : (fit : Option ℕ) → newest_fit young want m ≡ fit → Starts want log (start_on settings want m young fit) ⊎ Waits want log (start_on settings want m young fit)
     by_fit (Some c) is =

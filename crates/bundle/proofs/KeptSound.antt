@@ -20,6 +20,7 @@ use Rattle.conn_log.specs.Sound.{AreDistinct, IsSound, IsNextAmong, IsNext, is_o
 use Rattle.conn_log.proofs.Numbers.{is_among-filter, parted}
 use Rattle.conn_log.proofs.Sorted.{distinct-filter}
 use Rattle.conn_log.proofs.Order.{among_idle_in_order, distinct_idle_in_order}
+use Rattle.conn_log.proofs.Holdings.{unless_it_is, number_closed, holder_closed, holder_returned}
 use Rattle.conn_log.proofs.Steps.{IsGone, idle_open_unheld, fewer_open, fewer_idle, as_many_idle, as_many_idle_open, more_open, more_idle, fewer_idle_lease, gone_closed, gone_ended, is_idle_is, is_open_is}
 use Rattle.conn_log.proofs.Firsts.{first_among}
 use Rattle.conn_log.proofs.Soundness.{and_left, holds_is, next_free, next_is_new, quiet, sound_open, sound_lease, sound_return, sound_end, sound_drop, sound_wait, sound_leave, sound_close, idle_may_close}
@@ -115,8 +116,8 @@ module _ (settings : LimitAndFirst) (log : List Entry) (sound : IsSound settings
       differs : (a b : ℕ) → a < b → (a == b) ≡ false
       differs a b lt = grind (arith, nat_tests, lt)
 
-  still_free : (moment c : ℕ) (cause : Cause) (transfer : ℕ) → is_idle log c ≡ true → held_number log transfer ≡ None → held_number (add moment (Closed c cause) log) transfer ≡ None
-  still_free moment c cause transfer idle free = rw free refl
+  pub still_free : (moment c : ℕ) (cause : Cause) (transfer : ℕ) → is_idle log c ≡ true → held_number log transfer ≡ None → held_number (add moment (Closed c cause) log) transfer ≡ None
+  still_free moment c cause transfer idle free = number_closed moment c cause log transfer sound.orderly.transfers_once ∙ ap (unless_it_is c) free
 
   -- one is opened for the next to start, where the host has room
   open_with_room : (want : Want) (moment : ℕ) → last_moment log ≤ moment → IsNext log want → is_full settings log ≡ false → IsSound settings (start_new settings want moment log)
@@ -172,7 +173,7 @@ left_idle moment c cause log numbers are = record {
   idle = λ d among.
       let apart = parted c d numbers are.distinct.0 among in
       let was : is_idle log d ≡ true = are.idle d (grind (arith, among)) in
-      grind (arith, nat_tests, apart, was, is_idle_is (add moment (Closed c cause) log) d, is_open_is (add moment (Closed c cause) log) d, is_idle_is log d, is_open_is log d);
+      grind (arith, nat_tests, apart, was, holder_closed moment c cause log d, is_idle_is (add moment (Closed c cause) log) d, is_open_is (add moment (Closed c cause) log) d, is_idle_is log d, is_open_is log d);
 }
 
 pub first_idle : (log : List Entry) (c : ℕ) (numbers : List ℕ) → AreIdle log (c ∷ numbers) → is_idle log c ≡ true
@@ -278,7 +279,7 @@ only_idle settings log kept c held m facts anyone persists =
     let was_open = kept.sound.orderly.held_open c held in
     let more = more_idle settings log kept.sound.orderly m c facts persists was_open held in
     let one : length (idle_connections (add m (Returned c facts) log)) ≡ 1 = omega (arith, more, ap length before.none_idle) in
-    let there : is_idle (add m (Returned c facts) log) c ≡ true = grind (arith, nat_tests, is_idle_is (add m (Returned c facts) log) c, was_open) in
+    let there : is_idle (add m (Returned c facts) log) c ≡ true = grind (arith, nat_tests, is_idle_is (add m (Returned c facts) log) c, holder_returned m c facts log c, was_open) in
     record { only = only_one _ c one there; full = before.full }
 
 unfit_of_idle : (too_old full : Bool) → is_of_idle (if too_old then ForAge else (if full then HostRoom else TotalRoom)) ≡ true

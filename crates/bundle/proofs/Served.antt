@@ -179,7 +179,7 @@ module _ {S : Type 0} (settings : LimitAndFirst) (log : List Entry) (sound : IsS
           let between = add m (Closed c cause) log in
           let closed = sound_close settings log sound m le c cause (idle_may_close log c cause (unfit_is_of_idle settings log head m c) sound.settled idle) idle in
           let open_unheld = idle_open_unheld log c idle in
-          let same = told_unheld settings log sound.orderly c (nobody (holder_want log c) open_unheld.1) between (freed_closed m c cause log) in
+          let same = told_unheld settings log sound.orderly c (nobody (holder_want log c) open_unheld.1) between (freed_closed m c cause log sound.orderly.transfers_once) in
           let first = grants_nothing log between grants same kept in
           let second = grants_new settings between closed grants first.kept m in
           grants_then log grants between grants (start_new settings head m between) (with_new settings m log (head ∷ others) grants) first (subst (λ wants. Grants between grants (open_for settings m between wants) (with_new settings m between wants grants)) is second)

@@ -98,7 +98,7 @@ module _ {S : Type 0} where
     closed_out cause fits =
         let closed = add (moment_at log now) (Closed c cause) log in
         let sound = sound_drop settings log kept.sound (moment_at log now) (later log now) c cause fits (ap is_some holder.1) in
-        let freed = frees settings log kept.sound.orderly grants grants_kept c t mine closed (freed_closed (moment_at log now) c cause log) in
+        let freed = frees settings log kept.sound.orderly grants grants_kept c t mine closed (freed_closed (moment_at log now) c cause log kept.sound.orderly.transfers_once) in
         record {
           settled = kept_close settings log t c cause now fits kept mine;
           freed = freed_then t log grants closed (without_grant t grants) (open_for_head settings (moment_at log now) closed) (with_new settings (moment_at log now) closed (waiting closed) (without_grant t grants)) freed (grants_new settings closed sound (without_grant t grants) freed.kept (moment_at log now));
@@ -113,7 +113,7 @@ module _ {S : Type 0} where
         let closed = add (moment_at log now) (Closed c cause) returned in
         let ends = owed_ends c facts cause holder.0 (sym (ap (option_and_then (owed_for c facts)) holder.1) ∙ owes) in
         let sound = subst (λ (r : Cause). IsSound settings (add (moment_at log now) (Closed c r) returned)) ends.1 (sound_end settings log kept.sound (moment_at log now) (later log now) c facts holder.0 holder.1 ends.0) in
-        let freed = frees settings log kept.sound.orderly grants grants_kept c t mine closed (freed_ended (moment_at log now) c facts cause log) in
+        let freed = frees settings log kept.sound.orderly grants grants_kept c t mine closed (freed_ended (moment_at log now) c facts cause log kept.sound.orderly.transfers_once) in
         record {
           settled = subst (λ l. IsSoundAndQuiet settings l) (ap (settle settings c (moment_at log now) returned) owes) (kept_give_back settings log t c facts now kept mine);
           freed = freed_then t log grants closed (without_grant t grants) (open_for_head settings (moment_at log now) closed) (with_new settings (moment_at log now) closed (waiting closed) (without_grant t grants)) freed (grants_new settings closed sound (without_grant t grants) freed.kept (moment_at log now));
@@ -130,7 +130,7 @@ module _ {S : Type 0} where
         let stays = owed_stays c facts holder.0 (sym (ap (option_and_then (owed_for c facts)) holder.1) ∙ unowed) in
         let persists = stays_persistent (is_persistent facts) holder.0.forbid_reuse stays in
         let sound = sound_return settings log kept.sound (moment_at log now) (later log now) c facts holder.0 holder.1 stays in
-        let freed = frees settings log kept.sound.orderly grants grants_kept c t mine returned (freed_returned (moment_at log now) c facts log) in
+        let freed = frees settings log kept.sound.orderly grants grants_kept c t mine returned (freed_returned (moment_at log now) c facts log kept.sound.orderly.transfers_once) in
         let passed = grants_passed settings returned sound left freed.kept c (moment_at log now) (omega arith) stream (alone facts persists) in
         let granted = subst (λ s. Grants returned left after (with_passed settings c (moment_at log now) s returned (waiting returned) left)) (sym kept_is) passed in
         record {

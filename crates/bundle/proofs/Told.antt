@@ -10,10 +10,11 @@ use Rattle.conn_log.specs.declared.entry.Want.{Want}
 use Rattle.conn_log.specs.declared.entry.Cause.{Cause}
 use Rattle.conn_log.specs.declared.entry.Event.TheVariants.{Opened, Leased, Returned, Closed, Waited, Left}
 use Rattle.conn_log.specs.declared.entry.Entry.{Entry}
-use Rattle.conn_log.specs.Connections.{held_number, unless_it_is, holder_want, is_held_by}
+use Rattle.conn_log.specs.Connections.{transfers_of, holdings, number_among, held_number, holder_want, is_held_by}
 use Rattle.conn_log.specs.Waiting.{waiting, waits, without}
 use Rattle.conn_log.specs.Legal.{LimitAndFirst}
-use Rattle.conn_log.specs.Sound.{IsOrderly, has_number}
+use Rattle.conn_log.specs.Sound.{AreDistinct, IsOrderly, has_number}
+use Rattle.conn_log.proofs.Holdings.{unless_it_is, number_without, number_closed, number_returned, holder_closed, holder_returned}
 use Rattle.conn_log.proofs.Steps.{gone_ended, taken_end, taken_same}
 use Rattle.host_state.specs.Steps.{add}
 use Rattle.bundle.specs.Calls.{Start, last_start}
@@ -87,16 +88,31 @@ pub record IsFreed (c : ℕ) (log after : List Entry) : Type 0 where
   pub waiting : waiting after ≡ waiting log
   pub start : (transfer : ℕ) → last_start after transfer ≡ last_start log transfer
 
-pub freed_closed : (moment c : ℕ) (cause : Cause) (log : List Entry) → IsFreed c log (add moment (Closed c cause) log)
-freed_closed moment c cause log = record { taken = λ transfer. refl; held = λ d. refl; waiting = refl; start = λ transfer. refl }
+pub freed_closed : (moment c : ℕ) (cause : Cause) (log : List Entry) → AreDistinct (transfers_of (holdings log)) → IsFreed c log (add moment (Closed c cause) log)
+freed_closed moment c cause log once = record {
+  taken = λ transfer. number_closed moment c cause log transfer once;
+  held = holder_closed moment c cause log;
+  waiting = refl;
+  start = λ transfer. refl;
+}
 
-pub freed_returned : (moment c : ℕ) (facts : Facts) (log : List Entry) → IsFreed c log (add moment (Returned c facts) log)
-freed_returned moment c facts log = record { taken = λ transfer. refl; held = λ d. refl; waiting = refl; start = λ transfer. refl }
+pub freed_returned : (moment c : ℕ) (facts : Facts) (log : List Entry) → AreDistinct (transfers_of (holdings log)) → IsFreed c log (add moment (Returned c facts) log)
+freed_returned moment c facts log once = record {
+  taken = λ transfer. number_returned moment c facts log transfer once;
+  held = holder_returned moment c facts log;
+  waiting = refl;
+  start = λ transfer. refl;
+}
 
-pub freed_ended : (moment c : ℕ) (facts : Facts) (cause : Cause) (log : List Entry) → IsFreed c log (add moment (Closed c cause) (add moment (Returned c facts) log))
-freed_ended moment c facts cause log =
+pub freed_ended : (moment c : ℕ) (facts : Facts) (cause : Cause) (log : List Entry) → AreDistinct (transfers_of (holdings log)) → IsFreed c log (add moment (Closed c cause) (add moment (Returned c facts) log))
+freed_ended moment c facts cause log once =
     let gone = gone_ended moment c facts cause log in
-    record { taken = gone.taken; held = gone.held; waiting = refl; start = λ transfer. refl }
+    record {
+      taken = λ transfer. ap (λ held. number_among held transfer) gone.holdings ∙ number_without c transfer (holdings log) once;
+      held = gone.held;
+      waiting = refl;
+      start = λ transfer. refl;
+    }
 
 -- a transfer starts
 pub record IsStarted (start : Start) (log after : List Entry) : Type 0 where
