@@ -10,11 +10,12 @@ use Rattle.conn_log.specs.declared.entry.Cause.{Cause}
 use Rattle.conn_log.specs.declared.entry.Cause.TheVariants as causes
 use Rattle.conn_log.specs.declared.entry.Event.TheVariants.{Leased, Returned, Closed, Left}
 use Rattle.conn_log.specs.declared.entry.Entry.{Entry}
-use Rattle.conn_log.specs.Connections.{is_held_by, holder_want, held_number, unless_it_is}
+use Rattle.conn_log.specs.Connections.{transfers_of, holdings, is_held_by, holder_want, held_number}
 use Rattle.conn_log.specs.Waiting.{waiting, waits, without}
 use Rattle.conn_log.specs.Fit.{is_fit}
 use Rattle.conn_log.specs.Legal.{LimitAndFirst, owed, owed_for, ends_use, ending_cause}
-use Rattle.conn_log.specs.Sound.{IsSound}
+use Rattle.conn_log.specs.Sound.{AreDistinct, IsSound}
+use Rattle.conn_log.proofs.Holdings.{unless_it_is, transfers_without, number_closed, number_returned}
 use Rattle.host_state.specs.Steps.{add, moment_at, next_number}
 use Rattle.bundle.specs.Calls.{start_new, open_for, unfit_cause, pass_to, settle, after_give_back, after_close, after_abandon, close_granted, after_withdraw}
 use Rattle.script_engine.specs.Law.{is_served}
@@ -144,17 +145,20 @@ owed-own c facts (Some want) close e = by_end (ends_use facts want) e
     by_end false e' = cc
 
 module _ (settings : LimitAndFirst) (log : List Entry) (sound : IsSound settings log) (t c : ℕ) (holds : held_number log t ≡ Some c) where
+  once : AreDistinct (transfers_of (holdings log))
+  once = sound.orderly.transfers_once
+
   closes : (cause : Cause) (now : ℕ) → Moves t log (after_close settings log c cause now)
   closes cause now =
       let moment = moment_at log now in
       let closed = add moment (Closed c cause) log in
-      both t log closed (after_close settings log c cause now) (let_go t c log closed refl (λ u. refl) (apart-holder settings log sound t c holds)) (opens-for t settings moment closed (waiting closed))
+      both t log closed (after_close settings log c cause now) (let_go t c log closed refl (λ u. number_closed moment c cause log u once) (apart-holder settings log sound t c holds)) (opens-for t settings moment closed (waiting closed))
 
   pub abandoned : (now : ℕ) → Moves t log (after_abandon settings log c now)
   abandoned now = closes causes.Dropped now
 
   pub given-back : (facts : Facts) (now : ℕ) → Moves t log (after_give_back settings log c facts now)
-  given-back facts now = both t log returned (settle settings c moment returned (owed returned)) (let_go t c log returned refl (λ u. refl) (apart-holder settings log sound t c holds)) (by_owed (owed returned) refl)
+  given-back facts now = both t log returned (settle settings c moment returned (owed returned)) (let_go t c log returned refl held (apart-holder settings log sound t c holds)) (by_owed (owed returned) refl)
     where
       moment : ℕ
       moment = moment_at log now
@@ -162,14 +166,20 @@ module _ (settings : LimitAndFirst) (log : List Entry) (sound : IsSound settings
       returned : List Entry
       returned = add moment (Returned c facts) log
 
+      held : (u : ℕ) → held_number returned u ≡ unless_it_is c (held_number log u)
+      held u = number_returned moment c facts log u once
+
+      once-more : AreDistinct (transfers_of (holdings returned))
+      once-more = transfers_without c (holdings log) once
+
       apart : (u : ℕ) → (t == u) ≡ false → unless_it_is c (held_number returned u) ≡ held_number returned u
-      apart = apart-after t c log returned (λ u. refl)
+      apart = apart-after t c log returned held
 
       passed : (head : Want) (fits : Bool) (cause : Cause) → Moves t returned (cond fits (add moment (Leased c head) returned) (start_new settings head moment (add moment (Closed c cause) returned)))
       passed head true cause = leases t moment c head returned
       passed head false cause =
           let closed = add moment (Closed c cause) returned in
-          both t returned closed (start_new settings head moment closed) (let_go t c returned closed refl (λ u. refl) apart) (opens t settings head moment closed)
+          both t returned closed (start_new settings head moment closed) (let_go t c returned closed refl (λ u. number_closed moment c cause returned u once-more) apart) (opens t settings head moment closed)
 
       by_waiting : (wants : List Want) → Moves t returned (pass_to settings c moment returned wants)
       by_waiting [] = still t returned
@@ -181,7 +191,7 @@ module _ (settings : LimitAndFirst) (log : List Entry) (sound : IsSound settings
           let same : close.0 ≡ c = owed-own c facts (holder_want log c) close is in
           let closed = add moment (Closed close.0 close.1) returned in
           both t returned closed (open_for settings moment closed (waiting closed))
-          (let_go t close.0 returned closed refl (λ u. refl) (λ u other. ap (λ (d : ℕ). unless_it_is d (held_number returned u)) same ∙ apart u other))
+          (let_go t close.0 returned closed refl (λ u. number_closed moment close.0 close.1 returned u once-more) (λ u other. ap (λ (d : ℕ). unless_it_is d (held_number returned u)) same ∙ apart u other))
           (opens-for t settings moment closed (waiting closed))
 
 -- who withdraws waits no more
