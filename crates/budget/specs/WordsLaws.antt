@@ -59,3 +59,9 @@ opening_still b c p q r answer told s same = answers_still b.limits.total c.limi
 
 pub keeping_still : (b c : Shared) (p q r : SeatShown) (answer : Try) → Keeping b p q answer → Stays b q c r → r.view.kept ≡ q.view.kept → Keeping c p r answer
 keeping_still b c p q r answer told s same = answers_still b.limits.connects c.limits.connects p.view.kept q.view.kept r.view.kept answer told (ap (λ (budget : Shared). budget.limits.connects) s.budget) same
+
+pub contended_to_open : (b c : Shared) (p q r : SeatShown) → Opening b p q Contended → Stays b q c r → Opening c p r Contended
+contended_to_open b c p q r told s = let misses = s.later.total_misses in omega arith
+
+pub contended_to_keep : (b c : Shared) (p q r : SeatShown) → Keeping b p q Contended → Stays b q c r → Keeping c p r Contended
+contended_to_keep b c p q r told s = let misses = s.later.kept_misses in omega arith

@@ -23,12 +23,13 @@ pub struct Held {
 /// One host's part of a budget: what asks for permits, and gives them back.
 ///
 /// Ghost members say what contracts may know of it. `opening` and `keeping` relate an earlier time,
-/// a later one and an answer: in between the budget was asked so, and last answered that. What the
-/// answer tells is the budget's to say.
+/// a later one and an answer. `Full`: in between the budget was asked and answered so, and this part
+/// has left the number since. `Contended`: it was asked and answered so at least once. `Got` tells
+/// nothing. What each tells of the number is the budget's to say.
 pub trait Permits {
     ghost use Rattle.budget.specs.declared.permits.Held.{Held};
     ghost use Rattle.budget.specs.declared.permits.Try.{Try};
-    ghost use Rattle.budget.specs.declared.permits.Try.TheVariants.{Got};
+    ghost use Rattle.budget.specs.declared.permits.Try.TheVariants.{Got, Contended};
     ghost use Rattle.budget.specs.Permits.{one_more_open, one_more_kept, if_got};
     ghost use Rattle.budget.specs.Permits.{one_less_open, one_less_kept};
 
@@ -41,10 +42,11 @@ pub trait Permits {
     /// It is the same part of the same budget, at a later time.
     ghost stays: { Self → Self → Type 0 };
 
-    /// Between the two times the budget was asked for an open connection, and last answered so.
+    /// Between the two times the budget was asked for an open connection and answered so, in the
+    /// sense above.
     ghost opening: { Self → Self → Try → Type 0 };
 
-    /// Between the two times the budget was asked to keep a connection, and last answered so.
+    /// Between the two times the budget was asked to keep a connection and answered so.
     ghost keeping: { Self → Self → Try → Type 0 };
 
     /// From the one time to the other the budget was asked once for an open connection, answered
@@ -125,6 +127,13 @@ pub trait Permits {
 
     ghost keeping_still: { (x y z : Self) (answer : Try)
         → keeping x y answer → stays y z → same_kept y z → keeping x z answer };
+
+    /// That it has to be asked again is still the answer whatever was given back since.
+    ghost contended_to_open: { (x y z : Self)
+        → opening x y Contended → stays y z → opening x z Contended };
+
+    ghost contended_to_keep: { (x y z : Self)
+        → keeping x y Contended → stays y z → keeping x z Contended };
 
     ghost same_total_on: { (x y z : Self) → same_total x y → same_total y z → same_total x z };
 

@@ -216,6 +216,10 @@ impl Permits for HostPermits<'_> {
     ghost keeping_still = { λ x y z answer told s.
         kept_still y.host y.budget.now z.budget.now answer told s.2 };
 
+    ghost contended_to_open = { λ x y z never s. never };
+
+    ghost contended_to_keep = { λ x y z never s. never };
+
     ghost same_total_on = { λ x y z p q. q ∙ p };
 
     ghost same_kept_on = { λ x y z p q. q ∙ p };

@@ -94,6 +94,12 @@ impl Permits for SeatPermits<'_> {
     ghost keeping_still = { λ x y z answer told s.
         laws.keeping_still _ _ x.seat.now y.seat.now z.seat.now answer told s.1 };
 
+    ghost contended_to_open = { λ x y z told s.
+        laws.contended_to_open _ _ x.seat.now y.seat.now z.seat.now told s.1 };
+
+    ghost contended_to_keep = { λ x y z told s.
+        laws.contended_to_keep _ _ x.seat.now y.seat.now z.seat.now told s.1 };
+
     ghost same_total_on = { λ x y z p q. q ∙ p };
 
     ghost same_kept_on = { λ x y z p q. q ∙ p };
