@@ -21,13 +21,15 @@ use Rattle.host_state.specs.Steps.{add, is_full, cause_of, picked, without_picke
 use Rattle.host_state.specs.Idle.{find_number, numbers, facts_of_idle, stream_of, AreInOrder}
 
 -- a host as a step sees it: its log, the limit with which it began and its first number, its index, the
--- streams of its idle connections by number, and how many acquires are halfway
+-- streams of its idle connections by number, how many acquires are halfway, and whether there is room for the
+-- entry of a changed limit
 pub record HostState (S : Type 0) : Type 0 where
   pub log : List Entry
   pub settings : LimitAndFirst
   pub host : ℕ
   pub streams : List (ℕ × S)
   pub booked : ℕ
+  pub has_limit_room : Bool
 
 -- what the log knows of a held connection
 abbrev pub facts_of_held : Held → HeldFacts
@@ -45,11 +47,17 @@ pub record Replays {S : Type 0} (settings : LimitAndFirst) (log : List Entry) (g
   pub held_at : (transfer : ℕ) → option_map facts_of_held (held transfer) ≡ held_facts log transfer
   pub open_len : length (open_connections log) ≡ length idle + held_len
 
+-- how many entries a changed limit may add beside those of its closings, once room was made for it
+abbrev pub entries_of_limit : Bool → ℕ
+entries_of_limit true = 1
+entries_of_limit false = 0
+
 -- room for what is to come: of entries one for each idle connection, two for each held one, three for each
--- transfer that waits and four for each acquire halfway; a place in the idle list for each of these; one in
--- the table for each transfer that waits and for each acquire halfway; one in the queue for the latter
-pub record HasRoom (booked idle_len held_len waiting_len free_entries idle_capacity held_spare queue_spare : ℕ) : Type 0 where
-  pub log_room : 4 * booked + (3 * waiting_len + (2 * held_len + idle_len)) ≤ free_entries
+-- transfer that waits and four for each acquire halfway, and that of a changed limit; a place in the idle list
+-- for each connection, each transfer that waits and each acquire halfway; one in the table for each transfer
+-- that waits and for each acquire halfway; one in the queue for the latter
+pub record HasRoom (has_limit_room : Bool) (booked idle_len held_len waiting_len free_entries idle_capacity held_spare queue_spare : ℕ) : Type 0 where
+  pub log_room : entries_of_limit has_limit_room + (4 * booked + (3 * waiting_len + (2 * held_len + idle_len))) ≤ free_entries
   pub idle_room : booked + (waiting_len + (idle_len + held_len)) ≤ idle_capacity
   pub held_room : booked + waiting_len ≤ held_spare
   pub queue_room : booked ≤ queue_spare
@@ -148,10 +156,10 @@ pub record LeasesNewest {S : Type 0} (old new : HostState S) (want : Want) (mome
   pub booked : new.booked ≡ booked_after_start (waiting old.log) old.booked
   pub same : IsSameHost old new
 
--- room for the entries of what is to be spent: three for each transfer that waits, two for each leased
--- connection and one for each idle one
-abbrev pub HasRoomToSpend : List Entry → ℕ → Type 0
-HasRoomToSpend log room = let leased = length (open_connections log) - length (idle_connections log) in 3 * length (waiting log) + 2 * leased + length (idle_connections log) ≤ room
+-- room for the entries that are still to come: four for each acquire that is halfway, three for each transfer
+-- that waits, two for each leased connection and one for each idle one
+abbrev pub HasRoomToSpend : ℕ → List Entry → ℕ → Type 0
+HasRoomToSpend booked log room = let leased = length (open_connections log) - length (idle_connections log) in 4 * booked + (3 * length (waiting log) + 2 * leased + length (idle_connections log)) ≤ room
 
 -- what a step asks of a held connection: that the log shows it held so by that transfer
 abbrev pub IsHeldAs : {S : Type 0} → HostState S → ℕ → Held → Type 0
@@ -174,7 +182,7 @@ OpensOnly c old new = (d : ℕ) → (c == d) ≡ false → is_open new d ≡ tru
 
 -- a host without connections
 abbrev pub IsNewState : {S : Type 0} → ℕ → ℕ → ℕ → HostState S → Type 0
-IsNewState limit index first state = state ≡ record { log = []; settings = record { limit = limit; first = first }; host = index; streams = []; booked = 0 }
+IsNewState limit index first state = state ≡ record { log = []; settings = record { limit = limit; first = first }; host = index; streams = []; booked = 0; has_limit_room = false }
 
 -- what is kept of a held connection once it came back at that moment
 abbrev pub idle_since : {S : Type 0} → Held → ℕ → S → Idle S

@@ -1,5 +1,5 @@
 -- What the steps of a host add to its log. Steps take the log last, so that they read in their order.
-use Rattle.std.specs.Prelude.{ℕ, ◌+◌, ◌-◌, max, Bool, ◌==◌, if◌then◌else◌, nat_le, List, [], ◌∷◌, length, filter, take, Option, Some, None}
+use Rattle.std.specs.Prelude.{ℕ, ◌+◌, ◌-◌, max, Bool, ◌==◌, nat_le, List, [], ◌∷◌, length, filter, take}
 use Rattle.conn_log.specs.declared.entry.Cause.{Cause}
 use Rattle.conn_log.specs.declared.entry.Cause.TheVariants.{HostRoom, TooOld as ForAge, Pruned as ForPrune}
 use Rattle.conn_log.specs.declared.entry.Event.{Event}
@@ -7,7 +7,7 @@ use Rattle.conn_log.specs.declared.entry.Event.TheVariants.{Closed}
 use Rattle.conn_log.specs.declared.entry.Entry.{Entry}
 use Rattle.conn_log.specs.Connections.{last_moment, opened, greatest, open_connections, born, since}
 use Rattle.conn_log.specs.Waiting.{waiting}
-use Rattle.conn_log.specs.Fit.{is_older, is_too_old_in_lane, idle_in_order, oldest}
+use Rattle.conn_log.specs.Fit.{is_older, is_too_old_in_lane, idle_in_order}
 use Rattle.conn_log.specs.Legal.{LimitAndFirst, limit_in_force}
 use Rattle.host_state.specs.declared.closing.Closing.{Closing}
 use Rattle.host_state.specs.declared.closing.Closing.TheVariants.{TooOld, Pruned, Above}
@@ -49,15 +49,6 @@ picked (Above limit) moment log = take (length (open_connections log) - limit) (
 -- the log once each that it picks is closed
 abbrev pub without_picked : Closing → ℕ → List Entry → List Entry
 without_picked closing moment log = close_each (cause_of closing) moment (picked closing moment log) log
-
--- that connection makes room, if there is one
-abbrev pub close_for_room : ℕ → List Entry → Option ℕ → List Entry
-close_for_room moment log None = log
-close_for_room moment log (Some c) = add moment (Closed c HostRoom) log
-
--- at the host's limit the oldest idle connection makes room, if one is idle
-abbrev pub with_host_room : LimitAndFirst → ℕ → List Entry → List Entry
-with_host_room settings moment log = if is_full settings log then close_for_room moment log (oldest log) else log
 
 -- the greatest number that a connection can have
 abbrev pub last_number : ℕ

@@ -9,7 +9,7 @@ ghost use Rattle.conn_log.specs.Connections.{open_connections, idle_connections,
 ghost use Rattle.conn_log.specs.Waiting.{waiting, waits};
 ghost use Rattle.conn_log.specs.Fit.{newest_fit, oldest_too_old, oldest_stamp};
 ghost use Rattle.conn_log.specs.Sound.{IsSound, IsNext, is_of_holder, is_of_idle};
-ghost use Rattle.host_state.specs.Steps.{add, next_number, picked, with_host_room};
+ghost use Rattle.host_state.specs.Steps.{add, next_number, picked};
 ghost use Rattle.host_state.specs.Steps.{is_full, is_exhausted, moment_at, close_each};
 ghost use Rattle.host_state.specs.Idle.{stream_of, numbers};
 ghost use Rattle.host_state.specs.Queue.{waiting_want};
@@ -48,6 +48,9 @@ const ENTRIES_OF_AN_ACQUIRE: usize = 4;
 /// How many entries the end of a wait may add, with those of the end of its lease.
 const ENTRIES_OF_A_WAIT: usize = 3;
 
+/// How many entries a changed limit adds beside those of its closings.
+const ENTRIES_OF_A_LIMIT: usize = 1;
+
 /// The state of one host, which replays its log. Each step adds the entries that it is named for.
 #[derive(Drop)]
 pub struct State<S: Drop> {
@@ -57,6 +60,7 @@ pub struct State<S: Drop> {
     first: u32,
     greatest: u32,
     booked: u32,
+    has_limit_room: bool,
     log: Log,
     idle: VecDeque<Idle<S>>,
     held: HashMap<u64, Held>,
@@ -81,6 +85,7 @@ impl<S: Drop> Model for State<S> {
       host = state.host;
       streams = streams_of state.idle.items;
       booked = state.booked;
+      has_limit_room = state.has_limit_room;
     } };
 
     ghost invariant = { λ state. record {
@@ -97,7 +102,7 @@ impl<S: Drop> Model for State<S> {
           let held_len = hash_map_len state.held in
           let waiting_len = length state.queue.wants in
           let idle_capacity = deque_capacity state.idle in
-          HasRoom state.booked (deque_len state.idle) held_len waiting_len
+          HasRoom state.has_limit_room state.booked (deque_len state.idle) held_len waiting_len
           state.log.room idle_capacity (spare state.held) state.queue.room;
     } };
 }
@@ -114,6 +119,7 @@ impl<S: Drop> State<S> {
             first,
             greatest: first.saturating_sub(1),
             booked: 0,
+            has_limit_room: false,
             log: Log::new(alloc)?,
             idle: VecDeque::new(alloc),
             held: HashMap::new(alloc),
@@ -132,7 +138,7 @@ impl<S: Drop> State<S> {
     pub fn log(&self) -> &Log
         ensures entries { result.now.entries ≡ self.now.log }
         ensures sound { IsSound self.now.settings self.now.log }
-        ensures room { HasRoomToSpend self.now.log result.now.room }
+        ensures room { HasRoomToSpend self.now.booked self.now.log result.now.room }
         ensures streams { (c : ℕ) →
             is_some (stream_of self.now.streams c) ≡ is_idle self.now.log c }
     {
@@ -280,7 +286,7 @@ impl<S: Drop> State<S> {
         let open = self.idle.len() + held;
         let booked = self.booked as usize + 1;
         let entries = ENTRIES_OF_AN_ACQUIRE * booked + ENTRIES_OF_A_WAIT * waiting + open + held;
-        self.log.reserve(entries)?;
+        self.log.reserve(ENTRIES_OF_A_LIMIT + entries)?;
         self.idle.reserve(held + waiting + booked)?;
         self.queue.reserve(booked)?;
         self.held.reserve(waiting + booked)?;
@@ -317,7 +323,10 @@ impl<S: Drop> State<S> {
             born: last.born,
             forbids_reuse: want.forbid_reuse,
         };
-        let entries = ENTRIES_OF_A_LEASE + self.idle.len() + 2 * self.held.len();
+        let entries = ENTRIES_OF_A_LIMIT
+            + ENTRIES_OF_A_LEASE
+            + self.idle.len()
+            + 2 * self.held.len();
         let Ok(()) = self.log.reserve(entries) else {
             return None;
         };
@@ -396,43 +405,37 @@ impl<S: Drop> State<S> {
         true
     }
 
-    /// Changes the most connections that may be open. Where more are, it first closes so many of
-    /// those that are idle for the longest; it answers how many. Where memory runs out nothing has
-    /// changed.
-    pub fn set_limit(&mut self, limit: u32, moment: u64) -> Result<u32, LogFault>
-        requires held { open_len self.old ≤ idle_len self.old + limit }
-        requires later { last_moment self.old.log ≤ moment }
-        ensures ok { IfOk result (λ closed. SetsLimit limit moment closed self.old self.new) }
+    /// Makes room for the entry of a changed limit. Where memory runs out nothing has changed.
+    pub fn reserve_for_limit(&mut self) -> Result<(), LogFault>
+        ensures ok { OnOk result (self.new ≡ record self.old { has_limit_room = true }) }
         ensures err { OnErr result (self.new ≡ self.old) }
     {
-        let open_len = self.open_len();
         let acquires = ENTRIES_OF_AN_ACQUIRE * self.booked as usize;
         let waits = ENTRIES_OF_A_WAIT * self.queue.len();
-        let held = self.held.len();
-        self.log
-            .reserve(acquires + waits + self.idle.len() + 2 * held + 1)?;
+        let entries = acquires + waits + self.idle.len() + 2 * self.held.len();
+        self.log.reserve(ENTRIES_OF_A_LIMIT + entries)?;
+        self.has_limit_room = true;
+        Ok(())
+    }
+
+    /// Changes the most connections that may be open, for which room was made. Where more are, it
+    /// first closes so many of those that are idle for the longest; it answers how many.
+    pub fn set_limit(&mut self, limit: u32, moment: u64) -> u32
+        requires room { self.old.has_limit_room ≡ true }
+        requires held { open_len self.old ≤ idle_len self.old + limit }
+        requires later { last_moment self.old.log ≤ moment }
+        ensures { SetsLimit limit moment result self.old self.new }
+    {
+        let open_len = self.open_len();
         let above = open_len.saturating_sub(limit);
         close_oldest_of(&mut self.idle, &mut self.log, above, moment);
         self.limit = limit;
+        self.has_limit_room = false;
         self.log.append(Entry {
             moment,
             event: Event::Limit { limit },
         });
-        Ok(above)
-    }
-
-    /// At the host's limit, closes the connection that is idle for the longest, if one is idle.
-    pub fn make_room(&mut self, moment: u64)
-        requires { last_moment self.old.log ≤ moment }
-        ensures log { self.new.log ≡ with_host_room self.old.settings moment self.old.log }
-        ensures room { is_full self.new.settings self.new.log ≡ true →
-            idle_connections self.new.log ≡ [] }
-        ensures limit { limit_of self.new ≡ limit_of self.old }
-        ensures closes { ClosesIdle moment self.old self.new }
-    {
-        if self.is_full() && self.idle_len() > 0 {
-            self.close_oldest(Cause::HostRoom, moment);
-        }
+        above
     }
 
     /// Closes the connection that is idle for the longest.

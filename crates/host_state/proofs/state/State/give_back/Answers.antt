@@ -61,7 +61,7 @@ returns-then-not-stays_open-clause-closed g c =
     let was = table_number kept c.args.transfer held c.in-Some.ensures.there in
     let now = ends_use_at_once _ _ _ _ _ _ kept c.args.transfer held c.in-Some.ensures.there c.args.moment later c.args.facts _ ends c.ending_cause.ensures in
     let ended = add c.args.moment (Closed n cause) (add c.args.moment (Returned n c.args.facts) state.log.entries) in
-    let new : HostState g.row.S.Denot = record { log = ended; settings = record { limit = state.host_limit; first = state.first }; host = state.host; streams = streams_of state.idle.items; booked = state.booked } in
+    let new : HostState g.row.S.Denot = record { log = ended; settings = record { limit = state.host_limit; first = state.first }; host = state.host; streams = streams_of state.idle.items; booked = state.booked; has_limit_room = state.has_limit_room } in
     let told : ComesBackToClose c.args.self.now new c.args.transfer n c.args.facts c.args.moment = record {
       was_held = ap (λ log. held_number log c.args.transfer) (sym log_is) ∙ was;
       ends = subst (λ log. EndsUse log ended n c.args.facts c.args.moment) log_is now;

@@ -44,7 +44,7 @@ returns g c =
     let there = table_from_log kept c.args.transfer stays.held (subst (λ log. held_facts log c.args.transfer ≡ Some (facts_of_held stays.held)) (sym log_is) stays.was_held) in
     let gone = has_gone _ _ _ _ _ _ kept c.args.transfer stays.held there _ (gone_ended c.args.moment n c.args.facts CacheFull state.log.entries) in
     let ended = add c.args.moment (Closed n CacheFull) (add c.args.moment (Returned n c.args.facts) state.log.entries) in
-    let new : HostState g.row.S.Denot = record { log = ended; settings = record { limit = state.host_limit; first = state.first }; host = state.host; streams = streams_of state.idle.items; booked = state.booked } in
+    let new : HostState g.row.S.Denot = record { log = ended; settings = record { limit = state.host_limit; first = state.first }; host = state.host; streams = streams_of state.idle.items; booked = state.booked; has_limit_room = state.has_limit_room } in
     let told : ComesBackUnkept c.args.self.now new c.args.transfer n c.args.facts c.args.moment = record {
       log = ap (λ log. add c.args.moment (Closed n CacheFull) (add c.args.moment (Returned n c.args.facts) log)) log_is;
       closed = gone.closed;

@@ -17,6 +17,7 @@ use Rattle.host_state.specs.Steps.{add}
 use Rattle.host_state.specs.Idle.{stream_of}
 use Rattle.host_state.specs.State.{HostState, booked_after_start}
 use Rattle.host_state.proofs.Kept.{stream_of-streams_of, stream_of-remove}
+use Rattle.host_state.proofs.Limits.{one_at_most}
 use Rattle.host_state.proofs.Replaying.{found_idle, at_place, newest_read, none_too_old_read}
 use Rattle.host_state.proofs.Transitions.{table_free, replays_same, read_fit, replays_lease, fewer_idle_leased}
 use Rattle.host_state.proofs.Waits.{nobody, queue_started}
@@ -57,6 +58,7 @@ invariant_of-self-2 g c =
     let place = deque_len c.self.inside.idle - 1 in
     let last = c.in_ok-last.ensures.suits in
     let x = c.take_last-number.result in
+    let spare = one_at_most c.self.inside.has_limit_room in
     let same : c.in_ok-last.last.now ≡ x = c.in_ok-last.ensures.last ∙ get_or_default c.self.inside.idle.items place c.in_ok-last.last.now x last.in_range ∙ sym c.take_last-number.ensures.value in
     let put = subst (λ (y : Idle g.row.S.Denot). (t : ℕ) → get nat_eq c.enter_if_free.new.table t ≡ (if c.args.want.now.transfer == t then Some (record { number = y.number; lane = y.lane; born = y.born; forbids_reuse = c.args.want.now.forbid_reuse }) else get nat_eq c.self.inside.held t)) same (c.enter_if_free.ensures.entered entered) in
     let fit = read_fit _ _ _ _ _ _ kept c.args.want.now c.args.moment place x last c.take_last-number.ensures.value in
@@ -66,7 +68,7 @@ invariant_of-self-2 g c =
       queue = rw (c.append.ensures.entries, c.reserve.ensures.entries) (queue_started _ _ _ _ c.args.want.now kept.sound.orderly.wait_once next c.self.invariant.queue (empty ∙ sym (ap (drop 1) empty)));
       numbers = c.self.invariant.numbers;
       room = record {
-        log_room = omega (arith, none, booked, c.in-Ok.ensures.ok, c.append.ensures.room, c.enter_if_free.ensures.len entered, c.take_last-number.ensures.len, c.len.ensures, c.len-2.ensures.len);
+        log_room = omega (arith, none, booked, spare, c.in-Ok.ensures.ok, c.append.ensures.room, c.enter_if_free.ensures.len entered, c.take_last-number.ensures.len, c.len.ensures, c.len-2.ensures.len);
         idle_room = omega (arith, room.idle_room, c.enter_if_free.ensures.len entered, c.take_last-number.ensures.len, c.take_last-number.ensures.capacity);
         held_room = omega (arith, none, booked);
         queue_room = room.queue_room;
