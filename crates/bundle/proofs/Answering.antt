@@ -1,5 +1,5 @@
 -- What the calls of a bundle leave: who has a lease or a ticket, and the streams that are kept.
-use Rattle.std.proofs.Common.{◌≡◌, ℕ, ◌⊎◌, Bool, true, false, not, ◌&&◌, List, [], ◌∷◌, ◌++◌, Option, Some, None, is_some, refl, sym, ap, subst, inl, inr, ◌∙◌, arith}
+use Rattle.std.proofs.Common.{◌≡◌, ℕ, Bool, true, false, not, ◌&&◌, List, [], ◌∷◌, ◌++◌, Option, Some, None, is_some, refl, sym, ap, subst, inl, inr, ◌∙◌, arith}
 use Rattle.std.specs.Prelude.{◌==◌, if◌then◌else◌}
 use Rattle.std.specs.Option.{option_map, option_map_or, option_or, IsSome, IfSome, IfNone}
 use mathlib.Core.Bool.{false≢true, beq}
@@ -19,20 +19,19 @@ use Rattle.conn_log.proofs.Steps.{is_open_is}
 use Rattle.bundle.specs.declared.grant.Grant.{Grant}
 use Rattle.host_state.specs.declared.held.Held.{Held}
 use Rattle.bundle.specs.declared.answers.Got.{Got}
-use Rattle.bundle.specs.declared.answers.Got.TheVariants.{Lease, Wait}
+use Rattle.bundle.specs.declared.answers.Got.TheVariants.{Lease, Wait, NoRoom, Again}
 use Rattle.host_state.specs.Steps.{add, next_number}
-use Rattle.bundle.specs.Calls.{Start, newest_start, newest_wait, start_new, open_for, unfit_cause, pass_to}
+use Rattle.bundle.specs.Calls.{start_new, open_for, unfit_cause, pass_to}
 use Rattle.host_state.specs.Idle.{stream_of}
 use Rattle.bundle.specs.Laws.{IsSoundAndQuiet}
 use Rattle.host_state.specs.Queue.{waiting_want}
 use Rattle.bundle.specs.Lease.{HostShown, Leasing, Ticketed, granted_want, is_same_want, GetsLease, GetsTicket, Spends}
-use Rattle.bundle.specs.Grants.{grant_of, without_grant, grant_transfers, with_stream, grant_streams, GrantsKept, with_new, with_passed, IsAlone}
+use Rattle.bundle.specs.Grants.{grant_of, without_grant, grant_starts, grant_transfers, with_stream, grant_streams, GrantsKept, with_new, with_passed, IsAlone}
 use Rattle.bundle.specs.Replies.{GivesLease, GivesTicket}
 use Rattle.host_state.specs.State.{HostState, ComesBack, facts_of_held}
 use Rattle.bundle.proofs.KeptSound.{held_want, only_idle}
-use Rattle.bundle.proofs.Told.{Told, apart_held, holder_awaits_nothing, told_left_others, awaited_none, awaited_waits}
+use Rattle.bundle.proofs.Told.{told, apart_held, holder_awaits_nothing, told_left_others, awaited_none, awaited_waits}
 use Rattle.bundle.proofs.Granting.{leased, ticketed, leased_same, ticketed_same, kept_at, granted_none, kept_others, kept_without, among_without, not_without, is_some-grant_of, Freed, no_stream, stream_of-append, stream_of-push, stream_of-pushed, stream_of-without, stream_of-granted}
-use Rattle.bundle.proofs.Acquired.{Starts, Waits}
 
 -- a connection that was closed is not open
 pub closed_not_open : (settings : LimitAndFirst) (m c : ℕ) (cause : Cause) (log : List Entry) (wants : List Want) → is_open (open_for settings m (add m (Closed c cause) log) wants) c ≡ false
@@ -64,78 +63,74 @@ module _ {S : Type 0} where
   pub gives_lease : (got : Got S) (P Q R : Leasing S → Type 0) → ((lease : Leasing S) → P lease → Q lease → R lease) → GivesLease got P → GivesLease got Q → GivesLease got R
   gives_lease (Lease lease) P Q R step p q = step lease p q
   gives_lease (Wait ticket) P Q R step p q = tt
+  gives_lease (NoRoom booking) P Q R step p q = tt
+  gives_lease (Again booking) P Q R step p q = tt
 
   pub gives_ticket : (got : Got S) (P Q R : Ticketed → Type 0) → ((ticket : Ticketed) → P ticket → Q ticket → R ticket) → GivesTicket got P → GivesTicket got Q → GivesTicket got R
   gives_ticket (Lease lease) P Q R step p q = tt
   gives_ticket (Wait ticket) P Q R step p q = step ticket p q
+  gives_ticket (NoRoom booking) P Q R step p q = tt
+  gives_ticket (Again booking) P Q R step p q = tt
 
-  -- who has what after an acquire
-  module _ (settings : LimitAndFirst) (log after : List Entry) (grants : List (Grant S)) (kept : GrantsKept log grants) (want : Want) (free : held_number log want.transfer ≡ None) where
+  -- who has what after an acquire: the same is told of the other transfers
+  module _ (settings : LimitAndFirst) (log after : List Entry) (grants : List (Grant S)) (kept : GrantsKept log grants) (want : Want) (free : held_number log want.transfer ≡ None) (others : (u : ℕ) → (want.transfer == u) ≡ false → told after u ≡ told log u) where
     out : is_among want.transfer (grant_transfers grants) ≡ false
     out = granted_none log grants want.transfer kept free
 
-    pub kept_begun : Starts want log after ⊎ Waits want log after → GrantsKept after grants
-    kept_begun (inl starts) = kept_others log after grants want.transfer starts.others out kept
-    kept_begun (inr waits) = kept_others log after grants want.transfer waits.others out kept
+    pub kept_begun : GrantsKept after grants
+    kept_begun = kept_others log after grants want.transfer others out kept
 
-    leases_started : (start : Start) → Starts want log after → newest_start after ≡ Some start → (u : ℕ) → leased after (grant_transfers grants) u ≡ (if want.transfer == u then Some start.number else leased log (grant_transfers grants) u)
-    leases_started start starts answer u = elim (eqb_tells want.transfer u) [
+    leases_started : (c : ℕ) → held_number after want.transfer ≡ Some c → (u : ℕ) → leased after (grant_transfers grants) u ≡ (if want.transfer == u then Some c else leased log (grant_transfers grants) u)
+    leases_started c mine u = elim (eqb_tells want.transfer u) [
       | inl same ↦
-          let one : Some starts.start ≡ Some start = sym starts.answer ∙ answer in
-          let it : starts.start ≡ start = cc in
-          let number : held_number after u ≡ Some start.number = subst (λ (n : ℕ). held_number after n ≡ Some start.number) same.1 (ap (λ (t : Told). t.number) starts.mine ∙ ap (λ (s : Start). Some s.number) it) in
+          let number : held_number after u ≡ Some c = subst (λ (n : ℕ). held_number after n ≡ Some c) same.1 mine in
           let out_u : is_among u (grant_transfers grants) ≡ false = subst (λ (n : ℕ). is_among n (grant_transfers grants) ≡ false) same.1 out in
-          ap (λ b. if b then None else held_number after u) out_u ∙ number ∙ sym (ap (λ b. if b then Some start.number else leased log (grant_transfers grants) u) same.0)
-      | inr other ↦ leased_same log after (grant_transfers grants) (grant_transfers grants) u (starts.others u other.0) refl ∙ sym (ap (λ b. if b then Some start.number else leased log (grant_transfers grants) u) other.0)
+          ap (λ b. if b then None else held_number after u) out_u ∙ number ∙ sym (ap (λ b. if b then Some c else leased log (grant_transfers grants) u) same.0)
+      | inr other ↦ leased_same log after (grant_transfers grants) (grant_transfers grants) u (others u other.0) refl ∙ sym (ap (λ b. if b then Some c else leased log (grant_transfers grants) u) other.0)
     ]
 
-    tickets_started : Starts want log after → (u : ℕ) → ticketed after (grant_transfers grants) u ≡ (if want.transfer == u then None else ticketed log (grant_transfers grants) u)
-    tickets_started starts u = elim (eqb_tells want.transfer u) [
+    tickets_started : waiting_want (waiting after) want.transfer ≡ None → (u : ℕ) → ticketed after (grant_transfers grants) u ≡ (if want.transfer == u then None else ticketed log (grant_transfers grants) u)
+    tickets_started awaits u = elim (eqb_tells want.transfer u) [
       | inl same ↦
-          let none : waiting_want (waiting after) u ≡ None = subst (λ (n : ℕ). waiting_want (waiting after) n ≡ None) same.1 (ap (λ (t : Told). t.awaited) starts.mine) in
+          let none : waiting_want (waiting after) u ≡ None = subst (λ (n : ℕ). waiting_want (waiting after) n ≡ None) same.1 awaits in
           let out_u : is_among u (grant_transfers grants) ≡ false = subst (λ (n : ℕ). is_among n (grant_transfers grants) ≡ false) same.1 out in
           ap (λ b. if b then granted_want after u else waiting_want (waiting after) u) out_u ∙ none ∙ sym (ap (λ b. if b then None else ticketed log (grant_transfers grants) u) same.0)
-      | inr other ↦ ticketed_same log after (grant_transfers grants) (grant_transfers grants) u (starts.others u other.0) refl ∙ sym (ap (λ b. if b then None else ticketed log (grant_transfers grants) u) other.0)
+      | inr other ↦ ticketed_same log after (grant_transfers grants) (grant_transfers grants) u (others u other.0) refl ∙ sym (ap (λ b. if b then None else ticketed log (grant_transfers grants) u) other.0)
     ]
 
-    module _ (settings' : LimitAndFirst) (host host' : ℕ) (streams streams' : List (ℕ × S)) where
+    module _ (settings' : LimitAndFirst) (host host' : ℕ) (streams streams' : List (ℕ × S)) (booked booked' : List ℕ) where
       abbrev host_before : HostShown S
-      host_before = record { log = log; settings = settings; host = host; streams = streams; unclaimed = grant_transfers grants }
+      host_before = record { log = log; settings = settings; host = host; streams = streams; unclaimed = grant_starts grants; booked = booked }
 
       abbrev host_after : HostShown S
-      host_after = record { log = after; settings = settings'; host = host'; streams = streams'; unclaimed = grant_transfers grants }
+      host_after = record { log = after; settings = settings'; host = host'; streams = streams'; unclaimed = grant_starts grants; booked = booked' }
 
-      pub begun_lease : (start : Start) → Starts want log after ⊎ Waits want log after → newest_start after ≡ Some start → GetsLease host_before host_after want.transfer start.number
-      begun_lease start (inl starts) answer = record { leases = leases_started start starts answer; tickets = tickets_started starts }
-      begun_lease start (inr waits) answer = let never : None ≡ Some start = sym waits.no_start ∙ answer in absurd (cc)
+      -- it holds that connection now, and waits not
+      pub begun_lease : (c : ℕ) → held_number after want.transfer ≡ Some c → waiting_want (waiting after) want.transfer ≡ None → GetsLease host_before host_after want.transfer c
+      begun_lease c mine awaits = record { leases = leases_started c mine; tickets = tickets_started awaits }
 
-      pub begun_ticket : Starts want log after ⊎ Waits want log after → is_some (newest_wait after) ≡ true → GetsTicket host_before host_after want
-      begun_ticket (inl starts) answer = absurd (false≢true (sym (ap is_some starts.no_wait) ∙ answer))
-      begun_ticket (inr waits) answer = record {
+      -- it holds nothing yet, and waits for what it wants
+      pub begun_ticket : held_number after want.transfer ≡ None → waiting_want (waiting after) want.transfer ≡ Some want → GetsTicket host_before host_after want
+      begun_ticket holds_none awaits = record {
         leases = λ u. elim (eqb_tells want.transfer u) [
           | inl same ↦
-              let none : held_number after u ≡ None = subst (λ (n : ℕ). held_number after n ≡ None) same.1 waits.held in
+              let none : held_number after u ≡ None = subst (λ (n : ℕ). held_number after n ≡ None) same.1 holds_none in
               let none_before : held_number log u ≡ None = subst (λ (n : ℕ). held_number log n ≡ None) same.1 free in
               ap (λ n. if is_among u (grant_transfers grants) then None else n) (none ∙ sym none_before)
-          | inr other ↦ leased_same log after (grant_transfers grants) (grant_transfers grants) u (waits.others u other.0) refl
+          | inr other ↦ leased_same log after (grant_transfers grants) (grant_transfers grants) u (others u other.0) refl
         ];
         tickets = λ u. elim (eqb_tells want.transfer u) [
           | inl same ↦
-              let wanted : waiting_want (waiting after) u ≡ Some want = subst (λ (n : ℕ). waiting_want (waiting after) n ≡ Some want) same.1 waits.awaited in
+              let wanted : waiting_want (waiting after) u ≡ Some want = subst (λ (n : ℕ). waiting_want (waiting after) n ≡ Some want) same.1 awaits in
               let out_u : is_among u (grant_transfers grants) ≡ false = subst (λ (n : ℕ). is_among n (grant_transfers grants) ≡ false) same.1 out in
               ap (λ b. if b then granted_want after u else waiting_want (waiting after) u) out_u ∙ wanted ∙ sym (ap (λ b. if b then Some want else ticketed log (grant_transfers grants) u) same.0)
-          | inr other ↦ ticketed_same log after (grant_transfers grants) (grant_transfers grants) u (waits.others u other.0) refl ∙ sym (ap (λ b. if b then Some want else ticketed log (grant_transfers grants) u) other.0)
+          | inr other ↦ ticketed_same log after (grant_transfers grants) (grant_transfers grants) u (others u other.0) refl ∙ sym (ap (λ b. if b then Some want else ticketed log (grant_transfers grants) u) other.0)
         ];
       }
 
     -- no grant has the stream of the connection that it starts on
-    pub begun_stream : IsOrderly settings after → (start : Start) → Starts want log after ⊎ Waits want log after → newest_start after ≡ Some start → stream_of (grant_streams grants) start.number ≡ None
-    begun_stream orderly start (inr waits) answer = let never : None ≡ Some start = sym waits.no_start ∙ answer in absurd (cc)
-    begun_stream orderly start (inl starts) answer =
-        let one : Some starts.start ≡ Some start = sym starts.answer ∙ answer in
-        let it : starts.start ≡ start = cc in
-        let mine : held_number after want.transfer ≡ Some start.number = ap (λ (t : Told). t.number) starts.mine ∙ ap (λ (s : Start). Some s.number) it in
-        no_stream after grants start.number (kept_others log after grants want.transfer starts.others out kept) (λ u c among theirs. apart_held settings after orderly u want.transfer c start.number (parted u among) theirs mine)
+    pub begun_stream : IsOrderly settings after → (c : ℕ) → held_number after want.transfer ≡ Some c → stream_of (grant_streams grants) c ≡ None
+    begun_stream orderly c mine = no_stream after grants c kept_begun (λ u d among theirs. apart_held settings after orderly u want.transfer d c (parted u among) theirs mine)
       where
         parted : (u : ℕ) → is_among u (grant_transfers grants) ≡ true → (u == want.transfer) ≡ false
         parted u among = elim (eqb_tells u want.transfer) [
@@ -176,7 +171,7 @@ module _ {S : Type 0} where
           ap (λ b. if b then granted_want log t else waiting_want (waiting log) t) among ∙ ap (granted_want log) (sym there.1) ∙ there.0.want ∙ ap (λ (w : Want). Some w) wanted
 
   -- who has no ticket was granted nothing that it has not claimed
-  unclaimed_not : (log : List Entry) (grants : List (Grant S)) → GrantsKept log grants → (t : ℕ) → ticketed log (grant_transfers grants) t ≡ None → is_among t (grant_transfers grants) ≡ false
+  pub unclaimed_not : (log : List Entry) (grants : List (Grant S)) → GrantsKept log grants → (t : ℕ) → ticketed log (grant_transfers grants) t ≡ None → is_among t (grant_transfers grants) ≡ false
   unclaimed_not log grants kept t none = by_grant (grant_of grants t) refl
     where
       never : (want : Want) → Some want ≡ None → is_among t (grant_transfers grants) ≡ false
@@ -187,8 +182,8 @@ module _ {S : Type 0} where
       by_grant (Some grant) here = never grant.want (sym (ticket_granted log grants kept t grant.want (ap (option_map (λ (g : Grant S). g.want)) here)) ∙ none)
 
   -- who has what once a transfer has spent what it had
-  pub freed_spends : (t : ℕ) (log : List Entry) (grants : List (Grant S)) (after : List Entry) (left : List (Grant S)) (settings settings' : LimitAndFirst) (host host' : ℕ) (streams streams' : List (ℕ × S)) → Freed t log grants after left → Spends (record { log = log; settings = settings; host = host; streams = streams; unclaimed = grant_transfers grants }) (record { log = after; settings = settings'; host = host'; streams = streams'; unclaimed = grant_transfers left }) t
-  freed_spends t log grants after left settings settings' host host' streams streams' freed =
+  pub freed_spends : (t : ℕ) (log : List Entry) (grants : List (Grant S)) (after : List Entry) (left : List (Grant S)) (settings settings' : LimitAndFirst) (host host' : ℕ) (streams streams' : List (ℕ × S)) (booked booked' : List ℕ) → Freed t log grants after left → Spends (record { log = log; settings = settings; host = host; streams = streams; unclaimed = grant_starts grants; booked = booked }) (record { log = after; settings = settings'; host = host'; streams = streams'; unclaimed = grant_starts left; booked = booked' }) t
+  freed_spends t log grants after left settings settings' host host' streams streams' booked booked' freed =
       let itself : (t == t) ≡ true = grind (arith, nat_tests) in
       record {
         leases = freed.leases;
@@ -259,8 +254,8 @@ module _ {S : Type 0} where
     others_stay : (u : ℕ) → (t == u) ≡ false → is_among u (grant_transfers (without_grant t grants)) ≡ is_among u (grant_transfers grants)
     others_stay u other = among_without log grants t u kept ∙ ap (λ b. not b && is_among u (grant_transfers grants)) other
 
-    pub claimed_lease : (settings' : LimitAndFirst) (host host' : ℕ) (streams streams' : List (ℕ × S)) → GetsLease (record { log = log; settings = settings; host = host; streams = streams; unclaimed = grant_transfers grants }) (record { log = log; settings = settings'; host = host'; streams = streams'; unclaimed = grant_transfers (without_grant t grants) }) t grant.number
-    claimed_lease settings' host host' streams streams' = record {
+    pub claimed_lease : (settings' : LimitAndFirst) (host host' : ℕ) (streams streams' : List (ℕ × S)) (booked booked' : List ℕ) → GetsLease (record { log = log; settings = settings; host = host; streams = streams; unclaimed = grant_starts grants; booked = booked }) (record { log = log; settings = settings'; host = host'; streams = streams'; unclaimed = grant_starts (without_grant t grants); booked = booked' }) t grant.number
+    claimed_lease settings' host host' streams streams' booked booked' = record {
       leases = λ u. elim (eqb_tells t u) [
         | inl same ↦
             let out_u : is_among u (grant_transfers (without_grant t grants)) ≡ false = subst (λ (n : ℕ). is_among n (grant_transfers (without_grant t grants)) ≡ false) same.1 (not_without log grants t kept) in
@@ -277,11 +272,11 @@ module _ {S : Type 0} where
       ];
     }
 
-    pub claimed_left : (left : List (Grant S)) → left ≡ without_grant t grants → (settings' : LimitAndFirst) (host host' : ℕ) (streams streams' : List (ℕ × S)) → GetsLease (record { log = log; settings = settings; host = host; streams = streams; unclaimed = grant_transfers grants }) (record { log = log; settings = settings'; host = host'; streams = streams'; unclaimed = grant_transfers left }) t grant.number
-    claimed_left left e_left settings' host host' streams streams' =
-        let old : HostShown S = record { log = log; settings = settings; host = host; streams = streams; unclaimed = grant_transfers grants } in
-        let new : List (Grant S) → HostShown S = λ gs. record { log = log; settings = settings'; host = host'; streams = streams'; unclaimed = grant_transfers gs } in
-        subst (λ gs. GetsLease old (new gs) t grant.number) (sym e_left) (claimed_lease settings' host host' streams streams')
+    pub claimed_left : (left : List (Grant S)) → left ≡ without_grant t grants → (settings' : LimitAndFirst) (host host' : ℕ) (streams streams' : List (ℕ × S)) (booked booked' : List ℕ) → GetsLease (record { log = log; settings = settings; host = host; streams = streams; unclaimed = grant_starts grants; booked = booked }) (record { log = log; settings = settings'; host = host'; streams = streams'; unclaimed = grant_starts left; booked = booked' }) t grant.number
+    claimed_left left e_left settings' host host' streams streams' booked booked' =
+        let old : HostShown S = record { log = log; settings = settings; host = host; streams = streams; unclaimed = grant_starts grants; booked = booked } in
+        let new : List (Grant S) → HostShown S = λ gs. record { log = log; settings = settings'; host = host'; streams = streams'; unclaimed = grant_starts gs; booked = booked' } in
+        subst (λ gs. GetsLease old (new gs) t grant.number) (sym e_left) (claimed_lease settings' host host' streams streams' booked booked')
 
     -- with the stream that came back under its number
     pub claimed_stream : (xs : List (ℕ × S)) → grant.stream ≡ (if is_some grant.stream then stream_of (grant_streams grants ++ xs) grant.number else None)

@@ -15,8 +15,8 @@ use Rattle.bundle.specs.declared.grant.Grant.{Grant}
 use Rattle.bundle.specs.Calls.{Start}
 use Rattle.host_state.specs.Idle.{stream_of}
 use Rattle.host_state.specs.Queue.{waiting_want}
-use Rattle.bundle.specs.Lease.{granted_want}
-use Rattle.bundle.specs.Grants.{grant_of, without_grant, grant_transfers, with_stream, grant_streams, IsGrantKept, GrantsKept}
+use Rattle.bundle.specs.Lease.{granted_want, start_for}
+use Rattle.bundle.specs.Grants.{grant_of, without_grant, grant_start, grant_starts, grant_transfers, with_stream, grant_streams, IsGrantKept, GrantsKept}
 use Rattle.bundle.proofs.Told.{Told, told, IsFreed, IsStarted, told_ended, ended_number, holder_awaits_nothing, told_others, told_started, apart_held}
 
 -- the connection that a transfer has a lease of, and what its ticket is for
@@ -39,6 +39,19 @@ module _ {S : Type 0} where
   is_some-grant_of (grant ∷ others) transfer = elim (eqb_tells grant.want.transfer transfer) [
     | inl same ↦ rw same.0 refl
     | inr differs ↦ rw differs.0 (is_some-grant_of others transfer)
+  ]
+
+  -- its start is found where it is
+  pub start_granted : (grants : List (Grant S)) (transfer : ℕ) (grant : Grant S) → grant_of grants transfer ≡ Some grant → start_for (grant_starts grants) transfer ≡ Some (grant_start grant)
+  start_granted [] transfer grant is = absurd (cc)
+  start_granted (x ∷ others) transfer grant is = elim (eqb_tells x.want.transfer transfer) [
+    | inl same ↦
+        let it : Some x ≡ Some grant = rw same.0 at is in
+        let here : x ≡ grant = cc in
+        rw same.0 (ap (λ (g : Grant S). Some (grant_start g)) here)
+    | inr differs ↦
+        let it : grant_of others transfer ≡ Some grant = rw differs.0 at is in
+        rw differs.0 (start_granted others transfer grant it)
   ]
 
   -- what the log shows of the one that is found

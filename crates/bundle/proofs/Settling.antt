@@ -6,9 +6,10 @@ use mathlib.Core.Bool.{false≢true}
 use Rattle.std.proofs.lemmas.Bool.Decides.{nat_tests}
 use Rattle.persistence.specs.declared.facts.Facts.{Facts}
 use Rattle.persistence.specs.Persistent.{is_persistent}
+use Rattle.budget.specs.Lobby.{Queue}
 use Rattle.conn_log.specs.declared.entry.Want.{Want}
 use Rattle.conn_log.specs.declared.entry.Cause.{Cause}
-use Rattle.conn_log.specs.declared.entry.Cause.TheVariants.{Withdrawn}
+use Rattle.conn_log.specs.declared.entry.Cause.TheVariants.{CacheFull, Withdrawn}
 use Rattle.conn_log.specs.declared.entry.Event.TheVariants.{Returned, Closed, Left}
 use Rattle.conn_log.specs.declared.entry.Entry.{Entry}
 use Rattle.conn_log.specs.Connections.{is_open, open_connections, idle_connections, held_number, holder_want}
@@ -20,24 +21,25 @@ use Rattle.conn_log.proofs.Soundness.{sound_return, sound_end, sound_drop}
 use Rattle.bundle.specs.declared.grant.Grant.{Grant}
 use Rattle.host_state.specs.declared.held.Held.{Held}
 use Rattle.host_state.specs.Steps.{add, moment_at, is_full}
-use Rattle.bundle.specs.Calls.{open_for_head, pass_to, settle, close_granted, after_withdraw, GrowsBy}
+use Rattle.bundle.specs.Calls.{open_for_head, pass_to, settle, close_granted, after_withdraw, returned, rests, is_queued, GrowsBy}
 use Rattle.bundle.specs.Grants.{without_grant, grant_streams, GrantsKept, with_new, with_passed, IsAlone}
 use Rattle.host_state.specs.Idle.{stream_of}
+use Rattle.bundle.specs.Lobbies.{IsMarked}
 use Rattle.bundle.specs.Laws.{IsSoundAndQuiet}
 use Rattle.host_state.specs.State.{facts_of_held}
-use Rattle.bundle.proofs.KeptSound.{later, crowded, held_want, only_idle, stays_persistent, kept_close, kept_give_back}
-use Rattle.bundle.proofs.Growth.{grows_close, grows_give_back}
+use Rattle.bundle.proofs.KeptSound.{later, held_want, only_idle, stays_persistent, kept_close, kept_give_back, kept_unkept}
+use Rattle.bundle.proofs.Growth.{grows_same, grows_by_one, grows_close, grows_give_back}
+use Rattle.bundle.proofs.Marks.{mark_close, mark_give_back, mark_unkept}
 use Rattle.bundle.proofs.Told.{freed_closed, freed_returned, freed_ended}
 use Rattle.bundle.proofs.Granting.{Freed, Grants, frees, freed_then, stream_of-without}
-use Rattle.bundle.proofs.Served.{grants_new, grants_passed}
+use Rattle.bundle.proofs.Passing.{grants_new, grants_passed}
 use Rattle.bundle.proofs.Answering.{known, came_back_alone, both_same, with_new_streams, with_passed_streams, passed_stream, freed_stream, closed_not_open, left_freed}
 
--- where one waits there is room once what was held is gone
-pub room_gone : (settings : LimitAndFirst) (log : List Entry) → IsSoundAndQuiet settings log → (c : ℕ) → is_some (holder_want log c) ≡ true → (after : List Entry) → IsGone c log after → IsAnyone (waiting after) → is_full settings after ≡ false
-room_gone settings log kept c held after gone anyone =
-    let before = crowded settings log kept.quiet (subst IsAnyone gone.waiting anyone) in
+-- there is room once what was held is gone
+pub room_gone : (settings : LimitAndFirst) (log : List Entry) → IsSoundAndQuiet settings log → (c : ℕ) → is_some (holder_want log c) ≡ true → (after : List Entry) → IsGone c log after → is_full settings after ≡ false
+room_gone settings log kept c held after gone =
     let fewer = fewer_open settings log kept.sound.orderly c after gone (kept.sound.orderly.held_open c held) in
-    differs (length (open_connections after)) (limit_in_force settings after) (omega (arith, fewer, before.full))
+    differs (length (open_connections after)) (limit_in_force settings after) (omega (arith, fewer, kept.sound.orderly.within, gone.limit settings))
   where
     differs : (a b : ℕ) → a < b → (a == b) ≡ false
     differs a b lt = grind (arith, nat_tests, lt)
@@ -55,7 +57,7 @@ close_when : (ends : Bool) (c : ℕ) (cause : Cause) (close : Option (ℕ × Cau
 close_when true c cause close is = is
 close_when false c cause close is = is
 
-owed_ends : (c : ℕ) (facts : Facts) (cause : Cause) (want : Want) → owed_for c facts want ≡ Some (c, cause) → (ends_use facts want ≡ true) × (ending_cause facts want ≡ cause)
+pub owed_ends : (c : ℕ) (facts : Facts) (cause : Cause) (want : Want) → owed_for c facts want ≡ Some (c, cause) → (ends_use facts want ≡ true) × (ending_cause facts want ≡ cause)
 owed_ends c facts cause want is = by_end (ends_use facts want) (close_when (ends_use facts want) c (ending_cause facts want) (Some (c, cause)) is)
   where
     by_end : (ends : Bool) → close_if ends c (ending_cause facts want) ≡ Some (c, cause) → (ends ≡ true) × (ending_cause facts want ≡ cause)
@@ -75,6 +77,7 @@ module _ {S : Type 0} where
     pub settled : IsSoundAndQuiet settings after
     pub freed : Freed t log grants after left
     pub grew : GrowsBy log after
+    pub mark : is_queued settings log ≡ false → is_queued settings after ≡ false
     pub others : (d : ℕ) → (c == d) ≡ false → is_open after d ≡ true → stream_of (grant_streams left ++ kept_streams) d ≡ stream_of (grant_streams grants ++ streams) d
 
   moved : (settings : LimitAndFirst) (log : List Entry) (grants : List (Grant S)) (streams : List (ℕ × S)) (t c n : ℕ) (closed' : List Entry) → Settled settings log grants streams t c (open_for_head settings n closed') (with_new settings n closed' (waiting closed') (without_grant t grants)) streams → (settings' : LimitAndFirst) → settings' ≡ settings → (m : ℕ) → m ≡ n → (closed : List Entry) → closed ≡ closed' → (left : List (Grant S)) → left ≡ without_grant t grants → (after : List Entry) → after ≡ open_for_head settings' m closed → (granted : List (Grant S)) → granted ≡ with_new settings' m closed (waiting closed) left → (streams' : List (ℕ × S)) → streams' ≡ streams → Settled settings log grants streams t c after granted streams'
@@ -103,6 +106,7 @@ module _ {S : Type 0} where
           settled = kept_close settings log t c cause now fits kept mine;
           freed = freed_then t log grants closed (without_grant t grants) (open_for_head settings (moment_at log now) closed) (with_new settings (moment_at log now) closed (waiting closed) (without_grant t grants)) freed (grants_new settings closed sound (without_grant t grants) freed.kept (moment_at log now));
           grew = grows_close settings log c cause now;
+          mark = mark_close settings log t c cause now fits kept mine;
           others = λ d other still. others_new closed d other;
         }
 
@@ -118,6 +122,7 @@ module _ {S : Type 0} where
           settled = subst (λ l. IsSoundAndQuiet settings l) (ap (settle settings c (moment_at log now) returned) owes) (kept_give_back settings log t c facts now kept mine);
           freed = freed_then t log grants closed (without_grant t grants) (open_for_head settings (moment_at log now) closed) (with_new settings (moment_at log now) closed (waiting closed) (without_grant t grants)) freed (grants_new settings closed sound (without_grant t grants) freed.kept (moment_at log now));
           grew = subst (λ l. GrowsBy log l) (ap (settle settings c (moment_at log now) returned) owes) (grows_give_back settings log c facts now);
+          mark = λ unmarked. ap (is_queued settings) (sym (ap (settle settings c (moment_at log now) returned) owes)) ∙ mark_give_back settings log t c facts now kept mine unmarked;
           others = λ d other still. others_new closed d other;
         }
 
@@ -137,6 +142,7 @@ module _ {S : Type 0} where
           settled = subst (λ l. IsSoundAndQuiet settings l) (ap (settle settings c (moment_at log now) returned) unowed) (kept_give_back settings log t c facts now kept mine);
           freed = freed_then t log grants returned left after (with_passed settings c (moment_at log now) (stream_of xs c) returned (waiting returned) left) freed granted;
           grew = subst (λ l. GrowsBy log l) (ap (settle settings c (moment_at log now) returned) unowed) (grows_give_back settings log c facts now);
+          mark = λ unmarked. ap (is_queued settings) (sym (ap (settle settings c (moment_at log now) returned) unowed)) ∙ mark_give_back settings log t c facts now kept mine unmarked;
           others = λ d other still. both_same (grant_streams (with_passed settings c (moment_at log now) (stream_of xs c) returned (waiting returned) left)) (grant_streams grants) ys streams d (with_passed_streams settings c (moment_at log now) (stream_of xs c) returned (waiting returned) left d other ∙ stream_of-without log grants t c d grants_kept mine other) (others d other still);
         }
       where
@@ -167,14 +173,34 @@ module _ {S : Type 0} where
         let first = subst (λ l. Settled settings log grants streams t c l (with_passed settings c n (stream_of xs c) returned' (waiting returned') (without_grant t grants)) ys) (sym after_is) base in
         subst (λ gs. Settled settings log grants streams t c after gs ys) (sym granted_is) first
 
-    -- where one waits there is room for it
-    pub room_closed : (cause : Cause) (settings' : LimitAndFirst) → settings' ≡ settings → (m : ℕ) (closed : List Entry) → closed ≡ add m (Closed c cause) log → IsAnyone (waiting closed) → is_full settings' closed ≡ false
-    room_closed cause settings' e_terms m closed e_closed anyone =
-        ap (λ tm. is_full tm closed) e_terms ∙ ap (is_full settings) e_closed ∙ room_gone settings log kept c (ap is_some holder.1) (add m (Closed c cause) log) (gone_closed m c cause log) (subst (λ l. IsAnyone (waiting l)) e_closed anyone)
+    -- it came back, and was closed at once, since the cache is full
+    unkept_out : (facts : Facts) → rests log c facts now ≡ true → Settled settings log grants streams t c (add (moment_at log now) (Closed c CacheFull) (returned log c facts now)) (without_grant t grants) streams
+    unkept_out facts idle =
+        let m = moment_at log now in
+        let freed = frees settings log kept.sound.orderly grants grants_kept c t mine (add m (Closed c CacheFull) (returned log c facts now)) (freed_ended m c facts CacheFull log kept.sound.orderly.transfers_once) in
+        record {
+          settled = kept_unkept settings log t c facts now kept mine idle;
+          freed = freed;
+          grew = grows_by_one m (Closed c CacheFull) log (returned log c facts now) (grows_by_one m (Returned c facts) log log (grows_same log));
+          mark = λ unmarked. mark_unkept settings log c facts now idle;
+          others = λ d other still. both_same (grant_streams (without_grant t grants)) (grant_streams grants) streams streams d (stream_of-without log grants t c d grants_kept mine other) refl;
+        }
 
-    pub room_ended : (facts : Facts) (cause : Cause) (settings' : LimitAndFirst) → settings' ≡ settings → (m : ℕ) (closed : List Entry) → closed ≡ add m (Closed c cause) (add m (Returned c facts) log) → IsAnyone (waiting closed) → is_full settings' closed ≡ false
-    room_ended facts cause settings' e_terms m closed e_closed anyone =
-        ap (λ tm. is_full tm closed) e_terms ∙ ap (is_full settings) e_closed ∙ room_gone settings log kept c (ap is_some holder.1) (add m (Closed c cause) (add m (Returned c facts) log)) (gone_ended m c facts cause log) (subst (λ l. IsAnyone (waiting l)) e_closed anyone)
+    pub settled_unkept : (facts : Facts) → rests log c facts now ≡ true → (m : ℕ) → m ≡ moment_at log now → (left : List (Grant S)) → left ≡ without_grant t grants → (after : List Entry) → after ≡ add m (Closed c CacheFull) (add m (Returned c facts) log) → (streams' : List (ℕ × S)) → streams' ≡ streams → Settled settings log grants streams t c after left streams'
+    settled_unkept facts idle m e_m left e_left after e_after streams' e_streams =
+        let after_is : after ≡ add (moment_at log now) (Closed c CacheFull) (returned log c facts now) = e_after ∙ ap (λ k. add k (Closed c CacheFull) (add k (Returned c facts) log)) e_m in
+        let first = subst (λ l. Settled settings log grants streams t c l (without_grant t grants) streams) (sym after_is) (unkept_out facts idle) in
+        let second = subst (λ gs. Settled settings log grants streams t c after gs streams) (sym e_left) first in
+        subst (λ ss. Settled settings log grants streams t c after left ss) (sym e_streams) second
+
+    -- there is room for one more
+    pub room_closed : (cause : Cause) (settings' : LimitAndFirst) → settings' ≡ settings → (m : ℕ) (closed : List Entry) → closed ≡ add m (Closed c cause) log → is_full settings' closed ≡ false
+    room_closed cause settings' e_terms m closed e_closed =
+        ap (λ tm. is_full tm closed) e_terms ∙ ap (is_full settings) e_closed ∙ room_gone settings log kept c (ap is_some holder.1) (add m (Closed c cause) log) (gone_closed m c cause log)
+
+    pub room_ended : (facts : Facts) (cause : Cause) (settings' : LimitAndFirst) → settings' ≡ settings → (m : ℕ) (closed : List Entry) → closed ≡ add m (Closed c cause) (add m (Returned c facts) log) → is_full settings' closed ≡ false
+    room_ended facts cause settings' e_terms m closed e_closed =
+        ap (λ tm. is_full tm closed) e_terms ∙ ap (is_full settings) e_closed ∙ room_gone settings log kept c (ap is_some holder.1) (add m (Closed c cause) (add m (Returned c facts) log)) (gone_ended m c facts cause log)
 
     -- the connection that came back keeps its stream, where it stays open
     pub passed_kept : (stream : S) (settings' : LimitAndFirst) (m : ℕ) (returned : List Entry) (xs : List (ℕ × S)) → stream_of xs c ≡ Some stream → (left : List (Grant S)) → left ≡ without_grant t grants → (after : List Entry) → after ≡ pass_to settings' c m returned (waiting returned) → (granted : List (Grant S)) → granted ≡ with_passed settings' c m (stream_of xs c) returned (waiting returned) left → (ys : List (ℕ × S)) → (waiting returned ≡ [] → ys ≡ xs) → is_open after c ≡ true → stream_of (grant_streams granted ++ ys) c ≡ Some stream
@@ -224,3 +250,11 @@ withdrawn_log settings log sound t c mine now settings' e_terms m e_m closed e_c
 -- a log grows from one that is the old one
 pub grows_from : (inner old after : List Entry) → inner ≡ old → GrowsBy inner after → GrowsBy old after
 grows_from inner old after same grew = (grew.0, grew.1 ∙ ap (λ before. grew.0 ++ before) same)
+
+-- where the host was not marked it is not
+pub unmarked_from : (inner settings outer : LimitAndFirst) (log old after : List Entry) → outer ≡ inner → inner ≡ settings → log ≡ old → (is_queued inner log ≡ false → is_queued inner after ≡ false) → is_queued settings old ≡ false → is_queued outer after ≡ false
+unmarked_from inner settings outer log old after e_outer e_settings e_log mark unmarked = ap (λ tm. is_queued tm after) e_outer ∙ mark (ap (λ tm. is_queued tm log) e_settings ∙ ap (is_queued settings) e_log ∙ unmarked)
+
+-- and its mark in the lobby is that of the host as it was
+pub marked_as : (inner host : ℕ) (told was is : Bool) (old new : Queue) → inner ≡ host → told ≡ was → IsMarked inner told is old new → IsMarked host was is old new
+marked_as inner host told was is old new e_host e_was marked = subst (λ (h : ℕ). IsMarked h was is old new) e_host (subst (λ b. IsMarked inner b is old new) e_was marked)

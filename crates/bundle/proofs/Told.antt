@@ -31,7 +31,7 @@ pub record Told : Type 0 where
 abbrev pub told : List Entry → ℕ → Told
 told log transfer = record { number = held_number log transfer; granted = granted_want log transfer; start = last_start log transfer; awaited = waiting_want (waiting log) transfer }
 
-same_told : (n n' : Option ℕ) (g g' : Option Want) (s s' : Option Start) (a a' : Option Want) → n ≡ n' → g ≡ g' → s ≡ s' → a ≡ a' → (let first : Told = record { number = n; granted = g; start = s; awaited = a } in let second : Told = record { number = n'; granted = g'; start = s'; awaited = a' } in first ≡ second)
+pub same_told : (n n' : Option ℕ) (g g' : Option Want) (s s' : Option Start) (a a' : Option Want) → n ≡ n' → g ≡ g' → s ≡ s' → a ≡ a' → (let first : Told = record { number = n; granted = g; start = s; awaited = a } in let second : Told = record { number = n'; granted = g'; start = s'; awaited = a' } in first ≡ second)
 same_told n n' g g' s s' a a' e1 e2 e3 e4 = cc
 
 -- what transfers wait for, after one started or left, and after one began to wait
@@ -132,7 +132,7 @@ module _ (settings : LimitAndFirst) (log : List Entry) (orderly : IsOrderly sett
   held_here transfer c is = orderly.held_once c transfer ∙ ap (λ held. has_number held c) is ∙ grind (arith, nat_tests)
 
   -- what it was granted for stays where the connection's holder does
-  granted_same : (after : List Entry) (u : ℕ) → held_number after u ≡ held_number log u → ((d : ℕ) → held_number log u ≡ Some d → holder_want after d ≡ holder_want log d) → granted_want after u ≡ granted_want log u
+  pub granted_same : (after : List Entry) (u : ℕ) → held_number after u ≡ held_number log u → ((d : ℕ) → held_number log u ≡ Some d → holder_want after d ≡ holder_want log d) → granted_want after u ≡ granted_want log u
   granted_same after u number holders = ap (option_and_then (holder_want after)) number ∙ by_number (held_number log u) refl
     where
       by_number : (held : Option ℕ) → held_number log u ≡ held → option_and_then (holder_want after) held ≡ option_and_then (holder_want log) held

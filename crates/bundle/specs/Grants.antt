@@ -1,6 +1,7 @@
 -- What transfers were granted and have not claimed.
-use Rattle.std.specs.Prelude.{◌≡◌, ℕ, ◌+◌, ◌<◌, ◌≤◌, true, false, ◌==◌, if◌then◌else◌, List, [], ◌∷◌, ◌++◌, length, slice_index_or, map, Option, Some, None, is_some}
+use Rattle.std.specs.Prelude.{◌≡◌, ℕ, zero, suc, ◌+◌, ◌<◌, ◌≤◌, true, false, ◌==◌, if◌then◌else◌, List, [], ◌∷◌, ◌++◌, length, slice_index_or, map, Option, Some, None, is_some}
 use Rattle.conn_log.specs.declared.entry.Want.{Want}
+use Rattle.conn_log.specs.declared.entry.Event.TheVariants.{Limit}
 use Rattle.conn_log.specs.declared.entry.Entry.{Entry}
 use Rattle.conn_log.specs.Connections.{is_among, held_number, idle_connections, lane, born, since}
 use Rattle.conn_log.specs.Waiting.{waiting}
@@ -8,9 +9,10 @@ use Rattle.conn_log.specs.Fit.{is_fit}
 use Rattle.conn_log.specs.Legal.{LimitAndFirst}
 use Rattle.bundle.specs.declared.grant.Grant.{Grant}
 use Rattle.host_state.specs.declared.held.Held.{Held}
-use Rattle.host_state.specs.Steps.{next_number}
-use Rattle.bundle.specs.Calls.{last_start}
-use Rattle.bundle.specs.Lease.{Leasing, granted_want}
+use Rattle.host_state.specs.declared.closing.Closing.TheVariants.{Above}
+use Rattle.host_state.specs.Steps.{moment_at, add, next_number, without_picked}
+use Rattle.bundle.specs.Calls.{Start, last_start, open_for_head}
+use Rattle.bundle.specs.Lease.{Leasing, granted_want, starters}
 
 -- what a transfer was granted
 abbrev pub grant_of : {S : Type 0} → List (Grant S) → ℕ → Option (Grant S)
@@ -32,13 +34,19 @@ abbrev pub without_grant : {S : Type 0} → ℕ → List (Grant S) → List (Gra
 without_grant transfer [] = []
 without_grant transfer (grant ∷ others) = if grant.want.transfer == transfer then others else grant ∷ without_grant transfer others
 
+-- its start, and whose they are
+abbrev pub grant_start : {S : Type 0} → Grant S → Start
+grant_start grant = record { number = grant.number; want = grant.want; moment = grant.moment; reused = is_some grant.stream }
+
+abbrev pub grant_starts : {S : Type 0} → List (Grant S) → List Start
+grant_starts grants = map grant_start grants
+
+abbrev pub grant_transfers : {S : Type 0} → List (Grant S) → List ℕ
+grant_transfers grants = starters (grant_starts grants)
+
 -- the lease of it, once it is claimed
 abbrev pub granted_lease : {S : Type 0} → ℕ → Grant S → Leasing S
-granted_lease host grant = record { site = host; start = record { number = grant.number; want = grant.want; moment = grant.moment; reused = is_some grant.stream }; stream = grant.stream }
-
--- the transfers
-abbrev pub grant_transfers : {S : Type 0} → List (Grant S) → List ℕ
-grant_transfers grants = map (λ grant. grant.want.transfer) grants
+granted_lease host grant = record { site = host; start = grant_start grant; stream = grant.stream }
 
 -- the streams of the connections that came back, by number
 abbrev pub with_stream : {S : Type 0} → ℕ → Option S → List (ℕ × S) → List (ℕ × S)
@@ -54,7 +62,7 @@ grant_streams (grant ∷ others) = with_stream grant.number grant.stream (grant_
 pub record IsGrantKept {S : Type 0} (log : List Entry) (grant : Grant S) : Type 0 where
   pub number : held_number log grant.want.transfer ≡ Some grant.number
   pub want : granted_want log grant.want.transfer ≡ Some grant.want
-  pub start : last_start log grant.want.transfer ≡ Some (record { number = grant.number; want = grant.want; moment = grant.moment; reused = is_some grant.stream })
+  pub start : last_start log grant.want.transfer ≡ Some (grant_start grant)
 
 -- the log shows each of them, and each transfer stands once
 abbrev pub GrantsKept : {S : Type 0} → List Entry → List (Grant S) → Type 0
@@ -80,6 +88,15 @@ pub record IsAlone (log : List Entry) (held : Held) (moment : ℕ) : Type 0 wher
   pub born : born log held.number ≡ held.born
   pub since : since log held.number ≡ moment
 
--- room for what the transfers that wait may be granted
-abbrev pub HasSpare : List Entry → ℕ → ℕ → Type 0
-HasSpare log granted capacity = length (waiting log) + granted ≤ capacity
+-- once one is opened for each of the first that wait, so many of them
+abbrev pub with_first : {S : Type 0} → ℕ → LimitAndFirst → ℕ → List Entry → List (Grant S) → List (Grant S)
+with_first zero settings moment log grants = grants
+with_first (suc n) settings moment log grants = with_first n settings moment (open_for_head settings moment log) (with_new settings moment log (waiting log) grants)
+
+-- once the limit is that number, and one is opened for each of so many that wait
+abbrev pub with_limit : {S : Type 0} → ℕ → ℕ → LimitAndFirst → List Entry → ℕ → List (Grant S) → List (Grant S)
+with_limit most given settings log now grants = let moment = moment_at log now in with_first given settings moment (add moment (Limit most) (without_picked (Above most) moment log)) grants
+
+-- room for what the transfers that wait, and those whose acquire is halfway, may be granted
+abbrev pub HasSpare : List Entry → ℕ → ℕ → ℕ → Type 0
+HasSpare log booked granted capacity = length (waiting log) + (booked + granted) ≤ capacity

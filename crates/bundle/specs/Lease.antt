@@ -1,15 +1,18 @@
 -- A lease, a ticket, and what a host shows to those who use its bundle.
-use Rattle.std.specs.Prelude.{◌≡◌, ℕ, ◌-◌, Bool, true, false, ◌==◌, ◌&&◌, ◌||◌, if◌then◌else◌, List, [], length, Option, Some, None, is_some}
+use Rattle.std.specs.Prelude.{◌≡◌, ℕ, ◌-◌, Bool, true, false, not, ◌==◌, ◌&&◌, ◌||◌, if◌then◌else◌, List, [], ◌∷◌, ◌++◌, length, map, filter, Option, Some, None, is_some}
+use Rattle.std.specs.List.{list_any}
 use Rattle.std.specs.Option.{option_map_or, option_and_then}
 use Rattle.std.specs.Bool.{beq}
 use Rattle.conn_log.specs.declared.entry.Want.{Want}
 use Rattle.conn_log.specs.declared.entry.Entry.{Entry}
-use Rattle.conn_log.specs.Connections.{is_among, is_open, is_idle, is_held_by, open_connections, idle_connections, held_number, holder, holder_want}
-use Rattle.conn_log.specs.Waiting.{waiting}
+use Rattle.conn_log.specs.Connections.{is_among, is_open, is_idle, is_held_by, open_connections, idle_connections, held_number, holder_want}
+use Rattle.conn_log.specs.Waiting.{waiting, waits}
 use Rattle.conn_log.specs.Legal.{LimitAndFirst}
+use Rattle.budget.specs.declared.permits.Held.{Held}
+use Rattle.budget.specs.Permits.{held}
 use Rattle.host_state.specs.Queue.{waiting_want}
 use Rattle.bundle.specs.declared.snapshot.Snapshot.{Snapshot}
-use Rattle.bundle.specs.Calls.{Start, Wait, newest_start, newest_wait, last_start}
+use Rattle.bundle.specs.Calls.{Start, Wait, last_start}
 use Rattle.host_state.specs.Idle.{stream_of}
 
 -- a lease tells of its host's index and of its start, and may have its connection's stream
@@ -30,39 +33,60 @@ pub record Ticketed : Type 0 where
   pub site : ℕ
   pub wait : Wait
 
--- a host: its log, its limit and first number, its index, the streams by number (of its idle connections, and
--- of those granted ones that came back and are not claimed), and the transfers granted what they have not
--- claimed
+-- a booking tells of its host's index and of what its acquire, which is halfway, wants
+pub record Booked : Type 0 where
+  pub site : ℕ
+  pub want : Want
+
+-- a host: its log, its first limit and first number, its index, the streams by number (of its idle
+-- connections, and of those granted ones that came back and are not claimed), the starts that it granted and
+-- that are not claimed, and the transfers whose acquire is halfway
 pub record HostShown (S : Type 0) : Type 0 where
   pub log : List Entry
   pub settings : LimitAndFirst
   pub host : ℕ
   pub streams : List (ℕ × S)
-  pub unclaimed : List ℕ
+  pub unclaimed : List Start
+  pub booked : List ℕ
+
+-- who starts
+abbrev pub starters : List Start → List ℕ
+starters starts = map (λ (s : Start). s.want.transfer) starts
+
+-- the start that a transfer was granted
+abbrev pub start_for : List Start → ℕ → Option Start
+start_for [] transfer = None
+start_for (s ∷ others) transfer = if s.want.transfer == transfer then Some s else start_for others transfer
 
 -- the transfer was granted a connection that it has not claimed
 abbrev pub is_unclaimed : {S : Type 0} → HostShown S → ℕ → Bool
-is_unclaimed host transfer = is_among transfer host.unclaimed
+is_unclaimed host transfer = is_among transfer (starters host.unclaimed)
 
 -- the connection that a transfer has a lease of: the one that it holds, unless it has yet to claim it
 abbrev pub lease_number : {S : Type 0} → HostShown S → ℕ → Option ℕ
 lease_number host transfer = if is_unclaimed host transfer then None else held_number host.log transfer
 
--- the transfer that holds the connection has yet to claim it, and it was idle before
-abbrev pub is_reuse : Option Start → Bool
-is_reuse start = option_map_or (λ (s : Start). s.reused) start false
-
+-- the connection was idle before it was granted, and is not claimed
 abbrev pub awaits_claim : {S : Type 0} → HostShown S → ℕ → Bool
-awaits_claim host c = option_map_or (λ t. is_unclaimed host t && is_reuse (last_start host.log t)) (holder host.log c) false
+awaits_claim host c = list_any (λ (s : Start). (s.number == c) && s.reused) host.unclaimed
 
 -- the host has the streams of its idle connections, and of those granted ones that were idle before and are
 -- not claimed; it has no other
 abbrev pub HasItsStreams : {S : Type 0} → HostShown S → Type 0
 HasItsStreams host = (c : ℕ) → is_some (stream_of host.streams c) ≡ (is_idle host.log c || awaits_claim host c)
 
--- each transfer that has yet to claim holds a connection
-abbrev pub UnclaimedAreHeld : {S : Type 0} → HostShown S → Type 0
-UnclaimedAreHeld host = (t : ℕ) → is_unclaimed host t ≡ true → is_some (held_number host.log t) ≡ true
+-- a start that is not claimed is the last one of its transfer, which holds that connection
+pub record IsStartOf (log : List Entry) (granted : Start) : Type 0 where
+  pub holds : held_number log granted.want.transfer ≡ Some granted.number
+  pub last : last_start log granted.want.transfer ≡ Some granted
+
+abbrev pub UnclaimedAreStarts : {S : Type 0} → HostShown S → Type 0
+UnclaimedAreStarts host = (transfer : ℕ) (granted : Start) → start_for host.unclaimed transfer ≡ Some granted → IsStartOf host.log granted
+
+-- a transfer whose acquire is halfway neither holds nor waits, and has one booking
+abbrev pub AreBooked : List Entry → List ℕ → Type 0
+AreBooked log [] = Unit {0}
+AreBooked log (t ∷ others) = (held_number log t ≡ None) × (waits log t ≡ false) × (is_among t others ≡ false) × AreBooked log others
 
 -- what a transfer was granted its connection for
 abbrev pub granted_want : List Entry → ℕ → Option Want
@@ -81,22 +105,15 @@ is_valid_ticket host want = option_map_or (is_same_want want) (ticket_want host 
 
 -- a host without connections
 abbrev pub IsNewHost : {S : Type 0} → ℕ → ℕ → ℕ → HostShown S → Type 0
-IsNewHost limit index first bundle = bundle ≡ record { log = []; settings = record { limit = limit; first = first }; host = index; streams = []; unclaimed = [] }
+IsNewHost limit index first bundle = bundle ≡ record { log = []; settings = record { limit = limit; first = first }; host = index; streams = []; unclaimed = []; booked = [] }
 
 -- the transfer holds the lease's connection, as the log shows
 abbrev pub is_held_lease : {S : Type 0} → HostShown S → Leasing S → Bool
 is_held_lease host lease = is_held_by host.log lease.start.want.transfer lease.start.number
 
--- the lease, or the ticket, that the newest entry of a log tells of, at the host of that index
-abbrev pub IsLeaseOf : {S : Type 0} → ℕ → List Entry → Leasing S → Type 0
-IsLeaseOf host log lease = (newest_start log ≡ Some lease.start) × (lease.site ≡ host)
-
-abbrev pub IsTicketOf : ℕ → List Entry → Ticketed → Type 0
-IsTicketOf host log ticket = (newest_wait log ≡ Some ticket.wait) × (ticket.site ≡ host)
-
--- the lease of what the transfer was granted and has yet to claim
+-- the lease of the start that the transfer was granted and has yet to claim
 abbrev pub WasGranted : {S : Type 0} → HostShown S → ℕ → Leasing S → Type 0
-WasGranted host transfer lease = (is_unclaimed host transfer ≡ true) × (last_start host.log transfer ≡ Some lease.start) × (lease.site ≡ host.host)
+WasGranted host transfer lease = (start_for host.unclaimed transfer ≡ Some lease.start) × (lease.site ≡ host.host)
 
 -- where its connection was idle before, the lease has the stream that was kept under its number; else none
 abbrev pub HasItsStream : {S : Type 0} → List (ℕ × S) → Leasing S → Type 0
@@ -129,6 +146,25 @@ pub record Spends {S : Type 0} (old new : HostShown S) (transfer : ℕ) : Type 0
   pub leases : (t : ℕ) → lease_number new t ≡ (if transfer == t then None else lease_number old t)
   pub tickets : (t : ℕ) → ticket_want new t ≡ (if transfer == t then None else ticket_want old t)
   pub unclaimed : is_unclaimed new transfer ≡ false
+
+-- nobody's lease or ticket changes
+pub record KeepsAll {S : Type 0} (old new : HostShown S) : Type 0 where
+  pub leases : (t : ℕ) → lease_number new t ≡ lease_number old t
+  pub tickets : (t : ℕ) → ticket_want new t ≡ ticket_want old t
+
+-- the booking is this host's: its transfer's acquire is halfway here
+abbrev pub IsBookedHere : {S : Type 0} → HostShown S → Booked → Type 0
+IsBookedHere host booking = (booking.site ≡ host.host) × (is_among booking.want.transfer host.booked ≡ true)
+
+-- the others whose acquires are halfway
+abbrev pub without_booked : ℕ → List ℕ → List ℕ
+without_booked transfer [] = []
+without_booked transfer (t ∷ others) = if t == transfer then others else t ∷ without_booked transfer others
+
+-- what a budget's part holds is what the log counts: a permit for each open connection, and one for each
+-- idle one
+abbrev pub held_by : List Entry → Held
+held_by log = held (length (open_connections log)) (length (idle_connections log))
 
 -- the host stays what it is
 pub record StaysThere {S : Type 0} (old new : HostShown S) : Type 0 where

@@ -2,5 +2,7 @@ pub mod Calls
 pub mod Lease
 pub mod Grants
 pub mod Replies
-pub mod Worked
+pub mod Lobbies
 pub mod Laws
+pub mod Worked
+pub mod Effects

@@ -1,78 +1,213 @@
-ghost use Rattle.std.specs.Prelude.{◌≡◌, ℕ, ◌+◌, ◌<◌, ◌≤◌, ◌++◌, ◌==◌, ◌&&◌, not, List, [], ◌∷◌};
+//! The steps of calls: what starts a transfer, and what serves those that wait.
+
+ghost use Rattle.std.specs.Prelude.{◌≡◌, ℕ, ◌+◌, ◌-◌, ◌<◌, ◌≤◌, ◌++◌, ◌==◌, ◌&&◌, not, List, []};
 ghost use Rattle.std.specs.Prelude.{length, Some, None, IsSome, true, false, if◌then◌else◌};
 ghost use Rattle.std.specs.Prelude.{is_some, vec_len, vec_capacity};
+ghost use Rattle.budget.specs.declared.permits.Try.{Try};
+ghost use Rattle.budget.specs.Permits.{held, one_more_open, one_more_kept, one_less_open};
 ghost use Rattle.conn_log.specs.declared.entry.Cause.TheVariants.{TooOld, HostRoom, TotalRoom};
 ghost use Rattle.conn_log.specs.declared.entry.Event.TheVariants.{Waited};
 ghost use Rattle.conn_log.specs.Connections.{last_moment, held_number, is_open, idle_connections};
+ghost use Rattle.conn_log.specs.Connections.{open_connections};
 ghost use Rattle.conn_log.specs.Waiting.{waiting, waits};
 ghost use Rattle.conn_log.specs.Fit.{is_older};
 ghost use Rattle.conn_log.specs.Legal.{IsAnyone};
-ghost use Rattle.host_state.specs.Steps.{add, is_full, without_picked};
-ghost use Rattle.bundle.specs.Calls.{start_unless, pass_to, open_for_head, newest_start};
-ghost use Rattle.bundle.specs.Calls.{newest_wait};
-ghost use Rattle.bundle.specs.Grants.{with_new, with_passed, IsAlone, HasSpare};
-ghost use Rattle.bundle.specs.Lease.{IsLeaseOf, IsTicketOf, HasItsStream};
+ghost use Rattle.conn_log.specs.Sound.{is_of_idle};
+ghost use Rattle.host_state.specs.Steps.{add, is_full, picked, without_picked};
+ghost use Rattle.bundle.specs.Calls.{start_behind, start_as_told, start_in_place, pass_to};
+ghost use Rattle.bundle.specs.Calls.{open_for_head, open_for_first};
+ghost use Rattle.bundle.specs.Grants.{with_new, with_passed, with_first, IsAlone, HasSpare};
+ghost use Rattle.bundle.specs.Lease.{HasItsStream, held_by};
 ghost use Rattle.host_state.specs.Idle.{stream_of};
-ghost use Rattle.bundle.specs.Replies.{GivesLease, GivesTicket};
-ghost use Rattle.host_state.specs.State.{IsSameHost, KeepsOpen, KeepsOpenBut, ClosesIdle};
+ghost use Rattle.bundle.specs.Replies.{GivesLease, GivesTicket, GivesBooking, UnlessBooking};
+ghost use Rattle.bundle.specs.Replies.{IsGot};
+ghost use Rattle.host_state.specs.State.{IsSameHost, KeepsOpen, KeepsOpenBut, ClosesIdle, limit_of};
+ghost use Rattle.host_state.specs.State.{OpensOnly};
 
 use crate::answers::Got;
+use crate::booking::Booking;
 use crate::grant::Grant;
 use crate::lease::Lease;
 use crate::ticket::Ticket;
+use budget::{Permits, Try};
 use conn_log::{Cause, Want};
 use host_state::{Closing, Held, State};
 
-/// Starts the transfer on the newest idle connection that fits, or on a new one; where others wait,
-/// or the host has no room, it waits.
+/// Closes the idle connections that the closing picks, the one idle for the longest first, and
+/// frees both permits of each. It answers how many it closed.
 #[inline(always)]
-pub(crate) fn start_or_wait<S: Drop>(state: &mut State<S>, want: Want, moment: u64) -> Got<S>
-    requires booked { state.old.booked ≡ 1 }
+pub(crate) fn close_idle<S: Drop, P: Permits>(
+    state: &mut State<S>,
+    closing: &Closing,
+    moment: u64,
+    permits: &mut P,
+) -> u32
+    requires later { last_moment state.old.log ≤ moment }
+    requires stands { P.stands permits.old }
+    requires part { P.held permits.old ≡ held_by state.old.log }
+    ensures log { state.new.log ≡ without_picked closing.now moment state.old.log }
+    ensures count { result ≡ length (picked closing.now moment state.old.log) }
+    ensures closes { ClosesIdle moment state.old state.new }
+    ensures stands { P.stands permits.new }
+    ensures stays { P.stays permits.old permits.new }
+    ensures part { P.held permits.new ≡ held_by state.new.log }
+{
+    let idle_before = state.idle_len();
+    while state.close_next(closing, moment) {
+        permits.release_kept();
+        permits.release_open();
+    }
+    idle_before - state.idle_len()
+}
+
+/// Starts the transfer, or has it wait: after the others where others wait; else, once what is too
+/// old for it is closed, on the newest idle connection that fits; at the host's limit in place of
+/// the oldest idle one; and as the budget answers where the host has room. At the last try the
+/// oldest idle one of the host makes room where the budget has none, or the transfer waits; before
+/// that its acquire is left halfway.
+// Out of line, so that the reuse of the newest connection stays small enough to be inlined.
+#[inline(never)]
+pub(crate) fn start_or_wait<S: Drop, P: Permits>(
+    state: &mut State<S>,
+    want: Want,
+    moment: u64,
+    permits: &mut P,
+    is_last: bool,
+) -> Got<S>
+    requires booked { 0 < state.old.booked }
     requires later { last_moment state.old.log ≤ moment }
     requires free { held_number state.old.log want.transfer ≡ None }
     requires once { waits state.old.log want.transfer ≡ false }
     requires quiet { IsAnyone (waiting state.old.log) → idle_connections state.old.log ≡ [] }
-    ensures log { let wants = waiting state.old.log in
-        state.new.log ≡ start_unless wants state.old.settings want moment state.old.log }
-    ensures lease { GivesLease result (IsLeaseOf state.old.host state.new.log) }
-    ensures ticket { GivesTicket result (IsTicketOf state.old.host state.new.log) }
+    requires stands { P.stands permits.old }
+    requires part { P.held permits.old ≡ held_by state.old.log }
+    ensures told { (told : Try) × P.opening permits.old permits.new told
+        × (let wants = waiting state.old.log in
+        let due = start_behind wants is_last told state.old.settings want moment state.old.log in
+        (state.new.log ≡ due.log) × IsGot state.old.host want due.reply result) }
     ensures has_stream { GivesLease result (λ lease. is_some lease.stream ≡ lease.start.reused) }
     ensures stream { GivesLease result (HasItsStream state.old.streams) }
     ensures others { GivesLease result
         (λ lease. KeepsOpenBut lease.start.number state.old state.new) }
     ensures all { GivesTicket result (λ ticket. KeepsOpen state.old state.new) }
-    ensures booked { state.new.booked ≡ 0 }
+    ensures halfway { GivesBooking result (λ booking. KeepsOpen state.old state.new) }
+    ensures booked { UnlessBooking result (state.new.booked + 1 ≡ state.old.booked) }
+    ensures still_booked { GivesBooking result (λ booking. state.new.booked ≡ state.old.booked) }
+    ensures stands { P.stands permits.new }
+    ensures stays { P.stays permits.old permits.new }
+    ensures part { P.held permits.new ≡ held_by state.new.log }
     ensures same { IsSameHost state.old state.new }
 {
     if state.anyone_waits() {
         return Got::Wait(wait_last(state, want, moment));
     }
-    close_idle(state, &Closing::TooOld(want), moment);
+    close_idle(state, &Closing::TooOld(want), moment, permits);
     if let Some((number, stream)) = state.lease_newest_fit(&want, moment) {
+        permits.release_kept();
         return Got::Lease(Lease::reusing(state.host(), number, want, moment, stream));
     }
-    state.make_room(moment);
     if state.is_full() {
-        return Got::Wait(wait_last(state, want, moment));
+        return start_in_place(state, want, Cause::HostRoom, moment, permits);
     }
-    let number = state.open(&want, moment);
-    Got::Lease(Lease::opened(state.host(), number, want, moment))
+    start_as_told(state, want, moment, permits, is_last)
 }
 
-// Closes the idle connections that the closing picks, the one idle for the longest first.
+// The host has room: the budget is asked for one connection more.
 #[inline(always)]
-fn close_idle<S: Drop>(state: &mut State<S>, closing: &Closing, moment: u64)
-    requires { last_moment state.old.log ≤ moment }
-    ensures log { state.new.log ≡ without_picked closing.now moment state.old.log }
-    ensures closes { ClosesIdle moment state.old state.new }
+fn start_as_told<S: Drop, P: Permits>(
+    state: &mut State<S>,
+    want: Want,
+    moment: u64,
+    permits: &mut P,
+    is_last: bool,
+) -> Got<S>
+    requires booked { 0 < state.old.booked }
+    requires later { last_moment state.old.log ≤ moment }
+    requires free { held_number state.old.log want.transfer ≡ None }
+    requires nobody { waiting state.old.log ≡ [] }
+    requires room { is_full state.old.settings state.old.log ≡ false }
+    requires stands { P.stands permits.old }
+    requires part { P.held permits.old ≡ held_by state.old.log }
+    ensures told { (told : Try) × P.opening permits.old permits.new told
+        × (let due = start_as_told is_last told state.old.settings want moment state.old.log in
+        (state.new.log ≡ due.log) × IsGot state.old.host want due.reply result) }
+    ensures no_stream { GivesLease result (λ lease. lease.stream ≡ None) }
+    ensures not_reused { GivesLease result (λ lease. lease.start.reused ≡ false) }
+    ensures streams { KeepsOpen state.old state.new }
+    ensures opens { GivesLease result
+        (λ lease. OpensOnly lease.start.number state.old.log state.new.log) }
+    ensures none_new { GivesTicket result
+        (λ ticket. open_connections state.new.log ≡ open_connections state.old.log) }
+    ensures halfway { GivesBooking result (λ booking. state.new ≡ state.old) }
+    ensures booked { UnlessBooking result (state.new.booked + 1 ≡ state.old.booked) }
+    ensures still_booked { GivesBooking result (λ booking. state.new.booked ≡ state.old.booked) }
+    ensures stands { P.stands permits.new }
+    ensures stays { P.stays permits.old permits.new }
+    ensures part { P.held permits.new ≡ held_by state.new.log }
+    ensures same { IsSameHost state.old state.new }
 {
-    while state.close_next(closing, moment) {}
+    match permits.reserve_open() {
+        Try::Got => {
+            let number = state.open(&want, moment);
+            Got::Lease(Lease::opened(state.host(), number, want, moment))
+        }
+        Try::Contended => Got::Again(Booking::new(state.host(), want)),
+        Try::Full => {
+            if is_last {
+                return start_in_place(state, want, Cause::TotalRoom, moment, permits);
+            }
+            Got::NoRoom(Booking::new(state.host(), want))
+        }
+    }
+}
+
+// The oldest idle connection makes room for a new one, which takes over its permit; where none is
+// idle the transfer waits.
+#[inline(always)]
+fn start_in_place<S: Drop, P: Permits>(
+    state: &mut State<S>,
+    want: Want,
+    cause: Cause,
+    moment: u64,
+    permits: &mut P,
+) -> Got<S>
+    requires booked { 0 < state.old.booked }
+    requires cause { is_of_idle cause ≡ true }
+    requires later { last_moment state.old.log ≤ moment }
+    requires free { held_number state.old.log want.transfer ≡ None }
+    requires nobody { waiting state.old.log ≡ [] }
+    requires stands { P.stands permits.old }
+    requires part { P.held permits.old ≡ held_by state.old.log }
+    ensures log { let due = start_in_place cause state.old.settings want moment state.old.log in
+        (state.new.log ≡ due.log) × IsGot state.old.host want due.reply result }
+    ensures no_stream { GivesLease result (λ lease. lease.stream ≡ None) }
+    ensures not_reused { GivesLease result (λ lease. lease.start.reused ≡ false) }
+    ensures streams { KeepsOpen state.old state.new }
+    ensures opens { GivesLease result
+        (λ lease. OpensOnly lease.start.number state.old.log state.new.log) }
+    ensures none_new { GivesTicket result
+        (λ ticket. open_connections state.new.log ≡ open_connections state.old.log) }
+    ensures booked { state.new.booked + 1 ≡ state.old.booked }
+    ensures started { UnlessBooking result (state.new.booked + 1 ≡ state.old.booked) }
+    ensures same_total { P.same_total permits.old permits.new }
+    ensures stands { P.stands permits.new }
+    ensures stays { P.stays permits.old permits.new }
+    ensures part { P.held permits.new ≡ held_by state.new.log }
+    ensures same { IsSameHost state.old state.new }
+{
+    if state.idle_len() == 0 {
+        return Got::Wait(wait_last(state, want, moment));
+    }
+    state.close_oldest(cause, moment);
+    permits.release_kept();
+    let number = state.open(&want, moment);
+    Got::Lease(Lease::opened(state.host(), number, want, moment))
 }
 
 // The transfer waits after all others.
 #[inline(always)]
 fn wait_last<S: Drop>(state: &mut State<S>, want: Want, moment: u64) -> Ticket
-    requires booked { state.old.booked ≡ 1 }
+    requires booked { 0 < state.old.booked }
     requires later { last_moment state.old.log ≤ moment }
     requires free { held_number state.old.log want.transfer ≡ None }
     requires once { waits state.old.log want.transfer ≡ false }
@@ -83,28 +218,34 @@ fn wait_last<S: Drop>(state: &mut State<S>, want: Want, moment: u64) -> Ticket
       wait = record { want = want; moment = moment };
     } }
     ensures streams { state.new.streams ≡ state.old.streams }
-    ensures booked { state.new.booked ≡ 0 }
+    ensures lengths { held_by state.new.log ≡ held_by state.old.log }
+    ensures booked { state.new.booked + 1 ≡ state.old.booked }
     ensures same { IsSameHost state.old state.new }
 {
     state.wait(want, moment);
     Ticket::new(state.host(), want, moment)
 }
 
-/// Opens a connection for the first transfer that waits, if one does, and grants it.
+/// Opens a connection for the first transfer that waits, if one does, and grants it. The permit of
+/// the connection is had already.
 #[inline(always)]
 pub(crate) fn open_for_head<S: Drop>(state: &mut State<S>, grants: &mut Vec<Grant<S>>, moment: u64)
-    requires booked { state.old.booked ≡ 0 }
     requires later { last_moment state.old.log ≤ moment }
     requires room { IsAnyone (waiting state.old.log) →
         is_full state.old.settings state.old.log ≡ false }
-    requires spare { HasSpare state.old.log (vec_len grants.old) (vec_capacity grants.old) }
+    requires spare { HasSpare state.old.log state.old.booked (vec_len grants.old)
+        (vec_capacity grants.old) }
     ensures log { state.new.log ≡ open_for_head state.old.settings moment state.old.log }
     ensures grants { let log = state.old.log in
         let wants = waiting state.old.log in
         grants.new.items ≡ with_new state.old.settings moment log wants grants.old.items }
-    ensures spare { HasSpare state.new.log (vec_len grants.new) (vec_capacity grants.new) }
+    ensures spare { HasSpare state.new.log state.new.booked (vec_len grants.new)
+        (vec_capacity grants.new) }
+    ensures more_open { IsAnyone (waiting state.old.log) →
+        held_by state.new.log ≡ one_more_open (held_by state.old.log) }
+    ensures nobody { waiting state.old.log ≡ [] → state.new.log ≡ state.old.log }
     ensures streams { state.new.streams ≡ state.old.streams }
-    ensures booked { state.new.booked ≡ 0 }
+    ensures booked { state.new.booked ≡ state.old.booked }
     ensures same { IsSameHost state.old state.new }
 {
     let Some(head) = state.first_waiting() else {
@@ -119,6 +260,42 @@ pub(crate) fn open_for_head<S: Drop>(state: &mut State<S>, grants: &mut Vec<Gran
     });
 }
 
+/// Hands on the permit of a connection that its holder closed: one is opened with it for the first
+/// transfer that waits; where nobody waits it is freed.
+#[inline(always)]
+pub(crate) fn hand_on<S: Drop, P: Permits>(
+    state: &mut State<S>,
+    grants: &mut Vec<Grant<S>>,
+    moment: u64,
+    permits: &mut P,
+)
+    requires later { last_moment state.old.log ≤ moment }
+    requires room { is_full state.old.settings state.old.log ≡ false }
+    requires spare { HasSpare state.old.log state.old.booked (vec_len grants.old)
+        (vec_capacity grants.old) }
+    requires stands { P.stands permits.old }
+    requires part { P.held permits.old ≡ one_more_open (held_by state.old.log) }
+    ensures log { state.new.log ≡ open_for_head state.old.settings moment state.old.log }
+    ensures grants { let log = state.old.log in
+        let wants = waiting state.old.log in
+        grants.new.items ≡ with_new state.old.settings moment log wants grants.old.items }
+    ensures spare { HasSpare state.new.log state.new.booked (vec_len grants.new)
+        (vec_capacity grants.new) }
+    ensures streams { state.new.streams ≡ state.old.streams }
+    ensures booked { state.new.booked ≡ state.old.booked }
+    ensures same_kept { P.same_kept permits.old permits.new }
+    ensures stands { P.stands permits.new }
+    ensures stays { P.stays permits.old permits.new }
+    ensures part { P.held permits.new ≡ held_by state.new.log }
+    ensures same { IsSameHost state.old state.new }
+{
+    if !state.anyone_waits() {
+        permits.release_open();
+        return;
+    }
+    open_for_head(state, grants, moment);
+}
+
 /// Grants a connection that has just come back to the first transfer that waits, if one does. Where
 /// it does not fit that transfer's want it is closed, and one is opened for that transfer.
 #[inline(always)]
@@ -128,10 +305,10 @@ pub(crate) fn pass_to_head<S: Drop>(
     held: &Held,
     moment: u64,
 )
-    requires booked { state.old.booked ≡ 0 }
     requires later { last_moment state.old.log ≤ moment }
     requires alone { IsAnyone (waiting state.old.log) → IsAlone state.old.log held.now moment }
-    requires spare { HasSpare state.old.log (vec_len grants.old) (vec_capacity grants.old) }
+    requires spare { HasSpare state.old.log state.old.booked (vec_len grants.old)
+        (vec_capacity grants.old) }
     ensures log { let log = state.old.log in
         let wants = waiting state.old.log in
         state.new.log ≡ pass_to state.old.settings held.now.number moment log wants }
@@ -140,10 +317,13 @@ pub(crate) fn pass_to_head<S: Drop>(
         let stream = stream_of state.old.streams held.now.number in
         let passed = with_passed state.old.settings held.now.number moment stream log wants in
         grants.new.items ≡ passed grants.old.items }
-    ensures spare { HasSpare state.new.log (vec_len grants.new) (vec_capacity grants.new) }
+    ensures spare { HasSpare state.new.log state.new.booked (vec_len grants.new)
+        (vec_capacity grants.new) }
     ensures others { KeepsOpenBut held.now.number state.old state.new }
-    ensures nobody { waiting state.old.log ≡ [] → state.new.streams ≡ state.old.streams }
-    ensures booked { state.new.booked ≡ 0 }
+    ensures taken { IsAnyone (waiting state.old.log) →
+        one_more_kept (held_by state.new.log) ≡ held_by state.old.log }
+    ensures nobody { waiting state.old.log ≡ [] → state.new ≡ state.old }
+    ensures booked { state.new.booked ≡ state.old.booked }
     ensures same { IsSameHost state.old state.new }
 {
     let Some(head) = state.first_waiting() else {
@@ -161,6 +341,41 @@ pub(crate) fn pass_to_head<S: Drop>(
     let cause = unfit_cause(held, &head, state.is_full(), moment);
     state.close_oldest(cause, moment);
     open_for_head(state, grants, moment);
+}
+
+/// Opens a connection for each of so many of the first transfers that wait. Their permits are had
+/// already.
+pub(crate) fn open_for_first<S: Drop>(
+    state: &mut State<S>,
+    grants: &mut Vec<Grant<S>>,
+    moment: u64,
+    count: u32,
+)
+    requires later { last_moment state.old.log ≤ moment }
+    requires waits { count ≤ length (waiting state.old.log) }
+    requires room { length (open_connections state.old.log) + count
+        ≤ limit_of state.old }
+    requires spare { HasSpare state.old.log state.old.booked (vec_len grants.old)
+        (vec_capacity grants.old) }
+    ensures log { state.new.log ≡ open_for_first count state.old.settings moment state.old.log }
+    ensures grants { let granted = grants.old.items in
+        grants.new.items ≡ with_first count state.old.settings moment state.old.log granted }
+    ensures spare { HasSpare state.new.log state.new.booked (vec_len grants.new)
+        (vec_capacity grants.new) }
+    ensures more_open { let open_before = length (open_connections state.old.log) in
+        let idle_before = length (idle_connections state.old.log) in
+        held_by state.new.log ≡ held (open_before + count) idle_before }
+    ensures streams { state.new.streams ≡ state.old.streams }
+    ensures booked { state.new.booked ≡ state.old.booked }
+    ensures same { IsSameHost state.old state.new }
+{
+    // The log is sound, so each transfer waits once: with each one opened, one fewer waits.
+    let _log = state.log();
+    let mut opened = 0;
+    while opened < count {
+        open_for_head(state, grants, moment);
+        opened += 1;
+    }
 }
 
 // Why a connection that has just come back is closed where it does not fit the want: it is open for

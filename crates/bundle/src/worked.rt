@@ -7,7 +7,10 @@ ghost use Rattle.bundle.specs.Worked.{AsOldAsTheLifetimeCalls, OlderThanTheLifet
 ghost use Rattle.bundle.specs.Worked.{AnotherLaneAtTheHostLimitCalls, ForbiddenAndCutCalls};
 ghost use Rattle.bundle.specs.Worked.{MomentGoesBackCalls, MomentsClampedPerHostCalls};
 ghost use Rattle.bundle.specs.Worked.{WaitThenClaimCalls, WithdrawAGrantCalls, WhatDoesNotFit};
-ghost use Rattle.bundle.specs.Worked.{NumbersRunOut};
+ghost use Rattle.bundle.specs.Worked.{NumbersRunOut, TwoTooOld, TwoIdleAtTheHostLimit};
+ghost use Rattle.bundle.specs.Worked.{NoRoomInTheBudget, QueuedForTheTotal, TurnsOfAHost};
+ghost use Rattle.bundle.specs.Worked.{FullCache, PruneByLifetime, LimitRaisedCalls};
+ghost use Rattle.bundle.specs.Worked.{LimitLoweredCalls, LimitRaisedBeyondTheTotal, GreatestLimit};
 
 /// What calls answer on small logs, by computation: each clause is named for the script of its log,
 /// or for what its logs show.
@@ -28,4 +31,15 @@ pub fn worked_calls()
     ensures withdraw_a_grant { WithdrawAGrantCalls }
     ensures what_does_not_fit { WhatDoesNotFit }
     ensures numbers_run_out { NumbersRunOut }
+    ensures two_too_old { TwoTooOld }
+    ensures two_idle_at_the_host_limit { TwoIdleAtTheHostLimit }
+    ensures no_room_in_the_budget { NoRoomInTheBudget }
+    ensures queued_for_the_total { QueuedForTheTotal }
+    ensures turns_of_a_host { TurnsOfAHost }
+    ensures full_cache { FullCache }
+    ensures prune_by_lifetime { PruneByLifetime }
+    ensures limit_raised { LimitRaisedCalls }
+    ensures limit_lowered { LimitLoweredCalls }
+    ensures limit_raised_beyond_the_total { LimitRaisedBeyondTheTotal }
+    ensures greatest_limit { GreatestLimit }
 {}

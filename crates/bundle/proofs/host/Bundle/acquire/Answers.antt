@@ -1,213 +1,186 @@
-use Rattle.std.proofs.Common.{◌≡◌, ℕ, ◌⊎◌, ◌++◌, ◌+◌, ◌-◌, length, Some, None, is_some, refl, sym, ap, subst, ◌∙◌, arith}
-use Rattle.std.specs.Prelude.{◌==◌, if◌then◌else◌}
-use Rattle.conn_log.specs.Waiting.{waiting, without}
-use Rattle.host_state.specs.Steps.{moment_at, is_exhausted}
-use Rattle.bundle.specs.Calls.{start_unless, after_acquire, newest_start, refusal}
-use Rattle.bundle.specs.Grants.{GrantsKept, grant_streams}
-use Rattle.host_state.specs.Idle.{stream_of}
+use Rattle.std.proofs.Common.{◌≡◌, ℕ, ◌+◌, ◌++◌, ◌∷◌, [], List, length, false, None, refl, sym, ap, subst, ◌∙◌, arith}
+use Rattle.budget.specs.declared.permits.Try.TheVariants.{Got as Given}
+use Rattle.conn_log.specs.Connections.{is_among}
+use Rattle.conn_log.specs.Waiting.{waiting}
+use Rattle.host_state.specs.State.{HostState}
+use Rattle.bundle.specs.declared.answers.Got.TheVariants.{Lease}
+use Rattle.bundle.specs.Calls.{start_behind, refusal, is_queued, GrowsBy}
+use Rattle.bundle.specs.Grants.{grant_streams, GrantsKept}
 use Rattle.bundle.specs.Laws.{IsSoundAndQuiet}
-use Rattle.bundle.specs.Lease.{HostShown, Leasing}
-use Rattle.host_state.specs.State.{HostState, booked_after_start}
-use Rattle.bundle.proofs.Growth.{grows_acquire}
-use Rattle.bundle.proofs.KeptSound.{kept_acquire}
-use Rattle.bundle.proofs.Acquired.{Starts, Waits, allowed_by, begun}
-use Rattle.bundle.proofs.Answering.{gives_lease, gives_ticket, kept_begun, begun_stream, behind_only, behind_same}
-use Rattle.bundle.proofs.Acquiring.{queue_begun, reused_at_once, not_refused_at_once, acquired_lease, acquired_ticket}
-use Rattle.bundle.proofs.Settling.{grows_from}
+use Rattle.bundle.specs.Lease.{HostShown, AreBooked, HasItsStream}
+use Rattle.bundle.specs.Replies.{IsGot, GivesLease, GivesBooking, UnlessBooking}
+use Rattle.bundle.proofs.Bookings.{IsOut}
+use Rattle.bundle.proofs.KeptSound.{none_waits}
+use Rattle.bundle.proofs.Outcomes.{count_added, spare_after, bookings_added}
+use Rattle.bundle.proofs.AcquiredHosts.{Leaves, leaves, acquires, not_refused_at_once, grants_after, stream_got, lease_got, ticket_got, booking_got, others_kept, all_kept, halfway_kept}
+use Rattle.bundle.proofs.host.Bundle.acquire.Given.{Over}
 use Rattle.bundle.proofs.host.Bundle.acquire.Goals as goal
+
+-- a lease at once
+at_once : (g : Over) (c : goal.In-Some g) → Leaves false c.self.inside.state.settings c.self.inside.state.log c.lease_at_once.new.state.log c.args.want (Lease c.in-Some.lease)
+at_once g c =
+    let state = c.self.inside.state in
+    let leased = c.in-Some.ensures in
+    leaves false Given state.settings state.log c.lease_at_once.new.state.log c.args.want c.args.now c.moment-moment.result state.host (Lease c.in-Some.lease) c.self.invariant.settled (record { free = leased.free; waits_not = none_waits state.log c.args.want.transfer leased.once }) c.moment-moment.ensures leased.due.0 leased.due.1
 
 pub invariant_of-self : goal.invariant_of-self
 invariant_of-self g c =
-    let state = c.self.inside.state in
+    let inside = c.self.inside in
     let inv = c.self.invariant in
-    let told = c.in-Some.ensures in
-    let leased = told.some in
-    let allowed = not_refused_at_once state.settings state.log c.args.want inv.settled.sound told.free told.alone (ap (is_exhausted state.settings state.log) (sym c.self.invariant.booked) ∙ told.number) in
-    let is = reused_at_once state.settings state.log c.lease_last.new.self.log c.args.want c.args.now c.moment-moment.result c.in-Some.number c.moment-moment.ensures told.alone told.none_too_old leased.newest leased.log in
-    let may = allowed_by state.settings state.log c.args.want inv.settled.sound allowed in
-    let started = subst (λ log. Starts c.args.want state.log log ⊎ Waits c.args.want state.log log) (sym is) (begun state.settings state.log c.args.want c.args.now inv.settled.sound allowed) in
-    let nobody : length (waiting c.lease_last.new.self.log) ≡ 0 = ap (λ log. length (waiting log)) leased.log ∙ ap (λ wants. length (without c.args.want.transfer wants)) told.alone in
+    let leased = c.in-Some.ensures in
+    let new = c.lease_at_once.new.state in
+    let it = at_once g c in
     record {
-      booked = leased.booked ∙ ap (λ wants. booked_after_start wants state.booked) told.alone ∙ ap (λ (n : ℕ). n - 1) inv.booked;
-      settled = subst (λ settings. IsSoundAndQuiet settings c.lease_last.new.self.log) (sym leased.same.settings) (subst (λ log. IsSoundAndQuiet state.settings log) (sym is) (kept_acquire state.settings state.log c.args.want c.args.now inv.settled allowed));
-      grants = kept_begun state.settings state.log c.lease_last.new.self.log c.self.inside.grants.items inv.grants c.args.want may.free started;
-      spare = omega (arith, inv.spare, nobody);
+      count = leased.booked ∙ inv.count;
+      bookings = subst (AreBooked new.log) (sym (sym c.deref.ensures.value ∙ leased.nobody)) tt;
+      settled = subst (λ settings. IsSoundAndQuiet settings new.log) (sym leased.same.settings) it.settled;
+      grants = grants_after inside.state.settings inside.state.log new.log inside.grants.items inv.grants c.args.want it.out.free (Lease c.in-Some.lease) it.outcome;
+      spare = omega (arith, inv.spare, leased.booked, it.outcome.queue);
     }
 
-pub returns-in-Some-clause-log : goal.returns-in-Some-clause-log
-returns-in-Some-clause-log g c =
-    let state = c.self.inside.state in
-    let inv = c.self.invariant in
-    let told = c.in-Some.ensures in
-    let leased = told.some in
-    let allowed = not_refused_at_once state.settings state.log c.args.want inv.settled.sound told.free told.alone (ap (is_exhausted state.settings state.log) (sym c.self.invariant.booked) ∙ told.number) in
-    let is = reused_at_once state.settings state.log c.lease_last.new.self.log c.args.want c.args.now c.moment-moment.result c.in-Some.number c.moment-moment.ensures told.alone told.none_too_old leased.newest leased.log in
-    is ∙ ap (λ (v : HostShown g.row.S.Denot). after_acquire v.settings v.log c.args.want c.args.now) c.self.view_is
+pub returns-in-Some-clause-told : goal.returns-in-Some-clause-told
+returns-in-Some-clause-told g c =
+    let inside = c.self.inside in
+    let leased = c.in-Some.ensures in
+    let new = c.lease_at_once.new in
+    (Given, g.met.P.Permits.not_asked_to_open c.args.permits.now new.permits leased.stays, acquires false Given inside.state.settings inside.state.log inside.state.host (grant_streams inside.grants.items ++ inside.state.streams) inside.grants.items inside.bookings.items c.args.self.now _ c.args.want c.args.now c.moment-moment.result (Lease c.in-Some.lease) c.self.view_is c.moment-moment.ensures leased.due.0 leased.due.1)
 
 pub returns-in-Some-clause-stream : goal.returns-in-Some-clause-stream
 returns-in-Some-clause-stream g c =
     let state = c.self.inside.state in
-    let inv = c.self.invariant in
-    let told = c.in-Some.ensures in
-    let leased = told.some in
-    let allowed = not_refused_at_once state.settings state.log c.args.want inv.settled.sound told.free told.alone (ap (is_exhausted state.settings state.log) (sym c.self.invariant.booked) ∙ told.number) in
-    let is = reused_at_once state.settings state.log c.lease_last.new.self.log c.args.want c.args.now c.moment-moment.result c.in-Some.number c.moment-moment.ensures told.alone told.none_too_old leased.newest leased.log in
-    let may = allowed_by state.settings state.log c.args.want inv.settled.sound allowed in
-    let started = subst (λ log. Starts c.args.want state.log log ⊎ Waits c.args.want state.log log) (sym is) (begun state.settings state.log c.args.want c.args.now inv.settled.sound allowed) in
-    let grants = c.self.inside.grants.items in
-    let lease = c.reusing-lease.result in
-    let start_is : newest_start c.lease_last.new.self.log ≡ Some lease.start = ap newest_start leased.log ∙ sym (ap (λ (l : Leasing g.row.S.Denot). Some l.start) c.reusing-lease.ensures) in
-    let number = ap (λ (l : Leasing g.row.S.Denot). l.start.number) c.reusing-lease.ensures in
-    let after = subst (λ log. IsSoundAndQuiet state.settings log) (sym is) (kept_acquire state.settings state.log c.args.want c.args.now inv.settled allowed) in
-    let reused = ap (λ (l : Leasing g.row.S.Denot). l.start.reused) c.reusing-lease.ensures in
-    let kept : stream_of state.streams lease.start.number ≡ Some c.in-Some.stream = ap (stream_of state.streams) number ∙ leased.kept in
-    let all = sym (behind_only (grant_streams grants) state.streams lease.start.number (begun_stream state.settings state.log c.lease_last.new.self.log grants inv.grants c.args.want may.free after.sound.orderly lease.start started start_is)) ∙ ap (λ (v : HostShown g.row.S.Denot). stream_of v.streams lease.start.number) c.self.view_is in
-    ap (λ (l : Leasing g.row.S.Denot). l.stream) c.reusing-lease.ensures ∙ sym kept ∙ all ∙ sym (ap (λ b. if b then stream_of c.args.self.now.streams lease.start.number else None) reused)
+    let it = at_once g c in
+    subst (λ (v : HostShown g.row.S.Denot). HasItsStream v.streams c.in-Some.lease) c.self.view_is (stream_got state.settings state.log c.lease_at_once.new.state.log c.self.inside.grants.items c.self.invariant.grants c.args.want it.out.free it.settled.sound.orderly state.streams (Lease c.in-Some.lease) it.outcome c.in-Some.ensures.stream)
 
 pub returns-in-Some-clause-streams : goal.returns-in-Some-clause-streams
-returns-in-Some-clause-streams g c d other still =
-    let state = c.self.inside.state in
-    let leased = c.in-Some.ensures.some in
-    let number = ap (λ (l : Leasing g.row.S.Denot). l.start.number) c.reusing-lease.ensures in
-    behind_same (grant_streams c.self.inside.grants.items) c.lease_last.new.self.streams state.streams d (leased.others d (ap (λ (n : ℕ). n == d) (sym number) ∙ other)) ∙ ap (λ (v : HostShown g.row.S.Denot). stream_of v.streams d) c.self.view_is
+returns-in-Some-clause-streams g c =
+    others_kept c.self.inside.state c.lease_at_once.new.state (grant_streams c.self.inside.grants.items) c.args.self.now.streams (ap (λ (v : HostShown g.row.S.Denot). v.streams) c.self.view_is) (Lease c.in-Some.lease) c.in-Some.ensures.others
 
 pub returns-in-Some-clause-refused : goal.returns-in-Some-clause-refused
 returns-in-Some-clause-refused g c =
     let state = c.self.inside.state in
-    let told = c.in-Some.ensures in
-    let allowed = not_refused_at_once state.settings state.log c.args.want c.self.invariant.settled.sound told.free told.alone (ap (is_exhausted state.settings state.log) (sym c.self.invariant.booked) ∙ told.number) in
-    let shown : refusal c.args.self.now.settings c.args.self.now.log c.args.want ≡ None = ap (λ (v : HostShown g.row.S.Denot). refusal v.settings v.log c.args.want) (sym c.self.view_is) ∙ allowed in
+    let leased = c.in-Some.ensures in
+    let none = not_refused_at_once state.settings state.log c.self.inside.bookings.items c.args.want c.self.invariant.settled.sound.orderly leased.free leased.once (sym c.deref.ensures.value ∙ leased.nobody) leased.number in
+    let shown : refusal c.args.self.now.settings c.args.self.now.log c.args.self.now.booked c.args.want ≡ None = ap (λ (v : HostShown g.row.S.Denot). refusal v.settings v.log v.booked c.args.want) (sym c.self.view_is) ∙ none in
     rw shown tt
 
 pub returns-in-Some-clause-gets_lease : goal.returns-in-Some-clause-gets_lease
 returns-in-Some-clause-gets_lease g c =
-    let state = c.self.inside.state in
-    let inv = c.self.invariant in
-    let told = c.in-Some.ensures in
-    let leased = told.some in
-    let allowed = not_refused_at_once state.settings state.log c.args.want inv.settled.sound told.free told.alone (ap (is_exhausted state.settings state.log) (sym c.self.invariant.booked) ∙ told.number) in
-    let is = reused_at_once state.settings state.log c.lease_last.new.self.log c.args.want c.args.now c.moment-moment.result c.in-Some.number c.moment-moment.ensures told.alone told.none_too_old leased.newest leased.log in
-    let may = allowed_by state.settings state.log c.args.want inv.settled.sound allowed in
-    let started = subst (λ log. Starts c.args.want state.log log ⊎ Waits c.args.want state.log log) (sym is) (begun state.settings state.log c.args.want c.args.now inv.settled.sound allowed) in
-    let grants = c.self.inside.grants.items in
-    let lease = c.reusing-lease.result in
-    let start_is : newest_start c.lease_last.new.self.log ≡ Some lease.start = ap newest_start leased.log ∙ sym (ap (λ (l : Leasing g.row.S.Denot). Some l.start) c.reusing-lease.ensures) in
-    let number = ap (λ (l : Leasing g.row.S.Denot). l.start.number) c.reusing-lease.ensures in
-    acquired_lease state.settings state.log c.lease_last.new.self.log grants inv.grants c.args.want may.free started _ _ _ _ _ grants refl c.args.self.now c.self.view_is lease.start start_is
+    let inside = c.self.inside in
+    let new = c.lease_at_once.new.state in
+    let it = at_once g c in
+    lease_got inside.state.settings inside.state.log new.log inside.grants.items c.self.invariant.grants c.args.want it.out.free new.settings inside.state.host new.host (grant_streams inside.grants.items ++ inside.state.streams) (grant_streams inside.grants.items ++ new.streams) inside.bookings.items inside.bookings.items inside.grants.items refl c.args.self.now c.self.view_is c.args.want refl (Lease c.in-Some.lease) it.outcome
 
 pub returns-in-Some-clause-grew : goal.returns-in-Some-clause-grew
 returns-in-Some-clause-grew g c =
+    subst (λ log. GrowsBy log c.lease_at_once.new.state.log) (ap (λ (v : HostShown g.row.S.Denot). v.log) c.self.view_is) (at_once g c).grew
+
+pub returns-in-Some-clause-mark : goal.returns-in-Some-clause-mark
+returns-in-Some-clause-mark g c =
+    let new = c.lease_at_once.new.state in
+    ap (λ settings. is_queued settings new.log) c.in-Some.ensures.same.settings ∙ (at_once g c).mark refl ∙ ap (λ (v : HostShown g.row.S.Denot). is_queued v.settings v.log) c.self.view_is
+
+-- a start, a wait, or a booking
+booked : (g : Over) (c : goal.After-add_booking g) → c.book.new.self ≡ record c.self.inside.state { booked = c.self.inside.state.booked + 1 }
+booked g c = c.in-Ok-book.ensures.ok ∙ ap (λ (v : HostState g.row.S.Denot). record v { booked = v.booked + 1 }) c.in_default.ensures.none
+
+out : (g : Over) (c : goal.After-add_booking g) → IsOut c.self.inside.state.log c.args.want.transfer
+out g c = subst (λ (v : HostState g.row.S.Denot). IsOut v.log c.args.want.transfer) c.in_default.ensures.none (record { free = c.in_default-reason_against.ensures.free; waits_not = c.in_default-reason_against.ensures.once })
+
+due_log : (g : Over) (c : goal.After-add_booking g) → (let state = c.self.inside.state in c.start_or_wait-got.new.state.log ≡ (start_behind (waiting state.log) false c.start_or_wait-got.ensures.told.0 state.settings c.args.want c.moment-moment.result state.log).log)
+due_log g c = subst (λ (v : HostState g.row.S.Denot). c.start_or_wait-got.new.state.log ≡ (start_behind (waiting v.log) false c.start_or_wait-got.ensures.told.0 v.settings c.args.want c.moment-moment.result v.log).log) (booked g c) c.start_or_wait-got.ensures.told.2.0
+
+due_got : (g : Over) (c : goal.After-add_booking g) → (let state = c.self.inside.state in IsGot state.host c.args.want (start_behind (waiting state.log) false c.start_or_wait-got.ensures.told.0 state.settings c.args.want c.moment-moment.result state.log).reply c.start_or_wait-got.result)
+due_got g c = subst (λ (v : HostState g.row.S.Denot). IsGot v.host c.args.want (start_behind (waiting v.log) false c.start_or_wait-got.ensures.told.0 v.settings c.args.want c.moment-moment.result v.log).reply c.start_or_wait-got.result) (booked g c) c.start_or_wait-got.ensures.told.2.1
+
+left : (g : Over) (c : goal.After-add_booking g) → Leaves false c.self.inside.state.settings c.self.inside.state.log c.start_or_wait-got.new.state.log c.args.want c.start_or_wait-got.result
+left g c =
     let state = c.self.inside.state in
-    let inv = c.self.invariant in
-    let told = c.in-Some.ensures in
-    let leased = told.some in
-    let allowed = not_refused_at_once state.settings state.log c.args.want inv.settled.sound told.free told.alone (ap (is_exhausted state.settings state.log) (sym c.self.invariant.booked) ∙ told.number) in
-    let is = reused_at_once state.settings state.log c.lease_last.new.self.log c.args.want c.args.now c.moment-moment.result c.in-Some.number c.moment-moment.ensures told.alone told.none_too_old leased.newest leased.log in
-    let grew = grows_acquire state.settings state.log c.args.want c.args.now in
-    grows_from state.log c.args.self.now.log c.lease_last.new.self.log (ap (λ (v : HostShown g.row.S.Denot). v.log) c.self.view_is) (grew.0, is ∙ grew.1)
+    leaves false c.start_or_wait-got.ensures.told.0 state.settings state.log c.start_or_wait-got.new.state.log c.args.want c.args.now c.moment-moment.result state.host c.start_or_wait-got.result c.self.invariant.settled (out g c) c.moment-moment.ensures (due_log g c) (due_got g c)
+
+settings_same : (g : Over) (c : goal.After-add_booking g) → c.start_or_wait-got.new.state.settings ≡ c.self.inside.state.settings
+settings_same g c = c.start_or_wait-got.ensures.same.settings ∙ ap (λ (v : HostState g.row.S.Denot). v.settings) (booked g c)
 
 pub invariant_of-self-2 : goal.invariant_of-self-2
 invariant_of-self-2 g c =
-    let state = c.self.inside.state in
-    let grants = c.self.inside.grants.items in
+    let inside = c.self.inside in
     let inv = c.self.invariant in
-    let same = c.in_default.ensures.none in
-    let booked = c.in-Ok-book.ensures.ok ∙ ap (λ (v : HostState g.row.S.Denot). record v { booked = v.booked + 1 }) same ∙ ap (λ (n : ℕ). record state { booked = n + 1 }) inv.booked in
-    let allowed : refusal state.settings state.log c.args.want ≡ None = sym (c.in_default-reason_against.ensures.reason ∙ ap (λ (v : HostState g.row.S.Denot). refusal v.settings v.log c.args.want) same) in
-    let moment_is : c.moment-moment.result ≡ moment_at state.log c.args.now = c.moment-moment.ensures in
-    let is : c.start_or_wait.new.state.log ≡ after_acquire state.settings state.log c.args.want c.args.now = c.start_or_wait.ensures.log ∙ ap (λ (v : HostState g.row.S.Denot). start_unless (waiting v.log) v.settings c.args.want c.moment-moment.result v.log) booked ∙ ap (λ k. start_unless (waiting state.log) state.settings c.args.want k state.log) moment_is in
-    let may = allowed_by state.settings state.log c.args.want inv.settled.sound allowed in
-    let started = subst (λ log. Starts c.args.want state.log log ⊎ Waits c.args.want state.log log) (sym is) (begun state.settings state.log c.args.want c.args.now inv.settled.sound allowed) in
-    let queue = queue_begun c.args.want state.log c.start_or_wait.new.state.log started in
+    let new = c.start_or_wait-got.new.state in
+    let got = c.start_or_wait-got.result in
+    let told = c.start_or_wait-got.ensures in
+    let it = left g c in
+    let items = c.add_booking.new.bookings.items in
+    let fewer : UnlessBooking got (new.booked + 1 ≡ inside.state.booked + 1) = subst (λ (v : HostState g.row.S.Denot). UnlessBooking got (new.booked + 1 ≡ v.booked)) (booked g c) told.booked in
+    let same : GivesBooking got (λ booking. new.booked ≡ inside.state.booked + 1) = subst (λ (v : HostState g.row.S.Denot). GivesBooking got (λ booking. new.booked ≡ v.booked)) (booked g c) told.still_booked in
+    let none_added : UnlessBooking got (items ≡ inside.bookings.items) = subst (λ (xs : List ℕ). UnlessBooking got (items ≡ xs)) c.reserve-2.ensures.items c.add_booking.ensures.not_booked in
+    let one_added : GivesBooking got (λ booking. items ≡ inside.bookings.items ++ c.args.want.transfer ∷ []) = subst (λ (xs : List ℕ). GivesBooking got (λ booking. items ≡ xs ++ c.args.want.transfer ∷ [])) c.reserve-2.ensures.items c.add_booking.ensures.booked in
+    let not_booked : is_among c.args.want.transfer inside.bookings.items ≡ false = ap (is_among c.args.want.transfer) (sym c.deref-2.ensures.value) ∙ c.in_default-reason_against.ensures.not_booked in
+    let waiting_len = c.waiting_len-waiting.ensures ∙ ap (λ (v : HostState g.row.S.Denot). length (waiting v.log)) c.in_default.ensures.none in
     record {
-      booked = c.start_or_wait.ensures.booked;
-      settled = subst (λ settings. IsSoundAndQuiet settings c.start_or_wait.new.state.log) (sym (c.start_or_wait.ensures.same.settings ∙ ap (λ (v : HostState g.row.S.Denot). v.settings) booked)) (subst (λ log. IsSoundAndQuiet state.settings log) (sym is) (kept_acquire state.settings state.log c.args.want c.args.now inv.settled allowed));
-      grants = subst (λ gs. GrantsKept c.start_or_wait.new.state.log gs) (sym c.reserve.ensures.items) (kept_begun state.settings state.log c.start_or_wait.new.state.log grants inv.grants c.args.want may.free started);
-      spare = omega (arith, queue, c.in-Ok.ensures.ok, c.waiting_len.ensures ∙ ap (λ (v : HostState g.row.S.Denot). length (waiting v.log)) same, c.reserve.ensures.len);
+      count = count_added got inside.bookings.items items c.args.want.transfer inside.state.booked new.booked inv.count fewer same none_added one_added;
+      bookings = bookings_added c.args.want inside.state.log new.log inside.bookings.items items inv.bookings not_booked it.out got it.outcome none_added one_added;
+      settled = subst (λ settings. IsSoundAndQuiet settings new.log) (sym (settings_same g c)) it.settled;
+      grants = subst (λ gs. GrantsKept new.log gs) (sym c.reserve.ensures.items) (grants_after inside.state.settings inside.state.log new.log inside.grants.items inv.grants c.args.want it.out.free got it.outcome);
+      spare = spare_after c.args.want inside.state.log new.log got it.outcome (inside.state.booked + 1) new.booked _ _ fewer same (omega (arith, c.in-Ok.ensures.ok, c.reserve.ensures.len, waiting_len, c.len.ensures, inv.count, inside.bookings.ok));
     }
+
+pub returns-clause-told : goal.returns-clause-told
+returns-clause-told g c =
+    let inside = c.self.inside in
+    let told = c.start_or_wait-got.ensures.told in
+    let new = c.start_or_wait-got.new in
+    (told.0, subst (λ p. g.P.Permits.opening p new.permits told.0) c.in_default.ensures.none_permits told.1, acquires false told.0 inside.state.settings inside.state.log inside.state.host (grant_streams inside.grants.items ++ inside.state.streams) inside.grants.items inside.bookings.items c.args.self.now _ c.args.want c.args.now c.moment-moment.result c.start_or_wait-got.result c.self.view_is c.moment-moment.ensures (due_log g c) (due_got g c))
 
 pub returns-clause-stream : goal.returns-clause-stream
 returns-clause-stream g c =
     let state = c.self.inside.state in
-    let grants = c.self.inside.grants.items in
-    let inv = c.self.invariant in
-    let same = c.in_default.ensures.none in
-    let booked = c.in-Ok-book.ensures.ok ∙ ap (λ (v : HostState g.row.S.Denot). record v { booked = v.booked + 1 }) same ∙ ap (λ (n : ℕ). record state { booked = n + 1 }) inv.booked in
-    let allowed : refusal state.settings state.log c.args.want ≡ None = sym (c.in_default-reason_against.ensures.reason ∙ ap (λ (v : HostState g.row.S.Denot). refusal v.settings v.log c.args.want) same) in
-    let moment_is : c.moment-moment.result ≡ moment_at state.log c.args.now = c.moment-moment.ensures in
-    let is : c.start_or_wait.new.state.log ≡ after_acquire state.settings state.log c.args.want c.args.now = c.start_or_wait.ensures.log ∙ ap (λ (v : HostState g.row.S.Denot). start_unless (waiting v.log) v.settings c.args.want c.moment-moment.result v.log) booked ∙ ap (λ k. start_unless (waiting state.log) state.settings c.args.want k state.log) moment_is in
-    let may = allowed_by state.settings state.log c.args.want inv.settled.sound allowed in
-    let started = subst (λ log. Starts c.args.want state.log log ⊎ Waits c.args.want state.log log) (sym is) (begun state.settings state.log c.args.want c.args.now inv.settled.sound allowed) in
-    let after = subst (λ log. IsSoundAndQuiet state.settings log) (sym is) (kept_acquire state.settings state.log c.args.want c.args.now inv.settled allowed) in
-    gives_lease c.start_or_wait.result _ _ _ (λ lease first told. told ∙ ap (λ s. if lease.start.reused then s else None) (ap (λ (v : HostState g.row.S.Denot). stream_of v.streams lease.start.number) booked ∙ sym (behind_only (grant_streams grants) state.streams lease.start.number (begun_stream state.settings state.log c.start_or_wait.new.state.log grants inv.grants c.args.want may.free after.sound.orderly lease.start started first.0)) ∙ ap (λ (v : HostShown g.row.S.Denot). stream_of v.streams lease.start.number) c.self.view_is)) c.start_or_wait.ensures.lease c.start_or_wait.ensures.stream
+    let got = c.start_or_wait-got.result in
+    let it = left g c in
+    let told : GivesLease got (HasItsStream state.streams) = subst (λ (v : HostState g.row.S.Denot). GivesLease got (HasItsStream v.streams)) (booked g c) c.start_or_wait-got.ensures.stream in
+    subst (λ (v : HostShown g.row.S.Denot). GivesLease got (HasItsStream v.streams)) c.self.view_is (stream_got state.settings state.log c.start_or_wait-got.new.state.log c.self.inside.grants.items c.self.invariant.grants c.args.want it.out.free it.settled.sound.orderly state.streams got it.outcome told)
+
+front : (g : Over) (c : goal.After-add_booking g) → grant_streams c.reserve.new.self.items ++ c.book.new.self.streams ≡ c.args.self.now.streams
+front g c =
+    ap (λ gs. grant_streams gs ++ c.book.new.self.streams) c.reserve.ensures.items
+    ∙ ap (λ (v : HostState g.row.S.Denot). grant_streams c.self.inside.grants.items ++ v.streams) (booked g c)
+    ∙ ap (λ (v : HostShown g.row.S.Denot). v.streams) c.self.view_is
 
 pub returns-clause-streams : goal.returns-clause-streams
 returns-clause-streams g c =
-    let state = c.self.inside.state in
-    let grants = c.self.inside.grants.items in
-    let inv = c.self.invariant in
-    let same = c.in_default.ensures.none in
-    let booked = c.in-Ok-book.ensures.ok ∙ ap (λ (v : HostState g.row.S.Denot). record v { booked = v.booked + 1 }) same ∙ ap (λ (n : ℕ). record state { booked = n + 1 }) inv.booked in
-    let allowed : refusal state.settings state.log c.args.want ≡ None = sym (c.in_default-reason_against.ensures.reason ∙ ap (λ (v : HostState g.row.S.Denot). refusal v.settings v.log c.args.want) same) in
-    let moment_is : c.moment-moment.result ≡ moment_at state.log c.args.now = c.moment-moment.ensures in
-    let is : c.start_or_wait.new.state.log ≡ after_acquire state.settings state.log c.args.want c.args.now = c.start_or_wait.ensures.log ∙ ap (λ (v : HostState g.row.S.Denot). start_unless (waiting v.log) v.settings c.args.want c.moment-moment.result v.log) booked ∙ ap (λ k. start_unless (waiting state.log) state.settings c.args.want k state.log) moment_is in
-    let may = allowed_by state.settings state.log c.args.want inv.settled.sound allowed in
-    let started = subst (λ log. Starts c.args.want state.log log ⊎ Waits c.args.want state.log log) (sym is) (begun state.settings state.log c.args.want c.args.now inv.settled.sound allowed) in
-    gives_lease c.start_or_wait.result _ _ _ (λ lease first others d other still. ap (λ gs. stream_of (grant_streams gs ++ c.start_or_wait.new.state.streams) d) c.reserve.ensures.items ∙ behind_same (grant_streams grants) c.start_or_wait.new.state.streams state.streams d (others d other still ∙ ap (λ (v : HostState g.row.S.Denot). stream_of v.streams d) booked) ∙ ap (λ (v : HostShown g.row.S.Denot). stream_of v.streams d) c.self.view_is) c.start_or_wait.ensures.lease c.start_or_wait.ensures.others
+    others_kept c.book.new.self c.start_or_wait-got.new.state (grant_streams c.reserve.new.self.items) c.args.self.now.streams (front g c) c.start_or_wait-got.result c.start_or_wait-got.ensures.others
 
 pub returns-clause-kept : goal.returns-clause-kept
 returns-clause-kept g c =
-    let state = c.self.inside.state in
-    let grants = c.self.inside.grants.items in
-    let inv = c.self.invariant in
-    let same = c.in_default.ensures.none in
-    let booked = c.in-Ok-book.ensures.ok ∙ ap (λ (v : HostState g.row.S.Denot). record v { booked = v.booked + 1 }) same ∙ ap (λ (n : ℕ). record state { booked = n + 1 }) inv.booked in
-    let allowed : refusal state.settings state.log c.args.want ≡ None = sym (c.in_default-reason_against.ensures.reason ∙ ap (λ (v : HostState g.row.S.Denot). refusal v.settings v.log c.args.want) same) in
-    let moment_is : c.moment-moment.result ≡ moment_at state.log c.args.now = c.moment-moment.ensures in
-    let is : c.start_or_wait.new.state.log ≡ after_acquire state.settings state.log c.args.want c.args.now = c.start_or_wait.ensures.log ∙ ap (λ (v : HostState g.row.S.Denot). start_unless (waiting v.log) v.settings c.args.want c.moment-moment.result v.log) booked ∙ ap (λ k. start_unless (waiting state.log) state.settings c.args.want k state.log) moment_is in
-    let may = allowed_by state.settings state.log c.args.want inv.settled.sound allowed in
-    let started = subst (λ log. Starts c.args.want state.log log ⊎ Waits c.args.want state.log log) (sym is) (begun state.settings state.log c.args.want c.args.now inv.settled.sound allowed) in
-    gives_ticket c.start_or_wait.result _ _ _ (λ ticket first all d still. ap (λ gs. stream_of (grant_streams gs ++ c.start_or_wait.new.state.streams) d) c.reserve.ensures.items ∙ behind_same (grant_streams grants) c.start_or_wait.new.state.streams state.streams d (all d still ∙ ap (λ (v : HostState g.row.S.Denot). stream_of v.streams d) booked) ∙ ap (λ (v : HostShown g.row.S.Denot). stream_of v.streams d) c.self.view_is) c.start_or_wait.ensures.ticket c.start_or_wait.ensures.all
+    all_kept c.book.new.self c.start_or_wait-got.new.state (grant_streams c.reserve.new.self.items) c.args.self.now.streams (front g c) c.start_or_wait-got.result c.start_or_wait-got.ensures.all
 
-pub returns-clause-gets_lease : goal.returns-clause-gets_lease
-returns-clause-gets_lease g c =
-    let state = c.self.inside.state in
-    let grants = c.self.inside.grants.items in
-    let inv = c.self.invariant in
-    let same = c.in_default.ensures.none in
-    let booked = c.in-Ok-book.ensures.ok ∙ ap (λ (v : HostState g.row.S.Denot). record v { booked = v.booked + 1 }) same ∙ ap (λ (n : ℕ). record state { booked = n + 1 }) inv.booked in
-    let allowed : refusal state.settings state.log c.args.want ≡ None = sym (c.in_default-reason_against.ensures.reason ∙ ap (λ (v : HostState g.row.S.Denot). refusal v.settings v.log c.args.want) same) in
-    let moment_is : c.moment-moment.result ≡ moment_at state.log c.args.now = c.moment-moment.ensures in
-    let is : c.start_or_wait.new.state.log ≡ after_acquire state.settings state.log c.args.want c.args.now = c.start_or_wait.ensures.log ∙ ap (λ (v : HostState g.row.S.Denot). start_unless (waiting v.log) v.settings c.args.want c.moment-moment.result v.log) booked ∙ ap (λ k. start_unless (waiting state.log) state.settings c.args.want k state.log) moment_is in
-    let may = allowed_by state.settings state.log c.args.want inv.settled.sound allowed in
-    let started = subst (λ log. Starts c.args.want state.log log ⊎ Waits c.args.want state.log log) (sym is) (begun state.settings state.log c.args.want c.args.now inv.settled.sound allowed) in
-    gives_lease c.start_or_wait.result _ _ _ (λ lease first told. acquired_lease state.settings state.log c.start_or_wait.new.state.log grants inv.grants c.args.want may.free started _ _ _ _ _ c.reserve.new.self.items c.reserve.ensures.items c.args.self.now c.self.view_is lease.start first.0) c.start_or_wait.ensures.lease c.start_or_wait.ensures.stream
+pub returns-clause-halfway : goal.returns-clause-halfway
+returns-clause-halfway g c =
+    halfway_kept c.book.new.self c.start_or_wait-got.new.state (grant_streams c.reserve.new.self.items) c.args.self.now.streams (front g c) c.start_or_wait-got.result c.start_or_wait-got.ensures.halfway
 
-pub returns-clause-gets_ticket : goal.returns-clause-gets_ticket
-returns-clause-gets_ticket g c =
-    let state = c.self.inside.state in
-    let grants = c.self.inside.grants.items in
-    let inv = c.self.invariant in
-    let same = c.in_default.ensures.none in
-    let booked = c.in-Ok-book.ensures.ok ∙ ap (λ (v : HostState g.row.S.Denot). record v { booked = v.booked + 1 }) same ∙ ap (λ (n : ℕ). record state { booked = n + 1 }) inv.booked in
-    let allowed : refusal state.settings state.log c.args.want ≡ None = sym (c.in_default-reason_against.ensures.reason ∙ ap (λ (v : HostState g.row.S.Denot). refusal v.settings v.log c.args.want) same) in
-    let moment_is : c.moment-moment.result ≡ moment_at state.log c.args.now = c.moment-moment.ensures in
-    let is : c.start_or_wait.new.state.log ≡ after_acquire state.settings state.log c.args.want c.args.now = c.start_or_wait.ensures.log ∙ ap (λ (v : HostState g.row.S.Denot). start_unless (waiting v.log) v.settings c.args.want c.moment-moment.result v.log) booked ∙ ap (λ k. start_unless (waiting state.log) state.settings c.args.want k state.log) moment_is in
-    let may = allowed_by state.settings state.log c.args.want inv.settled.sound allowed in
-    let started = subst (λ log. Starts c.args.want state.log log ⊎ Waits c.args.want state.log log) (sym is) (begun state.settings state.log c.args.want c.args.now inv.settled.sound allowed) in
-    gives_ticket c.start_or_wait.result _ _ _ (λ ticket first all. acquired_ticket state.settings state.log c.start_or_wait.new.state.log grants inv.grants c.args.want may.free started _ _ _ _ _ c.reserve.new.self.items c.reserve.ensures.items c.args.self.now c.self.view_is (ap is_some first.0)) c.start_or_wait.ensures.ticket c.start_or_wait.ensures.all
+pub returns-clause-mark : goal.returns-clause-mark
+returns-clause-mark g c =
+    ap (λ settings. is_queued settings c.start_or_wait-got.new.state.log) (settings_same g c) ∙ (left g c).mark refl ∙ ap (λ (v : HostShown g.row.S.Denot). is_queued v.settings v.log) c.self.view_is
 
 pub returns-clause-grew : goal.returns-clause-grew
 returns-clause-grew g c =
-    let state = c.self.inside.state in
-    let grants = c.self.inside.grants.items in
-    let inv = c.self.invariant in
-    let same = c.in_default.ensures.none in
-    let booked = c.in-Ok-book.ensures.ok ∙ ap (λ (v : HostState g.row.S.Denot). record v { booked = v.booked + 1 }) same ∙ ap (λ (n : ℕ). record state { booked = n + 1 }) inv.booked in
-    let allowed : refusal state.settings state.log c.args.want ≡ None = sym (c.in_default-reason_against.ensures.reason ∙ ap (λ (v : HostState g.row.S.Denot). refusal v.settings v.log c.args.want) same) in
-    let moment_is : c.moment-moment.result ≡ moment_at state.log c.args.now = c.moment-moment.ensures in
-    let is : c.start_or_wait.new.state.log ≡ after_acquire state.settings state.log c.args.want c.args.now = c.start_or_wait.ensures.log ∙ ap (λ (v : HostState g.row.S.Denot). start_unless (waiting v.log) v.settings c.args.want c.moment-moment.result v.log) booked ∙ ap (λ k. start_unless (waiting state.log) state.settings c.args.want k state.log) moment_is in
-    let may = allowed_by state.settings state.log c.args.want inv.settled.sound allowed in
-    let started = subst (λ log. Starts c.args.want state.log log ⊎ Waits c.args.want state.log log) (sym is) (begun state.settings state.log c.args.want c.args.now inv.settled.sound allowed) in
-    let grew = grows_acquire state.settings state.log c.args.want c.args.now in
-    grows_from state.log c.args.self.now.log c.start_or_wait.new.state.log (ap (λ (v : HostShown g.row.S.Denot). v.log) c.self.view_is) (grew.0, is ∙ grew.1)
+    subst (λ log. GrowsBy log c.start_or_wait-got.new.state.log) (ap (λ (v : HostShown g.row.S.Denot). v.log) c.self.view_is) (left g c).grew
+
+pub returns-clause-gets_lease : goal.returns-clause-gets_lease
+returns-clause-gets_lease g c =
+    let inside = c.self.inside in
+    let new = c.start_or_wait-got.new.state in
+    let it = left g c in
+    lease_got inside.state.settings inside.state.log new.log inside.grants.items c.self.invariant.grants c.args.want it.out.free new.settings inside.state.host new.host (grant_streams inside.grants.items ++ inside.state.streams) (grant_streams c.reserve.new.self.items ++ new.streams) inside.bookings.items c.add_booking.new.bookings.items c.reserve.new.self.items c.reserve.ensures.items c.args.self.now c.self.view_is c.args.want refl c.start_or_wait-got.result it.outcome
+
+pub returns-clause-gets_ticket : goal.returns-clause-gets_ticket
+returns-clause-gets_ticket g c =
+    let inside = c.self.inside in
+    let new = c.start_or_wait-got.new.state in
+    let it = left g c in
+    ticket_got inside.state.settings inside.state.log new.log inside.grants.items c.self.invariant.grants c.args.want it.out.free new.settings inside.state.host new.host (grant_streams inside.grants.items ++ inside.state.streams) (grant_streams c.reserve.new.self.items ++ new.streams) inside.bookings.items c.add_booking.new.bookings.items c.reserve.new.self.items c.reserve.ensures.items c.args.self.now c.self.view_is c.args.want refl c.start_or_wait-got.result it.outcome
+
+pub returns-clause-gets_booking : goal.returns-clause-gets_booking
+returns-clause-gets_booking g c =
+    let inside = c.self.inside in
+    let new = c.start_or_wait-got.new.state in
+    let it = left g c in
+    booking_got inside.state.settings inside.state.log new.log inside.grants.items c.self.invariant.grants c.args.want it.out.free new.settings inside.state.host new.host (grant_streams inside.grants.items ++ inside.state.streams) (grant_streams c.reserve.new.self.items ++ new.streams) inside.bookings.items c.add_booking.new.bookings.items c.reserve.new.self.items c.reserve.ensures.items c.args.self.now c.self.view_is c.args.want refl c.start_or_wait-got.result it.outcome

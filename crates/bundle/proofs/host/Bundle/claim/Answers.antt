@@ -2,12 +2,11 @@ use Rattle.std.proofs.Common.{◌≡◌, ℕ, true, false, None, Some, is_some, 
 use Rattle.std.specs.Prelude.{◌==◌, if◌then◌else◌}
 use Rattle.conn_log.specs.declared.entry.Want.{Want}
 use Rattle.conn_log.specs.Connections.{is_among}
-use Rattle.bundle.specs.Calls.{last_start}
-use Rattle.bundle.specs.Grants.{GrantsKept, grant_streams, grant_transfers}
+use Rattle.bundle.specs.Grants.{GrantsKept, grant_starts, grant_streams, grant_transfers}
 use Rattle.host_state.specs.Idle.{stream_of}
-use Rattle.bundle.specs.Lease.{HostShown, Leasing, is_unclaimed, is_valid_ticket}
-use Rattle.bundle.proofs.Granting.{is_some-grant_of, kept_at, kept_without}
-use Rattle.bundle.proofs.Answering.{stood_granted, claimed_among, claimed_left, claimed_stream, claimed_streams, gets_at}
+use Rattle.bundle.specs.Lease.{HostShown, Leasing, start_for, is_unclaimed, is_valid_ticket}
+use Rattle.bundle.proofs.Granting.{is_some-grant_of, start_granted, kept_without}
+use Rattle.bundle.proofs.Answering.{stood_granted, claimed_left, claimed_stream, claimed_streams, gets_at}
 use Rattle.bundle.proofs.host.Bundle.claim.Goals as goal
 
 pub returns-in_default-clause-still : goal.returns-in_default-clause-still
@@ -27,7 +26,8 @@ invariant_of-self-2 g c =
     let grant = c.in-Some.grant in
     let is = sym c.in-Some.ensures.grant in
     record {
-      booked = inv.booked;
+      count = inv.count;
+      bookings = inv.bookings;
       settled = inv.settled;
       grants = subst (λ gs. GrantsKept state.log gs) (sym c.take_grant.ensures.others) (kept_without state.log grants t inv.grants);
       spare = omega (arith, inv.spare, c.take_grant.ensures.len, c.take_grant.ensures.capacity);
@@ -35,18 +35,10 @@ invariant_of-self-2 g c =
 
 pub returns-clause-lease : goal.returns-clause-lease
 returns-clause-lease g c =
-    let state = c.self.inside.state in
     let grants = c.self.inside.grants.items in
-    let inv = c.self.invariant in
     let t = c.want-want.result.transfer in
-    let grant = c.in-Some.grant in
-    let is = sym c.in-Some.ensures.grant in
     let who : t ≡ c.args.ticket.wait.want.transfer = ap (λ (w : Want). w.transfer) c.want-want.ensures in
-    let there = kept_at state.log grants t grant inv.grants is in
-    let among = claimed_among state.settings state.log inv.settled.sound.orderly grants inv.grants t grant is in
-    let log_is = ap (λ (v : HostShown g.row.S.Denot). v.log) c.self.view_is in
-    let begun = ap (λ log. last_start log c.args.ticket.wait.want.transfer) (sym log_is) ∙ ap (last_start state.log) (sym (there.1 ∙ who)) ∙ there.0.start in
-    (ap (λ (v : HostShown g.row.S.Denot). is_unclaimed v c.args.ticket.wait.want.transfer) (sym c.self.view_is) ∙ ap (λ (n : ℕ). is_among n (grant_transfers grants)) (sym who) ∙ among, begun ∙ ap (λ (l : Leasing g.row.S.Denot). Some l.start) (sym c.granted.ensures), ap (λ (l : Leasing g.row.S.Denot). l.site) c.granted.ensures ∙ c.host.ensures ∙ ap (λ (v : HostShown g.row.S.Denot). v.host) c.self.view_is)
+    (ap (λ (v : HostShown g.row.S.Denot). start_for v.unclaimed c.args.ticket.wait.want.transfer) (sym c.self.view_is) ∙ ap (start_for (grant_starts grants)) (sym who) ∙ start_granted grants t c.in-Some.grant (sym c.in-Some.ensures.grant) ∙ ap (λ (l : Leasing g.row.S.Denot). Some l.start) (sym c.granted.ensures), ap (λ (l : Leasing g.row.S.Denot). l.site) c.granted.ensures ∙ c.host.ensures ∙ ap (λ (v : HostShown g.row.S.Denot). v.host) c.self.view_is)
 
 pub returns-clause-want : goal.returns-clause-want
 returns-clause-want g c =
@@ -94,4 +86,4 @@ returns-clause-gets_lease g c =
     let is = sym c.in-Some.ensures.grant in
     let who : t ≡ c.args.ticket.wait.want.transfer = ap (λ (w : Want). w.transfer) c.want-want.ensures in
     let number : grant.number ≡ c.granted.result.start.number = ap (λ (l : Leasing g.row.S.Denot). l.start.number) (sym c.granted.ensures) in
-    gets_at _ _ _ _ _ _ _ c.self.view_is who number (claimed_left state.settings state.log inv.settled.sound.orderly grants inv.grants t grant is c.take_grant.new.grants.items c.take_grant.ensures.others _ _ _ _ _)
+    gets_at _ _ _ _ _ _ _ c.self.view_is who number (claimed_left state.settings state.log inv.settled.sound.orderly grants inv.grants t grant is c.take_grant.new.grants.items c.take_grant.ensures.others _ _ _ _ _ _ _)

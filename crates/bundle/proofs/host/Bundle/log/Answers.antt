@@ -1,19 +1,18 @@
-use Rattle.std.proofs.Common.{◌≡◌, Bool, true, false, ◌||◌, ◌++◌, is_some, refl, ap, subst, ◌∙◌}
+use Rattle.std.proofs.Common.{◌≡◌, Bool, true, false, ◌||◌, is_some, refl, ap, subst, ◌∙◌}
 use Rattle.conn_log.specs.Connections.{is_idle}
 use Rattle.host_state.specs.Idle.{stream_of}
 use Rattle.bundle.specs.Grants.{grant_streams}
-use Rattle.bundle.specs.Lease.{HostShown, HasItsStreams, UnclaimedAreHeld}
-use Rattle.bundle.proofs.Streams.{some_behind, granted_streams, unclaimed_held}
+use Rattle.bundle.specs.Lease.{HostShown, UnclaimedAreStarts}
+use Rattle.bundle.proofs.Streams.{some_behind, granted_streams, granted_starts}
 use Rattle.bundle.proofs.host.Bundle.log.Goals as goal
 
 pub returns-clause-streams : goal.returns-clause-streams
 returns-clause-streams g c d =
     let state = c.self.inside.state in
     let grants = c.self.inside.grants.items in
-    let inv = c.self.invariant in
     rw (← c.self.view_is) (
     some_behind (grant_streams grants) state.streams d
-    ∙ ap (λ b. b || is_some (stream_of state.streams d)) (granted_streams state.settings state.log inv.settled.sound.orderly d grants inv.grants)
+    ∙ ap (λ b. b || is_some (stream_of state.streams d)) (granted_streams grants d)
     ∙ rw (c.log.ensures.streams d) (turned _ (is_idle state.log d)))
   where
     turned : (a b : Bool) → (a || b) ≡ (b || a)
@@ -23,4 +22,4 @@ returns-clause-streams g c d =
     turned false false = refl
 
 pub returns-clause-unclaimed : goal.returns-clause-unclaimed
-returns-clause-unclaimed g c t = rw (← c.self.view_is) (unclaimed_held c.self.inside.state.log c.self.inside.grants.items c.self.invariant.grants t)
+returns-clause-unclaimed g c = subst (λ (v : HostShown g.row.S.Denot). UnclaimedAreStarts v) c.self.view_is (granted_starts c.self.inside.state.log c.self.inside.grants.items c.self.invariant.grants)

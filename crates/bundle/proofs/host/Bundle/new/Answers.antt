@@ -1,19 +1,20 @@
-use Rattle.std.proofs.Common.{[], length, refl, sym, ap, subst, arith}
+use Rattle.std.proofs.Common.{ℕ, List, [], length, refl, sym, ap, subst, ◌∙◌, arith}
 use Rattle.conn_log.specs.Waiting.{waiting}
 use Rattle.conn_log.specs.Legal.{LimitAndFirst}
 use Rattle.conn_log.proofs.Soundness.{sound_empty}
-use Rattle.bundle.specs.Laws.{IsSoundAndQuiet}
 use Rattle.host_state.specs.State.{HostState}
+use Rattle.bundle.specs.Laws.{IsSoundAndQuiet}
 use Rattle.bundle.proofs.KeptSound.{nobody_after}
 use Rattle.bundle.proofs.host.Bundle.new.Goals as goal
 
 pub invariant_of-result : goal.invariant_of-result
 invariant_of-result g c =
-    let is = c.in_ok-new.ensures in
+    let is = c.in-Ok.ensures in
     let settings : LimitAndFirst = record { limit = c.args.host_limit; first = c.args.first } in
     record {
-      booked = ap (λ (v : HostState g.row.S.Denot). v.booked) is;
+      count = ap (λ (v : HostState g.row.S.Denot). v.booked) is ∙ sym (ap (λ (l : List ℕ). length l) c.new-3.ensures.items);
+      bookings = rw c.new-3.ensures.items tt;
       settled = subst (λ (v : HostState g.row.S.Denot). IsSoundAndQuiet v.settings v.log) (sym is) (nobody_after settings [] (sound_empty settings) refl);
       grants = rw c.new-2.ensures.items tt;
-      spare = omega (arith, ap (λ (v : HostState g.row.S.Denot). length (waiting v.log)) is, c.new-2.ensures.len);
+      spare = omega (arith, ap (λ (v : HostState g.row.S.Denot). length (waiting v.log)) is, ap (λ (v : HostState g.row.S.Denot). v.booked) is, c.new-2.ensures.len);
     }

@@ -1,0 +1,89 @@
+use Rattle.std.proofs.Common.{◌≡◌, ℕ, false, length, refl, sym, ap, subst, ◌∙◌, arith}
+use Rattle.std.specs.Prelude.{◌==◌}
+use Rattle.conn_log.specs.declared.entry.Cause.TheVariants.{Dropped}
+use Rattle.conn_log.specs.Waiting.{waiting}
+use Rattle.host_state.specs.Idle.{stream_of}
+use Rattle.bundle.specs.Calls.{is_freed}
+use Rattle.bundle.specs.Laws.{IsSoundAndQuiet}
+use Rattle.bundle.specs.Lease.{HostShown, held_by}
+use Rattle.bundle.proofs.Answering.{known, freed_spends, spends_at}
+use Rattle.bundle.proofs.Settling.{settled_closed, room_closed, grows_from, unmarked_from}
+use Rattle.bundle.proofs.Halfway.{booked_freed}
+use Rattle.bundle.proofs.Freeing.{part_fewer, freed_close}
+use Rattle.bundle.proofs.host.Bundle.close_leased.Goals as goal
+
+pub hand_on-requires-clause-room : goal.hand_on-requires-clause-room
+hand_on-requires-clause-room g c =
+    let state = c.self.inside.state in
+    let inv = c.self.invariant in
+    let held = c.in-Some.held in
+    let it = known state.log c.transfer-transfer.result held c.in-Some.ensures.some in
+    room_closed state.settings state.log c.self.inside.grants.items inv.settled inv.grants state.streams c.transfer-transfer.result held.number it.number c.args.now Dropped c.close_held.new.self.settings c.close_held.ensures.same.settings c.moment-moment.result c.close_held.new.self.log c.close_held.ensures.log
+
+pub hand_on-requires-clause-part : goal.hand_on-requires-clause-part
+hand_on-requires-clause-part g c =
+    c.requires.part ∙ ap (λ (v : HostShown g.row.S.Denot). held_by v.log) (sym c.self.view_is) ∙ part_fewer c.self.inside.state.log c.close_held.new.self.log c.close_held.ensures.fewer_open c.close_held.ensures.as_many_idle
+
+pub hand_on-requires-clause-spare : goal.hand_on-requires-clause-spare
+hand_on-requires-clause-spare g c =
+    omega (arith, c.self.invariant.spare, ap (λ log. length (waiting log)) c.close_held.ensures.log, c.close_held.ensures.booked, c.spend.ensures.len, c.spend.ensures.capacity)
+
+pub invariant_of-self : goal.invariant_of-self
+invariant_of-self g c =
+    let state = c.self.inside.state in
+    let inv = c.self.invariant in
+    let held = c.in-Some.held in
+    let it = known state.log c.transfer-transfer.result held c.in-Some.ensures.some in
+    let settled = settled_closed state.settings state.log c.self.inside.grants.items inv.settled inv.grants state.streams c.transfer-transfer.result held.number it.number c.args.now Dropped refl c.close_held.new.self.settings c.close_held.ensures.same.settings c.moment-moment.result c.moment-moment.ensures c.close_held.new.self.log c.close_held.ensures.log c.spend.new.grants.items c.spend.ensures.others c.hand_on.new.state.log c.hand_on.ensures.log c.hand_on.new.grants.items c.hand_on.ensures.grants c.hand_on.new.state.streams (c.hand_on.ensures.streams ∙ c.close_held.ensures.streams) in
+    record {
+      count = c.hand_on.ensures.booked ∙ c.close_held.ensures.booked ∙ inv.count;
+      bookings = booked_freed _ _ _ _ _ inv.grants settled.freed c.self.inside.bookings.items inv.bookings;
+      settled = subst (λ settings. IsSoundAndQuiet settings c.hand_on.new.state.log) (sym (c.hand_on.ensures.same.settings ∙ c.close_held.ensures.same.settings)) settled.settled;
+      grants = settled.freed.kept;
+      spare = c.hand_on.ensures.spare;
+    }
+
+pub returns-clause-streams : goal.returns-clause-streams
+returns-clause-streams g c d other still =
+    let state = c.self.inside.state in
+    let inv = c.self.invariant in
+    let held = c.in-Some.held in
+    let it = known state.log c.transfer-transfer.result held c.in-Some.ensures.some in
+    let settled = settled_closed state.settings state.log c.self.inside.grants.items inv.settled inv.grants state.streams c.transfer-transfer.result held.number it.number c.args.now Dropped refl c.close_held.new.self.settings c.close_held.ensures.same.settings c.moment-moment.result c.moment-moment.ensures c.close_held.new.self.log c.close_held.ensures.log c.spend.new.grants.items c.spend.ensures.others c.hand_on.new.state.log c.hand_on.ensures.log c.hand_on.new.grants.items c.hand_on.ensures.grants c.hand_on.new.state.streams (c.hand_on.ensures.streams ∙ c.close_held.ensures.streams) in
+    let apart : (held.number == d) ≡ false = ap (λ (n : ℕ). n == d) (c.in-Some.ensures.number ∙ c.number.ensures) ∙ other in
+    settled.others d apart still ∙ ap (λ (v : HostShown g.row.S.Denot). stream_of v.streams d) c.self.view_is
+
+pub returns-clause-spends : goal.returns-clause-spends
+returns-clause-spends g c =
+    let state = c.self.inside.state in
+    let inv = c.self.invariant in
+    let held = c.in-Some.held in
+    let it = known state.log c.transfer-transfer.result held c.in-Some.ensures.some in
+    let settled = settled_closed state.settings state.log c.self.inside.grants.items inv.settled inv.grants state.streams c.transfer-transfer.result held.number it.number c.args.now Dropped refl c.close_held.new.self.settings c.close_held.ensures.same.settings c.moment-moment.result c.moment-moment.ensures c.close_held.new.self.log c.close_held.ensures.log c.spend.new.grants.items c.spend.ensures.others c.hand_on.new.state.log c.hand_on.ensures.log c.hand_on.new.grants.items c.hand_on.ensures.grants c.hand_on.new.state.streams (c.hand_on.ensures.streams ∙ c.close_held.ensures.streams) in
+    spends_at _ _ _ _ _ c.self.view_is c.transfer-transfer.ensures (freed_spends _ _ _ _ _ _ _ _ _ _ _ _ _ settled.freed)
+
+pub returns-clause-grew : goal.returns-clause-grew
+returns-clause-grew g c =
+    let state = c.self.inside.state in
+    let inv = c.self.invariant in
+    let held = c.in-Some.held in
+    let it = known state.log c.transfer-transfer.result held c.in-Some.ensures.some in
+    let settled = settled_closed state.settings state.log c.self.inside.grants.items inv.settled inv.grants state.streams c.transfer-transfer.result held.number it.number c.args.now Dropped refl c.close_held.new.self.settings c.close_held.ensures.same.settings c.moment-moment.result c.moment-moment.ensures c.close_held.new.self.log c.close_held.ensures.log c.spend.new.grants.items c.spend.ensures.others c.hand_on.new.state.log c.hand_on.ensures.log c.hand_on.new.grants.items c.hand_on.ensures.grants c.hand_on.new.state.streams (c.hand_on.ensures.streams ∙ c.close_held.ensures.streams) in
+    grows_from _ _ _ (ap (λ (v : HostShown g.row.S.Denot). v.log) c.self.view_is) settled.grew
+
+pub returns-clause-freed : goal.returns-clause-freed
+returns-clause-freed g c =
+    let state = c.self.inside.state in
+    let held = c.in-Some.held in
+    let it = known state.log c.transfer-transfer.result held c.in-Some.ensures.some in
+    freed_close state.settings state.log c.self.invariant.settled c.transfer-transfer.result held.number it.number c.args.now c.close_held.new.self.settings c.close_held.ensures.same.settings c.moment-moment.result c.moment-moment.ensures c.close_held.new.self.log c.hand_on.new.state.log c.hand_on.ensures.log c.anyone_waits-freed.result c.anyone_waits-freed.ensures.yes c.anyone_waits-freed.ensures.no Dropped refl c.close_held.ensures.log
+    ∙ ap (λ (v : HostShown g.row.S.Denot). is_freed v.log c.hand_on.new.state.log) c.self.view_is
+
+pub returns-clause-mark : goal.returns-clause-mark
+returns-clause-mark g c =
+    let state = c.self.inside.state in
+    let inv = c.self.invariant in
+    let held = c.in-Some.held in
+    let it = known state.log c.transfer-transfer.result held c.in-Some.ensures.some in
+    let settled = settled_closed state.settings state.log c.self.inside.grants.items inv.settled inv.grants state.streams c.transfer-transfer.result held.number it.number c.args.now Dropped refl c.close_held.new.self.settings c.close_held.ensures.same.settings c.moment-moment.result c.moment-moment.ensures c.close_held.new.self.log c.close_held.ensures.log c.spend.new.grants.items c.spend.ensures.others c.hand_on.new.state.log c.hand_on.ensures.log c.hand_on.new.grants.items c.hand_on.ensures.grants c.hand_on.new.state.streams (c.hand_on.ensures.streams ∙ c.close_held.ensures.streams) in
+    unmarked_from state.settings c.args.self.now.settings c.hand_on.new.state.settings state.log c.args.self.now.log c.hand_on.new.state.log (c.hand_on.ensures.same.settings ∙ c.close_held.ensures.same.settings) (ap (λ (v : HostShown g.row.S.Denot). v.settings) c.self.view_is) (ap (λ (v : HostShown g.row.S.Denot). v.log) c.self.view_is) settled.mark

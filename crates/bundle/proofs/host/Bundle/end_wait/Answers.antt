@@ -1,0 +1,215 @@
+use Rattle.std.proofs.Common.{◌≡◌, ℕ, length, true, refl, sym, ap, subst, ◌∙◌, arith}
+use Rattle.conn_log.specs.declared.entry.Want.{Want}
+use Rattle.conn_log.specs.declared.entry.Cause.TheVariants.{Withdrawn}
+use Rattle.conn_log.specs.Waiting.{waiting}
+use Rattle.bundle.specs.Calls.{after_withdraw, is_queued, is_freed}
+use Rattle.host_state.specs.Idle.{stream_of}
+use Rattle.bundle.specs.Laws.{IsSoundAndQuiet}
+use Rattle.bundle.specs.Lease.{HostShown, held_by, is_valid_ticket}
+use Rattle.bundle.proofs.Growth.{grows_withdraw}
+use Rattle.bundle.proofs.KeptSound.{kept_withdraw}
+use Rattle.bundle.proofs.Marks.{mark_withdraw}
+use Rattle.bundle.proofs.Told.{held_here}
+use Rattle.bundle.proofs.StartLogs.{fewer_without}
+use Rattle.bundle.proofs.Answering.{known, there_where, held_told, stood_waits, claimed_number, freed_spends, spends_at, apart_open}
+use Rattle.bundle.proofs.Settling.{settled_closed, room_closed, left_log, withdrawn_log, gone_open, left_moved, grows_from, unmarked_from}
+use Rattle.bundle.proofs.Halfway.{booked_freed}
+use Rattle.bundle.proofs.Freeing.{part_fewer, freed_close}
+use Rattle.bundle.proofs.host.Bundle.end_wait.Goals as goal
+
+pub leave-requires-clause-waits : goal.leave-requires-clause-waits
+leave-requires-clause-waits g c =
+    let state = c.self.inside.state in
+    let grants = c.self.inside.grants.items in
+    let inv = c.self.invariant in
+    let t = c.want-want.result.transfer in
+    let test : c.is_valid_ticket.result ≡ true = grind (arith, c.if-not-is_valid_ticket.false) in
+    let stood = ap (λ (v : HostShown g.row.S.Denot). is_valid_ticket v c.want-want.result) c.self.view_is ∙ sym c.is_valid_ticket.ensures ∙ test in
+    let waits_here = stood_waits state.log grants c.want-want.result (sym c.in_default.ensures.grant) stood in
+    waits_here
+
+pub invariant_of-self : goal.invariant_of-self
+invariant_of-self g c =
+    let state = c.self.inside.state in
+    let grants = c.self.inside.grants.items in
+    let inv = c.self.invariant in
+    let t = c.want-want.result.transfer in
+    let test : c.is_valid_ticket.result ≡ true = grind (arith, c.if-not-is_valid_ticket.false) in
+    let stood = ap (λ (v : HostShown g.row.S.Denot). is_valid_ticket v c.want-want.result) c.self.view_is ∙ sym c.is_valid_ticket.ensures ∙ test in
+    let waits_here = stood_waits state.log grants c.want-want.result (sym c.in_default.ensures.grant) stood in
+    let is = left_log state.settings state.log t c.args.now c.moment-moment.result c.leave.new.self.log waits_here c.moment-moment.ensures c.leave.ensures.log in
+    let freed = left_moved state.settings state.log inv.settled.sound.orderly grants inv.grants c.moment-moment.result t waits_here c.leave.new.self.log c.leave.ensures.log c.take_grant.new.grants.items c.in_default.ensures.unchanged in
+    let fewer = fewer_without t (waiting state.log) in
+    record {
+      count = c.leave.ensures.booked ∙ inv.count;
+      bookings = booked_freed _ _ _ _ _ inv.grants freed c.self.inside.bookings.items inv.bookings;
+      settled = subst (λ settings. IsSoundAndQuiet settings c.leave.new.self.log) (sym c.leave.ensures.same.settings) (subst (λ log. IsSoundAndQuiet state.settings log) (sym is) (kept_withdraw state.settings state.log t c.args.now inv.settled));
+      grants = freed.kept;
+      spare = omega (arith, inv.spare, fewer, ap (λ log. length (waiting log)) c.leave.ensures.log, c.leave.ensures.booked, c.take_grant.ensures.len, c.take_grant.ensures.capacity);
+    }
+
+pub returns-in_default-clause-log : goal.returns-in_default-clause-log
+returns-in_default-clause-log g c =
+    let state = c.self.inside.state in
+    let grants = c.self.inside.grants.items in
+    let inv = c.self.invariant in
+    let t = c.want-want.result.transfer in
+    let test : c.is_valid_ticket.result ≡ true = grind (arith, c.if-not-is_valid_ticket.false) in
+    let stood = ap (λ (v : HostShown g.row.S.Denot). is_valid_ticket v c.want-want.result) c.self.view_is ∙ sym c.is_valid_ticket.ensures ∙ test in
+    let waits_here = stood_waits state.log grants c.want-want.result (sym c.in_default.ensures.grant) stood in
+    let log_is = ap (λ (v : HostShown g.row.S.Denot). v.log) c.self.view_is in
+    let who : t ≡ c.args.ticket.wait.want.transfer = ap (λ (w : Want). w.transfer) c.want-want.ensures in
+    let named : after_withdraw state.settings state.log t c.args.now ≡ after_withdraw c.args.self.now.settings c.args.self.now.log c.args.ticket.wait.want.transfer c.args.now = ap (λ (n : ℕ). after_withdraw state.settings state.log n c.args.now) who ∙ ap (λ (v : HostShown g.row.S.Denot). after_withdraw v.settings v.log c.args.ticket.wait.want.transfer c.args.now) c.self.view_is in
+    left_log state.settings state.log t c.args.now c.moment-moment.result c.leave.new.self.log waits_here c.moment-moment.ensures c.leave.ensures.log ∙ named
+
+pub returns-in_default-clause-spends : goal.returns-in_default-clause-spends
+returns-in_default-clause-spends g c =
+    let state = c.self.inside.state in
+    let grants = c.self.inside.grants.items in
+    let inv = c.self.invariant in
+    let t = c.want-want.result.transfer in
+    let test : c.is_valid_ticket.result ≡ true = grind (arith, c.if-not-is_valid_ticket.false) in
+    let stood = ap (λ (v : HostShown g.row.S.Denot). is_valid_ticket v c.want-want.result) c.self.view_is ∙ sym c.is_valid_ticket.ensures ∙ test in
+    let waits_here = stood_waits state.log grants c.want-want.result (sym c.in_default.ensures.grant) stood in
+    let who : t ≡ c.args.ticket.wait.want.transfer = ap (λ (w : Want). w.transfer) c.want-want.ensures in
+    let freed = left_moved state.settings state.log inv.settled.sound.orderly grants inv.grants c.moment-moment.result t waits_here c.leave.new.self.log c.leave.ensures.log c.take_grant.new.grants.items c.in_default.ensures.unchanged in
+    spends_at _ _ _ _ _ c.self.view_is who (freed_spends _ _ _ _ _ _ _ _ _ _ _ _ _ freed)
+
+pub returns-in_default-clause-grew : goal.returns-in_default-clause-grew
+returns-in_default-clause-grew g c =
+    let state = c.self.inside.state in
+    let grants = c.self.inside.grants.items in
+    let inv = c.self.invariant in
+    let t = c.want-want.result.transfer in
+    let test : c.is_valid_ticket.result ≡ true = grind (arith, c.if-not-is_valid_ticket.false) in
+    let stood = ap (λ (v : HostShown g.row.S.Denot). is_valid_ticket v c.want-want.result) c.self.view_is ∙ sym c.is_valid_ticket.ensures ∙ test in
+    let waits_here = stood_waits state.log grants c.want-want.result (sym c.in_default.ensures.grant) stood in
+    let is = left_log state.settings state.log t c.args.now c.moment-moment.result c.leave.new.self.log waits_here c.moment-moment.ensures c.leave.ensures.log in
+    let grew = grows_withdraw state.settings state.log t c.args.now in
+    grows_from state.log c.args.self.now.log c.leave.new.self.log (ap (λ (v : HostShown g.row.S.Denot). v.log) c.self.view_is) (grew.0, is ∙ grew.1)
+
+pub unwrap-held-requires : goal.unwrap-held-requires
+unwrap-held-requires g c =
+    let state = c.self.inside.state in
+    let grants = c.self.inside.grants.items in
+    let inv = c.self.invariant in
+    let t = c.want-want.result.transfer in
+    let number = claimed_number state.settings state.log inv.settled.sound.orderly grants inv.grants t c.in-Some.grant (sym c.in-Some.ensures.grant) in
+    there_where _ _ c.held.ensures.none (held_here state.settings state.log inv.settled.sound.orderly t c.in-Some.grant.number number)
+
+pub hand_on-requires-clause-room : goal.hand_on-requires-clause-room
+hand_on-requires-clause-room g c =
+    let state = c.self.inside.state in
+    let grants = c.self.inside.grants.items in
+    let inv = c.self.invariant in
+    let t = c.want-want.result.transfer in
+    let held = c.unwrap-held.result in
+    let it = known state.log t held (held_told state.log t _ _ c.unwrap-held.ensures c.held.ensures.some) in
+    room_closed state.settings state.log grants inv.settled inv.grants state.streams t held.number it.number c.args.now Withdrawn c.close_held.new.self.settings c.close_held.ensures.same.settings c.moment-moment.result c.close_held.new.self.log c.close_held.ensures.log
+
+pub hand_on-requires-clause-part : goal.hand_on-requires-clause-part
+hand_on-requires-clause-part g c =
+    c.requires.part ∙ ap (λ (v : HostShown g.row.S.Denot). held_by v.log) (sym c.self.view_is) ∙ part_fewer c.self.inside.state.log c.close_held.new.self.log c.close_held.ensures.fewer_open c.close_held.ensures.as_many_idle
+
+pub hand_on-requires-clause-spare : goal.hand_on-requires-clause-spare
+hand_on-requires-clause-spare g c =
+    omega (arith, c.self.invariant.spare, ap (λ log. length (waiting log)) c.close_held.ensures.log, c.close_held.ensures.booked, c.take_grant.ensures.len, c.take_grant.ensures.capacity)
+
+pub invariant_of-self-2 : goal.invariant_of-self-2
+invariant_of-self-2 g c =
+    let state = c.self.inside.state in
+    let grants = c.self.inside.grants.items in
+    let inv = c.self.invariant in
+    let t = c.want-want.result.transfer in
+    let held = c.unwrap-held.result in
+    let it = known state.log t held (held_told state.log t _ _ c.unwrap-held.ensures c.held.ensures.some) in
+    let settled = settled_closed state.settings state.log grants inv.settled inv.grants state.streams t held.number it.number c.args.now Withdrawn refl c.close_held.new.self.settings c.close_held.ensures.same.settings c.moment-moment.result c.moment-moment.ensures c.close_held.new.self.log c.close_held.ensures.log c.take_grant.new.grants.items c.take_grant.ensures.others c.hand_on.new.state.log c.hand_on.ensures.log c.hand_on.new.grants.items c.hand_on.ensures.grants c.hand_on.new.state.streams (c.hand_on.ensures.streams ∙ c.close_held.ensures.streams) in
+    record {
+      count = c.hand_on.ensures.booked ∙ c.close_held.ensures.booked ∙ inv.count;
+      bookings = booked_freed _ _ _ _ _ inv.grants settled.freed c.self.inside.bookings.items inv.bookings;
+      settled = subst (λ settings. IsSoundAndQuiet settings c.hand_on.new.state.log) (sym (c.hand_on.ensures.same.settings ∙ c.close_held.ensures.same.settings)) settled.settled;
+      grants = settled.freed.kept;
+      spare = c.hand_on.ensures.spare;
+    }
+
+pub returns-clause-log : goal.returns-clause-log
+returns-clause-log g c =
+    let state = c.self.inside.state in
+    let grants = c.self.inside.grants.items in
+    let inv = c.self.invariant in
+    let t = c.want-want.result.transfer in
+    let held = c.unwrap-held.result in
+    let it = known state.log t held (held_told state.log t _ _ c.unwrap-held.ensures c.held.ensures.some) in
+    let log_is = ap (λ (v : HostShown g.row.S.Denot). v.log) c.self.view_is in
+    let who : t ≡ c.args.ticket.wait.want.transfer = ap (λ (w : Want). w.transfer) c.want-want.ensures in
+    let named : after_withdraw state.settings state.log t c.args.now ≡ after_withdraw c.args.self.now.settings c.args.self.now.log c.args.ticket.wait.want.transfer c.args.now = ap (λ (n : ℕ). after_withdraw state.settings state.log n c.args.now) who ∙ ap (λ (v : HostShown g.row.S.Denot). after_withdraw v.settings v.log c.args.ticket.wait.want.transfer c.args.now) c.self.view_is in
+    withdrawn_log state.settings state.log inv.settled.sound t held.number it.number c.args.now c.close_held.new.self.settings c.close_held.ensures.same.settings c.moment-moment.result c.moment-moment.ensures c.close_held.new.self.log c.close_held.ensures.log c.hand_on.new.state.log c.hand_on.ensures.log ∙ named
+
+pub returns-clause-streams : goal.returns-clause-streams
+returns-clause-streams g c d still =
+    let state = c.self.inside.state in
+    let grants = c.self.inside.grants.items in
+    let inv = c.self.invariant in
+    let t = c.want-want.result.transfer in
+    let held = c.unwrap-held.result in
+    let it = known state.log t held (held_told state.log t _ _ c.unwrap-held.ensures c.held.ensures.some) in
+    let settled = settled_closed state.settings state.log grants inv.settled inv.grants state.streams t held.number it.number c.args.now Withdrawn refl c.close_held.new.self.settings c.close_held.ensures.same.settings c.moment-moment.result c.moment-moment.ensures c.close_held.new.self.log c.close_held.ensures.log c.take_grant.new.grants.items c.take_grant.ensures.others c.hand_on.new.state.log c.hand_on.ensures.log c.hand_on.new.grants.items c.hand_on.ensures.grants c.hand_on.new.state.streams (c.hand_on.ensures.streams ∙ c.close_held.ensures.streams) in
+    let closed = gone_open held.number Withdrawn c.close_held.new.self.settings c.moment-moment.result state.log c.close_held.new.self.log c.close_held.ensures.log c.hand_on.new.state.log c.hand_on.ensures.log in
+    settled.others d (apart_open c.hand_on.new.state.log held.number d closed still) still ∙ ap (λ (v : HostShown g.row.S.Denot). stream_of v.streams d) c.self.view_is
+
+pub returns-clause-spends : goal.returns-clause-spends
+returns-clause-spends g c =
+    let state = c.self.inside.state in
+    let grants = c.self.inside.grants.items in
+    let inv = c.self.invariant in
+    let t = c.want-want.result.transfer in
+    let held = c.unwrap-held.result in
+    let it = known state.log t held (held_told state.log t _ _ c.unwrap-held.ensures c.held.ensures.some) in
+    let settled = settled_closed state.settings state.log grants inv.settled inv.grants state.streams t held.number it.number c.args.now Withdrawn refl c.close_held.new.self.settings c.close_held.ensures.same.settings c.moment-moment.result c.moment-moment.ensures c.close_held.new.self.log c.close_held.ensures.log c.take_grant.new.grants.items c.take_grant.ensures.others c.hand_on.new.state.log c.hand_on.ensures.log c.hand_on.new.grants.items c.hand_on.ensures.grants c.hand_on.new.state.streams (c.hand_on.ensures.streams ∙ c.close_held.ensures.streams) in
+    let who : t ≡ c.args.ticket.wait.want.transfer = ap (λ (w : Want). w.transfer) c.want-want.ensures in
+    spends_at _ _ _ _ _ c.self.view_is who (freed_spends _ _ _ _ _ _ _ _ _ _ _ _ _ settled.freed)
+
+pub returns-clause-grew : goal.returns-clause-grew
+returns-clause-grew g c =
+    let state = c.self.inside.state in
+    let grants = c.self.inside.grants.items in
+    let inv = c.self.invariant in
+    let t = c.want-want.result.transfer in
+    let held = c.unwrap-held.result in
+    let it = known state.log t held (held_told state.log t _ _ c.unwrap-held.ensures c.held.ensures.some) in
+    let settled = settled_closed state.settings state.log grants inv.settled inv.grants state.streams t held.number it.number c.args.now Withdrawn refl c.close_held.new.self.settings c.close_held.ensures.same.settings c.moment-moment.result c.moment-moment.ensures c.close_held.new.self.log c.close_held.ensures.log c.take_grant.new.grants.items c.take_grant.ensures.others c.hand_on.new.state.log c.hand_on.ensures.log c.hand_on.new.grants.items c.hand_on.ensures.grants c.hand_on.new.state.streams (c.hand_on.ensures.streams ∙ c.close_held.ensures.streams) in
+    grows_from _ _ _ (ap (λ (v : HostShown g.row.S.Denot). v.log) c.self.view_is) settled.grew
+
+pub returns-clause-freed : goal.returns-clause-freed
+returns-clause-freed g c =
+    let state = c.self.inside.state in
+    let grants = c.self.inside.grants.items in
+    let inv = c.self.invariant in
+    let t = c.want-want.result.transfer in
+    let held = c.unwrap-held.result in
+    let it = known state.log t held (held_told state.log t _ _ c.unwrap-held.ensures c.held.ensures.some) in
+    freed_close state.settings state.log inv.settled t held.number it.number c.args.now c.close_held.new.self.settings c.close_held.ensures.same.settings c.moment-moment.result c.moment-moment.ensures c.close_held.new.self.log c.hand_on.new.state.log c.hand_on.ensures.log c.anyone_waits-freed.result c.anyone_waits-freed.ensures.yes c.anyone_waits-freed.ensures.no Withdrawn refl c.close_held.ensures.log
+    ∙ ap (λ (v : HostShown g.row.S.Denot). is_freed v.log c.hand_on.new.state.log) c.self.view_is
+
+pub returns-clause-mark : goal.returns-clause-mark
+returns-clause-mark g c =
+    let state = c.self.inside.state in
+    let grants = c.self.inside.grants.items in
+    let inv = c.self.invariant in
+    let t = c.want-want.result.transfer in
+    let held = c.unwrap-held.result in
+    let it = known state.log t held (held_told state.log t _ _ c.unwrap-held.ensures c.held.ensures.some) in
+    let settled = settled_closed state.settings state.log grants inv.settled inv.grants state.streams t held.number it.number c.args.now Withdrawn refl c.close_held.new.self.settings c.close_held.ensures.same.settings c.moment-moment.result c.moment-moment.ensures c.close_held.new.self.log c.close_held.ensures.log c.take_grant.new.grants.items c.take_grant.ensures.others c.hand_on.new.state.log c.hand_on.ensures.log c.hand_on.new.grants.items c.hand_on.ensures.grants c.hand_on.new.state.streams (c.hand_on.ensures.streams ∙ c.close_held.ensures.streams) in
+    unmarked_from state.settings c.args.self.now.settings c.hand_on.new.state.settings state.log c.args.self.now.log c.hand_on.new.state.log (c.hand_on.ensures.same.settings ∙ c.close_held.ensures.same.settings) (ap (λ (v : HostShown g.row.S.Denot). v.settings) c.self.view_is) (ap (λ (v : HostShown g.row.S.Denot). v.log) c.self.view_is) settled.mark
+
+pub returns-in_default-clause-mark : goal.returns-in_default-clause-mark
+returns-in_default-clause-mark g c =
+    let state = c.self.inside.state in
+    let grants = c.self.inside.grants.items in
+    let inv = c.self.invariant in
+    let t = c.want-want.result.transfer in
+    let test : c.is_valid_ticket.result ≡ true = grind (arith, c.if-not-is_valid_ticket.false) in
+    let stood = ap (λ (v : HostShown g.row.S.Denot). is_valid_ticket v c.want-want.result) c.self.view_is ∙ sym c.is_valid_ticket.ensures ∙ test in
+    let waits_here = stood_waits state.log grants c.want-want.result (sym c.in_default.ensures.grant) stood in
+    let is = left_log state.settings state.log t c.args.now c.moment-moment.result c.leave.new.self.log waits_here c.moment-moment.ensures c.leave.ensures.log in
+    unmarked_from state.settings c.args.self.now.settings c.leave.new.self.settings state.log c.args.self.now.log c.leave.new.self.log c.leave.ensures.same.settings (ap (λ (v : HostShown g.row.S.Denot). v.settings) c.self.view_is) (ap (λ (v : HostShown g.row.S.Denot). v.log) c.self.view_is) (λ unmarked. ap (is_queued state.settings) is ∙ mark_withdraw state.settings state.log t c.args.now inv.settled unmarked)

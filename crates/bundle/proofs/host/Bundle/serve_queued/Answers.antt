@@ -1,0 +1,42 @@
+use Rattle.std.proofs.Common.{ap, ◌∙◌}
+use Rattle.host_state.specs.Idle.{stream_of}
+use Rattle.bundle.specs.Calls.{is_queued}
+use Rattle.bundle.specs.Lease.{HostShown}
+use Rattle.bundle.proofs.Answering.{both_same}
+use Rattle.bundle.proofs.TurnLogs.{turn_keeps, grants_keep, keeps_at, grows_at}
+use Rattle.bundle.proofs.host.Bundle.serve_queued.Goals as goal
+
+pub invariant_of-self : goal.invariant_of-self
+invariant_of-self g c =
+    let inv = c.self.invariant in
+    let queued = ap (λ (v : HostShown g.row.S.Denot). is_queued v.settings v.log) c.self.view_is ∙ c.requires.queued in
+    let after = turn_keeps _ _ _ _ _ _ _ c.args.now _ inv.settled queued inv.grants inv.bookings c.open_for_head.ensures.same.settings c.moment-moment.ensures c.open_for_head.ensures.log c.open_for_head.ensures.grants in
+    record {
+      count = c.open_for_head.ensures.booked ∙ inv.count;
+      bookings = after.halfway;
+      settled = after.settled;
+      grants = after.same.kept;
+      spare = c.open_for_head.ensures.spare;
+    }
+
+pub returns-clause-streams : goal.returns-clause-streams
+returns-clause-streams g c d still =
+    let inv = c.self.invariant in
+    let queued = ap (λ (v : HostShown g.row.S.Denot). is_queued v.settings v.log) c.self.view_is ∙ c.requires.queued in
+    let after = turn_keeps _ _ _ _ _ _ _ c.args.now _ inv.settled queued inv.grants inv.bookings c.open_for_head.ensures.same.settings c.moment-moment.ensures c.open_for_head.ensures.log c.open_for_head.ensures.grants in
+    both_same _ _ _ _ d (after.streams d) (ap (λ streams. stream_of streams d) c.open_for_head.ensures.streams)
+    ∙ ap (λ (v : HostShown g.row.S.Denot). stream_of v.streams d) c.self.view_is
+
+pub returns-clause-keeps : goal.returns-clause-keeps
+returns-clause-keeps g c =
+    let inv = c.self.invariant in
+    let queued = ap (λ (v : HostShown g.row.S.Denot). is_queued v.settings v.log) c.self.view_is ∙ c.requires.queued in
+    let after = turn_keeps _ _ _ _ _ _ _ c.args.now _ inv.settled queued inv.grants inv.bookings c.open_for_head.ensures.same.settings c.moment-moment.ensures c.open_for_head.ensures.log c.open_for_head.ensures.grants in
+    keeps_at _ _ _ c.self.view_is (grants_keep _ _ _ _ _ _ _ _ _ _ _ _ after.same)
+
+pub returns-clause-grew : goal.returns-clause-grew
+returns-clause-grew g c =
+    let inv = c.self.invariant in
+    let queued = ap (λ (v : HostShown g.row.S.Denot). is_queued v.settings v.log) c.self.view_is ∙ c.requires.queued in
+    let after = turn_keeps _ _ _ _ _ _ _ c.args.now _ inv.settled queued inv.grants inv.bookings c.open_for_head.ensures.same.settings c.moment-moment.ensures c.open_for_head.ensures.log c.open_for_head.ensures.grants in
+    grows_at _ _ _ (ap (λ (v : HostShown g.row.S.Denot). v.log) c.self.view_is) after.grew

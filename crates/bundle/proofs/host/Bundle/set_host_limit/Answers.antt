@@ -1,0 +1,114 @@
+use Rattle.std.proofs.Common.{◌≡◌, ◌<◌, ◌≤◌, length, sym, ap, subst, ◌∙◌}
+use Rattle.budget.specs.declared.permits.Try.TheVariants.{Full}
+use Rattle.conn_log.specs.Connections.{open_connections}
+use Rattle.conn_log.specs.Waiting.{waiting}
+use Rattle.host_state.specs.Idle.{stream_of}
+use Rattle.host_state.specs.State.{HostState}
+use Rattle.bundle.specs.Calls.{after_limit, kept_limit, startable, is_queued}
+use Rattle.bundle.specs.Grants.{with_limit}
+use Rattle.bundle.specs.Lease.{HostShown}
+use Rattle.bundle.proofs.Answering.{both_same}
+use Rattle.bundle.proofs.QueuedHosts.{host_stayed}
+use Rattle.bundle.proofs.TurnLogs.{grants_keep, keeps_at, grows_at}
+use Rattle.bundle.proofs.LimitLogs.{room_left, limit_keeps}
+use Rattle.bundle.proofs.host.Bundle.set_host_limit.Goals as goal
+
+pub returns-in-Some-clause-marked : goal.returns-in-Some-clause-marked
+returns-in-Some-clause-marked g c = host_stayed c.args.self.now.host (is_queued c.args.self.now.settings c.args.self.now.log) c.args.lobby.now c.requires.lists
+
+pub invariant_of-self-2 : goal.invariant_of-self-2
+invariant_of-self-2 g c =
+    let state = c.self.inside.state in
+    let inv = c.self.invariant in
+    let given = c.in-Some-reserve_up_to.given in
+    let reserved = c.in-Ok.ensures.ok in
+    let allowed = sym c.reason_against.ensures ∙ c.in_default.is in
+    let queued : c.queued-was_queued.result ≡ is_queued state.settings state.log = c.queued-was_queued.ensures ∙ sym (ap (λ (v : HostShown g.row.S.Denot). is_queued v.settings v.log) c.self.view_is) in
+    let so_many = c.startable-count.ensures ∙ ap (λ b. startable b c.kept_limit-most.result state.log) queued ∙ ap (λ n. startable (is_queued state.settings state.log) n state.log) c.kept_limit-most.ensures in
+    let within : given ≤ startable (is_queued state.settings state.log) (kept_limit c.args.limit) state.log = subst (λ n. given ≤ n) so_many c.in-Some-reserve_up_to.ensures.most in
+    let changed = c.change_limit-freed.ensures in
+    let same_settings = changed.same.settings ∙ ap (λ (v : HostState g.row.S.Denot). v.settings) reserved in
+    let log_is = changed.log ∙ ap (λ (v : HostState g.row.S.Denot). after_limit c.kept_limit-most.result given v.settings v.log c.args.now) reserved in
+    let grants_are = changed.grants ∙ ap (λ (v : HostState g.row.S.Denot). with_limit c.kept_limit-most.result given v.settings v.log c.args.now c.self.inside.grants.items) reserved in
+    let after = limit_keeps _ _ _ _ c.args.limit given c.args.now inv.settled inv.grants inv.bookings allowed within _ _ _ c.kept_limit-most.result same_settings c.kept_limit-most.ensures log_is grants_are in
+    record {
+      count = changed.booked ∙ ap (λ (v : HostState g.row.S.Denot). v.booked) reserved ∙ inv.count;
+      bookings = after.halfway;
+      settled = after.settled;
+      grants = after.same.kept;
+      spare = changed.spare;
+    }
+
+pub returns-clause-log : goal.returns-clause-log
+returns-clause-log g c =
+    let before = c.args.self.now in
+    let given = c.in-Some-reserve_up_to.given in
+    let reserved = c.in-Ok.ensures.ok in
+    let changed = c.change_limit-freed.ensures in
+    let most = c.kept_limit-most in
+    let log_is = ap (λ (v : HostState g.row.S.Denot). v.log) reserved ∙ ap (λ (v : HostShown g.row.S.Denot). v.log) c.self.view_is in
+    let queued = is_queued before.settings before.log in
+    let so_many : c.startable-count.result ≡ startable queued (kept_limit c.args.limit) before.log = c.startable-count.ensures ∙ ap (λ b. startable b most.result c.self.inside.state.log) c.queued-was_queued.ensures ∙ ap (λ n. startable queued n c.self.inside.state.log) most.ensures ∙ ap (λ (v : HostShown g.row.S.Denot). startable queued (kept_limit c.args.limit) v.log) c.self.view_is in (
+      given,
+      subst (λ n. given ≤ n) so_many c.in-Some-reserve_up_to.ensures.most,
+      λ fewer.
+          let room = room_left queued (length (waiting before.log)) (kept_limit c.args.limit) (length (open_connections before.log)) given fewer in
+          let room_then = subst (λ log. length (open_connections log) < most.result) (sym log_is) (subst (λ n. length (open_connections before.log) < n) (sym most.ensures) room) in
+          subst (λ permits. g.P.Permits.opening c.args.permits.now permits Full) (sym (changed.none_closed room_then)) (c.in-Some-reserve_up_to.ensures.full (subst (λ n. given < n) (sym so_many) fewer)),
+      changed.log
+          ∙ ap (λ (v : HostState g.row.S.Denot). after_limit most.result given v.settings v.log c.args.now) reserved
+          ∙ ap (λ n. after_limit n given c.self.inside.state.settings c.self.inside.state.log c.args.now) most.ensures
+          ∙ ap (λ (v : HostShown g.row.S.Denot). after_limit (kept_limit c.args.limit) given v.settings v.log c.args.now) c.self.view_is,
+    )
+
+pub returns-clause-streams : goal.returns-clause-streams
+returns-clause-streams g c d still =
+    let state = c.self.inside.state in
+    let inv = c.self.invariant in
+    let given = c.in-Some-reserve_up_to.given in
+    let reserved = c.in-Ok.ensures.ok in
+    let allowed = sym c.reason_against.ensures ∙ c.in_default.is in
+    let queued : c.queued-was_queued.result ≡ is_queued state.settings state.log = c.queued-was_queued.ensures ∙ sym (ap (λ (v : HostShown g.row.S.Denot). is_queued v.settings v.log) c.self.view_is) in
+    let so_many = c.startable-count.ensures ∙ ap (λ b. startable b c.kept_limit-most.result state.log) queued ∙ ap (λ n. startable (is_queued state.settings state.log) n state.log) c.kept_limit-most.ensures in
+    let within : given ≤ startable (is_queued state.settings state.log) (kept_limit c.args.limit) state.log = subst (λ n. given ≤ n) so_many c.in-Some-reserve_up_to.ensures.most in
+    let changed = c.change_limit-freed.ensures in
+    let same_settings = changed.same.settings ∙ ap (λ (v : HostState g.row.S.Denot). v.settings) reserved in
+    let log_is = changed.log ∙ ap (λ (v : HostState g.row.S.Denot). after_limit c.kept_limit-most.result given v.settings v.log c.args.now) reserved in
+    let grants_are = changed.grants ∙ ap (λ (v : HostState g.row.S.Denot). with_limit c.kept_limit-most.result given v.settings v.log c.args.now c.self.inside.grants.items) reserved in
+    let after = limit_keeps _ _ _ _ c.args.limit given c.args.now inv.settled inv.grants inv.bookings allowed within _ _ _ c.kept_limit-most.result same_settings c.kept_limit-most.ensures log_is grants_are in
+    both_same _ _ _ _ d (after.streams d) (changed.streams d still ∙ ap (λ (v : HostState g.row.S.Denot). stream_of v.streams d) reserved)
+    ∙ ap (λ (v : HostShown g.row.S.Denot). stream_of v.streams d) c.self.view_is
+
+pub returns-clause-keeps : goal.returns-clause-keeps
+returns-clause-keeps g c =
+    let state = c.self.inside.state in
+    let inv = c.self.invariant in
+    let given = c.in-Some-reserve_up_to.given in
+    let reserved = c.in-Ok.ensures.ok in
+    let allowed = sym c.reason_against.ensures ∙ c.in_default.is in
+    let queued : c.queued-was_queued.result ≡ is_queued state.settings state.log = c.queued-was_queued.ensures ∙ sym (ap (λ (v : HostShown g.row.S.Denot). is_queued v.settings v.log) c.self.view_is) in
+    let so_many = c.startable-count.ensures ∙ ap (λ b. startable b c.kept_limit-most.result state.log) queued ∙ ap (λ n. startable (is_queued state.settings state.log) n state.log) c.kept_limit-most.ensures in
+    let within : given ≤ startable (is_queued state.settings state.log) (kept_limit c.args.limit) state.log = subst (λ n. given ≤ n) so_many c.in-Some-reserve_up_to.ensures.most in
+    let changed = c.change_limit-freed.ensures in
+    let same_settings = changed.same.settings ∙ ap (λ (v : HostState g.row.S.Denot). v.settings) reserved in
+    let log_is = changed.log ∙ ap (λ (v : HostState g.row.S.Denot). after_limit c.kept_limit-most.result given v.settings v.log c.args.now) reserved in
+    let grants_are = changed.grants ∙ ap (λ (v : HostState g.row.S.Denot). with_limit c.kept_limit-most.result given v.settings v.log c.args.now c.self.inside.grants.items) reserved in
+    let after = limit_keeps _ _ _ _ c.args.limit given c.args.now inv.settled inv.grants inv.bookings allowed within _ _ _ c.kept_limit-most.result same_settings c.kept_limit-most.ensures log_is grants_are in
+    keeps_at _ _ _ c.self.view_is (grants_keep _ _ _ _ _ _ _ _ _ _ _ _ after.same)
+
+pub returns-clause-grew : goal.returns-clause-grew
+returns-clause-grew g c =
+    let state = c.self.inside.state in
+    let inv = c.self.invariant in
+    let given = c.in-Some-reserve_up_to.given in
+    let reserved = c.in-Ok.ensures.ok in
+    let allowed = sym c.reason_against.ensures ∙ c.in_default.is in
+    let queued : c.queued-was_queued.result ≡ is_queued state.settings state.log = c.queued-was_queued.ensures ∙ sym (ap (λ (v : HostShown g.row.S.Denot). is_queued v.settings v.log) c.self.view_is) in
+    let so_many = c.startable-count.ensures ∙ ap (λ b. startable b c.kept_limit-most.result state.log) queued ∙ ap (λ n. startable (is_queued state.settings state.log) n state.log) c.kept_limit-most.ensures in
+    let within : given ≤ startable (is_queued state.settings state.log) (kept_limit c.args.limit) state.log = subst (λ n. given ≤ n) so_many c.in-Some-reserve_up_to.ensures.most in
+    let changed = c.change_limit-freed.ensures in
+    let same_settings = changed.same.settings ∙ ap (λ (v : HostState g.row.S.Denot). v.settings) reserved in
+    let log_is = changed.log ∙ ap (λ (v : HostState g.row.S.Denot). after_limit c.kept_limit-most.result given v.settings v.log c.args.now) reserved in
+    let grants_are = changed.grants ∙ ap (λ (v : HostState g.row.S.Denot). with_limit c.kept_limit-most.result given v.settings v.log c.args.now c.self.inside.grants.items) reserved in
+    let after = limit_keeps _ _ _ _ c.args.limit given c.args.now inv.settled inv.grants inv.bookings allowed within _ _ _ c.kept_limit-most.result same_settings c.kept_limit-most.ensures log_is grants_are in
+    grows_at _ _ _ (ap (λ (v : HostShown g.row.S.Denot). v.log) c.self.view_is) after.grew

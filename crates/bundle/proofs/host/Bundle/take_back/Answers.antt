@@ -1,0 +1,317 @@
+use Rattle.std.proofs.Common.{◌≡◌, ℕ, true, false, not, length, Some, sym, ap, subst, ◌∙◌, arith}
+use Rattle.std.specs.Prelude.{◌==◌}
+use Rattle.persistence.specs.Persistent.{is_persistent}
+use Rattle.budget.specs.declared.permits.Try.TheVariants.{Got, Full, Contended}
+use Rattle.conn_log.specs.declared.entry.Cause.TheVariants.{CacheFull}
+use Rattle.conn_log.specs.declared.entry.Event.TheVariants.{Returned, Closed}
+use Rattle.conn_log.specs.Connections.{is_open, open_connections}
+use Rattle.conn_log.specs.Waiting.{waiting}
+use Rattle.conn_log.proofs.Soundness.{and_left}
+use Rattle.host_state.specs.State.{HostState}
+use Rattle.host_state.specs.Steps.{add, moment_at}
+use Rattle.bundle.specs.Calls.{after_give_back, returned, rests, is_freed}
+use Rattle.host_state.specs.Idle.{stream_of}
+use Rattle.bundle.specs.Laws.{IsSoundAndQuiet}
+use Rattle.bundle.specs.Lease.{HostShown, held_by}
+use Rattle.bundle.proofs.Answering.{known, freed_spends, spends_at}
+use Rattle.bundle.proofs.Settling.{settled_passed, settled_ended, alone_passed, room_ended, settled_unkept, passed_kept, ended_gone, grows_from, unmarked_from}
+use Rattle.bundle.proofs.Halfway.{booked_freed}
+use Rattle.bundle.proofs.Freeing.{part_fewer, freed_end}
+use Rattle.bundle.proofs.Resting.{back_spent, passed_given_back, ended_given_back, would_rest, back_again, back_not_kept, back_closed, shown, same_lease, full_told, freed_one, if_none, if_some, if_there, passed_open, not_freed, passed_part, released_part}
+use Rattle.bundle.proofs.host.Bundle.take_back.Goals as goal
+
+pub pass_to_head-requires-clause-alone : goal.pass_to_head-requires-clause-alone
+pass_to_head-requires-clause-alone g c anyone =
+    let state = c.self.inside.state in
+    let back = c.in-Idle.ensures.idle in
+    alone_passed state.settings state.log c.self.invariant.settled c.transfer-transfer.result c.in-Idle.held back.was_held c.moment-moment.result c.args.facts c.give_back-back.new.self.log back.log back.settled anyone
+
+pub invariant_of-self : goal.invariant_of-self
+invariant_of-self g c =
+    let state = c.self.inside.state in
+    let back = c.in-Idle.ensures.idle in
+    let inv = c.self.invariant in
+    let held = c.in-Idle.held in
+    let it = known state.log c.transfer-transfer.result held back.was_held in
+    let settled = settled_passed state.settings state.log c.self.inside.grants.items inv.settled inv.grants state.streams c.transfer-transfer.result held.number it.number c.args.now c.args.facts c.detach-stream.result c.give_back-back.new.self.settings back.same.settings c.moment-moment.result c.moment-moment.ensures c.give_back-back.new.self.log back.log back.settled c.give_back-back.new.self.streams back.kept c.spend.new.grants.items c.spend.ensures.others c.pass_to_head.new.state.log c.pass_to_head.ensures.log c.pass_to_head.new.grants.items c.pass_to_head.ensures.grants c.pass_to_head.new.state.streams (λ d other still. c.pass_to_head.ensures.others d other still ∙ back.others d other) in
+    record {
+      count = c.pass_to_head.ensures.booked ∙ back.booked ∙ inv.count;
+      bookings = booked_freed _ _ _ _ _ inv.grants settled.freed c.self.inside.bookings.items inv.bookings;
+      settled = subst (λ settings. IsSoundAndQuiet settings c.pass_to_head.new.state.log) (sym (c.pass_to_head.ensures.same.settings ∙ back.same.settings)) settled.settled;
+      grants = settled.freed.kept;
+      spare = c.pass_to_head.ensures.spare;
+    }
+
+pub returns-in-Idle-clause-stream : goal.returns-in-Idle-clause-stream
+returns-in-Idle-clause-stream g c still =
+    let state = c.self.inside.state in
+    let back = c.in-Idle.ensures.idle in
+    let inv = c.self.invariant in
+    let held = c.in-Idle.held in
+    let it = known state.log c.transfer-transfer.result held back.was_held in
+    let number = c.in-Idle.ensures.number ∙ c.number-number.ensures in
+    let kept = passed_kept state.settings state.log c.self.inside.grants.items inv.settled inv.grants state.streams c.transfer-transfer.result held.number it.number c.args.now c.detach-stream.result c.give_back-back.new.self.settings c.moment-moment.result c.give_back-back.new.self.log c.give_back-back.new.self.streams back.kept c.spend.new.grants.items c.spend.ensures.others c.pass_to_head.new.state.log c.pass_to_head.ensures.log c.pass_to_head.new.grants.items c.pass_to_head.ensures.grants c.pass_to_head.new.state.streams (λ none. ap (λ (s : HostState g.row.S.Denot). s.streams) (c.pass_to_head.ensures.nobody none)) (ap (is_open c.pass_to_head.new.state.log) number ∙ still) in
+    ap (stream_of _) (sym number) ∙ kept ∙ sym c.detach-stream.ensures.stream
+
+pub returns-in-Idle-clause-streams : goal.returns-in-Idle-clause-streams
+returns-in-Idle-clause-streams g c d other still =
+    let state = c.self.inside.state in
+    let back = c.in-Idle.ensures.idle in
+    let inv = c.self.invariant in
+    let held = c.in-Idle.held in
+    let it = known state.log c.transfer-transfer.result held back.was_held in
+    let settled = settled_passed state.settings state.log c.self.inside.grants.items inv.settled inv.grants state.streams c.transfer-transfer.result held.number it.number c.args.now c.args.facts c.detach-stream.result c.give_back-back.new.self.settings back.same.settings c.moment-moment.result c.moment-moment.ensures c.give_back-back.new.self.log back.log back.settled c.give_back-back.new.self.streams back.kept c.spend.new.grants.items c.spend.ensures.others c.pass_to_head.new.state.log c.pass_to_head.ensures.log c.pass_to_head.new.grants.items c.pass_to_head.ensures.grants c.pass_to_head.new.state.streams (λ d other still. c.pass_to_head.ensures.others d other still ∙ back.others d other) in
+    let apart : (held.number == d) ≡ false = ap (λ (n : ℕ). n == d) (c.in-Idle.ensures.number ∙ c.number-number.ensures) ∙ other in
+    settled.others d apart still ∙ ap (λ (v : HostShown g.row.S.Denot). stream_of v.streams d) c.self.view_is
+
+pub returns-in-Idle-clause-spends : goal.returns-in-Idle-clause-spends
+returns-in-Idle-clause-spends g c =
+    let state = c.self.inside.state in
+    let back = c.in-Idle.ensures.idle in
+    let inv = c.self.invariant in
+    let held = c.in-Idle.held in
+    let it = known state.log c.transfer-transfer.result held back.was_held in
+    let settled = settled_passed state.settings state.log c.self.inside.grants.items inv.settled inv.grants state.streams c.transfer-transfer.result held.number it.number c.args.now c.args.facts c.detach-stream.result c.give_back-back.new.self.settings back.same.settings c.moment-moment.result c.moment-moment.ensures c.give_back-back.new.self.log back.log back.settled c.give_back-back.new.self.streams back.kept c.spend.new.grants.items c.spend.ensures.others c.pass_to_head.new.state.log c.pass_to_head.ensures.log c.pass_to_head.new.grants.items c.pass_to_head.ensures.grants c.pass_to_head.new.state.streams (λ d other still. c.pass_to_head.ensures.others d other still ∙ back.others d other) in
+    spends_at _ _ _ _ _ c.self.view_is c.transfer-transfer.ensures (freed_spends _ _ _ _ _ _ _ _ _ _ _ _ _ settled.freed)
+
+pub returns-in-Idle-clause-grew : goal.returns-in-Idle-clause-grew
+returns-in-Idle-clause-grew g c =
+    let state = c.self.inside.state in
+    let back = c.in-Idle.ensures.idle in
+    let inv = c.self.invariant in
+    let held = c.in-Idle.held in
+    let it = known state.log c.transfer-transfer.result held back.was_held in
+    let settled = settled_passed state.settings state.log c.self.inside.grants.items inv.settled inv.grants state.streams c.transfer-transfer.result held.number it.number c.args.now c.args.facts c.detach-stream.result c.give_back-back.new.self.settings back.same.settings c.moment-moment.result c.moment-moment.ensures c.give_back-back.new.self.log back.log back.settled c.give_back-back.new.self.streams back.kept c.spend.new.grants.items c.spend.ensures.others c.pass_to_head.new.state.log c.pass_to_head.ensures.log c.pass_to_head.new.grants.items c.pass_to_head.ensures.grants c.pass_to_head.new.state.streams (λ d other still. c.pass_to_head.ensures.others d other still ∙ back.others d other) in
+    grows_from _ _ _ (ap (λ (v : HostShown g.row.S.Denot). v.log) c.self.view_is) settled.grew
+
+pub hand_on-requires-clause-room : goal.hand_on-requires-clause-room
+hand_on-requires-clause-room g c =
+    let state = c.self.inside.state in
+    let inv = c.self.invariant in
+    let ended = c.in-Ended.ensures.closed in
+    room_ended state.settings state.log c.self.inside.grants.items inv.settled inv.grants state.streams c.transfer-transfer.result c.number-number.result ended.was_held c.args.now c.args.facts ended.ends.cause c.give_back-back.new.self.settings ended.same.settings c.moment-moment.result c.give_back-back.new.self.log ended.ends.log
+
+pub returns-in-Ended-clause-stream : goal.returns-in-Ended-clause-stream
+returns-in-Ended-clause-stream g c still =
+    let number = c.number-number.ensures in
+    let ended = c.in-Ended.ensures.closed in
+    absurd (ended_gone c.number-number.result ended.ends.cause c.give_back-back.new.self.settings c.moment-moment.result _ c.give_back-back.new.self.log ended.ends.log c.hand_on.new.state.log c.hand_on.ensures.log (ap (is_open c.hand_on.new.state.log) number ∙ still))
+
+pub returns-in-Ended-clause-streams : goal.returns-in-Ended-clause-streams
+returns-in-Ended-clause-streams g c d other still =
+    let state = c.self.inside.state in
+    let inv = c.self.invariant in
+    let ended = c.in-Ended.ensures.closed in
+    let settled = settled_ended state.settings state.log c.self.inside.grants.items inv.settled inv.grants state.streams c.transfer-transfer.result c.number-number.result ended.was_held c.args.now c.args.facts ended.ends.cause c.give_back-back.new.self.settings ended.same.settings c.moment-moment.result c.moment-moment.ensures ended.ends.owes c.give_back-back.new.self.log ended.ends.log c.spend-in-Ended.new.grants.items c.spend-in-Ended.ensures.others c.hand_on.new.state.log c.hand_on.ensures.log c.hand_on.new.grants.items c.hand_on.ensures.grants c.hand_on.new.state.streams (c.hand_on.ensures.streams ∙ ended.streams) in
+    let apart : (c.number-number.result == d) ≡ false = ap (λ (n : ℕ). n == d) c.number-number.ensures ∙ other in
+    settled.others d apart still ∙ ap (λ (v : HostShown g.row.S.Denot). stream_of v.streams d) c.self.view_is
+
+pub returns-in-Ended-clause-spends : goal.returns-in-Ended-clause-spends
+returns-in-Ended-clause-spends g c =
+    let state = c.self.inside.state in
+    let inv = c.self.invariant in
+    let ended = c.in-Ended.ensures.closed in
+    let settled = settled_ended state.settings state.log c.self.inside.grants.items inv.settled inv.grants state.streams c.transfer-transfer.result c.number-number.result ended.was_held c.args.now c.args.facts ended.ends.cause c.give_back-back.new.self.settings ended.same.settings c.moment-moment.result c.moment-moment.ensures ended.ends.owes c.give_back-back.new.self.log ended.ends.log c.spend-in-Ended.new.grants.items c.spend-in-Ended.ensures.others c.hand_on.new.state.log c.hand_on.ensures.log c.hand_on.new.grants.items c.hand_on.ensures.grants c.hand_on.new.state.streams (c.hand_on.ensures.streams ∙ ended.streams) in
+    spends_at _ _ _ _ _ c.self.view_is c.transfer-transfer.ensures (freed_spends _ _ _ _ _ _ _ _ _ _ _ _ _ settled.freed)
+
+pub returns-in-Ended-clause-grew : goal.returns-in-Ended-clause-grew
+returns-in-Ended-clause-grew g c =
+    let state = c.self.inside.state in
+    let inv = c.self.invariant in
+    let ended = c.in-Ended.ensures.closed in
+    let settled = settled_ended state.settings state.log c.self.inside.grants.items inv.settled inv.grants state.streams c.transfer-transfer.result c.number-number.result ended.was_held c.args.now c.args.facts ended.ends.cause c.give_back-back.new.self.settings ended.same.settings c.moment-moment.result c.moment-moment.ensures ended.ends.owes c.give_back-back.new.self.log ended.ends.log c.spend-in-Ended.new.grants.items c.spend-in-Ended.ensures.others c.hand_on.new.state.log c.hand_on.ensures.log c.hand_on.new.grants.items c.hand_on.ensures.grants c.hand_on.new.state.streams (c.hand_on.ensures.streams ∙ ended.streams) in
+    grows_from _ _ _ (ap (λ (v : HostShown g.row.S.Denot). v.log) c.self.view_is) settled.grew
+
+pub invariant_of-self-in-Ended : goal.invariant_of-self-in-Ended
+invariant_of-self-in-Ended g c =
+    let state = c.self.inside.state in
+    let inv = c.self.invariant in
+    let ended = c.in-Ended.ensures.closed in
+    let settled = settled_ended state.settings state.log c.self.inside.grants.items inv.settled inv.grants state.streams c.transfer-transfer.result c.number-number.result ended.was_held c.args.now c.args.facts ended.ends.cause c.give_back-back.new.self.settings ended.same.settings c.moment-moment.result c.moment-moment.ensures ended.ends.owes c.give_back-back.new.self.log ended.ends.log c.spend-in-Ended.new.grants.items c.spend-in-Ended.ensures.others c.hand_on.new.state.log c.hand_on.ensures.log c.hand_on.new.grants.items c.hand_on.ensures.grants c.hand_on.new.state.streams (c.hand_on.ensures.streams ∙ ended.streams) in
+    record {
+      count = c.hand_on.ensures.booked ∙ ended.booked ∙ inv.count;
+      bookings = booked_freed _ _ _ _ _ inv.grants settled.freed c.self.inside.bookings.items inv.bookings;
+      settled = subst (λ settings. IsSoundAndQuiet settings c.hand_on.new.state.log) (sym (c.hand_on.ensures.same.settings ∙ ended.same.settings)) settled.settled;
+      grants = settled.freed.kept;
+      spare = c.hand_on.ensures.spare;
+    }
+
+pub returns-in-Idle-clause-told : goal.returns-in-Idle-clause-told
+returns-in-Idle-clause-told g c =
+    let state = c.self.inside.state in
+    let back = c.in-Idle.ensures.idle in
+    let held = c.in-Idle.held in
+    let log_is = passed_given_back state.settings state.log held.number c.args.facts c.args.now c.give_back-back.new.self.settings back.same.settings c.moment-moment.result c.moment-moment.ensures c.give_back-back.new.self.log back.log back.settled c.pass_to_head.new.state.log c.pass_to_head.ensures.log
+    ∙ ap (λ (n : ℕ). after_give_back state.settings state.log n c.args.facts c.args.now) (c.in-Idle.ensures.number ∙ c.number-number.ensures)
+    ∙ ap (λ (v : HostShown g.row.S.Denot). after_give_back v.settings v.log c.args.lease.start.number c.args.facts c.args.now) c.self.view_is in
+    let opens = passed_open c.give_back-back.new.self.log c.pass_to_head.new.state.log c.pass_to_head.ensures.taken (λ none. ap (λ (s : HostState g.row.S.Denot). s.log) (c.pass_to_head.ensures.nobody none)) ∙ back.as_many_open ∙ ap (λ (v : HostShown g.row.S.Denot). length (open_connections v.log)) c.self.view_is in
+    (Got, g.met.P.Permits.not_asked_to_keep _ _ c.ask_to_keep-asked.ensures.stays, back_spent c.args.self.now (shown c.pass_to_head.new.state c.pass_to_head.new.grants.items c.self.inside.bookings.items) c.args.lease c.args.facts c.args.now c.args.close_if_full false log_is (not_freed c.args.self.now.log c.pass_to_head.new.state.log opens))
+
+pub returns-in-Idle-clause-part : goal.returns-in-Idle-clause-part
+returns-in-Idle-clause-part g c =
+    let state = c.self.inside.state in
+    let back = c.in-Idle.ensures.idle in
+    let asked = c.ask_to_keep-asked in
+    passed_part state.log c.give_back-back.new.self.log c.pass_to_head.new.state.log asked.result (g.P.Permits.held c.args.permits.now) (g.P.Permits.held asked.new.permits) (is_persistent c.args.facts) (ap waiting back.log) back.as_many_open back.more_idle c.pass_to_head.ensures.taken (λ none. ap (λ (s : HostState g.row.S.Denot). s.log) (c.pass_to_head.ensures.nobody none)) (c.requires.part ∙ ap (λ (v : HostShown g.row.S.Denot). held_by v.log) (sym c.self.view_is)) (and_left (is_persistent c.args.facts) (not c.in-Idle.held.forbids_reuse) back.stays) (if_none asked.result (ap g.P.Permits.held) asked.ensures.not_asked) asked.ensures.asked asked.ensures.nobody asked.ensures.held (c.may_keep.ensures.yes c.in-Idle.ensures.kept)
+
+pub returns-in-Idle-clause-mark : goal.returns-in-Idle-clause-mark
+returns-in-Idle-clause-mark g c =
+    let state = c.self.inside.state in
+    let back = c.in-Idle.ensures.idle in
+    let inv = c.self.invariant in
+    let held = c.in-Idle.held in
+    let it = known state.log c.transfer-transfer.result held back.was_held in
+    let settled = settled_passed state.settings state.log c.self.inside.grants.items inv.settled inv.grants state.streams c.transfer-transfer.result held.number it.number c.args.now c.args.facts c.detach-stream.result c.give_back-back.new.self.settings back.same.settings c.moment-moment.result c.moment-moment.ensures c.give_back-back.new.self.log back.log back.settled c.give_back-back.new.self.streams back.kept c.spend.new.grants.items c.spend.ensures.others c.pass_to_head.new.state.log c.pass_to_head.ensures.log c.pass_to_head.new.grants.items c.pass_to_head.ensures.grants c.pass_to_head.new.state.streams (λ d other still. c.pass_to_head.ensures.others d other still ∙ back.others d other) in
+    unmarked_from state.settings c.args.self.now.settings c.pass_to_head.new.state.settings state.log c.args.self.now.log c.pass_to_head.new.state.log (c.pass_to_head.ensures.same.settings ∙ back.same.settings) (ap (λ (v : HostShown g.row.S.Denot). v.settings) c.self.view_is) (ap (λ (v : HostShown g.row.S.Denot). v.log) c.self.view_is) settled.mark
+
+pub hand_on-requires-clause-part : goal.hand_on-requires-clause-part
+hand_on-requires-clause-part g c =
+    let asked = c.ask_to_keep-asked in
+    let ended = c.in-Ended.ensures.closed in
+    released_part asked.result (g.P.Permits.held c.args.permits.now) (g.P.Permits.held asked.new.permits) (g.P.Permits.held c.release_unused.new.permits) (if_none asked.result (ap g.P.Permits.held) asked.ensures.not_asked) asked.ensures.held c.release_unused.ensures.got c.release_unused.ensures.not_asked c.release_unused.ensures.not_got
+    ∙ c.requires.part ∙ ap (λ (v : HostShown g.row.S.Denot). held_by v.log) (sym c.self.view_is) ∙ part_fewer c.self.inside.state.log c.give_back-back.new.self.log ended.fewer_open ended.as_many_idle
+
+pub returns-in-Ended-clause-stays : goal.returns-in-Ended-clause-stays
+returns-in-Ended-clause-stays g c = g.met.P.Permits.stays_on _ _ _ c.ask_to_keep-asked.ensures.stays (g.met.P.Permits.stays_on _ _ _ c.release_unused.ensures.stays c.hand_on.ensures.stays)
+
+pub returns-in-Ended-clause-told : goal.returns-in-Ended-clause-told
+returns-in-Ended-clause-told g c =
+    let state = c.self.inside.state in
+    let ended = c.in-Ended.ensures.closed in
+    let log_is = ended_given_back state.settings state.log c.number-number.result c.args.facts c.args.now c.give_back-back.new.self.settings ended.same.settings c.moment-moment.result c.moment-moment.ensures ended.ends.cause ended.ends.owes c.give_back-back.new.self.log ended.ends.log c.hand_on.new.state.log c.hand_on.ensures.log
+    ∙ ap (λ (n : ℕ). after_give_back state.settings state.log n c.args.facts c.args.now) c.number-number.ensures
+    ∙ ap (λ (v : HostShown g.row.S.Denot). after_give_back v.settings v.log c.args.lease.start.number c.args.facts c.args.now) c.self.view_is in
+    let freed_is = freed_end state.settings state.log c.self.invariant.settled c.transfer-transfer.result c.number-number.result ended.was_held c.args.now c.give_back-back.new.self.settings ended.same.settings c.moment-moment.result c.moment-moment.ensures c.give_back-back.new.self.log c.hand_on.new.state.log c.hand_on.ensures.log c.anyone_waits-freed.result c.anyone_waits-freed.ensures.yes c.anyone_waits-freed.ensures.no c.args.facts ended.ends.cause ended.ends.owes ended.ends.log
+    ∙ ap (λ (v : HostShown g.row.S.Denot). is_freed v.log c.hand_on.new.state.log) c.self.view_is in
+    let stays = g.met.P.Permits.stays_on _ _ _ c.ask_to_keep-asked.ensures.stays (g.met.P.Permits.stays_on _ _ _ c.release_unused.ensures.stays c.hand_on.ensures.stays) in
+    (Got, g.met.P.Permits.not_asked_to_keep _ _ stays, back_spent c.args.self.now (shown c.hand_on.new.state c.hand_on.new.grants.items c.self.inside.bookings.items) c.args.lease c.args.facts c.args.now c.args.close_if_full (not c.anyone_waits-freed.result) log_is freed_is)
+
+pub returns-in-Ended-clause-mark : goal.returns-in-Ended-clause-mark
+returns-in-Ended-clause-mark g c =
+    let state = c.self.inside.state in
+    let inv = c.self.invariant in
+    let ended = c.in-Ended.ensures.closed in
+    let settled = settled_ended state.settings state.log c.self.inside.grants.items inv.settled inv.grants state.streams c.transfer-transfer.result c.number-number.result ended.was_held c.args.now c.args.facts ended.ends.cause c.give_back-back.new.self.settings ended.same.settings c.moment-moment.result c.moment-moment.ensures ended.ends.owes c.give_back-back.new.self.log ended.ends.log c.spend-in-Ended.new.grants.items c.spend-in-Ended.ensures.others c.hand_on.new.state.log c.hand_on.ensures.log c.hand_on.new.grants.items c.hand_on.ensures.grants c.hand_on.new.state.streams (c.hand_on.ensures.streams ∙ ended.streams) in
+    unmarked_from state.settings c.args.self.now.settings c.hand_on.new.state.settings state.log c.args.self.now.log c.hand_on.new.state.log (c.hand_on.ensures.same.settings ∙ ended.same.settings) (ap (λ (v : HostShown g.row.S.Denot). v.settings) c.self.view_is) (ap (λ (v : HostShown g.row.S.Denot). v.log) c.self.view_is) settled.mark
+
+pub returns-then-must_ask_again-clause-told : goal.returns-then-must_ask_again-clause-told
+returns-then-must_ask_again-clause-told g c =
+    let state = c.self.inside.state in
+    let inv = c.self.invariant in
+    let asked = c.ask_to_keep-asked in
+    let number = c.number-number.result in
+    let not_given = c.may_keep.ensures.no c.in-Unkept.ensures.unkept.0 in
+    let same = c.in-Unkept.ensures.unkept_same.1 in
+    let idle = would_rest state.settings state inv.settled.sound c.transfer-transfer.result number c.args.facts c.args.now c.in-Unkept.ensures.unkept.1 (if_there asked.result not_given.0 asked.ensures.nobody) in
+    let rests_here = ap (λ (v : HostShown g.row.S.Denot). rests v.log c.args.lease.start.number c.args.facts c.args.now) (sym c.self.view_is) ∙ ap (λ (n : ℕ). rests state.log n c.args.facts c.args.now) (sym c.number-number.ensures) ∙ idle in
+    let unchanged = ap (λ (s : HostState g.row.S.Denot). shown s c.self.inside.grants.items c.self.inside.bookings.items) same ∙ c.self.view_is in
+    let missed = c.must_ask_again.ensures.yes c.if-must_ask_again.true in
+    (Contended, if_some asked.result Contended (λ told. g.P.Permits.keeping c.args.permits.now asked.new.permits told) missed asked.ensures.told, back_again c.args.self.now (shown c.give_back-back.new.self c.self.inside.grants.items c.self.inside.bookings.items) c.args.lease c.args.facts c.args.now rests_here c.args.close_if_full _ (same_lease _ _ _ _ _ c.detach-stream.ensures.stream c.detach-stream.ensures.rest c.with_stream.ensures c.in-Unkept.ensures.unkept_same.0) unchanged)
+
+pub returns-then-not-close_if_full-clause-told : goal.returns-then-not-close_if_full-clause-told
+returns-then-not-close_if_full-clause-told g c =
+    let state = c.self.inside.state in
+    let inv = c.self.invariant in
+    let asked = c.ask_to_keep-asked in
+    let number = c.number-number.result in
+    let not_given = c.may_keep.ensures.no c.in-Unkept.ensures.unkept.0 in
+    let same = c.in-Unkept.ensures.unkept_same.1 in
+    let idle = would_rest state.settings state inv.settled.sound c.transfer-transfer.result number c.args.facts c.args.now c.in-Unkept.ensures.unkept.1 (if_there asked.result not_given.0 asked.ensures.nobody) in
+    let rests_here = ap (λ (v : HostShown g.row.S.Denot). rests v.log c.args.lease.start.number c.args.facts c.args.now) (sym c.self.view_is) ∙ ap (λ (n : ℕ). rests state.log n c.args.facts c.args.now) (sym c.number-number.ensures) ∙ idle in
+    let unchanged = ap (λ (s : HostState g.row.S.Denot). shown s c.self.inside.grants.items c.self.inside.bookings.items) same ∙ c.self.view_is in
+    let full = full_told asked.result not_given.0 not_given.1 (c.must_ask_again.ensures.no c.if-must_ask_again.false) in
+    (Full, if_some asked.result Full (λ told. g.P.Permits.keeping c.args.permits.now asked.new.permits told) full asked.ensures.told, back_not_kept c.args.self.now (shown c.give_back-back.new.self c.self.inside.grants.items c.self.inside.bookings.items) c.args.lease c.args.facts c.args.now rests_here c.args.close_if_full c.if-not-close_if_full.true _ (same_lease _ _ _ _ _ c.detach-stream.ensures.stream c.detach-stream.ensures.rest c.with_stream-then-not-close_if_full.ensures c.in-Unkept.ensures.unkept_same.0) unchanged)
+
+pub invariant_of-self-in-Unkept : goal.invariant_of-self-in-Unkept
+invariant_of-self-in-Unkept g c =
+    let state = c.self.inside.state in
+    let inv = c.self.invariant in
+    let asked = c.ask_to_keep-asked in
+    let number = c.number-number.result in
+    let not_given = c.may_keep.ensures.no c.in-Unkept.ensures.unkept.0 in
+    let same = c.in-Unkept.ensures.unkept_same.1 in
+    let idle = would_rest state.settings state inv.settled.sound c.transfer-transfer.result number c.args.facts c.args.now c.in-Unkept.ensures.unkept.1 (if_there asked.result not_given.0 asked.ensures.nobody) in
+    let would = c.in-Unkept.ensures.unkept.1 in
+    let it = known state.log c.transfer-transfer.result would.held would.was_held in
+    let mine = it.number ∙ ap (λ (k : ℕ). Some k) would.number in
+    let log_is = c.give_back_to_close.ensures.log ∙ ap (λ (s : HostState g.row.S.Denot). add c.moment-moment.result (Closed number CacheFull) (add c.moment-moment.result (Returned number c.args.facts) s.log)) same in
+    let streams_are = c.give_back_to_close.ensures.streams ∙ ap (λ (s : HostState g.row.S.Denot). s.streams) same in
+    let settled = settled_unkept state.settings state.log c.self.inside.grants.items inv.settled inv.grants state.streams c.transfer-transfer.result number mine c.args.now c.args.facts idle c.moment-moment.result c.moment-moment.ensures c.spend-in-Unkept.new.grants.items c.spend-in-Unkept.ensures.others c.give_back_to_close.new.self.log log_is c.give_back_to_close.new.self.streams streams_are in
+    let booked = c.give_back_to_close.ensures.booked ∙ ap (λ (s : HostState g.row.S.Denot). s.booked) same in
+    record {
+      count = booked ∙ inv.count;
+      bookings = booked_freed _ _ _ _ _ inv.grants settled.freed c.self.inside.bookings.items inv.bookings;
+      settled = subst (λ settings. IsSoundAndQuiet settings c.give_back_to_close.new.self.log) (sym (c.give_back_to_close.ensures.same.settings ∙ ap (λ (s : HostState g.row.S.Denot). s.settings) same)) settled.settled;
+      grants = settled.freed.kept;
+      spare = omega (arith, inv.spare, ap (λ log. length (waiting log)) log_is, booked, c.spend-in-Unkept.ensures.len, c.spend-in-Unkept.ensures.capacity);
+    }
+
+pub returns-else-not-close_if_full-clause-told : goal.returns-else-not-close_if_full-clause-told
+returns-else-not-close_if_full-clause-told g c =
+    let state = c.self.inside.state in
+    let inv = c.self.invariant in
+    let asked = c.ask_to_keep-asked in
+    let number = c.number-number.result in
+    let not_given = c.may_keep.ensures.no c.in-Unkept.ensures.unkept.0 in
+    let same = c.in-Unkept.ensures.unkept_same.1 in
+    let idle = would_rest state.settings state inv.settled.sound c.transfer-transfer.result number c.args.facts c.args.now c.in-Unkept.ensures.unkept.1 (if_there asked.result not_given.0 asked.ensures.nobody) in
+    let rests_here = ap (λ (v : HostShown g.row.S.Denot). rests v.log c.args.lease.start.number c.args.facts c.args.now) (sym c.self.view_is) ∙ ap (λ (n : ℕ). rests state.log n c.args.facts c.args.now) (sym c.number-number.ensures) ∙ idle in
+    let full = full_told asked.result not_given.0 not_given.1 (c.must_ask_again.ensures.no c.if-must_ask_again.false) in
+    let keeps = if_some asked.result Full (λ told. g.P.Permits.keeping c.args.permits.now asked.new.permits told) full asked.ensures.told in
+    let log_is = c.give_back_to_close.ensures.log ∙ ap (λ (s : HostState g.row.S.Denot). add c.moment-moment.result (Closed number CacheFull) (add c.moment-moment.result (Returned number c.args.facts) s.log)) same
+    ∙ ap (λ (k : ℕ). add k (Closed number CacheFull) (add k (Returned number c.args.facts) state.log)) c.moment-moment.ensures
+    ∙ ap (λ (n : ℕ). add (moment_at state.log c.args.now) (Closed n CacheFull) (returned state.log n c.args.facts c.args.now)) c.number-number.ensures
+    ∙ ap (λ (v : HostShown g.row.S.Denot). add (moment_at v.log c.args.now) (Closed c.args.lease.start.number CacheFull) (returned v.log c.args.lease.start.number c.args.facts c.args.now)) c.self.view_is in
+    let fewer = ap (λ (v : HostShown g.row.S.Denot). length (open_connections v.log)) (sym c.self.view_is) ∙ ap (λ (s : HostState g.row.S.Denot). length (open_connections s.log)) (sym same) ∙ c.give_back_to_close.ensures.fewer_open in
+    (Full, g.met.P.Permits.keeping_still _ _ _ Full keeps c.release_open.ensures.stays c.release_open.ensures.same_kept, back_closed c.args.self.now (shown c.give_back_to_close.new.self c.spend-in-Unkept.new.grants.items c.self.inside.bookings.items) c.args.lease c.args.facts c.args.now rests_here c.args.close_if_full c.if-not-close_if_full.false true log_is (freed_one c.args.self.now.log c.give_back_to_close.new.self.log fewer))
+
+pub returns-else-not-close_if_full-clause-streams : goal.returns-else-not-close_if_full-clause-streams
+returns-else-not-close_if_full-clause-streams g c d other still =
+    let state = c.self.inside.state in
+    let inv = c.self.invariant in
+    let asked = c.ask_to_keep-asked in
+    let number = c.number-number.result in
+    let not_given = c.may_keep.ensures.no c.in-Unkept.ensures.unkept.0 in
+    let same = c.in-Unkept.ensures.unkept_same.1 in
+    let idle = would_rest state.settings state inv.settled.sound c.transfer-transfer.result number c.args.facts c.args.now c.in-Unkept.ensures.unkept.1 (if_there asked.result not_given.0 asked.ensures.nobody) in
+    let would = c.in-Unkept.ensures.unkept.1 in
+    let it = known state.log c.transfer-transfer.result would.held would.was_held in
+    let mine = it.number ∙ ap (λ (k : ℕ). Some k) would.number in
+    let log_is = c.give_back_to_close.ensures.log ∙ ap (λ (s : HostState g.row.S.Denot). add c.moment-moment.result (Closed number CacheFull) (add c.moment-moment.result (Returned number c.args.facts) s.log)) same in
+    let streams_are = c.give_back_to_close.ensures.streams ∙ ap (λ (s : HostState g.row.S.Denot). s.streams) same in
+    let settled = settled_unkept state.settings state.log c.self.inside.grants.items inv.settled inv.grants state.streams c.transfer-transfer.result number mine c.args.now c.args.facts idle c.moment-moment.result c.moment-moment.ensures c.spend-in-Unkept.new.grants.items c.spend-in-Unkept.ensures.others c.give_back_to_close.new.self.log log_is c.give_back_to_close.new.self.streams streams_are in
+    settled.others d (ap (λ (n : ℕ). n == d) c.number-number.ensures ∙ other) still ∙ ap (λ (v : HostShown g.row.S.Denot). stream_of v.streams d) c.self.view_is
+
+pub returns-else-not-close_if_full-clause-spends : goal.returns-else-not-close_if_full-clause-spends
+returns-else-not-close_if_full-clause-spends g c =
+    let state = c.self.inside.state in
+    let inv = c.self.invariant in
+    let asked = c.ask_to_keep-asked in
+    let number = c.number-number.result in
+    let not_given = c.may_keep.ensures.no c.in-Unkept.ensures.unkept.0 in
+    let same = c.in-Unkept.ensures.unkept_same.1 in
+    let idle = would_rest state.settings state inv.settled.sound c.transfer-transfer.result number c.args.facts c.args.now c.in-Unkept.ensures.unkept.1 (if_there asked.result not_given.0 asked.ensures.nobody) in
+    let would = c.in-Unkept.ensures.unkept.1 in
+    let it = known state.log c.transfer-transfer.result would.held would.was_held in
+    let mine = it.number ∙ ap (λ (k : ℕ). Some k) would.number in
+    let log_is = c.give_back_to_close.ensures.log ∙ ap (λ (s : HostState g.row.S.Denot). add c.moment-moment.result (Closed number CacheFull) (add c.moment-moment.result (Returned number c.args.facts) s.log)) same in
+    let streams_are = c.give_back_to_close.ensures.streams ∙ ap (λ (s : HostState g.row.S.Denot). s.streams) same in
+    let settled = settled_unkept state.settings state.log c.self.inside.grants.items inv.settled inv.grants state.streams c.transfer-transfer.result number mine c.args.now c.args.facts idle c.moment-moment.result c.moment-moment.ensures c.spend-in-Unkept.new.grants.items c.spend-in-Unkept.ensures.others c.give_back_to_close.new.self.log log_is c.give_back_to_close.new.self.streams streams_are in
+    spends_at _ _ _ _ _ c.self.view_is c.transfer-transfer.ensures (freed_spends _ _ _ _ _ _ _ _ _ _ _ _ _ settled.freed)
+
+pub returns-else-not-close_if_full-clause-grew : goal.returns-else-not-close_if_full-clause-grew
+returns-else-not-close_if_full-clause-grew g c =
+    let state = c.self.inside.state in
+    let inv = c.self.invariant in
+    let asked = c.ask_to_keep-asked in
+    let number = c.number-number.result in
+    let not_given = c.may_keep.ensures.no c.in-Unkept.ensures.unkept.0 in
+    let same = c.in-Unkept.ensures.unkept_same.1 in
+    let idle = would_rest state.settings state inv.settled.sound c.transfer-transfer.result number c.args.facts c.args.now c.in-Unkept.ensures.unkept.1 (if_there asked.result not_given.0 asked.ensures.nobody) in
+    let would = c.in-Unkept.ensures.unkept.1 in
+    let it = known state.log c.transfer-transfer.result would.held would.was_held in
+    let mine = it.number ∙ ap (λ (k : ℕ). Some k) would.number in
+    let log_is = c.give_back_to_close.ensures.log ∙ ap (λ (s : HostState g.row.S.Denot). add c.moment-moment.result (Closed number CacheFull) (add c.moment-moment.result (Returned number c.args.facts) s.log)) same in
+    let streams_are = c.give_back_to_close.ensures.streams ∙ ap (λ (s : HostState g.row.S.Denot). s.streams) same in
+    let settled = settled_unkept state.settings state.log c.self.inside.grants.items inv.settled inv.grants state.streams c.transfer-transfer.result number mine c.args.now c.args.facts idle c.moment-moment.result c.moment-moment.ensures c.spend-in-Unkept.new.grants.items c.spend-in-Unkept.ensures.others c.give_back_to_close.new.self.log log_is c.give_back_to_close.new.self.streams streams_are in
+    grows_from _ _ _ (ap (λ (v : HostShown g.row.S.Denot). v.log) c.self.view_is) settled.grew

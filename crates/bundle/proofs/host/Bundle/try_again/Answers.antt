@@ -1,0 +1,104 @@
+use Rattle.std.proofs.Common.{◌≡◌, true, refl, sym, ap, subst, ◌∙◌, ◌++◌}
+use Rattle.conn_log.specs.declared.entry.Want.{Want}
+use Rattle.conn_log.specs.Connections.{is_among}
+use Rattle.bundle.specs.Calls.{is_queued, GrowsBy}
+use Rattle.bundle.specs.Grants.{grant_streams}
+use Rattle.bundle.specs.Laws.{IsSoundAndQuiet}
+use Rattle.bundle.specs.Lease.{HostShown, HasItsStream}
+use Rattle.bundle.specs.Replies.{GivesLease}
+use Rattle.bundle.proofs.Bookings.{out_by}
+use Rattle.bundle.proofs.Outcomes.{count_left, spare_after, bookings_left}
+use Rattle.bundle.proofs.AcquiredHosts.{Leaves, leaves, grants_after, stream_got, lease_got, ticket_got, booking_got, others_kept, all_kept, halfway_kept}
+use Rattle.bundle.proofs.host.Bundle.try_again.Given.{Over}
+use Rattle.bundle.proofs.host.Bundle.try_again.Goals as goal
+
+among : (g : Over) (c : goal.After-take_booking g) → is_among c.spend-want.result.transfer c.self.inside.bookings.items ≡ true
+among g c =
+    ap (λ (v : HostShown g.row.S.Denot). is_among c.spend-want.result.transfer v.booked) c.self.view_is
+    ∙ ap (λ (w : Want). is_among w.transfer c.args.self.now.booked) c.spend-want.ensures
+    ∙ c.requires.here.1
+
+pub start_or_wait-got-requires-clause-free : goal.start_or_wait-got-requires-clause-free
+start_or_wait-got-requires-clause-free g c =
+    let here = ap (λ (v : HostShown g.row.S.Denot). is_among c.spend-want.result.transfer v.booked) c.self.view_is ∙ ap (λ (w : Want). is_among w.transfer c.args.self.now.booked) c.spend-want.ensures ∙ c.requires.here.1 in
+    (out_by c.self.inside.state.log c.self.inside.bookings.items c.spend-want.result.transfer c.self.invariant.bookings here).free
+
+pub start_or_wait-got-requires-clause-once : goal.start_or_wait-got-requires-clause-once
+start_or_wait-got-requires-clause-once g c =
+    let here = ap (λ (v : HostShown g.row.S.Denot). is_among c.spend-want.result.transfer v.booked) c.self.view_is ∙ ap (λ (w : Want). is_among w.transfer c.args.self.now.booked) c.spend-want.ensures ∙ c.requires.here.1 in
+    (out_by c.self.inside.state.log c.self.inside.bookings.items c.spend-want.result.transfer c.self.invariant.bookings here).waits_not
+
+left : (g : Over) (c : goal.After-take_booking g) → Leaves c.args.is_last c.self.inside.state.settings c.self.inside.state.log c.start_or_wait-got.new.state.log c.spend-want.result c.start_or_wait-got.result
+left g c =
+    let state = c.self.inside.state in
+    let told = c.start_or_wait-got.ensures.told in
+    let out = out_by state.log c.self.inside.bookings.items c.spend-want.result.transfer c.self.invariant.bookings (among g c) in
+    leaves c.args.is_last told.0 state.settings state.log c.start_or_wait-got.new.state.log c.spend-want.result c.args.now c.moment-moment.result state.host c.start_or_wait-got.result c.self.invariant.settled out c.moment-moment.ensures told.2.0 told.2.1
+
+pub invariant_of-self : goal.invariant_of-self
+invariant_of-self g c =
+    let inside = c.self.inside in
+    let inv = c.self.invariant in
+    let tried = c.start_or_wait-got in
+    let it = left g c in
+    let taken = c.take_booking.ensures in
+    let want = c.spend-want.result in
+    record {
+      count = count_left tried.result inside.bookings.items c.take_booking.new.bookings.items want.transfer inside.state.booked tried.new.state.booked inv.count (among g c) tried.ensures.booked tried.ensures.still_booked taken.not_booked taken.booked;
+      bookings = bookings_left want inside.state.log tried.new.state.log tried.result it.outcome inside.bookings.items c.take_booking.new.bookings.items inv.bookings taken.not_booked taken.booked;
+      settled = subst (λ settings. IsSoundAndQuiet settings tried.new.state.log) (sym tried.ensures.same.settings) it.settled;
+      grants = grants_after inside.state.settings inside.state.log tried.new.state.log inside.grants.items inv.grants want it.out.free tried.result it.outcome;
+      spare = spare_after want inside.state.log tried.new.state.log tried.result it.outcome inside.state.booked tried.new.state.booked _ _ tried.ensures.booked tried.ensures.still_booked inv.spare;
+    }
+
+pub returns-clause-stream : goal.returns-clause-stream
+returns-clause-stream g c =
+    let state = c.self.inside.state in
+    let tried = c.start_or_wait-got in
+    let it = left g c in
+    subst (λ (v : HostShown g.row.S.Denot). GivesLease tried.result (HasItsStream v.streams)) c.self.view_is (stream_got state.settings state.log tried.new.state.log c.self.inside.grants.items c.self.invariant.grants c.spend-want.result it.out.free it.settled.sound.orderly state.streams tried.result it.outcome tried.ensures.stream)
+
+pub returns-clause-streams : goal.returns-clause-streams
+returns-clause-streams g c =
+    let tried = c.start_or_wait-got in
+    others_kept c.self.inside.state tried.new.state (grant_streams c.self.inside.grants.items) c.args.self.now.streams (ap (λ (v : HostShown g.row.S.Denot). v.streams) c.self.view_is) tried.result tried.ensures.others
+
+pub returns-clause-kept : goal.returns-clause-kept
+returns-clause-kept g c =
+    let tried = c.start_or_wait-got in
+    all_kept c.self.inside.state tried.new.state (grant_streams c.self.inside.grants.items) c.args.self.now.streams (ap (λ (v : HostShown g.row.S.Denot). v.streams) c.self.view_is) tried.result tried.ensures.all
+
+pub returns-clause-halfway : goal.returns-clause-halfway
+returns-clause-halfway g c =
+    let tried = c.start_or_wait-got in
+    halfway_kept c.self.inside.state tried.new.state (grant_streams c.self.inside.grants.items) c.args.self.now.streams (ap (λ (v : HostShown g.row.S.Denot). v.streams) c.self.view_is) tried.result tried.ensures.halfway
+
+pub returns-clause-mark : goal.returns-clause-mark
+returns-clause-mark g c first =
+    let tried = c.start_or_wait-got in
+    ap (λ settings. is_queued settings tried.new.state.log) tried.ensures.same.settings ∙ (left g c).mark first ∙ ap (λ (v : HostShown g.row.S.Denot). is_queued v.settings v.log) c.self.view_is
+
+pub returns-clause-gets_lease : goal.returns-clause-gets_lease
+returns-clause-gets_lease g c =
+    let inside = c.self.inside in
+    let tried = c.start_or_wait-got in
+    let it = left g c in
+    lease_got inside.state.settings inside.state.log tried.new.state.log inside.grants.items c.self.invariant.grants c.spend-want.result it.out.free tried.new.state.settings inside.state.host tried.new.state.host (grant_streams inside.grants.items ++ inside.state.streams) (grant_streams inside.grants.items ++ tried.new.state.streams) inside.bookings.items c.take_booking.new.bookings.items inside.grants.items refl c.args.self.now c.self.view_is c.args.booking.want c.spend-want.ensures tried.result it.outcome
+
+pub returns-clause-gets_ticket : goal.returns-clause-gets_ticket
+returns-clause-gets_ticket g c =
+    let inside = c.self.inside in
+    let tried = c.start_or_wait-got in
+    let it = left g c in
+    ticket_got inside.state.settings inside.state.log tried.new.state.log inside.grants.items c.self.invariant.grants c.spend-want.result it.out.free tried.new.state.settings inside.state.host tried.new.state.host (grant_streams inside.grants.items ++ inside.state.streams) (grant_streams inside.grants.items ++ tried.new.state.streams) inside.bookings.items c.take_booking.new.bookings.items inside.grants.items refl c.args.self.now c.self.view_is c.args.booking.want c.spend-want.ensures tried.result it.outcome
+
+pub returns-clause-gets_booking : goal.returns-clause-gets_booking
+returns-clause-gets_booking g c =
+    let inside = c.self.inside in
+    let tried = c.start_or_wait-got in
+    let it = left g c in
+    booking_got inside.state.settings inside.state.log tried.new.state.log inside.grants.items c.self.invariant.grants c.spend-want.result it.out.free tried.new.state.settings inside.state.host tried.new.state.host (grant_streams inside.grants.items ++ inside.state.streams) (grant_streams inside.grants.items ++ tried.new.state.streams) inside.bookings.items c.take_booking.new.bookings.items inside.grants.items refl c.args.self.now c.self.view_is c.args.booking.want c.spend-want.ensures tried.result it.outcome
+
+pub returns-clause-grew : goal.returns-clause-grew
+returns-clause-grew g c =
+    subst (λ log. GrowsBy log c.start_or_wait-got.new.state.log) (ap (λ (v : HostShown g.row.S.Denot). v.log) c.self.view_is) (left g c).grew

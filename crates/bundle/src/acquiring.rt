@@ -1,0 +1,323 @@
+//! How a transfer acquires a connection.
+
+ghost use Rattle.std.specs.Prelude.{◌≡◌, ℕ, ◌+◌, ◌<◌, ◌++◌, ◌∷◌, [], ◌⊎◌, Some, None, true, false};
+ghost use Rattle.std.specs.Prelude.{length, is_some, vec_len, vec_capacity, IfSome, IfNone, IfErr};
+ghost use Rattle.std.specs.Prelude.{IfOk, OnOk, OnErr, OnSome, if◌then◌else◌, ◌≤◌};
+ghost use Rattle.budget.specs.declared.permits.Try.{Try};
+ghost use Rattle.budget.specs.declared.permits.Try.TheVariants.{Got as Given};
+ghost use Rattle.conn_log.specs.Connections.{held_number, is_among, last_moment};
+ghost use Rattle.conn_log.specs.Waiting.{waiting, waits};
+ghost use Rattle.host_state.specs.Steps.{is_exhausted};
+ghost use Rattle.host_state.specs.State.{IsSameHost, KeepsOpenBut};
+ghost use Rattle.bundle.specs.Calls.{refusal, is_queued, start_behind, GrowsBy};
+ghost use Rattle.bundle.specs.Lease.{HasItsStream, KeepsStreams, KeepsOthers, GetsLease};
+ghost use Rattle.bundle.specs.Lease.{GetsTicket, KeepsAll, StaysThere, held_by, IsBookedHere};
+ghost use Rattle.bundle.specs.Lease.{without_booked};
+ghost use Rattle.bundle.specs.Lobbies.{IfLent, IfLeft, Lists, IsMarked, is_lent};
+ghost use Rattle.bundle.specs.Replies.{Acquires, GivesLease, GivesTicket, GivesBooking};
+ghost use Rattle.bundle.specs.Replies.{UnlessBooking, IfGot, IsGot};
+
+use crate::answers::Got;
+use crate::booking::Booking;
+use crate::host::Bundle;
+use crate::lease::Lease;
+use crate::serving::start_or_wait;
+use budget::{Lobby, Permits, Refusal};
+use conn_log::Want;
+use host_state::State;
+
+impl<S: Drop> Bundle<S> {
+    /// Leases a connection to the transfer: the newest idle one that fits its want, else a new one.
+    /// Before that, idle ones of its lane that are too old for it are closed, unless it wants a new
+    /// one. At the host's limit the oldest idle one makes room, and where none is idle the transfer
+    /// waits, as it does where others wait here. Where the host has room `permits` is asked for one
+    /// connection more; where that has none, or has to be asked again, the acquire is left halfway,
+    /// with a [`Booking`], and only closings as too old were made. `now` is in seconds.
+    ///
+    /// All memory that the lease, ticket or booking and its end will need is taken first. Refused,
+    /// in this order, with [`Refusal::TransferBusy`] where the transfer holds a connection, waits
+    /// here or has a booking out, with [`Refusal::Exhausted`] where the connection numbers that are
+    /// left are those that the waiting and booked transfers may need, and with [`Refusal::Memory`]
+    /// where memory runs out.
+    #[inline(always)]
+    pub fn acquire<P: Permits>(
+        &mut self,
+        want: Want,
+        now: u64,
+        permits: &mut P,
+    ) -> Result<Got<S>, Refusal>
+        requires stands { P.stands permits.old }
+        requires part { P.held permits.old ≡ held_by self.old.log }
+        ensures told { IfGot result (λ got. (told : Try) × P.opening permits.old permits.new told
+            × Acquires false told self.old self.new want now got) }
+        ensures has_stream { IfGot result (λ got. GivesLease got
+            (λ lease. is_some lease.stream ≡ lease.start.reused)) }
+        ensures stream { IfGot result (λ got. GivesLease got (HasItsStream self.old.streams)) }
+        ensures streams { IfGot result (λ got. GivesLease got
+            (λ lease. KeepsOthers lease.start.number self.old self.new)) }
+        ensures kept { IfGot result (λ got. GivesTicket got
+            (λ ticket. KeepsStreams self.old self.new)) }
+        ensures halfway { IfGot result (λ got. GivesBooking got
+            (λ booking. KeepsStreams self.old self.new)) }
+        ensures booked { IfGot result (λ got. GivesBooking got
+            (λ booking. self.new.booked ≡ self.old.booked ++ want.transfer ∷ [])) }
+        ensures not_booked { IfGot result (λ got. UnlessBooking got
+            (self.new.booked ≡ self.old.booked)) }
+
+        // Each refusal comes exactly where log and bookings give it; else only memory can be short.
+        ensures refused { let due = refusal self.old.settings self.old.log self.old.booked want in
+            IfSome due (λ reason. result ≡ Err reason) }
+        ensures else_memory { let due = refusal self.old.settings self.old.log self.old.booked want
+            in IfErr result (λ reason. (due ≡ Some reason) ⊎ (reason ≡ Refusal.Memory)) }
+        ensures err { OnErr result (self.new ≡ self.old) }
+        ensures err_permits { OnErr result (permits.new ≡ permits.old) }
+
+        ensures stands { P.stands permits.new }
+        ensures stays { P.stays permits.old permits.new }
+        ensures part { P.held permits.new ≡ held_by self.new.log }
+        ensures mark { is_queued self.new.settings self.new.log
+            ≡ is_queued self.old.settings self.old.log }
+
+        // For those above: who has a lease or a ticket after the call, that the log only grew, and
+        // that the host stays.
+        ensures gets_lease { IfGot result (λ got. GivesLease got
+            (λ lease. GetsLease self.old self.new want.transfer lease.start.number)) }
+        ensures gets_ticket { IfGot result (λ got. GivesTicket got
+            (λ ticket. GetsTicket self.old self.new want)) }
+        ensures gets_booking { IfGot result (λ got. GivesBooking got
+            (λ booking. KeepsAll self.old self.new)) }
+        ensures grew { OnOk result (GrowsBy self.old.log self.new.log) }
+        ensures same { StaysThere self.old self.new }
+    {
+        let moment = self.state.moment(now);
+        if let Some(lease) = lease_at_once(&mut self.state, &self.bookings, want, moment, permits) {
+            return Ok(Got::Lease(lease));
+        }
+        if let Some(reason) = reason_against(&self.state, &self.bookings, &want) {
+            return Err(reason);
+        }
+        let waiting = self.state.waiting_len() as usize;
+        let Ok(()) = self.grants.reserve(waiting + self.bookings.len() + 1) else {
+            return Err(Refusal::Memory);
+        };
+        let Ok(()) = self.bookings.reserve(1) else {
+            return Err(Refusal::Memory);
+        };
+        let Ok(()) = self.state.book() else {
+            return Err(Refusal::Memory);
+        };
+        let got = start_or_wait(&mut self.state, want, moment, permits, false);
+        add_booking(&mut self.bookings, &got, want.transfer);
+        Ok(got)
+    }
+
+    /// Tries an acquire again that is halfway: the same steps. With the lobby it is the last try:
+    /// where the budget has no room, the host's own oldest idle connection makes room, or the
+    /// transfer waits, and the host is queued. `now` is in seconds. It takes no memory.
+    ///
+    /// Asked of the caller: the booking is this host's; the lobby lists this host exactly where it
+    /// is queued.
+    pub fn retry<P: Permits>(
+        &mut self,
+        booking: Booking,
+        now: u64,
+        permits: &mut P,
+        lobby: Option<&mut Lobby>,
+    ) -> Got<S>
+        requires here { IsBookedHere self.old booking }
+        requires lists { let mark = is_queued self.old.settings self.old.log in
+            IfLent lobby (Lists self.old.host mark) }
+        requires stands { P.stands permits.old }
+        requires part { P.held permits.old ≡ held_by self.old.log }
+        ensures told { (told : Try) × P.opening permits.old permits.new told
+            × Acquires (is_lent lobby.entry) told self.old self.new booking.want now result }
+        ensures has_stream { GivesLease result (λ lease. is_some lease.stream ≡ lease.start.reused) }
+        ensures stream { GivesLease result (HasItsStream self.old.streams) }
+        ensures streams { GivesLease result
+            (λ lease. KeepsOthers lease.start.number self.old self.new) }
+        ensures kept { GivesTicket result (λ ticket. KeepsStreams self.old self.new) }
+        ensures halfway { GivesBooking result (λ booking. KeepsStreams self.old self.new) }
+        ensures booked { GivesBooking result (λ again. self.new.booked ≡ self.old.booked) }
+        ensures not_booked { let transfer = booking.want.transfer in
+            UnlessBooking result (self.new.booked ≡ without_booked transfer self.old.booked) }
+        ensures stands { P.stands permits.new }
+        ensures stays { P.stays permits.old permits.new }
+        ensures part { P.held permits.new ≡ held_by self.new.log }
+        ensures marked { let was = is_queued self.old.settings self.old.log in
+            let is = is_queued self.new.settings self.new.log in
+            IfLeft lobby.entry lobby.exit (IsMarked self.old.host was is) }
+        ensures mark { let was = is_queued self.old.settings self.old.log in
+            is_lent lobby.entry ≡ false → is_queued self.new.settings self.new.log ≡ was }
+        ensures gets_lease { let transfer = booking.want.transfer in
+            GivesLease result
+            (λ lease. GetsLease self.old self.new transfer lease.start.number) }
+        ensures gets_ticket { GivesTicket result
+            (λ ticket. GetsTicket self.old self.new booking.want) }
+        ensures gets_booking { GivesBooking result (λ again. KeepsAll self.old self.new) }
+        ensures grew { GrowsBy self.old.log self.new.log }
+        ensures same { StaysThere self.old self.new }
+    {
+        let was_queued = self.queued();
+        match lobby {
+            Some(lobby) => {
+                let got = self.try_again(booking, now, permits, true);
+                self.mark(was_queued, lobby);
+                got
+            }
+            None => self.try_again(booking, now, permits, false),
+        }
+    }
+
+    // The same steps for an acquire that is halfway.
+    fn try_again<P: Permits>(
+        &mut self,
+        booking: Booking,
+        now: u64,
+        permits: &mut P,
+        is_last: bool,
+    ) -> Got<S>
+        requires here { IsBookedHere self.old booking }
+        requires stands { P.stands permits.old }
+        requires part { P.held permits.old ≡ held_by self.old.log }
+        ensures told { (told : Try) × P.opening permits.old permits.new told
+            × Acquires is_last told self.old self.new booking.want now result }
+        ensures has_stream { GivesLease result (λ lease. is_some lease.stream ≡ lease.start.reused) }
+        ensures stream { GivesLease result (HasItsStream self.old.streams) }
+        ensures streams { GivesLease result
+            (λ lease. KeepsOthers lease.start.number self.old self.new) }
+        ensures kept { GivesTicket result (λ ticket. KeepsStreams self.old self.new) }
+        ensures halfway { GivesBooking result (λ booking. KeepsStreams self.old self.new) }
+        ensures booked { GivesBooking result (λ again. self.new.booked ≡ self.old.booked) }
+        ensures not_booked { let transfer = booking.want.transfer in
+            UnlessBooking result (self.new.booked ≡ without_booked transfer self.old.booked) }
+        ensures stands { P.stands permits.new }
+        ensures stays { P.stays permits.old permits.new }
+        ensures part { P.held permits.new ≡ held_by self.new.log }
+        ensures mark { let was = is_queued self.old.settings self.old.log in
+            is_last ≡ false → is_queued self.new.settings self.new.log ≡ was }
+        ensures gets_lease { let transfer = booking.want.transfer in
+            GivesLease result
+            (λ lease. GetsLease self.old self.new transfer lease.start.number) }
+        ensures gets_ticket { GivesTicket result
+            (λ ticket. GetsTicket self.old self.new booking.want) }
+        ensures gets_booking { GivesBooking result (λ again. KeepsAll self.old self.new) }
+        ensures grew { GrowsBy self.old.log self.new.log }
+        ensures same { StaysThere self.old self.new }
+    {
+        let want = booking.spend();
+        let moment = self.state.moment(now);
+        let got = start_or_wait(&mut self.state, want, moment, permits, is_last);
+        take_booking(&mut self.bookings, &got, want.transfer);
+        got
+    }
+
+    // The lobby lists the host exactly where it is queued.
+    pub(crate) fn mark(&self, was_queued: bool, lobby: &mut Lobby)
+        requires lists { Lists self.now.host was_queued lobby.old }
+        ensures { let is = is_queued self.now.settings self.now.log in
+            IsMarked self.now.host was_queued is lobby.old lobby.new }
+    {
+        let is_queued = self.queued();
+        if was_queued {
+            if !is_queued {
+                lobby.delist(self.state.host());
+            }
+        } else if is_queued {
+            lobby.enlist(self.state.host());
+        }
+    }
+}
+
+// Where nobody's acquire is halfway: a lease on the newest idle connection, where that fits and
+// nothing else is to be done. It takes one look into the table of holders.
+#[inline(always)]
+fn lease_at_once<S: Drop, P: Permits>(
+    state: &mut State<S>,
+    bookings: &[u64],
+    want: Want,
+    moment: u64,
+    permits: &mut P,
+) -> Option<Lease<S>>
+    requires count { state.old.booked ≡ length bookings.now }
+    requires later { last_moment state.old.log ≤ moment }
+    requires stands { P.stands permits.old }
+    requires part { P.held permits.old ≡ held_by state.old.log }
+    ensures none { IfNone result (state.new ≡ state.old) }
+    ensures none_permits { IfNone result (permits.new ≡ permits.old) }
+    ensures due { let wants = waiting state.old.log in
+        let due = start_behind wants false Given state.old.settings want moment state.old.log in
+        IfSome result (λ lease. (state.new.log ≡ due.log)
+        × IsGot state.old.host want due.reply (Got.Lease lease)) }
+    ensures nobody { OnSome result (bookings.now ≡ []) }
+    ensures free { OnSome result (held_number state.old.log want.transfer ≡ None) }
+    ensures once { OnSome result (waiting state.old.log ≡ []) }
+    ensures number { OnSome result (is_exhausted state.old.settings state.old.log 0 ≡ false) }
+    ensures has_stream { IfSome result (λ lease. is_some lease.stream ≡ lease.start.reused) }
+    ensures stream { IfSome result (HasItsStream state.old.streams) }
+    ensures others { IfSome result (λ lease. KeepsOpenBut lease.start.number state.old state.new) }
+    ensures booked { state.new.booked ≡ state.old.booked }
+    ensures stands { P.stands permits.new }
+    ensures stays { P.stays permits.old permits.new }
+    ensures part { P.held permits.new ≡ held_by state.new.log }
+    ensures same { IsSameHost state.old state.new }
+{
+    if !bookings.is_empty() {
+        return None;
+    }
+    let Some((number, stream)) = state.lease_last(&want, moment) else {
+        return None;
+    };
+    permits.release_kept();
+    Some(Lease::reusing(state.host(), number, want, moment, stream))
+}
+
+// Why log and bookings are against an acquire, if they are.
+fn reason_against<S: Drop>(state: &State<S>, bookings: &[u64], want: &Want) -> Option<Refusal>
+    requires count { state.now.booked ≡ length bookings.now }
+    ensures reason { result ≡ refusal state.now.settings state.now.log bookings.now want.now }
+    ensures free { IfNone result (held_number state.now.log want.now.transfer ≡ None) }
+    ensures once { IfNone result (waits state.now.log want.now.transfer ≡ false) }
+    ensures not_booked { IfNone result (is_among want.now.transfer bookings.now ≡ false) }
+    ensures number { IfNone result
+        (is_exhausted state.now.settings state.now.log state.now.booked ≡ false) }
+{
+    let transfer = want.transfer;
+    if state.holds(transfer) || state.waits(transfer) || bookings.contains(&transfer) {
+        return Some(Refusal::TransferBusy);
+    }
+    if state.is_exhausted() {
+        return Some(Refusal::Exhausted);
+    }
+    None
+}
+
+// Where the acquire is halfway its transfer has a booking.
+fn add_booking<S>(bookings: &mut Vec<u64>, got: &Got<S>, transfer: u64)
+    requires room { vec_len bookings.old < vec_capacity bookings.old }
+    ensures booked { GivesBooking got.now
+        (λ booking. bookings.new.items ≡ bookings.old.items ++ transfer ∷ []) }
+    ensures not_booked { UnlessBooking got.now (bookings.new.items ≡ bookings.old.items) }
+{
+    if got.is_halfway() {
+        bookings.push_reserved(transfer);
+    }
+}
+
+// Where the acquire is halfway no more its transfer has no booking.
+fn take_booking<S>(bookings: &mut Vec<u64>, got: &Got<S>, transfer: u64)
+    ensures booked { GivesBooking got.now (λ booking. bookings.new.items ≡ bookings.old.items) }
+    ensures not_booked { UnlessBooking got.now
+        (bookings.new.items ≡ without_booked transfer bookings.old.items) }
+{
+    if got.is_halfway() {
+        return;
+    }
+    let mut place = 0;
+    while place < bookings.len() {
+        if bookings[place] == transfer {
+            bookings.remove(place);
+            return;
+        }
+        place += 1;
+    }
+}

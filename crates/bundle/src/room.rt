@@ -1,0 +1,156 @@
+//! How a host gets room among all hosts, and makes room for others.
+
+ghost use Rattle.std.specs.Prelude.{◌≡◌, ℕ, length, slice_get, Some, None, true, false};
+ghost use Rattle.std.specs.Prelude.{if◌then◌else◌};
+ghost use Rattle.budget.specs.declared.permits.Try.{Try};
+ghost use Rattle.conn_log.specs.declared.entry.Event.TheVariants.{Closed};
+ghost use Rattle.conn_log.specs.Fit.{oldest_stamp};
+ghost use Rattle.conn_log.specs.Sound.{is_of_idle};
+ghost use Rattle.host_state.specs.Steps.{moment_at, add, picked, without_picked};
+ghost use Rattle.host_state.specs.declared.closing.Closing.TheVariants.{Pruned};
+ghost use Rattle.bundle.specs.Calls.{after_turn, is_queued, GrowsBy};
+ghost use Rattle.bundle.specs.Lease.{KeepsStreams, KeepsAll, StaysThere, held_by};
+ghost use Rattle.bundle.specs.Lobbies.{Lists, IsTurned, HadTurn};
+ghost use Rattle.bundle.specs.Replies.{answer_of};
+
+use crate::answers::Served;
+use crate::host::Bundle;
+use crate::serving::{close_idle, open_for_head};
+use budget::{Lobby, Permits, Try};
+use conn_log::{Cause, Stamp};
+use host_state::Closing;
+
+impl<S: Drop> Bundle<S> {
+    /// A turn of the host, which is queued and the lobby's first: where the budget has room one
+    /// connection is opened for the first transfer that waits. Then the host leaves the lobby where
+    /// nobody waits any more or it is at its limit; else it goes to the end. `now` is in seconds.
+    /// It takes no memory.
+    ///
+    /// Asked of the caller: the host is queued, and the first that the lobby lists.
+    pub fn serve_queued<P: Permits>(
+        &mut self,
+        now: u64,
+        permits: &mut P,
+        lobby: &mut Lobby,
+    ) -> Served
+        requires queued { is_queued self.old.settings self.old.log ≡ true }
+        requires first { slice_get lobby.old.order 0 ≡ Some self.old.host }
+        requires stands { P.stands permits.old }
+        requires part { P.held permits.old ≡ held_by self.old.log }
+        ensures told { (told : Try) × P.opening permits.old permits.new told
+            × (result ≡ answer_of told)
+            × (self.new.log ≡ after_turn told self.old.settings self.old.log now) }
+        ensures unchanged { (result ≡ Served.Given → ⊥) → self.new ≡ self.old }
+        ensures turned { let is = is_queued self.new.settings self.new.log in
+            IsTurned self.old.host result is lobby.old lobby.new }
+        ensures streams { KeepsStreams self.old self.new }
+        ensures booked { self.new.booked ≡ self.old.booked }
+        ensures stands { P.stands permits.new }
+        ensures stays { P.stays permits.old permits.new }
+        ensures part { P.held permits.new ≡ held_by self.new.log }
+        ensures keeps { KeepsAll self.old self.new }
+        ensures grew { GrowsBy self.old.log self.new.log }
+        ensures same { StaysThere self.old self.new }
+    {
+        match permits.reserve_open() {
+            Try::Got => {}
+            Try::Full => return Served::Full,
+            Try::Contended => return Served::Contended,
+        }
+        let moment = self.state.moment(now);
+        open_for_head(&mut self.state, &mut self.grants, moment);
+        self.end_turn(lobby);
+        Served::Given
+    }
+
+    // The host had its turn: it goes to the lobby's end where it is still queued, else it leaves.
+    fn end_turn(&self, lobby: &mut Lobby)
+        requires { slice_get lobby.old.order 0 ≡ Some self.now.host }
+        ensures { let is = is_queued self.now.settings self.now.log in
+            HadTurn self.now.host is lobby.old lobby.new }
+    {
+        // A host that is listed is one that there is.
+        let _first = lobby.first();
+        if self.queued() {
+            lobby.rotate();
+            return;
+        }
+        lobby.delist(self.state.host());
+    }
+
+    /// Closes the oldest idle connection for that cause, where its stamp is that one, and frees its
+    /// permits; it answers whether it did. `now` is in seconds. It takes no memory.
+    ///
+    /// Asked of the caller: the cause is one for which idle connections are closed.
+    pub fn evict_oldest<P: Permits>(
+        &mut self,
+        stamp: Stamp,
+        cause: Cause,
+        now: u64,
+        permits: &mut P,
+    ) -> bool
+        requires cause { is_of_idle cause ≡ true }
+        requires stands { P.stands permits.old }
+        requires part { P.held permits.old ≡ held_by self.old.log }
+        ensures oldest { result ≡ true → oldest_stamp self.old.log self.old.host ≡ Some stamp }
+        ensures not_oldest { result ≡ false →
+            oldest_stamp self.old.log self.old.host ≡ Some stamp → ⊥ }
+        ensures log { let moment = moment_at self.old.log now in
+            result ≡ true → self.new.log ≡ add moment (Closed stamp.number cause) self.old.log }
+        ensures unchanged { result ≡ false → (self.new ≡ self.old) × (permits.new ≡ permits.old) }
+        ensures streams { KeepsStreams self.old self.new }
+        ensures booked { self.new.booked ≡ self.old.booked }
+        ensures stands { P.stands permits.new }
+        ensures stays { P.stays permits.old permits.new }
+        ensures part { P.held permits.new ≡ held_by self.new.log }
+        ensures mark { is_queued self.new.settings self.new.log
+            ≡ is_queued self.old.settings self.old.log }
+        ensures keeps { KeepsAll self.old self.new }
+        ensures grew { GrowsBy self.old.log self.new.log }
+        ensures same { StaysThere self.old self.new }
+    {
+        let Some(oldest) = self.oldest() else {
+            return false;
+        };
+        if oldest != stamp {
+            return false;
+        }
+        let moment = self.state.moment(now);
+        self.state.close_oldest(cause, moment);
+        permits.release_kept();
+        permits.release_open();
+        true
+    }
+
+    /// Closes every idle connection that has been idle for longer than `max_age`, or open for
+    /// longer than `max_life` where that is not 0, in seconds, and frees their permits; it answers
+    /// how many it closed. `now` is in seconds. It takes no memory.
+    pub fn prune<P: Permits>(
+        &mut self,
+        now: u64,
+        max_age: u64,
+        max_life: u64,
+        permits: &mut P,
+    ) -> u32
+        requires stands { P.stands permits.old }
+        requires part { P.held permits.old ≡ held_by self.old.log }
+        ensures log { let moment = moment_at self.old.log now in
+            self.new.log ≡ without_picked (Pruned max_age max_life) moment self.old.log }
+        ensures count { let moment = moment_at self.old.log now in
+            result ≡ length (picked (Pruned max_age max_life) moment self.old.log) }
+        ensures streams { KeepsStreams self.old self.new }
+        ensures booked { self.new.booked ≡ self.old.booked }
+        ensures stands { P.stands permits.new }
+        ensures stays { P.stays permits.old permits.new }
+        ensures part { P.held permits.new ≡ held_by self.new.log }
+        ensures mark { is_queued self.new.settings self.new.log
+            ≡ is_queued self.old.settings self.old.log }
+        ensures keeps { KeepsAll self.old self.new }
+        ensures grew { GrowsBy self.old.log self.new.log }
+        ensures same { StaysThere self.old self.new }
+    {
+        let moment = self.state.moment(now);
+        let closing = Closing::Pruned { max_age, max_life };
+        close_idle(&mut self.state, &closing, moment, permits)
+    }
+}

@@ -1,0 +1,496 @@
+//! How a lease or a ticket ends.
+
+ghost use Rattle.std.specs.Prelude.{◌≡◌, ℕ, ◌+◌, ◌<◌, ◌≤◌, [], true, false, is_some, IsSome};
+ghost use Rattle.std.specs.Prelude.{Some, None, OnOk, OnErr, IfOk, IfErr, IfSome, IfNone};
+ghost use Rattle.std.specs.Prelude.{vec_len, vec_capacity};
+ghost use Rattle.persistence.specs.Persistent.{is_persistent};
+ghost use Rattle.budget.specs.declared.permits.Try.{Try};
+ghost use Rattle.budget.specs.declared.permits.Try.TheVariants.{Got, Contended};
+ghost use Rattle.budget.specs.Permits.{if_got, one_more_kept, one_less_kept};
+ghost use Rattle.conn_log.specs.Waiting.{waiting};
+ghost use Rattle.bundle.specs.Calls.{after_abandon, after_withdraw, is_freed, is_queued, GrowsBy};
+ghost use Rattle.bundle.specs.Grants.{without_grant};
+ghost use Rattle.bundle.specs.Lease.{is_unclaimed, is_valid_ticket, is_same_want, WasGranted};
+ghost use Rattle.bundle.specs.Lease.{is_held_lease, HasItsStream, KeepsItsStream, KeepsStreams};
+ghost use Rattle.bundle.specs.Lease.{KeepsOthers, GetsLease, Spends, StaysThere, held_by};
+ghost use Rattle.bundle.specs.Lobbies.{IfLent, IfLeft, Lists, IsMarked, is_lent};
+ghost use Rattle.bundle.specs.Replies.{IfClaimed, IfStill, GivesBack, IfStrange, UnlessStrange};
+ghost use Rattle.bundle.specs.Replies.{OnSpent, UnlessSpent};
+
+use crate::answers::{Back, Claimed};
+use crate::grant::{Grant, granted_want, take_grant};
+use crate::host::Bundle;
+use crate::lease::{Lease, Stray};
+use crate::serving::{hand_on, pass_to_head};
+use crate::ticket::Ticket;
+use budget::{Lobby, Permits, Try};
+use conn_log::{Cause, Want};
+use host_state::{Returned, State};
+use persistence::{Facts, persists};
+
+impl<S: Drop> Bundle<S> {
+    // Whether that is the want of the transfer's ticket.
+    fn is_valid_ticket(&self, want: &Want) -> bool
+        ensures { result ≡ is_valid_ticket self.now want.now }
+    {
+        if let Some(granted) = granted_want(&self.grants, want.transfer) {
+            return is_same(want, &granted);
+        }
+        match self.state.waiting_want(want.transfer) {
+            Some(awaited) => is_same(want, &awaited),
+            None => false,
+        }
+    }
+
+    /// Gives the transfer the connection that it was granted, with the stream that came back under
+    /// its number where it was not opened for it; where it still waits, its ticket. No event is
+    /// logged, and no memory is taken.
+    ///
+    /// A ticket comes back in a [`Stray`] where its transfer neither waits with its want nor has
+    /// yet to claim what it was granted for that want.
+    pub fn claim(&mut self, ticket: Ticket) -> Result<Claimed<S>, Stray<Ticket>>
+        ensures ok { OnOk result (is_valid_ticket self.old ticket.wait.want ≡ true) }
+        ensures strange { IfErr result (λ stray.
+            (is_valid_ticket self.old ticket.wait.want ≡ false) × (stray ≡ ticket)) }
+        ensures log { self.new.log ≡ self.old.log }
+        ensures lease { IfClaimed result (WasGranted self.old ticket.wait.want.transfer) }
+        ensures want { IfClaimed result (λ lease. lease.start.want ≡ ticket.wait.want) }
+        ensures has_stream { IfClaimed result (λ lease. is_some lease.stream ≡ lease.start.reused) }
+        ensures stream { IfClaimed result (HasItsStream self.old.streams) }
+        ensures streams { IfClaimed result
+            (λ lease. KeepsOthers lease.start.number self.old self.new) }
+        ensures still { IfStill result (λ same.
+            (is_unclaimed self.old ticket.wait.want.transfer ≡ false)
+            × (same ≡ ticket) × (self.new ≡ self.old)) }
+        ensures err { OnErr result (self.new ≡ self.old) }
+        ensures gets_lease { IfClaimed result (λ lease.
+            GetsLease self.old self.new ticket.wait.want.transfer lease.start.number) }
+        ensures booked { self.new.booked ≡ self.old.booked }
+        ensures same { StaysThere self.old self.new }
+    {
+        let want = ticket.want();
+        if !self.is_valid_ticket(&want) {
+            return Err(Stray::new(ticket));
+        }
+        let Some(grant) = take_grant(&mut self.grants, want.transfer) else {
+            return Ok(Claimed::Still(ticket));
+        };
+        ticket.spend();
+        Ok(Claimed::Lease(Lease::granted(self.state.host(), grant)))
+    }
+
+    /// Takes a connection back with the facts of its response. Where it persists and its want
+    /// allows reuse, it goes to the first transfer that waits; where that transfer's want does not
+    /// fit it, it is closed, and one is opened for that transfer. Where nobody waits `permits` is
+    /// asked to keep one connection more, and it is idle from then on, with its stream. Where the
+    /// budget keeps none it is closed if `close_if_full` says so, and else the lease comes back.
+    /// Where its use ends it is closed, and one is opened for the first transfer that waits. `now`
+    /// is in seconds. Spending takes no memory.
+    ///
+    /// A lease that this host's log does not show comes back in a [`Stray`]; for one whose transfer
+    /// holds nothing here the table of holders may grow. All but [`Back::Spent`] change nothing.
+    ///
+    /// Asked of the caller: a queued host is lent the lobby, which lists it exactly where it is
+    /// queued.
+    #[inline(always)]
+    pub fn give_back<P: Permits>(
+        &mut self,
+        lease: Lease<S>,
+        facts: Facts,
+        now: u64,
+        permits: &mut P,
+        lobby: Option<&mut Lobby>,
+        close_if_full: bool,
+    ) -> Back<S>
+        requires stream { IsSome lease.stream }
+        requires lent { is_queued self.old.settings self.old.log ≡ true → is_lent lobby ≡ true }
+        requires lists { let mark = is_queued self.old.settings self.old.log in
+            IfLent lobby (Lists self.old.host mark) }
+        requires stands { P.stands permits.old }
+        requires part { P.held permits.old ≡ held_by self.old.log }
+        ensures told { UnlessStrange result
+            ((told : Try) × P.keeping permits.old permits.new told
+            × GivesBack close_if_full told self.old self.new lease facts now result) }
+        ensures known { UnlessStrange result (is_held_lease self.old lease ≡ true) }
+        ensures strange { IfStrange result
+            (λ stray. (is_held_lease self.old lease ≡ false) × (stray ≡ lease)) }
+        ensures stream { OnSpent result (KeepsItsStream self.new lease) }
+        ensures streams { OnSpent result (KeepsOthers lease.start.number self.old self.new) }
+        ensures unchanged { UnlessSpent result (self.new ≡ self.old) }
+        ensures spends { OnSpent result (Spends self.old self.new lease.start.want.transfer) }
+        ensures booked { self.new.booked ≡ self.old.booked }
+        ensures stands { P.stands permits.new }
+        ensures stays { P.stays permits.old permits.new }
+        ensures part { P.held permits.new ≡ held_by self.new.log }
+        ensures marked { let was = is_queued self.old.settings self.old.log in
+            let is = is_queued self.new.settings self.new.log in
+            IfLeft lobby.entry lobby.exit (IsMarked self.old.host was is) }
+        ensures mark { is_queued self.old.settings self.old.log ≡ false →
+            is_queued self.new.settings self.new.log ≡ false }
+        ensures grew { GrowsBy self.old.log self.new.log }
+        ensures same { StaysThere self.old self.new }
+    {
+        let was_queued = self.queued();
+        let back = self.take_back(lease, facts, now, permits, close_if_full);
+        if let Some(lobby) = lobby {
+            self.mark(was_queued, lobby);
+        }
+        back
+    }
+
+    // The same, whatever becomes of the host's mark.
+    #[inline(always)]
+    fn take_back<P: Permits>(
+        &mut self,
+        lease: Lease<S>,
+        facts: Facts,
+        now: u64,
+        permits: &mut P,
+        close_if_full: bool,
+    ) -> Back<S>
+        requires stream { IsSome lease.stream }
+        requires stands { P.stands permits.old }
+        requires part { P.held permits.old ≡ held_by self.old.log }
+        ensures told { UnlessStrange result
+            ((told : Try) × P.keeping permits.old permits.new told
+            × GivesBack close_if_full told self.old self.new lease facts now result) }
+        ensures known { UnlessStrange result (is_held_lease self.old lease ≡ true) }
+        ensures strange { IfStrange result
+            (λ stray. (is_held_lease self.old lease ≡ false) × (stray ≡ lease)) }
+        ensures stream { OnSpent result (KeepsItsStream self.new lease) }
+        ensures streams { OnSpent result (KeepsOthers lease.start.number self.old self.new) }
+        ensures unchanged { UnlessSpent result (self.new ≡ self.old) }
+        ensures spends { OnSpent result (Spends self.old self.new lease.start.want.transfer) }
+        ensures booked { self.new.booked ≡ self.old.booked }
+        ensures stands { P.stands permits.new }
+        ensures stays { P.stays permits.old permits.new }
+        ensures part { P.held permits.new ≡ held_by self.new.log }
+        ensures mark { is_queued self.old.settings self.old.log ≡ false →
+            is_queued self.new.settings self.new.log ≡ false }
+        ensures grew { GrowsBy self.old.log self.new.log }
+        ensures same { StaysThere self.old self.new }
+    {
+        let mut lease = lease;
+        let (transfer, number) = (lease.transfer(), lease.number());
+        let moment = self.state.moment(now);
+        let asked = ask_to_keep(&self.state, &facts, permits);
+        let stream = lease.detach();
+        let back = self
+            .state
+            .give_back(transfer, number, facts, stream, moment, may_keep(asked));
+        match back {
+            Returned::Idle(held) => {
+                spend(lease, &mut self.grants, transfer);
+                pass_to_head(&mut self.state, &mut self.grants, &held, moment);
+                Back::Spent { freed: false }
+            }
+            Returned::Ended => {
+                spend(lease, &mut self.grants, transfer);
+                release_unused(asked, permits);
+                let freed = !self.state.anyone_waits();
+                hand_on(&mut self.state, &mut self.grants, moment, permits);
+                Back::Spent { freed }
+            }
+            Returned::Unkept(stream) => {
+                if must_ask_again(asked) {
+                    return Back::Again(with_stream(lease, stream));
+                }
+                if !close_if_full {
+                    return Back::NoKeep(with_stream(lease, stream));
+                }
+                spend(lease, &mut self.grants, transfer);
+                self.state
+                    .give_back_to_close(transfer, number, facts, stream, moment);
+                permits.release_open();
+                Back::Spent { freed: true }
+            }
+            Returned::Strange(stream) => {
+                release_unused(asked, permits);
+                Back::Strange(Stray::new(with_stream(lease, stream)))
+            }
+        }
+    }
+
+    /// Closes a leased connection without a response, and opens one for the first transfer that
+    /// waits; it answers whether a permit was freed instead. `now` is in seconds. It takes no
+    /// memory.
+    ///
+    /// A lease that this host's log does not show comes back in a [`Stray`], and nothing changed.
+    ///
+    /// Asked of the caller: a queued host is lent the lobby, which lists it exactly where it is
+    /// queued.
+    pub fn abandon<P: Permits>(
+        &mut self,
+        lease: Lease<S>,
+        now: u64,
+        permits: &mut P,
+        lobby: Option<&mut Lobby>,
+    ) -> Result<bool, Stray<Lease<S>>>
+        requires lent { is_queued self.old.settings self.old.log ≡ true → is_lent lobby ≡ true }
+        requires lists { let mark = is_queued self.old.settings self.old.log in
+            IfLent lobby (Lists self.old.host mark) }
+        requires stands { P.stands permits.old }
+        requires part { P.held permits.old ≡ held_by self.old.log }
+        ensures ok { OnOk result (is_held_lease self.old lease ≡ true) }
+        ensures strange { IfErr result
+            (λ stray. (is_held_lease self.old lease ≡ false) × (stray ≡ lease)) }
+        ensures log { let number = lease.start.number in
+            OnOk result (self.new.log ≡ after_abandon self.old.settings self.old.log number now) }
+        ensures freed { IfOk result (λ freed. freed ≡ is_freed self.old.log self.new.log) }
+        ensures streams { OnOk result (KeepsOthers lease.start.number self.old self.new) }
+        ensures err { OnErr result (self.new ≡ self.old) }
+        ensures spends { OnOk result (Spends self.old self.new lease.start.want.transfer) }
+        ensures booked { self.new.booked ≡ self.old.booked }
+        ensures stands { P.stands permits.new }
+        ensures stays { P.stays permits.old permits.new }
+        ensures part { P.held permits.new ≡ held_by self.new.log }
+        ensures marked { let was = is_queued self.old.settings self.old.log in
+            let is = is_queued self.new.settings self.new.log in
+            IfLeft lobby.entry lobby.exit (IsMarked self.old.host was is) }
+        ensures mark { is_queued self.old.settings self.old.log ≡ false →
+            is_queued self.new.settings self.new.log ≡ false }
+        ensures grew { GrowsBy self.old.log self.new.log }
+        ensures same { StaysThere self.old self.new }
+    {
+        let was_queued = self.queued();
+        match lobby {
+            Some(lobby) => {
+                let dropped = self.close_leased(lease, now, permits);
+                self.mark(was_queued, lobby);
+                dropped
+            }
+            None => self.close_leased(lease, now, permits),
+        }
+    }
+
+    // The same, whatever becomes of the host's mark.
+    fn close_leased<P: Permits>(
+        &mut self,
+        lease: Lease<S>,
+        now: u64,
+        permits: &mut P,
+    ) -> Result<bool, Stray<Lease<S>>>
+        requires stands { P.stands permits.old }
+        requires part { P.held permits.old ≡ held_by self.old.log }
+        ensures ok { OnOk result (is_held_lease self.old lease ≡ true) }
+        ensures strange { IfErr result
+            (λ stray. (is_held_lease self.old lease ≡ false) × (stray ≡ lease)) }
+        ensures log { let number = lease.start.number in
+            OnOk result (self.new.log ≡ after_abandon self.old.settings self.old.log number now) }
+        ensures freed { IfOk result (λ freed. freed ≡ is_freed self.old.log self.new.log) }
+        ensures streams { OnOk result (KeepsOthers lease.start.number self.old self.new) }
+        ensures err { OnErr result (self.new ≡ self.old) }
+        ensures spends { OnOk result (Spends self.old self.new lease.start.want.transfer) }
+        ensures booked { self.new.booked ≡ self.old.booked }
+        ensures stands { P.stands permits.new }
+        ensures stays { P.stays permits.old permits.new }
+        ensures part { P.held permits.new ≡ held_by self.new.log }
+        ensures mark { is_queued self.old.settings self.old.log ≡ false →
+            is_queued self.new.settings self.new.log ≡ false }
+        ensures grew { GrowsBy self.old.log self.new.log }
+        ensures same { StaysThere self.old self.new }
+    {
+        let transfer = lease.transfer();
+        let Some(held) = self.state.held(transfer, lease.number()) else {
+            return Err(Stray::new(lease));
+        };
+        let moment = self.state.moment(now);
+        spend(lease, &mut self.grants, transfer);
+        self.state
+            .close_held(transfer, held, Cause::Dropped, moment);
+        let freed = !self.state.anyone_waits();
+        hand_on(&mut self.state, &mut self.grants, moment, permits);
+        Ok(freed)
+    }
+
+    /// Takes a ticket back: its transfer waits no more, or the connection that it was granted is
+    /// closed, and one is opened for the first transfer that waits. It answers whether a permit was
+    /// freed. `now` is in seconds. It takes no memory.
+    ///
+    /// A ticket comes back in a [`Stray`] where its transfer neither waits with its want nor has
+    /// yet to claim what it was granted for that want; nothing changed then.
+    ///
+    /// Asked of the caller: a queued host is lent the lobby, which lists it exactly where it is
+    /// queued.
+    pub fn withdraw<P: Permits>(
+        &mut self,
+        ticket: Ticket,
+        now: u64,
+        permits: &mut P,
+        lobby: Option<&mut Lobby>,
+    ) -> Result<bool, Stray<Ticket>>
+        requires lent { is_queued self.old.settings self.old.log ≡ true → is_lent lobby ≡ true }
+        requires lists { let mark = is_queued self.old.settings self.old.log in
+            IfLent lobby (Lists self.old.host mark) }
+        requires stands { P.stands permits.old }
+        requires part { P.held permits.old ≡ held_by self.old.log }
+        ensures ok { OnOk result (is_valid_ticket self.old ticket.wait.want ≡ true) }
+        ensures strange { IfErr result (λ stray.
+            (is_valid_ticket self.old ticket.wait.want ≡ false) × (stray ≡ ticket)) }
+        ensures log { let transfer = ticket.wait.want.transfer in
+            OnOk result
+            (self.new.log ≡ after_withdraw self.old.settings self.old.log transfer now) }
+        ensures freed { IfOk result (λ freed. freed ≡ is_freed self.old.log self.new.log) }
+        ensures streams { OnOk result (KeepsStreams self.old self.new) }
+        ensures err { OnErr result (self.new ≡ self.old) }
+        ensures spends { OnOk result (Spends self.old self.new ticket.wait.want.transfer) }
+        ensures booked { self.new.booked ≡ self.old.booked }
+        ensures stands { P.stands permits.new }
+        ensures stays { P.stays permits.old permits.new }
+        ensures part { P.held permits.new ≡ held_by self.new.log }
+        ensures marked { let was = is_queued self.old.settings self.old.log in
+            let is = is_queued self.new.settings self.new.log in
+            IfLeft lobby.entry lobby.exit (IsMarked self.old.host was is) }
+        ensures mark { is_queued self.old.settings self.old.log ≡ false →
+            is_queued self.new.settings self.new.log ≡ false }
+        ensures grew { GrowsBy self.old.log self.new.log }
+        ensures same { StaysThere self.old self.new }
+    {
+        let was_queued = self.queued();
+        match lobby {
+            Some(lobby) => {
+                let withdrawn = self.end_wait(ticket, now, permits);
+                self.mark(was_queued, lobby);
+                withdrawn
+            }
+            None => self.end_wait(ticket, now, permits),
+        }
+    }
+
+    // The same, whatever becomes of the host's mark.
+    fn end_wait<P: Permits>(
+        &mut self,
+        ticket: Ticket,
+        now: u64,
+        permits: &mut P,
+    ) -> Result<bool, Stray<Ticket>>
+        requires stands { P.stands permits.old }
+        requires part { P.held permits.old ≡ held_by self.old.log }
+        ensures ok { OnOk result (is_valid_ticket self.old ticket.wait.want ≡ true) }
+        ensures strange { IfErr result (λ stray.
+            (is_valid_ticket self.old ticket.wait.want ≡ false) × (stray ≡ ticket)) }
+        ensures log { let transfer = ticket.wait.want.transfer in
+            OnOk result
+            (self.new.log ≡ after_withdraw self.old.settings self.old.log transfer now) }
+        ensures freed { IfOk result (λ freed. freed ≡ is_freed self.old.log self.new.log) }
+        ensures streams { OnOk result (KeepsStreams self.old self.new) }
+        ensures err { OnErr result (self.new ≡ self.old) }
+        ensures spends { OnOk result (Spends self.old self.new ticket.wait.want.transfer) }
+        ensures booked { self.new.booked ≡ self.old.booked }
+        ensures stands { P.stands permits.new }
+        ensures stays { P.stays permits.old permits.new }
+        ensures part { P.held permits.new ≡ held_by self.new.log }
+        ensures mark { is_queued self.old.settings self.old.log ≡ false →
+            is_queued self.new.settings self.new.log ≡ false }
+        ensures grew { GrowsBy self.old.log self.new.log }
+        ensures same { StaysThere self.old self.new }
+    {
+        let want = ticket.want();
+        if !self.is_valid_ticket(&want) {
+            return Err(Stray::new(ticket));
+        }
+        ticket.spend();
+        let transfer = want.transfer;
+        let moment = self.state.moment(now);
+        let Some(grant) = take_grant(&mut self.grants, transfer) else {
+            self.state.leave(transfer, moment);
+            return Ok(false);
+        };
+        let held = self.state.held(transfer, grant.number).unwrap();
+        self.state
+            .close_held(transfer, held, Cause::Withdrawn, moment);
+        let freed = !self.state.anyone_waits();
+        hand_on(&mut self.state, &mut self.grants, moment, permits);
+        Ok(freed)
+    }
+}
+
+// Asks the budget to keep one connection more, where nobody waits and its response lets it persist.
+#[inline(always)]
+fn ask_to_keep<S: Drop, P: Permits>(state: &State<S>, facts: &Facts, permits: &mut P) -> Option<Try>
+    requires stands { P.stands permits.old }
+    ensures not_asked { IfNone result (permits.new ≡ permits.old) }
+    ensures nobody { IfSome result (λ told. waiting state.now.log ≡ []) }
+    ensures asked { IfNone result (waiting state.now.log ≡ [] →
+        is_persistent facts.now ≡ false) }
+    ensures told { IfSome result (P.keeping permits.old permits.new) }
+    ensures held { IfSome result (λ told.
+        P.held permits.new ≡ if_got told one_more_kept (P.held permits.old)) }
+    ensures stands { P.stands permits.new }
+    ensures stays { P.stays permits.old permits.new }
+{
+    if state.anyone_waits() || !persists(facts) {
+        return None;
+    }
+    Some(permits.reserve_kept())
+}
+
+// Drops the stream of a lease that is spent, and what its transfer was granted.
+#[inline(always)]
+fn spend<S: Drop>(lease: Lease<S>, grants: &mut Vec<Grant<S>>, transfer: u64)
+    ensures others { grants.new.items ≡ without_grant transfer grants.old.items }
+    ensures len { vec_len grants.new ≤ vec_len grants.old }
+    ensures capacity { vec_capacity grants.new ≡ vec_capacity grants.old }
+{
+    let _ = lease.into_stream();
+    let _ = take_grant(grants, transfer);
+}
+
+// The lease, with its stream again.
+#[inline(always)]
+fn with_stream<S: Drop>(lease: Lease<S>, stream: S) -> Lease<S>
+    requires { lease.stream ≡ None }
+    ensures { result ≡ record lease { stream = Some stream } }
+{
+    let mut lease = lease;
+    lease.attach(stream);
+    lease
+}
+
+// Whether the budget keeps it, or was not asked.
+#[inline(always)]
+fn may_keep(asked: Option<Try>) -> bool
+    ensures yes { result ≡ true → IfSome asked (λ told. told ≡ Got) }
+    ensures no { result ≡ false → IsSome asked × (asked ≡ Some Got → ⊥) }
+{
+    match asked {
+        None => true,
+        Some(told) => matches!(told, Try::Got),
+    }
+}
+
+// Whether the budget has to be asked again.
+#[inline(always)]
+fn must_ask_again(asked: Option<Try>) -> bool
+    ensures yes { result ≡ true → asked ≡ Some Contended }
+    ensures no { result ≡ false → asked ≡ Some Contended → ⊥ }
+{
+    match asked {
+        None => false,
+        Some(told) => matches!(told, Try::Contended),
+    }
+}
+
+// Gives a permit to keep back that was got and is not used.
+#[inline(always)]
+fn release_unused<P: Permits>(asked: Option<Try>, permits: &mut P)
+    requires stands { P.stands permits.old }
+    requires one { asked ≡ Some Got → 0 < (P.held permits.old).kept }
+    ensures stands { P.stands permits.new }
+    ensures stays { P.stays permits.old permits.new }
+    ensures got { asked ≡ Some Got → P.held permits.new ≡ one_less_kept (P.held permits.old) }
+    ensures not_asked { IfNone asked (P.held permits.new ≡ P.held permits.old) }
+    ensures not_got { IfSome asked (λ told. (told ≡ Got → ⊥) →
+        P.held permits.new ≡ P.held permits.old) }
+{
+    if let Some(Try::Got) = asked {
+        permits.release_kept();
+    }
+}
+
+// Whether two wants agree in all.
+fn is_same(want: &Want, other: &Want) -> bool
+    ensures { result ≡ is_same_want want.now other.now }
+{
+    want == other
+}
