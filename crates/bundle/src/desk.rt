@@ -1,0 +1,519 @@
+//! What tests of calls share: two hosts with their budget and the lobby, and wants and responses.
+
+ghost use Rattle.std.specs.Prelude.{◌≡◌, ◌<◌, IsSome};
+ghost use Rattle.bundle.specs.Lease.{IsBookedHere};
+
+use crate::answers::{Back, Changed, Claimed, Got, Served};
+use crate::booking::Booking;
+use crate::host::Bundle;
+use crate::lease::{Lease, Stray};
+use crate::ticket::Ticket;
+use budget::{Limits, Lobby, Permits, PlainBudget, Refusal, Try};
+use conn_log::{Cause, Entry, Event, Stamp, Want};
+use persistence::{Facts, Framing, Version};
+use std::alloc::Global;
+use std::marker::Model;
+use std::process::Abort;
+
+/// A stream that can be told apart from others.
+#[derive(Clone, Copy, Debug, PartialEq, Eq)]
+pub(crate) struct Stream(pub u32);
+
+/// What a transfer wants if nothing else is said.
+pub(crate) fn want_of(transfer: u64) -> Want {
+    Want {
+        transfer,
+        lane: 0,
+        max_age: u64::MAX,
+        max_life: 0,
+        fresh: false,
+        forbid_reuse: false,
+    }
+}
+
+/// A response that lets its connection persist.
+pub(crate) const KEEP: Facts = Facts {
+    version: Version::V11,
+    close: false,
+    keep_alive: false,
+    request_close: false,
+    framing: Framing::Counted,
+    both_lengths: false,
+    upgraded: false,
+    whole: true,
+    surplus: false,
+};
+
+/// The entry of a closing.
+pub(crate) fn closed(moment: u64, connection: u32, cause: Cause) -> Entry {
+    Entry {
+        moment,
+        event: Event::Closed { connection, cause },
+    }
+}
+
+/// Host 7, and host 3 that can take its place, with their budget and the lobby. Of the budget each
+/// holds what its log tells, and the lobby lists it where it is queued.
+#[derive(Drop)]
+pub(crate) struct Desk<S: Drop> {
+    pub bundle: Bundle<S>,
+    other: Bundle<S>,
+    budget: PlainBudget,
+    pub lobby: Lobby,
+}
+
+impl<S: Drop> Model for Desk<S> {
+    ghost use Rattle.std.specs.Prelude.{◌≡◌, ◌≢◌, ◌<◌, length};
+    ghost use Rattle.budget.specs.Plain.{held_at_host};
+    ghost use Rattle.bundle.specs.Calls.{is_queued};
+    ghost use Rattle.bundle.specs.Lease.{HostShown, held_by};
+    ghost use Rattle.bundle.specs.Lobbies.{Lists};
+
+    ghost Value = { HostShown S };
+
+    ghost view = { λ desk. desk.bundle };
+
+    ghost invariant = { λ desk. record {
+      hosts : length desk.budget.hosts ≡ 8;
+      here : desk.bundle.host < 8;
+      there : desk.other.host < 8;
+      two : desk.bundle.host ≢ desk.other.host;
+      part : held_at_host desk.budget.hosts desk.bundle.host ≡ held_by desk.bundle.log;
+      others : held_at_host desk.budget.hosts desk.other.host ≡ held_by desk.other.log;
+      lists : let host = desk.bundle in
+          Lists host.host (is_queued host.settings host.log) desk.lobby;
+      lists_other : let host = desk.other in
+          Lists host.host (is_queued host.settings host.log) desk.lobby;
+    } };
+}
+
+impl<S: Drop> Desk<S> {
+    /// The limits of a host, of the total, and of those kept; 0 is none.
+    pub fn new(alloc: Global, limits: (u32, u32, u32), first: u32) -> Result<Self, Refusal> {
+        let (host, total, connects) = limits;
+        let Ok(limits) = Limits::new(host, total, connects) else {
+            return Err(Refusal::BadLimit);
+        };
+        let first = first.max(1);
+        Ok(Desk {
+            bundle: Bundle::new(alloc, limits.host(), 7, first)?,
+            other: Bundle::new(alloc, limits.host(), 3, first)?,
+            budget: PlainBudget::new(alloc, limits, 8)?,
+            lobby: Lobby::new(alloc, 8)?,
+        })
+    }
+
+    /// A host that may have so many open connections, under no other limit.
+    pub fn of_host(alloc: Global, limit: u32, first: u32) -> Result<Self, Refusal> {
+        Desk::new(alloc, (limit, 0, 65_535), first)
+    }
+
+    /// The other host comes to the desk.
+    pub fn turn_to_other(&mut self) {
+        std::mem::swap(&mut self.bundle, &mut self.other);
+    }
+
+    /// A connection is opened at a host elsewhere, as the budget answers.
+    pub fn open_elsewhere(&mut self) -> Try {
+        let host = elsewhere(self.bundle.host(), self.other.host());
+        self.budget.at(host).reserve_open()
+    }
+
+    /// And one is closed there.
+    pub fn close_elsewhere(&mut self) {
+        let host = elsewhere(self.bundle.host(), self.other.host());
+        let mut permits = self.budget.at(host);
+        close_one(&mut permits);
+    }
+
+    pub fn acquire(&mut self, want: Want, now: u64) -> Result<Got<S>, Refusal> {
+        let mut permits = self.budget.at(self.bundle.host());
+        self.bundle.acquire(want, now, &mut permits)
+    }
+
+    /// Another try of an acquire that is halfway here.
+    pub fn retry(&mut self, rt: &impl Abort, booking: Booking, now: u64) -> Got<S> {
+        let booking = self.booked(rt, booking);
+        let mut permits = self.budget.at(self.bundle.host());
+        self.bundle.retry(booking, now, &mut permits, None)
+    }
+
+    /// And the last one.
+    pub fn retry_at_last(&mut self, rt: &impl Abort, booking: Booking, now: u64) -> Got<S> {
+        let booking = self.booked(rt, booking);
+        let mut permits = self.budget.at(self.bundle.host());
+        let lobby = Some(&mut self.lobby);
+        self.bundle.retry(booking, now, &mut permits, lobby)
+    }
+
+    // The booking, which has to be the host's.
+    fn booked(&self, rt: &impl Abort, booking: Booking) -> Booking
+        ensures same { result ≡ booking }
+        ensures here { IsBookedHere self.now booking }
+    {
+        let is_here = booking.site() == self.bundle.host();
+        if !is_here || !self.bundle.bookings.contains(&booking.transfer()) {
+            let _ = booking.spend();
+            panic!(rt; "a booking of another host");
+        }
+        booking
+    }
+
+    pub fn give_back(
+        &mut self,
+        rt: &impl Abort,
+        lease: Lease<S>,
+        facts: Facts,
+        now: u64,
+    ) -> Back<S> {
+        let lease = with_stream(rt, lease);
+        let mut permits = self.budget.at(self.bundle.host());
+        let lobby = Some(&mut self.lobby);
+        self.bundle
+            .give_back(lease, facts, now, &mut permits, lobby, false)
+    }
+
+    /// The same, with a close where the connection is not kept.
+    pub fn give_back_or_close(
+        &mut self,
+        rt: &impl Abort,
+        lease: Lease<S>,
+        facts: Facts,
+        now: u64,
+    ) -> Back<S> {
+        let lease = with_stream(rt, lease);
+        let mut permits = self.budget.at(self.bundle.host());
+        let lobby = Some(&mut self.lobby);
+        self.bundle
+            .give_back(lease, facts, now, &mut permits, lobby, true)
+    }
+
+    pub fn abandon(&mut self, lease: Lease<S>, now: u64) -> Result<bool, Stray<Lease<S>>> {
+        let mut permits = self.budget.at(self.bundle.host());
+        let lobby = Some(&mut self.lobby);
+        self.bundle.abandon(lease, now, &mut permits, lobby)
+    }
+
+    pub fn withdraw(&mut self, ticket: Ticket, now: u64) -> Result<bool, Stray<Ticket>> {
+        let mut permits = self.budget.at(self.bundle.host());
+        let lobby = Some(&mut self.lobby);
+        self.bundle.withdraw(ticket, now, &mut permits, lobby)
+    }
+
+    pub fn claim(&mut self, ticket: Ticket) -> Result<Claimed<S>, Stray<Ticket>> {
+        self.bundle.claim(ticket)
+    }
+
+    /// A turn of the host, if it is queued and first.
+    pub fn serve_queued(&mut self, now: u64) -> Option<Served> {
+        if !self.bundle.queued() || self.lobby.first() != Some(self.bundle.host()) {
+            return None;
+        }
+        let mut permits = self.budget.at(self.bundle.host());
+        let lobby = &mut self.lobby;
+        Some(self.bundle.serve_queued(now, &mut permits, lobby))
+    }
+
+    pub fn evict_oldest(&mut self, stamp: Stamp, now: u64) -> bool {
+        let mut permits = self.budget.at(self.bundle.host());
+        self.bundle
+            .evict_oldest(stamp, Cause::CacheFull, now, &mut permits)
+    }
+
+    pub fn prune(&mut self, now: u64, max_age: u64, max_life: u64) -> u32 {
+        let mut permits = self.budget.at(self.bundle.host());
+        self.bundle.prune(now, max_age, max_life, &mut permits)
+    }
+
+    pub fn set_host_limit(&mut self, limit: u32, now: u64) -> Result<Changed, Refusal> {
+        let mut permits = self.budget.at(self.bundle.host());
+        let lobby = &mut self.lobby;
+        self.bundle.set_host_limit(limit, now, &mut permits, lobby)
+    }
+}
+
+// A host that is neither of the two.
+fn elsewhere(here: u32, there: u32) -> u32
+    ensures few { result < 3 }
+    ensures not_here { result ≡ here → ⊥ }
+    ensures not_there { result ≡ there → ⊥ }
+{
+    if here != 0 && there != 0 {
+        return 0;
+    }
+    if here != 1 && there != 1 { 1 } else { 2 }
+}
+
+// Gives back the permit of an open connection, where there is one.
+fn close_one<P: Permits>(permits: &mut P)
+    requires stands { P.stands permits.old }
+    ensures stands { P.stands permits.new }
+    ensures stays { P.stays permits.old permits.new }
+{
+    if permits.held().alive > 0 {
+        permits.release_open();
+    }
+}
+
+// The lease, which has to have a stream.
+fn with_stream<S: Drop>(rt: &impl Abort, lease: Lease<S>) -> Lease<S>
+    ensures same { result ≡ lease }
+    ensures stream { IsSome result.stream }
+{
+    if !lease.has_stream() {
+        let _ = lease.into_stream();
+        panic!(rt; "a lease without a stream");
+    }
+    lease
+}
+
+/// Gives up what was not to come.
+pub(crate) fn scrap<S: Drop>(got: Got<S>) {
+    match got {
+        Got::Lease(lease) => {
+            let _ = lease.into_stream();
+        }
+        Got::Wait(ticket) => ticket.spend(),
+        Got::NoRoom(booking) | Got::Again(booking) => {
+            let _ = booking.spend();
+        }
+    }
+}
+
+/// Gives up the lease that came back, if one did.
+pub(crate) fn scrap_back<S: Drop>(back: Back<S>) {
+    match back {
+        Back::Spent { freed: _ } => {}
+        Back::NoKeep(lease) | Back::Again(lease) => {
+            let _ = lease.into_stream();
+        }
+        Back::Strange(stray) => stray.scrap(),
+    }
+}
+
+pub(crate) fn attach_new(lease: &mut Lease<Stream>) {
+    if !lease.has_stream() {
+        let number = lease.number();
+        lease.attach(Stream(number));
+    }
+}
+
+/// The lease that an acquire has to give.
+pub(crate) fn lease_of<S: Drop>(rt: &impl Abort, got: Got<S>) -> Lease<S> {
+    match got {
+        Got::Lease(lease) => lease,
+        got => {
+            scrap(got);
+            panic!(rt; "no lease");
+        }
+    }
+}
+
+/// The ticket that an acquire has to give.
+pub(crate) fn ticket_of<S: Drop>(rt: &impl Abort, got: Got<S>) -> Ticket {
+    match got {
+        Got::Wait(ticket) => ticket,
+        got => {
+            scrap(got);
+            panic!(rt; "no ticket");
+        }
+    }
+}
+
+/// The booking that an acquire has to give for want of room.
+pub(crate) fn booking_of<S: Drop>(rt: &impl Abort, got: Got<S>) -> Booking {
+    match got {
+        Got::NoRoom(booking) => booking,
+        got => {
+            scrap(got);
+            panic!(rt; "no booking");
+        }
+    }
+}
+
+/// The booking that an acquire has to give where the budget has to be asked again.
+pub(crate) fn again_of<S: Drop>(rt: &impl Abort, got: Got<S>) -> Booking {
+    match got {
+        Got::Again(booking) => booking,
+        got => {
+            scrap(got);
+            panic!(rt; "not to be tried again");
+        }
+    }
+}
+
+/// What an acquire gives that is not to be refused.
+pub(crate) fn asked<S: Drop>(rt: &impl Abort, desk: &mut Desk<S>, want: Want, now: u64) -> Got<S> {
+    desk.acquire(want, now).expect(rt, "an answer")
+}
+
+/// A lease that has to be given, with a stream of its number where it has none.
+pub(crate) fn leased(
+    rt: &impl Abort,
+    desk: &mut Desk<Stream>,
+    transfer: u64,
+    now: u64,
+) -> Lease<Stream> {
+    leased_for(rt, desk, want_of(transfer), now)
+}
+
+pub(crate) fn leased_for(
+    rt: &impl Abort,
+    desk: &mut Desk<Stream>,
+    want: Want,
+    now: u64,
+) -> Lease<Stream> {
+    let mut lease = lease_of(rt, asked(rt, desk, want, now));
+    attach_new(&mut lease);
+    lease
+}
+
+/// A ticket that has to be given.
+pub(crate) fn waits(rt: &impl Abort, desk: &mut Desk<Stream>, transfer: u64, now: u64) -> Ticket {
+    waits_for(rt, desk, want_of(transfer), now)
+}
+
+pub(crate) fn waits_for(rt: &impl Abort, desk: &mut Desk<Stream>, want: Want, now: u64) -> Ticket {
+    ticket_of(rt, asked(rt, desk, want, now))
+}
+
+pub(crate) fn refused(desk: &mut Desk<Stream>, transfer: u64, now: u64) -> Option<Refusal> {
+    match desk.acquire(want_of(transfer), now) {
+        Err(refusal) => Some(refusal),
+        Ok(got) => {
+            scrap(got);
+            None
+        }
+    }
+}
+
+/// Whether a spent lease freed a permit; the lease has to be known.
+pub(crate) fn accept<S: Drop>(rt: &impl Abort, answer: Result<bool, Stray<Lease<S>>>) -> bool {
+    match answer {
+        Ok(freed) => freed,
+        Err(stray) => {
+            stray.scrap();
+            panic!(rt; "the lease is a stranger");
+        }
+    }
+}
+
+/// The same of a lease that has to be taken back.
+pub(crate) fn spent<S: Drop>(rt: &impl Abort, back: Back<S>) -> bool {
+    match back {
+        Back::Spent { freed } => freed,
+        Back::NoKeep(lease) | Back::Again(lease) => {
+            let _ = lease.into_stream();
+            panic!(rt; "the lease came back");
+        }
+        Back::Strange(stray) => {
+            stray.scrap();
+            panic!(rt; "the lease is a stranger");
+        }
+    }
+}
+
+/// The lease of a connection that is not kept.
+pub(crate) fn not_kept<S: Drop>(rt: &impl Abort, back: Back<S>) -> Lease<S> {
+    match back {
+        Back::NoKeep(lease) => lease,
+        Back::Spent { freed: _ } => panic!(rt; "the lease was spent"),
+        Back::Again(lease) => {
+            let _ = lease.into_stream();
+            panic!(rt; "to be asked again");
+        }
+        Back::Strange(stray) => {
+            stray.scrap();
+            panic!(rt; "the lease is a stranger");
+        }
+    }
+}
+
+pub(crate) fn leave(rt: &impl Abort, desk: &mut Desk<Stream>, ticket: Ticket, now: u64) -> bool {
+    match desk.withdraw(ticket, now) {
+        Ok(freed) => freed,
+        Err(stray) => {
+            stray.scrap();
+            panic!(rt; "the ticket is a stranger");
+        }
+    }
+}
+
+pub(crate) fn drop_lease(
+    rt: &impl Abort,
+    desk: &mut Desk<Stream>,
+    lease: Lease<Stream>,
+    now: u64,
+) -> bool {
+    accept(rt, desk.abandon(lease, now))
+}
+
+pub(crate) fn give_back(
+    rt: &impl Abort,
+    desk: &mut Desk<Stream>,
+    lease: Lease<Stream>,
+    now: u64,
+) -> bool {
+    let mut lease = lease;
+    attach_new(&mut lease);
+    spent(rt, desk.give_back(rt, lease, KEEP, now))
+}
+
+/// The number and the stream of a lease that is then abandoned.
+pub(crate) fn stream_under(
+    rt: &impl Abort,
+    desk: &mut Desk<Stream>,
+    lease: Lease<Stream>,
+    now: u64,
+) -> (u32, Option<Stream>) {
+    let number = lease.number();
+    let again = Lease::opened(desk.bundle.host(), number, lease.want(), lease.moment());
+    let stream = lease.into_stream();
+    drop_lease(rt, desk, again, now);
+    (number, stream)
+}
+
+/// The lease that a ticket has to give.
+pub(crate) fn claimed(rt: &impl Abort, desk: &mut Desk<Stream>, ticket: Ticket) -> Lease<Stream> {
+    match desk.claim(ticket) {
+        Ok(Claimed::Lease(lease)) => lease,
+        Ok(Claimed::Still(ticket)) => {
+            ticket.spend();
+            panic!(rt; "the transfer still waits");
+        }
+        Err(stray) => {
+            stray.scrap();
+            panic!(rt; "the ticket is a stranger");
+        }
+    }
+}
+
+/// What a ticket comes back in that has to be a stranger.
+pub(crate) fn stray(rt: &impl Abort, desk: &mut Desk<Stream>, ticket: Ticket) -> Stray<Ticket> {
+    match desk.claim(ticket) {
+        Err(stray) => stray,
+        Ok(Claimed::Still(ticket)) => {
+            ticket.spend();
+            panic!(rt; "the ticket is no stranger");
+        }
+        Ok(Claimed::Lease(lease)) => {
+            let _ = lease.into_stream();
+            panic!(rt; "the ticket was taken");
+        }
+    }
+}
+
+/// The ticket of a transfer that has to wait on.
+pub(crate) fn still(rt: &impl Abort, desk: &mut Desk<Stream>, ticket: Ticket) -> Ticket {
+    match desk.claim(ticket) {
+        Ok(Claimed::Still(ticket)) => ticket,
+        Ok(Claimed::Lease(lease)) => {
+            let _ = lease.into_stream();
+            panic!(rt; "the transfer was granted a connection");
+        }
+        Err(stray) => {
+            stray.scrap();
+            panic!(rt; "the ticket is a stranger");
+        }
+    }
+}
