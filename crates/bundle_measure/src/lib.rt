@@ -2,12 +2,17 @@
 //! part of the product.
 #![tactic(auto)]
 
-ghost use Rattle.std.specs.Prelude.{◌≡◌, ◌≤◌, true, is_some};
+ghost use Rattle.std.specs.Prelude.{◌≡◌, ◌≤◌, true, false, is_some, OnSome};
+ghost use Rattle.bundle.specs.Calls.{is_queued};
+ghost use Rattle.bundle.specs.Lease.{IsBookedHere};
+ghost use Rattle.bundle.specs.Replies.{GivesBooking, IfGot, is_halfway};
 
-use bundle::{Bundle, Got, Lease, Ticket};
+use budget::{GREATEST_LIMIT, Limits, Lobby, PlainBudget, Refusal};
+use bundle::{Back, Booking, Bundle, Got, Lease, Ticket};
 use conn_log::Want;
 use persistence::{Facts, Framing, Version};
 use std::alloc::Global;
+use std::marker::Model;
 
 /// A response that lets its connection persist.
 const KEEP: Facts = Facts {
@@ -22,18 +27,63 @@ const KEEP: Facts = Facts {
     surplus: false,
 };
 
+/// Host 0 with a plain budget, of which it holds what its log tells, and a lobby that lists it
+/// where it is queued.
+#[derive(Drop)]
+struct Host {
+    bundle: Bundle<()>,
+    budget: PlainBudget,
+    lobby: Lobby,
+}
+
+impl Model for Host {
+    ghost use Rattle.std.specs.Prelude.{◌≡◌, ◌<◌, length};
+    ghost use Rattle.budget.specs.Plain.{held_at_host};
+    ghost use Rattle.bundle.specs.Calls.{is_queued};
+    ghost use Rattle.bundle.specs.Lease.{HostShown, held_by};
+    ghost use Rattle.bundle.specs.Lobbies.{Lists};
+
+    ghost Value = { HostShown (Unit {0}) };
+
+    ghost view = { λ host. host.bundle };
+
+    ghost invariant = { λ host. record {
+      index : host.bundle.host ≡ 0;
+      there : 0 < length host.budget.hosts;
+      part : held_at_host host.budget.hosts 0 ≡ held_by host.bundle.log;
+      lists : Lists 0 (is_queued host.bundle.settings host.bundle.log) host.lobby;
+    } };
+}
+
+impl Host {
+    /// A host that may have so many open connections, under no other limit that it can reach.
+    fn new(alloc: Global, limit: u32) -> Result<Host, Refusal> {
+        let Ok(limits) = Limits::new(0, 0, GREATEST_LIMIT) else {
+            return Err(Refusal::BadLimit);
+        };
+        Ok(Host {
+            bundle: Bundle::new(alloc, limit, 0, 1)?,
+            budget: PlainBudget::new(alloc, limits, 1)?,
+            lobby: Lobby::new(alloc, 1)?,
+        })
+    }
+}
+
 /// Leaves so many connections of a host idle, then acquires and gives back one so many times.
 /// Answers how many of those acquires reused a connection: all, unless memory ran out.
 #[unsafe(no_mangle)]
 pub extern "C" fn warm_rounds(alloc: Global, idle: u32, rounds: u64) -> u64
     ensures { result ≤ rounds }
 {
-    let Ok(mut host) = Bundle::new(alloc, u32::MAX, 0, 1) else {
+    let Ok(mut host) = Host::new(alloc, u32::MAX) else {
         return 0;
     };
     let mut leases = Vec::new(alloc);
     open_all(&mut host, &mut leases, idle, rounds);
     give_back_all(&mut host, leases);
+    if host.bundle.queued() {
+        return 0;
+    }
     use_often(&mut host, rounds)
 }
 
@@ -45,24 +95,27 @@ pub extern "C" fn warm_rounds(alloc: Global, idle: u32, rounds: u64) -> u64
 pub extern "C" fn closing_rounds(alloc: Global, idle: u32, rounds: u32, is_new_wanted: bool) -> u64
     ensures { result ≤ rounds }
 {
-    let Ok(mut host) = Bundle::new(alloc, idle, 0, 1) else {
+    let Ok(mut host) = Host::new(alloc, idle) else {
         return 0;
     };
     let mut leases = Vec::new(alloc);
     open_all(&mut host, &mut leases, idle, u64::from(rounds));
     give_back_all(&mut host, leases);
+    if host.bundle.queued() {
+        return 0;
+    }
     open_often(&mut host, rounds, is_new_wanted)
 }
 
 /// Opens so many connections, each for a transfer of its own.
-fn open_all(host: &mut Bundle<()>, leases: &mut Vec<Lease<()>>, count: u32, max_age: u64) {
+fn open_all(host: &mut Host, leases: &mut Vec<Lease<()>>, count: u32, max_age: u64) {
     for transfer in 0..count {
         open_one(host, leases, want_of(u64::from(transfer), max_age));
     }
 }
 
 /// Gives each of them back.
-fn give_back_all(host: &mut Bundle<()>, leases: Vec<Lease<()>>) {
+fn give_back_all(host: &mut Host, leases: Vec<Lease<()>>) {
     let mut leases = leases;
     while let Some(lease) = leases.pop() {
         give_back(host, lease, 0);
@@ -70,22 +123,27 @@ fn give_back_all(host: &mut Bundle<()>, leases: Vec<Lease<()>>) {
     leases.destroy_empty();
 }
 
-/// Acquires and gives back so many times, and answers how often an idle connection was reused.
-fn use_often(host: &mut Bundle<()>, rounds: u64) -> u64
+/// Acquires and gives back so many times, until there is no lease, and answers how often an idle
+/// connection was reused.
+fn use_often(host: &mut Host, rounds: u64) -> u64
+    requires { is_queued host.old.settings host.old.log ≡ false }
     ensures { result ≤ rounds }
 {
     let mut reused = 0;
     for round in 0..rounds {
-        if let Some(true) = use_once(host, want_of(round, rounds), round) {
-            reused += 1;
+        match use_once(host, want_of(round, rounds), round) {
+            Some(true) => reused += 1,
+            Some(false) => {}
+            None => return reused,
         }
     }
     reused
 }
 
-/// Acquires a new connection so many times, each of a lane of its own, and gives it back. Answers
-/// how often one was opened.
-fn open_often(host: &mut Bundle<()>, rounds: u32, fresh: bool) -> u64
+/// Acquires a new connection so many times, each of a lane of its own, and gives it back, until
+/// there is no lease. Answers how often one was opened.
+fn open_often(host: &mut Host, rounds: u32, fresh: bool) -> u64
+    requires { is_queued host.old.settings host.old.log ≡ false }
     ensures { result ≤ rounds }
 {
     let mut opened = 0;
@@ -98,51 +156,142 @@ fn open_often(host: &mut Bundle<()>, rounds: u32, fresh: bool) -> u64
             fresh,
             forbid_reuse: false,
         };
-        if let Some(false) = use_once(host, want, u64::from(round)) {
-            opened += 1;
+        match use_once(host, want, u64::from(round)) {
+            Some(false) => opened += 1,
+            Some(true) => {}
+            None => return opened,
         }
     }
     opened
 }
 
 /// Opens a connection for the transfer of that want.
-fn open_one(host: &mut Bundle<()>, leases: &mut Vec<Lease<()>>, want: Want) {
-    match host.acquire(want, 0) {
-        Ok(Got::Lease(lease)) => {
-            if let Err(failed) = leases.push(lease) {
-                give_back(host, failed.value, 0);
-            }
+fn open_one(host: &mut Host, leases: &mut Vec<Lease<()>>, want: Want) {
+    let Ok(got) = acquire(host, want, 0) else {
+        return;
+    };
+    if let Some(lease) = lease_of(host, got, 0) {
+        if let Err(failed) = leases.push(lease) {
+            give_back(host, failed.value, 0);
         }
-        Ok(Got::Wait(ticket)) => leave(host, ticket, 0),
-        Err(_) => {}
     }
 }
 
-/// Acquires a connection and gives it back. Answers whether it was idle before, if there was one.
+/// Acquires a connection at a host that is not queued, and gives it back. Answers whether it was
+/// idle before, if there was one.
 #[inline(always)]
-fn use_once(host: &mut Bundle<()>, want: Want, moment: u64) -> Option<bool> {
-    match host.acquire(want, moment) {
+fn use_once(host: &mut Host, want: Want, moment: u64) -> Option<bool>
+    requires { is_queued host.old.settings host.old.log ≡ false }
+    ensures { OnSome result (is_queued host.new.settings host.new.log ≡ false) }
+{
+    match acquire(host, want, moment) {
         Ok(Got::Lease(lease)) => {
             let reused = lease.reused();
-            give_back(host, lease, moment);
+            give_back_unqueued(host, lease, moment);
             Some(reused)
         }
-        Ok(Got::Wait(ticket)) => {
-            leave(host, ticket, moment);
+        Ok(got) => {
+            if let Some(lease) = lease_of(host, got, moment) {
+                give_back(host, lease, moment);
+            }
             None
         }
         Err(_) => None,
     }
 }
 
-fn give_back(host: &mut Bundle<()>, lease: Lease<()>, moment: u64) {
-    if let Err(stray) = host.give_back(with_stream(lease), KEEP, moment) {
+#[inline(always)]
+fn acquire(host: &mut Host, want: Want, moment: u64) -> Result<Got<()>, Refusal>
+    ensures booked { IfGot result (λ got. GivesBooking got (IsBookedHere host.new)) }
+    ensures mark { is_queued host.new.settings host.new.log
+        ≡ is_queued host.old.settings host.old.log }
+{
+    let mut permits = host.budget.at(0);
+    host.bundle.acquire(want, moment, &mut permits)
+}
+
+/// The lease that an acquire gave. One that is halfway has its last try; a transfer that waits
+/// gives up.
+fn lease_of(host: &mut Host, got: Got<()>, moment: u64) -> Option<Lease<()>>
+    requires { GivesBooking got (IsBookedHere host.old) }
+{
+    let got = match got {
+        Got::NoRoom(booking) | Got::Again(booking) => retry(host, booking, moment),
+        got => got,
+    };
+    match got {
+        Got::Lease(lease) => Some(lease),
+        Got::Wait(ticket) => {
+            leave(host, ticket, moment);
+            None
+        }
+        Got::NoRoom(_booking) | Got::Again(_booking) => unreachable!(),
+    }
+}
+
+/// The last try of an acquire that is halfway.
+fn retry(host: &mut Host, booking: Booking, moment: u64) -> Got<()>
+    requires { IsBookedHere host.old booking }
+    ensures { is_halfway result ≡ false }
+{
+    let mut permits = host.budget.at(0);
+    let lobby = Some(&mut host.lobby);
+    host.bundle.retry(booking, moment, &mut permits, lobby)
+}
+
+/// Gives a lease back at a host that may be queued.
+fn give_back(host: &mut Host, lease: Lease<()>, moment: u64) {
+    let lease = with_stream(lease);
+    let mut permits = host.budget.at(0);
+    let lobby = Some(&mut host.lobby);
+    let back = host
+        .bundle
+        .give_back(lease, KEEP, moment, &mut permits, lobby, true);
+    spend_rest(host, back, moment);
+}
+
+/// The same at a host that is not queued, and so needs no lobby.
+#[inline(always)]
+fn give_back_unqueued(host: &mut Host, lease: Lease<()>, moment: u64)
+    requires { is_queued host.old.settings host.old.log ≡ false }
+    ensures { is_queued host.new.settings host.new.log ≡ false }
+{
+    let lease = with_stream(lease);
+    let mut permits = host.budget.at(0);
+    let back = host
+        .bundle
+        .give_back(lease, KEEP, moment, &mut permits, None, true);
+    spend_rest(host, back, moment);
+}
+
+/// Spends the lease that a give back may leave.
+#[inline(always)]
+fn spend_rest(host: &mut Host, back: Back<()>, moment: u64)
+    ensures { is_queued host.old.settings host.old.log ≡ false →
+        is_queued host.new.settings host.new.log ≡ false }
+{
+    match back {
+        Back::Spent { freed: _ } => {}
+        Back::Strange(stray) => stray.scrap(),
+        Back::NoKeep(lease) | Back::Again(lease) => abandon(host, lease, moment),
+    }
+}
+
+fn abandon(host: &mut Host, lease: Lease<()>, moment: u64)
+    ensures { is_queued host.old.settings host.old.log ≡ false →
+        is_queued host.new.settings host.new.log ≡ false }
+{
+    let mut permits = host.budget.at(0);
+    let lobby = Some(&mut host.lobby);
+    if let Err(stray) = host.bundle.abandon(lease, moment, &mut permits, lobby) {
         stray.scrap();
     }
 }
 
-fn leave(host: &mut Bundle<()>, ticket: Ticket, moment: u64) {
-    if let Err(stray) = host.withdraw(ticket, moment) {
+fn leave(host: &mut Host, ticket: Ticket, moment: u64) {
+    let mut permits = host.budget.at(0);
+    let lobby = Some(&mut host.lobby);
+    if let Err(stray) = host.bundle.withdraw(ticket, moment, &mut permits, lobby) {
         stray.scrap();
     }
 }

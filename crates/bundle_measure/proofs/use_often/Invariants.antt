@@ -1,5 +1,6 @@
-use Rattle.std.proofs.Common.{◌≤◌}
+use Rattle.std.proofs.Common.{◌≡◌, ◌≤◌, false}
+use Rattle.bundle.specs.Calls.{is_queued}
 use Rattle.bundle_measure.proofs.use_often.Given as goal
 
 abbrev pub invariant-loop-round : goal.invariant-loop-round
-invariant-loop-round l = l.reused ≤ l.round
+invariant-loop-round l = (l.reused ≤ l.round) × (is_queued l.host.settings l.host.log ≡ false)
