@@ -1,19 +1,19 @@
 -- What a host answers, from what its bundle did.
 use Rattle.std.proofs.Common.{◌≡◌, ℕ, Bool, true, false, cond, List, [], ◌∷◌, length, drop, reverse, flat_map, refl, ap, sym, ◌∙◌, Option, Some, None, inl, inr, IfSome, Result, Ok, Err, is_some}
 use Rattle.std.specs.Option.{option_map}
-use Rattle.conn_log.specs.declared.entry.Event.{Event}
-use Rattle.conn_log.specs.declared.entry.Event.TheVariants.{Opened, Leased, Returned, Closed, Waited, Left, Limit}
 use Rattle.conn_log.specs.declared.entry.Entry.{Entry}
 use Rattle.conn_log.specs.declared.entry.Want.{Want}
 use Rattle.conn_log.specs.Connections.{is_among, held_number}
 use Rattle.conn_log.specs.Waiting.{waiting}
 use Rattle.conn_log.specs.Legal.{LimitAndFirst}
-use Rattle.conn_log.specs.Fit.{newest_fit}
-use Rattle.bundle.specs.declared.refusal.Refusal.{Refusal}
+use Rattle.conn_log.specs.Fit.{newest_fit, oldest}
+use Rattle.budget.specs.declared.permits.Try.TheVariants.{Got}
+use Rattle.budget.specs.declared.refusal.Refusal.{Refusal}
 use Rattle.bundle.specs.declared.snapshot.Snapshot.{Snapshot}
 use Rattle.host_state.specs.declared.closing.Closing.TheVariants.{TooOld}
-use Rattle.host_state.specs.Steps.{without_picked, with_host_room, is_full, next_number, moment_at}
-use Rattle.bundle.specs.Calls.{after_acquire, after_give_back, after_abandon, refusal, start_on, start_unless, Start, start_by, newest_start, Wait, wait_by, newest_wait}
+use Rattle.host_state.specs.Steps.{without_picked, is_full, moment_at}
+use Rattle.conn_log.specs.declared.entry.Cause.TheVariants.{HostRoom}
+use Rattle.bundle.specs.Calls.{after_give_back, after_abandon, refusal, Reply, starts, waits_on, start_opened, start_on, start_behind, start_in_place_of, Start, Wait}
 use Rattle.bundle.specs.Lease.{HostShown, Leasing, lease_number, snapshot_of}
 use Rattle.script_text.specs.declared.command.Action.{Action}
 use Rattle.script_text.specs.declared.command.Action.TheVariants as actions
@@ -21,7 +21,7 @@ use Rattle.script_text.specs.declared.command.Ending.{Ending}
 use Rattle.script_text.specs.declared.fault.FaultKind.{FaultKind}
 use Rattle.script_text.specs.Printing.{entry_line, lines_since, refused, claimed_line, still_line, look_line}
 use Rattle.script_engine.specs.Hosted.{Hosted, IsUntold, Gives, lease_facts, kept_facts, leases_of}
-use Rattle.script_engine.specs.Meaning.{ScriptHost, Answer, replied, grown, stranger, with_ticket, without_ticket, claimed_number, get_at, get_unless, acquired, tickets_with, claim_at, claim_of, back_at, back_of, drop_at, drop_of, leave_at, after_leaving, look_at, at_host, refusal_word, facts_of_ending}
+use Rattle.script_engine.specs.Meaning.{ScriptHost, Answer, replied, grown, stranger, with_ticket, without_ticket, claimed_number, get_at, get_unless, begun, got_by, tickets_with, claim_at, claim_of, back_at, back_of, drop_at, drop_of, leave_at, after_leaving, look_at, at_host, refusal_word, facts_of_ending}
 use Rattle.script_text.specs.Printing.{GivesText}
 use Rattle.script_engine.proofs.Growth.{Grows, lines-grown}
 
@@ -52,80 +52,64 @@ gives-grown bytes old action by new place r is here grows gives =
     gives-answer bytes old action new (lines_since old.host.log new.log) r is (gives-lines bytes by old.host.log new.log place r here grows gives)
 
 -- get
-pub get-refused : (settings : LimitAndFirst) (want : Want) (moment : ℕ) (host : ScriptHost) (r : Refusal) → refusal settings host.log want ≡ Some r
+pub get-refused : (settings : LimitAndFirst) (want : Want) (moment : ℕ) (host : ScriptHost) (r : Refusal) → refusal settings host.log [] want ≡ Some r
     → get_at settings want moment host ≡ replied host (refused (refusal_word r))
 unfolding get_at
 get-refused settings want moment host r e = ap (get_unless settings want moment host) e
 
-get-accepted : (settings : LimitAndFirst) (want : Want) (moment : ℕ) (host : ScriptHost) (new : List Entry) → refusal settings host.log want ≡ None → new ≡ after_acquire settings host.log want moment
-    → get_at settings want moment host ≡ acquired want host new
+get-accepted : (settings : LimitAndFirst) (want : Want) (moment : ℕ) (host : ScriptHost) → refusal settings host.log [] want ≡ None
+    → get_at settings want moment host ≡ got_by want host (begun settings host.log want moment)
 unfolding get_at
-get-accepted settings want moment host new e same = ap (get_unless settings want moment host) e ∙ ap (acquired want host) (sym same)
+get-accepted settings want moment host e = ap (get_unless settings want moment host) e
 
--- the newest entry starts no wait where it is a start
-no-wait : (moment : ℕ) (event : Event) (start : Start) → start_by moment event ≡ Some start → wait_by moment event ≡ None
-no-wait moment (Opened c want) start e = refl
-no-wait moment (Leased c want) start e = refl
-no-wait moment (Returned c facts) start e = refl
-no-wait moment (Closed c cause) start e = refl
-no-wait moment (Waited want) start e = cc
-no-wait moment (Left transfer) start e = refl
-no-wait moment (Limit n) start e = refl
+module _ (settings : LimitAndFirst) (want : Want) (moment : ℕ) (host : ScriptHost) (new : List Entry) (e : refusal settings host.log [] want ≡ None) (same : new ≡ (begun settings host.log want moment).log) where
+  pub get-started : (start : Start) → (begun settings host.log want moment).reply ≡ starts start → get_at settings want moment host ≡ grown host (record host { log = new })
+  get-started start reply =
+      get-accepted settings want moment host e
+      ∙ ap (λ r. grown host (record { log = (begun settings host.log want moment).log; tickets = tickets_with want.transfer host.tickets r })) reply
+      ∙ ap (λ log. grown host (record host { log = log })) (sym same)
 
-started-no-wait : (log : List Entry) (start : Start) → newest_start log ≡ Some start → newest_wait log ≡ None
-started-no-wait [] start e = refl
-started-no-wait (e ∷ before) start is = no-wait e.moment e.event start is
-
-pub get-started : (settings : LimitAndFirst) (want : Want) (moment : ℕ) (host : ScriptHost) (new : List Entry) (start : Start) → refusal settings host.log want ≡ None → new ≡ after_acquire settings host.log want moment
-    → newest_start new ≡ Some start → get_at settings want moment host ≡ grown host (record host { log = new })
-get-started settings want moment host new start e same newest =
-    get-accepted settings want moment host new e same ∙ ap (λ wait. grown host (record { log = new; tickets = tickets_with want.transfer host.tickets wait })) (started-no-wait new start newest)
-
-pub get-waited : (settings : LimitAndFirst) (want : Want) (moment : ℕ) (host : ScriptHost) (new : List Entry) (wait : Wait) → refusal settings host.log want ≡ None → new ≡ after_acquire settings host.log want moment
-    → newest_wait new ≡ Some wait → get_at settings want moment host ≡ grown host (record { log = new; tickets = with_ticket want.transfer host.tickets })
-get-waited settings want moment host new wait e same newest =
-    get-accepted settings want moment host new e same ∙ ap (λ w. grown host (record { log = new; tickets = tickets_with want.transfer host.tickets w })) newest
+  pub get-waited : (wait : Wait) → (begun settings host.log want moment).reply ≡ waits_on wait → get_at settings want moment host ≡ grown host (record { log = new; tickets = with_ticket want.transfer host.tickets })
+  get-waited wait reply =
+      get-accepted settings want moment host e
+      ∙ ap (λ r. grown host (record { log = (begun settings host.log want moment).log; tickets = tickets_with want.transfer host.tickets r })) reply
+      ∙ ap (λ log. grown host (record { log = log; tickets = with_ticket want.transfer host.tickets })) (sym same)
 
 -- an accepted acquire, and the want of its lease or ticket
 pub accepted : {A : Type 0} (got : A) (shows : Option Refusal) → IfSome shows (λ reason. ◌≡◌ {A = Result A Refusal} (Ok got) (Err reason)) → shows ≡ None
 accepted got None e = refl
 accepted got (Some reason) e = cc
 
-abbrev IsOf : Want → List Entry → Type 0
-IsOf want log = ((start : Start) → newest_start log ≡ Some start → start.want ≡ want) × ((wait : Wait) → newest_wait log ≡ Some wait → wait.want ≡ want)
+abbrev IsOf : Want → Reply → Type 0
+IsOf want reply = ((start : Start) → reply ≡ starts start → start.want ≡ want) × ((wait : Wait) → reply ≡ waits_on wait → wait.want ≡ want)
 
-some-same : {A : Type 0} {x y : A} → Some x ≡ Some y → x ≡ y
-some-same e = cc
+starts-of : (want : Want) (own : Start) → own.want ≡ want → IsOf want (starts own)
+starts-of want own is = ((λ start e. let same : own ≡ start = cc in ap (λ (s : Start). s.want) (sym same) ∙ is), (λ wait e. absurd (cc)))
 
-opened-of : (want : Want) (moment c : ℕ) (log : List Entry) → IsOf want (record { moment = moment; event = Opened c want } ∷ log)
-opened-of want moment c log = ((λ start e. ap (λ (s : Start). s.want) (sym (some-same e))), (λ wait e. cc))
+waits-of : (want : Want) (own : Wait) → own.want ≡ want → IsOf want (waits_on own)
+waits-of want own is = ((λ start e. absurd (cc)), (λ wait e. let same : own ≡ wait = cc in ap (λ (w : Wait). w.want) (sym same) ∙ is))
 
-leased-of : (want : Want) (moment c : ℕ) (log : List Entry) → IsOf want (record { moment = moment; event = Leased c want } ∷ log)
-leased-of want moment c log = ((λ start e. ap (λ (s : Start). s.want) (sym (some-same e))), (λ wait e. cc))
+in-place-of : (settings : LimitAndFirst) (want : Want) (moment : ℕ) (log : List Entry) (first : Option ℕ) → IsOf want (start_in_place_of first HostRoom settings want moment log).reply
+in-place-of settings want moment log None = waits-of want _ refl
+in-place-of settings want moment log (Some c) = starts-of want _ refl
 
-waited-of : (want : Want) (moment : ℕ) (log : List Entry) → IsOf want (record { moment = moment; event = Waited want } ∷ log)
-waited-of want moment log = ((λ start e. cc), (λ wait e. ap (λ (w : Wait). w.want) (sym (some-same e))))
-
-start-of : (settings : LimitAndFirst) (want : Want) (moment : ℕ) (log : List Entry) (fit : Option ℕ) → IsOf want (start_on settings want moment log fit)
-start-of settings want moment log None = by_room (is_full settings (with_host_room settings moment log))
+start-of : (settings : LimitAndFirst) (want : Want) (moment : ℕ) (log : List Entry) (fit : Option ℕ) → IsOf want (start_on fit false Got settings want moment log).reply
+start-of settings want moment log (Some c) = starts-of want _ refl
+start-of settings want moment log None = by_room (is_full settings log)
   where
-    room : List Entry
-    room = with_host_room settings moment log
+    by_room : (full : Bool) → IsOf want (cond full (start_in_place_of (oldest log) HostRoom settings want moment log) (start_opened settings want moment log)).reply
+    by_room true = in-place-of settings want moment log (oldest log)
+    by_room false = starts-of want _ refl
 
-    by_room : (full : Bool) → IsOf want (cond full (record { moment = moment; event = Waited want } ∷ room) (record { moment = moment; event = Opened (next_number settings room) want } ∷ room))
-    by_room true = waited-of want moment room
-    by_room false = opened-of want moment (next_number settings room) room
-start-of settings want moment log (Some c) = leased-of want moment c log
-
-pub acquired-of : (settings : LimitAndFirst) (log : List Entry) (want : Want) (now : ℕ) → IsOf want (after_acquire settings log want now)
-acquired-of settings log want now = by_waiting (waiting log)
+pub begun-of : (settings : LimitAndFirst) (log : List Entry) (want : Want) (now : ℕ) → IsOf want (begun settings log want now).reply
+begun-of settings log want now = by_waiting (waiting log)
   where
     moment : ℕ
     moment = moment_at log now
 
-    by_waiting : (wants : List Want) → IsOf want (start_unless wants settings want moment log)
+    by_waiting : (wants : List Want) → IsOf want (start_behind wants false Got settings want moment log).reply
     by_waiting [] = let closed = without_picked (TooOld want) moment log in start-of settings want moment closed (newest_fit closed want moment)
-    by_waiting (head ∷ others) = waited-of want moment log
+    by_waiting (head ∷ others) = waits-of want _ refl
 
 -- back and drop
 pub back-stranger : (settings : LimitAndFirst) (transfer : ℕ) (ending : Ending) (moment : ℕ) (host : ScriptHost) → claimed_number host transfer ≡ None

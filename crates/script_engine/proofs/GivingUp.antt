@@ -5,11 +5,11 @@ use Rattle.conn_log.specs.declared.entry.Entry.{Entry}
 use Rattle.conn_log.specs.declared.entry.Want.{Want}
 use Rattle.conn_log.specs.Connections.{is_among, held_number}
 use Rattle.conn_log.specs.Legal.{LimitAndFirst}
-use Rattle.bundle.specs.Calls.{after_acquire, after_abandon, after_withdraw, refusal, Start, newest_start, Wait, newest_wait}
+use Rattle.bundle.specs.Calls.{after_abandon, after_withdraw, refusal, Start, starts, Wait, waits_on}
 use Rattle.script_text.specs.declared.command.Action.{Action}
 use Rattle.script_text.specs.declared.fault.FaultKind.{FaultKind}
 use Rattle.script_text.specs.declared.fault.FaultKind.TheVariants.{Memory}
-use Rattle.script_engine.specs.Meaning.{ScriptHost, Answer, with_ticket, without_ticket, get_at, claim_at}
+use Rattle.script_engine.specs.Meaning.{ScriptHost, Answer, with_ticket, without_ticket, begun, get_at, claim_at}
 use Rattle.script_engine.specs.Ending.{after_dropping, after_giving_up}
 use Rattle.script_engine.specs.Hosted.{Hosted, IsUntold, Gives}
 use Rattle.script_engine.proofs.Leases.{itself}
@@ -45,19 +45,19 @@ abbrev host_of : Answer → ScriptHost
 host_of answer = answer.host
 
 -- what a get gave could not be kept
-module _ (settings : LimitAndFirst) (want : Want) (moment : ℕ) (old : ScriptHost) (new final : List Entry) (accepted : refusal settings old.log want ≡ None) (same : new ≡ after_acquire settings old.log want moment) (apart : is_among want.transfer old.tickets ≡ false) where
-  pub get-unleased : (start : Start) → newest_start new ≡ Some start → held_number new want.transfer ≡ Some start.number → final ≡ after_abandon settings new start.number 0
+module _ (settings : LimitAndFirst) (want : Want) (moment : ℕ) (old : ScriptHost) (new final : List Entry) (accepted : refusal settings old.log [] want ≡ None) (same : new ≡ (begun settings old.log want moment).log) (apart : is_among want.transfer old.tickets ≡ false) where
+  pub get-unleased : (start : Start) → (begun settings old.log want moment).reply ≡ starts start → held_number new want.transfer ≡ Some start.number → final ≡ after_abandon settings new start.number 0
       → ◌≡◌ {A = ScriptHost} (record old { log = final }) (after_giving_up settings (get_at settings want moment old).host want.transfer)
-  get-unleased start newest held abandoned =
+  get-unleased start reply held abandoned =
       gave-up-lease settings (record old { log = new }) want.transfer final apart (abandoned ∙ ap (after_dropping settings new) (sym held))
-      ∙ ap (λ answer. after_giving_up settings (host_of answer) want.transfer) (sym (get-started settings want moment old new start accepted same newest))
+      ∙ ap (λ answer. after_giving_up settings (host_of answer) want.transfer) (sym (get-started settings want moment old new accepted same start reply))
 
-  pub get-unticketed : (wait : Wait) → newest_wait new ≡ Some wait → final ≡ after_withdraw settings new want.transfer 0
+  pub get-unticketed : (wait : Wait) → (begun settings old.log want moment).reply ≡ waits_on wait → final ≡ after_withdraw settings new want.transfer 0
       → ◌≡◌ {A = ScriptHost} (record old { log = final }) (after_giving_up settings (get_at settings want moment old).host want.transfer)
-  get-unticketed wait newest withdrawn =
+  get-unticketed wait reply withdrawn =
       let among = among-with want.transfer want.transfer old.tickets ∙ ap (λ b. b || is_among want.transfer old.tickets) (itself want.transfer) in
       gave-up-ticket settings (record { log = new; tickets = with_ticket want.transfer old.tickets }) want.transfer final old.tickets among (taken-back want.transfer old.tickets apart) withdrawn
-      ∙ ap (λ answer. after_giving_up settings (host_of answer) want.transfer) (sym (get-waited settings want moment old new wait accepted same newest))
+      ∙ ap (λ answer. after_giving_up settings (host_of answer) want.transfer) (sym (get-waited settings want moment old new accepted same wait reply))
 
 -- nor what a claim gave
 module _ (settings : LimitAndFirst) (transfer : ℕ) (old : ScriptHost) (rest : List ℕ) (final : List Entry) (among : is_among transfer old.tickets ≡ true) (left : rest ≡ without_ticket transfer old.tickets) where

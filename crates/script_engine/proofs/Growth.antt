@@ -1,5 +1,5 @@
 -- The lines of the entries that a call appends.
-use Rattle.std.proofs.Common.{◌≡◌, ℕ, zero, suc, ◌-◌, ◌≤◌, Bool, true, false, cond, List, [], ◌∷◌, ◌++◌, length, drop, reverse, flat_map, refl, ap, sym, subst, ◌∙◌, arith, Option, Some, None, append-nil}
+use Rattle.std.proofs.Common.{◌≡◌, ℕ, ◌-◌, ◌≤◌, Bool, true, false, cond, List, [], ◌∷◌, ◌++◌, length, drop, reverse, flat_map, refl, ap, sym, subst, ◌∙◌, arith, Option, Some, None, append-nil}
 use Rattle.std.proofs.lemmas.Grind.{flat_map-append}
 use Rattle.std.proofs.lemmas.List.{reverse-append, length-reverse, length-append, drop_at}
 use Rattle.std.specs.Option.{option_map, option_map_or}
@@ -12,14 +12,17 @@ use Rattle.conn_log.specs.declared.entry.Cause.TheVariants as cause
 use Rattle.conn_log.specs.declared.entry.Event.{Event}
 use Rattle.conn_log.specs.declared.entry.Event.TheVariants.{Opened, Leased, Returned, Closed, Waited, Left, Limit}
 use Rattle.conn_log.specs.declared.entry.Entry.{Entry}
-use Rattle.conn_log.specs.Connections.{idle_connections, holder, is_held_by, holder_want, held_number}
+use Rattle.conn_log.specs.Connections.{holder, is_held_by, holder_want, held_number}
 use Rattle.conn_log.specs.Waiting.{waiting, waits}
-use Rattle.conn_log.specs.Legal.{LimitAndFirst, owed}
+use Rattle.conn_log.specs.Legal.{LimitAndFirst, limit_after, limit_in_force, owed}
 use Rattle.conn_log.specs.Fit.{is_fit, newest_fit, oldest}
 use Rattle.host_state.specs.declared.closing.Closing.TheVariants.{TooOld}
-use Rattle.host_state.specs.Steps.{add, moment_at, close_each, picked, without_picked, with_host_room, is_full, close_for_room}
-use Rattle.bundle.specs.Calls.{after_acquire, after_give_back, after_close, after_abandon, after_withdraw, start_new, start_on, start_unless, open_for, unfit_cause, pass_to, settle, close_granted, GrowsBy}
+use Rattle.host_state.specs.Steps.{add, moment_at, close_each, picked, without_picked, is_full}
+use Rattle.budget.specs.declared.permits.Try.{Try}
+use Rattle.budget.specs.declared.permits.Try.TheVariants.{Got, Full, Contended}
+use Rattle.bundle.specs.Calls.{Acquired, acquired, start_as_told, after_give_back, after_close, after_abandon, after_withdraw, start_new, start_in_place, start_in_place_of, start_on, start_behind, open_for, unfit_cause, pass_to, settle, close_granted, GrowsBy}
 use Rattle.script_text.specs.Printing.{entry_line, event_text, returned_by, newest_lines, lines_since}
+use Rattle.script_engine.specs.Meaning.{begun}
 
 -- the new log has entries in front of the old one, and of each this is said
 abbrev pub SaysAll : (Event → List Entry → Type 0) → List Entry → List Entry → Type 0
@@ -86,12 +89,13 @@ pub lines-grown : (by : ℕ) (old new : List Entry) → Grows by old new
 unfolding lines_since
 lines-grown by old new grows = rw grows.whole (grown-lines by grows.added old grows.says)
 
--- what the calls append: what is said of each entry is said of all but a Returned
-abbrev pub is_return : Event → Bool
-is_return (Returned c facts) = true
-is_return _ = false
+-- what the calls append: what is said of each entry is said of all but a Returned, and no limit changes
+abbrev pub is_telling : Event → Bool
+is_telling (Returned c facts) = true
+is_telling (Limit n) = true
+is_telling _ = false
 
-module _ (Says : Event → List Entry → Type 0) (silent : (event : Event) (before : List Entry) → is_return event ≡ false → Says event before) (old : List Entry) where
+module _ (Says : Event → List Entry → Type 0) (silent : (event : Event) (before : List Entry) → is_telling event ≡ false → Says event before) (old : List Entry) where
   nothing : Adds Says old old
   nothing = record { added = []; whole = refl; says = tt }
 
@@ -102,7 +106,7 @@ module _ (Says : Event → List Entry → Type 0) (silent : (event : Event) (bef
     says = (subst (Says event) so_far.whole says, so_far.says);
   }
 
-  adds_other : (moment : ℕ) (event : Event) (log : List Entry) → is_return event ≡ false → Adds Says old log → Adds Says old (add moment event log)
+  adds_other : (moment : ℕ) (event : Event) (log : List Entry) → is_telling event ≡ false → Adds Says old log → Adds Says old (add moment event log)
   adds_other moment event log other = adds moment event log (silent event log other)
 
   either : (b : Bool) (x y : List Entry) → Adds Says old x → Adds Says old y → Adds Says old (cond b x y)
@@ -113,31 +117,36 @@ module _ (Says : Event → List Entry → Type 0) (silent : (event : Event) (bef
   adds_closes why moment [] log so_far = so_far
   adds_closes why moment (c ∷ numbers) log so_far = adds_closes why moment numbers (add moment (Closed c why) log) (adds_other moment (Closed c why) log refl so_far)
 
-  adds_room : (settings : LimitAndFirst) (moment : ℕ) (log : List Entry) → Adds Says old log → Adds Says old (with_host_room settings moment log)
-  adds_room settings moment log so_far = either (is_full settings log) _ _ (by_oldest (oldest log)) so_far
-    where
-      by_oldest : (first : Option ℕ) → Adds Says old (close_for_room moment log first)
-      by_oldest None = so_far
-      by_oldest (Some c) = adds_other moment (Closed c cause.HostRoom) log refl so_far
-
   adds_new : (settings : LimitAndFirst) (want : Want) (moment : ℕ) (log : List Entry) → Adds Says old log → Adds Says old (start_new settings want moment log)
   adds_new settings want moment log so_far = adds_other moment (Opened _ want) log refl so_far
 
-  adds_start_on : (settings : LimitAndFirst) (want : Want) (moment : ℕ) (log : List Entry) (fit : Option ℕ) → Adds Says old log → Adds Says old (start_on settings want moment log fit)
-  adds_start_on settings want moment log None so_far =
-      let room = with_host_room settings moment log in
-      let roomy = adds_room settings moment log so_far in
-      either (is_full settings room) _ _ (adds_other moment (Waited want) room refl roomy) (adds_new settings want moment room roomy)
-  adds_start_on settings want moment log (Some c) so_far = adds_other moment (Leased c want) log refl so_far
+  either_begun : (b : Bool) (x y : Acquired) → Adds Says old x.log → Adds Says old y.log → Adds Says old (cond b x y).log
+  either_begun true x y p q = p
+  either_begun false x y p q = q
 
-  adds_start_unless : (settings : LimitAndFirst) (want : Want) (moment : ℕ) (wants : List Want) → Adds Says old (start_unless wants settings want moment old)
-  adds_start_unless settings want moment [] =
+  adds_in_place : (why : Cause) (settings : LimitAndFirst) (want : Want) (moment : ℕ) (log : List Entry) (first : Option ℕ) → Adds Says old log → Adds Says old (start_in_place_of first why settings want moment log).log
+  adds_in_place why settings want moment log None so_far = adds_other moment (Waited want) log refl so_far
+  adds_in_place why settings want moment log (Some c) so_far = adds_new settings want moment (add moment (Closed c why) log) (adds_other moment (Closed c why) log refl so_far)
+
+  adds_as_told : (told : Try) (settings : LimitAndFirst) (want : Want) (moment : ℕ) (log : List Entry) → Adds Says old log → Adds Says old (start_as_told false told settings want moment log).log
+  adds_as_told Got settings want moment log so_far = adds_new settings want moment log so_far
+  adds_as_told Full settings want moment log so_far = so_far
+  adds_as_told Contended settings want moment log so_far = so_far
+
+  adds_start_on : (told : Try) (settings : LimitAndFirst) (want : Want) (moment : ℕ) (log : List Entry) (fit : Option ℕ) → Adds Says old log → Adds Says old (start_on fit false told settings want moment log).log
+  adds_start_on told settings want moment log None so_far =
+      either_begun (is_full settings log) (start_in_place cause.HostRoom settings want moment log) (start_as_told false told settings want moment log)
+      (adds_in_place cause.HostRoom settings want moment log (oldest log) so_far) (adds_as_told told settings want moment log so_far)
+  adds_start_on told settings want moment log (Some c) so_far = adds_other moment (Leased c want) log refl so_far
+
+  adds_start_behind : (told : Try) (settings : LimitAndFirst) (want : Want) (moment : ℕ) (wants : List Want) → Adds Says old (start_behind wants false told settings want moment old).log
+  adds_start_behind told settings want moment [] =
       let closed = without_picked (TooOld want) moment old in
-      adds_start_on settings want moment closed (newest_fit closed want moment) (adds_closes cause.TooOld moment (picked (TooOld want) moment old) old nothing)
-  adds_start_unless settings want moment (head ∷ others) = adds_other moment (Waited want) old refl nothing
+      adds_start_on told settings want moment closed (newest_fit closed want moment) (adds_closes cause.TooOld moment (picked (TooOld want) moment old) old nothing)
+  adds_start_behind told settings want moment (head ∷ others) = adds_other moment (Waited want) old refl nothing
 
-  pub adds_acquire : (settings : LimitAndFirst) (want : Want) (now : ℕ) → Adds Says old (after_acquire settings old want now)
-  adds_acquire settings want now = adds_start_unless settings want (moment_at old now) (waiting old)
+  pub adds_acquired : (told : Try) (settings : LimitAndFirst) (want : Want) (now : ℕ) → Adds Says old (acquired false told settings old want now).log
+  adds_acquired told settings want now = adds_start_behind told settings want (moment_at old now) (waiting old)
 
   adds_open_for : (settings : LimitAndFirst) (moment : ℕ) (log : List Entry) (wants : List Want) → Adds Says old log → Adds Says old (open_for settings moment log wants)
   adds_open_for settings moment log [] so_far = so_far
@@ -179,7 +188,7 @@ module _ (Says : Event → List Entry → Type 0) (silent : (event : Event) (bef
       by_held (Some c) = adds_close settings c cause.Withdrawn now
 
 -- which transfer a connection comes back from
-silent-by : (by : ℕ) (event : Event) (before : List Entry) → is_return event ≡ false → SaysIt by event before
+silent-by : (by : ℕ) (event : Event) (before : List Entry) → is_telling event ≡ false → SaysIt by event before
 silent-by by (Opened c want) before other = tt
 silent-by by (Leased c want) before other = tt
 silent-by by (Returned c facts) before other = absurd (cc)
@@ -192,8 +201,8 @@ held-holder : (by : ℕ) (want : Option Want) → option_map_or (λ (w : Want). 
 held-holder by None h = cc
 held-holder by (Some want) h = ap Some (eqb-true want.transfer by h)
 
-pub acquired-grows : (by : ℕ) (settings : LimitAndFirst) (log : List Entry) (want : Want) (now : ℕ) → Grows by log (after_acquire settings log want now)
-acquired-grows by settings log want now = adds_acquire (SaysIt by) (silent-by by) log settings want now
+pub begun-grows : (by : ℕ) (settings : LimitAndFirst) (log : List Entry) (want : Want) (now : ℕ) → Grows by log (begun settings log want now).log
+begun-grows by settings log want now = adds_acquired (SaysIt by) (silent-by by) log Got settings want now
 
 pub given_back-grows : (by : ℕ) (settings : LimitAndFirst) (log : List Entry) (c : ℕ) (facts : Facts) (now : ℕ) → is_held_by log by c ≡ true → Grows by log (after_give_back settings log c facts now)
 given_back-grows by settings log c facts now held = adds_give_back (SaysIt by) (silent-by by) log settings c facts now (held-holder by (holder_want log c) held)
@@ -212,8 +221,8 @@ grew : (old new : List Entry) → Adds SaysNothing old new → GrowsBy old new
 grew old new adds = (adds.added, adds.whole)
 
 module _ (settings : LimitAndFirst) (log : List Entry) where
-  pub grows-acquire : (want : Want) (now : ℕ) → GrowsBy log (after_acquire settings log want now)
-  grows-acquire want now = grew log _ (adds_acquire SaysNothing (λ event before other. tt) log settings want now)
+  pub grows-begun : (want : Want) (now : ℕ) → GrowsBy log (begun settings log want now).log
+  grows-begun want now = grew log _ (adds_acquired SaysNothing (λ event before other. tt) log Got settings want now)
 
   pub grows-give_back : (c : ℕ) (facts : Facts) (now : ℕ) → GrowsBy log (after_give_back settings log c facts now)
   grows-give_back c facts now = grew log _ (adds_give_back SaysNothing (λ event before other. tt) log settings c facts now tt)
@@ -223,6 +232,39 @@ module _ (settings : LimitAndFirst) (log : List Entry) where
 
   pub grows-withdraw : (transfer now : ℕ) → GrowsBy log (after_withdraw settings log transfer now)
   grows-withdraw transfer now = grew log _ (adds_withdraw SaysNothing (λ event before other. tt) log settings transfer now)
+
+-- that the limit stays
+abbrev SaysNoLimit : Event → List Entry → Type 0
+SaysNoLimit event before = (limit : ℕ) → limit_after event limit ≡ limit
+
+no-limit : (event : Event) (before : List Entry) → is_telling event ≡ false → SaysNoLimit event before
+no-limit (Opened c want) before other = λ limit. refl
+no-limit (Leased c want) before other = λ limit. refl
+no-limit (Returned c facts) before other = λ limit. refl
+no-limit (Closed c cause) before other = λ limit. refl
+no-limit (Waited want) before other = λ limit. refl
+no-limit (Left transfer) before other = λ limit. refl
+no-limit (Limit n) before other = absurd (cc)
+
+limit-added : (settings : LimitAndFirst) (added old : List Entry) → SaysAll SaysNoLimit added old → limit_in_force settings (added ++ old) ≡ limit_in_force settings old
+limit-added settings [] old says = refl
+limit-added settings (e ∷ added) old says = says.0 (limit_in_force settings (added ++ old)) ∙ limit-added settings added old says.1
+
+limit-stays : (settings : LimitAndFirst) (old new : List Entry) → Adds SaysNoLimit old new → limit_in_force settings new ≡ limit_in_force settings old
+limit-stays settings old new adds = ap (limit_in_force settings) adds.whole ∙ limit-added settings adds.added old adds.says
+
+module _ (settings : LimitAndFirst) (log : List Entry) where
+  pub limit-acquired : (told : Try) (want : Want) (now : ℕ) → limit_in_force settings (acquired false told settings log want now).log ≡ limit_in_force settings log
+  limit-acquired told want now = limit-stays settings log _ (adds_acquired SaysNoLimit no-limit log told settings want now)
+
+  pub limit-give_back : (c : ℕ) (facts : Facts) (now : ℕ) → limit_in_force settings (after_give_back settings log c facts now) ≡ limit_in_force settings log
+  limit-give_back c facts now = limit-stays settings log _ (adds_give_back SaysNoLimit no-limit log settings c facts now (λ limit. refl))
+
+  pub limit-abandon : (c now : ℕ) → limit_in_force settings (after_abandon settings log c now) ≡ limit_in_force settings log
+  limit-abandon c now = limit-stays settings log _ (adds_abandon SaysNoLimit no-limit log settings c now)
+
+  pub limit-withdraw : (transfer now : ℕ) → limit_in_force settings (after_withdraw settings log transfer now) ≡ limit_in_force settings log
+  limit-withdraw transfer now = limit-stays settings log _ (adds_withdraw SaysNoLimit no-limit log settings transfer now)
 
 pub grows-length : (by : ℕ) (old new : List Entry) → Grows by old new → length old ≤ length new
 grows-length by old new grows = rw grows.whole (omega (arith, length-append grows.added old))

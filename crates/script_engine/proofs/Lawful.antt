@@ -1,5 +1,5 @@
 -- Each command keeps the log sound and quiet, so the log behind a script is legal.
-use Rattle.std.proofs.Common.{◌≡◌, ℕ, Bool, true, false, ◌&&◌, List, [], ◌∷◌, Option, Some, None, Result, Ok, Err, is_none, refl, sym, subst}
+use Rattle.std.proofs.Common.{◌≡◌, ℕ, Bool, true, false, ◌&&◌, List, [], ◌∷◌, Option, Some, None, Result, Ok, Err, is_none, refl, sym, subst, ◌∙◌}
 use Rattle.std.specs.Prelude.{◌==◌, nat_lt, if◌then◌else◌, cond, length}
 use Rattle.std.specs.Option.{option_map}
 use mathlib.Core.Bool.{false≢true}
@@ -10,11 +10,13 @@ use Rattle.conn_log.specs.declared.entry.Entry.{Entry}
 use Rattle.conn_log.specs.Connections.{is_among, is_idle, holder_want, held_number, holds, came_back_persistent}
 use Rattle.conn_log.specs.Waiting.{waiting}
 use Rattle.conn_log.specs.Fit.{suits}
-use Rattle.conn_log.specs.Legal.{LimitAndFirst, IsLegal, Allows, MayStartAmong}
+use Rattle.conn_log.specs.Legal.{LimitAndFirst, IsLegal, IsQuiet, Allows, MayStartAmong}
 use Rattle.conn_log.proofs.Steps.{idle_open_unheld}
 use Rattle.conn_log.proofs.Soundness.{and_left, and_right, sound_empty}
-use Rattle.bundle.specs.declared.refusal.Refusal.{Refusal}
-use Rattle.bundle.specs.Calls.{refusal}
+use Rattle.budget.specs.declared.permits.Try.TheVariants.{Got}
+use Rattle.budget.specs.declared.refusal.Refusal.{Refusal}
+use Rattle.bundle.specs.Calls.{refusal, is_queued, after_give_back}
+use Rattle.bundle.proofs.Marks.{mark_acquired, mark_give_back, mark_abandon, mark_withdraw}
 use Rattle.bundle.specs.Laws.{IsSoundAndQuiet, AcquireKeepsSoundAndQuiet, GiveBackKeepsSoundAndQuiet, AbandonKeepsSoundAndQuiet, WithdrawKeepsSoundAndQuiet}
 use Rattle.script_text.specs.Lines.{lines}
 use Rattle.script_text.specs.Grammar.{reading}
@@ -33,6 +35,8 @@ use Rattle.script_text.specs.declared.command.Command.TheVariants as commands
 use Rattle.script_text.specs.declared.command.Ending.{Ending}
 use Rattle.script_text.specs.declared.fault.FaultKind.{FaultKind}
 use Rattle.script_text.specs.declared.fault.FaultKind.TheVariants.{Place, BadLimits, TooManySites}
+use Rattle.script_engine.proofs.OneBudget.{kept-back}
+use Rattle.script_engine.proofs.Leases.{accepted-idle, accepted-free}
 
 -- what the calls keep of a log
 pub record CallsKeep : Type 0 where
@@ -41,10 +45,15 @@ pub record CallsKeep : Type 0 where
   pub abandon : AbandonKeepsSoundAndQuiet
   pub withdraw : WithdrawKeepsSoundAndQuiet
 
--- sound and quiet under these limits; without limits nothing happened
+-- a log that is sound and quiet, of a host that is not queued
+pub record IsUnmarked (settings : LimitAndFirst) (log : List Entry) : Type 0 where
+  pub kept : IsSoundAndQuiet settings log
+  pub unqueued : is_queued settings log ≡ false
+
+-- sound and quiet under these limits, without a mark; without limits nothing happened
 abbrev pub SoundUnder : Option Limits → List Entry → Type 0
 SoundUnder None log = log ≡ []
-SoundUnder (Some limits) log = IsSoundAndQuiet (settings_of limits) log
+SoundUnder (Some limits) log = IsUnmarked (settings_of limits) log
 
 abbrev pub SoundRun : Run → Type 0
 SoundRun run = SoundUnder run.limits run.host.log
@@ -54,72 +63,81 @@ abbrev pub SoundStep : Result (Run × List ℕ) FaultKind → Type 0
 SoundStep (Err kind) = Unit {0}
 SoundStep (Ok next) = SoundRun next.0
 
-empty : (settings : LimitAndFirst) → IsSoundAndQuiet settings []
+empty : (settings : LimitAndFirst) → IsUnmarked settings []
 empty settings = record {
-  sound = sound_empty settings;
-  quiet = record {
-    none_idle = λ anyone. absurd anyone;
-    no_room = λ anyone. absurd anyone;
-    queued_for = λ never. absurd (false≢true never);
-    settled = refl;
+  kept = record {
+    sound = sound_empty settings;
+    quiet = record {
+      none_idle = λ anyone. absurd anyone;
+      no_room = λ anyone. absurd anyone;
+      queued_for = λ never. absurd (false≢true never);
+      settled = refl;
+    };
   };
+  unqueued = refl;
 }
 
 pub held-where-leased : (waits : Bool) (held : Option ℕ) (c : ℕ) → cond waits None held ≡ Some c → held ≡ Some c
 held-where-leased true held c leased = cc
 held-where-leased false held c leased = leased
 
-module _ (keep : CallsKeep) (settings : LimitAndFirst) (host : ScriptHost) (sound : IsSoundAndQuiet settings host.log) where
-  sound_get : (want : Want) (moment : ℕ) → IsSoundAndQuiet settings (get_at settings want moment host).host.log
+module _ (keep : CallsKeep) (settings : LimitAndFirst) (host : ScriptHost) (sound : IsUnmarked settings host.log) where
+  sound_get : (want : Want) (moment : ℕ) → IsUnmarked settings (get_at settings want moment host).host.log
   unfolding get_at
-  sound_get want moment = by_refusal (refusal settings host.log want) refl
+  sound_get want moment = by_refusal (refusal settings host.log [] want) refl
     where
-      by_refusal : (reason : Option Refusal) → refusal settings host.log want ≡ reason → IsSoundAndQuiet settings (get_unless settings want moment host reason).host.log
+      by_refusal : (reason : Option Refusal) → refusal settings host.log [] want ≡ reason → IsUnmarked settings (get_unless settings want moment host reason).host.log
       by_refusal (Some r) is = sound
-      by_refusal None is = keep.acquire settings host.log want moment sound is
+      by_refusal None is =
+          let free = accepted-free settings host.log sound.kept.sound want is in
+          record { kept = keep.acquire false Got settings host.log want moment sound.kept (accepted-idle settings host.log want is); unqueued = mark_acquired false Got settings host.log want moment sound.kept free.0 free.1 refl ∙ sound.unqueued }
 
-  sound_claim : (transfer : ℕ) → IsSoundAndQuiet settings (claim_at transfer host).host.log
+  sound_claim : (transfer : ℕ) → IsUnmarked settings (claim_at transfer host).host.log
   unfolding claim_at
   sound_claim transfer = by_ticket (is_among transfer host.tickets)
     where
-      by_held : (held : Option ℕ) → IsSoundAndQuiet settings (claim_of transfer host held).host.log
+      by_held : (held : Option ℕ) → IsUnmarked settings (claim_of transfer host held).host.log
       by_held None = sound
       by_held (Some c) = sound
 
-      by_ticket : (ticketed : Bool) → IsSoundAndQuiet settings (if ticketed then claim_of transfer host (held_number host.log transfer) else stranger host).host.log
+      by_ticket : (ticketed : Bool) → IsUnmarked settings (if ticketed then claim_of transfer host (held_number host.log transfer) else stranger host).host.log
       by_ticket true = by_held (held_number host.log transfer)
       by_ticket false = sound
 
-  sound_back : (transfer : ℕ) (ending : Ending) (moment : ℕ) → IsSoundAndQuiet settings (back_at settings transfer ending moment host).host.log
+  sound_back : (transfer : ℕ) (ending : Ending) (moment : ℕ) → IsUnmarked settings (back_at settings transfer ending moment host).host.log
   unfolding back_at
   sound_back transfer ending moment = by_leased (claimed_number host transfer) refl
     where
-      by_leased : (leased : Option ℕ) → claimed_number host transfer ≡ leased → IsSoundAndQuiet settings (back_of settings ending moment host leased).host.log
+      by_leased : (leased : Option ℕ) → claimed_number host transfer ≡ leased → IsUnmarked settings (back_of settings ending moment host leased).host.log
       by_leased None is = sound
       by_leased (Some c) is =
-          keep.give_back settings host.log transfer c (facts_of_ending ending) moment sound (held-where-leased (is_among transfer host.tickets) (held_number host.log transfer) c is)
+          let facts = facts_of_ending ending in
+          let held = held-where-leased (is_among transfer host.tickets) (held_number host.log transfer) c is in
+          record { kept = keep.give_back false Got settings host.log (after_give_back settings host.log c facts moment) transfer c facts moment sound.kept held (kept-back settings host.log c facts moment); unqueued = mark_give_back settings host.log transfer c facts moment sound.kept held sound.unqueued }
 
-  sound_drop : (transfer moment : ℕ) → IsSoundAndQuiet settings (drop_at settings transfer moment host).host.log
+  sound_drop : (transfer moment : ℕ) → IsUnmarked settings (drop_at settings transfer moment host).host.log
   unfolding drop_at
   sound_drop transfer moment = by_leased (claimed_number host transfer) refl
     where
-      by_leased : (leased : Option ℕ) → claimed_number host transfer ≡ leased → IsSoundAndQuiet settings (drop_of settings moment host leased).host.log
+      by_leased : (leased : Option ℕ) → claimed_number host transfer ≡ leased → IsUnmarked settings (drop_of settings moment host leased).host.log
       by_leased None is = sound
-      by_leased (Some c) is = keep.abandon settings host.log transfer c moment sound (held-where-leased (is_among transfer host.tickets) (held_number host.log transfer) c is)
+      by_leased (Some c) is =
+          let held = held-where-leased (is_among transfer host.tickets) (held_number host.log transfer) c is in
+          record { kept = keep.abandon settings host.log transfer c moment sound.kept held; unqueued = mark_abandon settings host.log transfer c moment sound.kept held sound.unqueued }
 
-  sound_leave : (transfer moment : ℕ) → IsSoundAndQuiet settings (leave_at settings transfer moment host).host.log
+  sound_leave : (transfer moment : ℕ) → IsUnmarked settings (leave_at settings transfer moment host).host.log
   unfolding leave_at
   sound_leave transfer moment = by_ticket (is_among transfer host.tickets)
     where
-      by_ticket : (ticketed : Bool) → IsSoundAndQuiet settings (if ticketed then grown host (after_leaving settings transfer moment host) else stranger host).host.log
-      by_ticket true = keep.withdraw settings host.log transfer moment sound
+      by_ticket : (ticketed : Bool) → IsUnmarked settings (if ticketed then grown host (after_leaving settings transfer moment host) else stranger host).host.log
+      by_ticket true = record { kept = keep.withdraw settings host.log transfer moment sound.kept; unqueued = mark_withdraw settings host.log transfer moment sound.kept sound.unqueued }
       by_ticket false = sound
 
-  sound_look : IsSoundAndQuiet settings (look_at host).host.log
+  sound_look : IsUnmarked settings (look_at host).host.log
   unfolding look_at
   sound_look = sound
 
-  sound_at_host : (action : Action) → IsSoundAndQuiet settings (at_host settings host action).host.log
+  sound_at_host : (action : Action) → IsUnmarked settings (at_host settings host action).host.log
   sound_at_host (actions.Get want moment) = sound_get want moment
   sound_at_host (actions.Claim transfer) = sound_claim transfer
   sound_at_host (actions.Back transfer ending moment) = sound_back transfer ending moment
@@ -128,10 +146,10 @@ module _ (keep : CallsKeep) (settings : LimitAndFirst) (host : ScriptHost) (soun
   sound_at_host actions.Look = sound_look
 
 module _ (keep : CallsKeep) where
-  sound_answer : (limits : Limits) (there : Bool) (host : ScriptHost) (site : ℕ) (action : Action) → IsSoundAndQuiet (settings_of limits) host.log → IsSoundAndQuiet (settings_of limits) (answer_of limits there host site action).host.log
+  sound_answer : (limits : Limits) (there : Bool) (host : ScriptHost) (site : ℕ) (action : Action) → IsUnmarked (settings_of limits) host.log → IsUnmarked (settings_of limits) (answer_of limits there host site action).host.log
   sound_answer limits there host site action sound = by_test (there && (site == 0))
     where
-      by_test : (here : Bool) → IsSoundAndQuiet (settings_of limits) (if here then at_host (settings_of limits) host action else replied host (at_no_host action)).host.log
+      by_test : (here : Bool) → IsUnmarked (settings_of limits) (if here then at_host (settings_of limits) host action else replied host (at_no_host action)).host.log
       by_test true = sound_at_host keep (settings_of limits) host sound action
       by_test false = sound
 
@@ -140,7 +158,7 @@ module _ (keep : CallsKeep) where
   sound_limits run limits None nothing = by_good (are_good limits)
     where
       by_good : (good : Bool) → SoundStep (if good then Ok (record run { limits = Some limits }, []) else Err BadLimits)
-      by_good true = subst (IsSoundAndQuiet (settings_of limits)) (sym nothing) (empty (settings_of limits))
+      by_good true = subst (IsUnmarked (settings_of limits)) (sym nothing) (empty (settings_of limits))
       by_good false = tt
 
   sound_named : (run : Run) (site : Option Site) → SoundRun run → SoundStep (add_site run site)
@@ -200,14 +218,14 @@ module _ (keep : CallsKeep) where
     where
       legal_under : (limits : Option Limits) (log : List Entry) → SoundUnder limits log → IsLegalUnder limits log
       legal_under None log nothing = nothing
-      legal_under (Some limits) log kept = kept.sound.legal
+      legal_under (Some limits) log stands = stands.kept.sound.legal
 
   pub every_log_is_quiet : EveryLogIsQuiet
   every_log_is_quiet script = quiet_under (limits_of script) (log_behind script) (sound_behind script)
     where
       quiet_under : (limits : Option Limits) (log : List Entry) → SoundUnder limits log → IsQuietUnder limits log
       quiet_under None log nothing = nothing
-      quiet_under (Some limits) log kept = kept.quiet
+      quiet_under (Some limits) log stands = subst (λ queued. IsQuiet (settings_of limits) queued log) stands.unqueued stands.kept.quiet
 
 -- what may be leased was free
 free_if_fit : (before : List Entry) (want : Want) (moment c : ℕ) → (is_idle before c && suits before want moment c) ≡ true → WasFree before c

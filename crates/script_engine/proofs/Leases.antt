@@ -14,9 +14,9 @@ use Rattle.conn_log.specs.Waiting.{waiting, waits}
 use Rattle.conn_log.specs.Sound.{IsSound, has_number}
 use Rattle.conn_log.proofs.Soundness.{holds_is}
 use Rattle.conn_log.specs.Legal.{LimitAndFirst}
-use Rattle.bundle.specs.declared.refusal.Refusal.TheVariants as refusals
+use Rattle.budget.specs.declared.refusal.Refusal.TheVariants as refusals
 use Rattle.host_state.specs.Steps.{is_exhausted}
-use Rattle.bundle.specs.Calls.{refusal, is_busy, Start, start_by, start_of, last_start}
+use Rattle.bundle.specs.Calls.{refusal, is_busy}
 use Rattle.host_state.specs.Queue.{waiting_want}
 use Rattle.bundle.specs.Lease.{HostShown, is_unclaimed, lease_number, granted_want, ticket_want, is_same_want, is_valid_ticket}
 use Rattle.script_engine.specs.Meaning.{claimed_number}
@@ -43,11 +43,17 @@ none-held : {A : Type 0} (held : Option A) → is_some held ≡ false → held �
 none-held None e = refl
 none-held (Some c) e = cc
 
-pub accepted-free : (settings : LimitAndFirst) (log : List Entry) → IsSound settings log → (want : Want) → refusal settings log want ≡ None
+pub accepted-idle : (settings : LimitAndFirst) (log : List Entry) (want : Want) → refusal settings log [] want ≡ None → is_busy log [] want.transfer ≡ false
+accepted-idle settings log want e = not-busy (is_busy log [] want.transfer) (is_exhausted settings log 0) e
+
+pub idle-free : (settings : LimitAndFirst) (log : List Entry) → IsSound settings log → (t : ℕ) → is_busy log [] t ≡ false → (held_number log t ≡ None) × (waits log t ≡ false)
+idle-free settings log sound t e =
+    let free = neither (holds log t) (waits log t || false) e in
+    (none-held (held_number log t) (sym (holds_is settings log sound.orderly t) ∙ free.0), (neither (waits log t) false free.1).0)
+
+pub accepted-free : (settings : LimitAndFirst) (log : List Entry) → IsSound settings log → (want : Want) → refusal settings log [] want ≡ None
     → (held_number log want.transfer ≡ None) × (waits log want.transfer ≡ false)
-accepted-free settings log sound want e =
-    let free = neither (holds log want.transfer) (waits log want.transfer) (not-busy (is_busy log want.transfer) (is_exhausted settings log 0) e) in
-    (none-held (held_number log want.transfer) (sym (holds_is settings log sound.orderly want.transfer) ∙ free.0), free.1)
+accepted-free settings log sound want e = idle-free settings log sound want.transfer (accepted-idle settings log want e)
 
 -- who waits, by its want
 pub waits-want : (wants : List Want) (t : ℕ) → is_some (waiting_want wants t) ≡ list_any (λ (want : Want). want.transfer == t) wants
@@ -73,19 +79,6 @@ leased-held host t c e = by_claim (is_unclaimed host t) e
     by_claim : (unclaimed : Bool) → cond unclaimed None (held_number host.log t) ≡ Some c → held_number host.log t ≡ Some c
     by_claim true e' = cc
     by_claim false e' = e'
-
--- the last start of a transfer is its own
-pub last-start-own : (log : List Entry) (t : ℕ) (start : Start) → last_start log t ≡ Some start → start.want.transfer ≡ t
-last-start-own [] t start e = cc
-last-start-own (e ∷ before) t start is = by_start (start_by e.moment e.event) is (last-start-own before t start)
-  where
-    by_first : (first : Start) (own : Bool) → (first.want.transfer == t) ≡ own → cond own (Some first) (last_start before t) ≡ Some start → (last_start before t ≡ Some start → start.want.transfer ≡ t) → start.want.transfer ≡ t
-    by_first first true own is' rest = let same : first ≡ start = cc in ap (λ (s : Start). s.want.transfer) (sym same) ∙ eqb-true first.want.transfer t own
-    by_first first false own is' rest = rest is'
-
-    by_start : (first : Option Start) → start_of t first (last_start before t) ≡ Some start → (last_start before t ≡ Some start → start.want.transfer ≡ t) → start.want.transfer ≡ t
-    by_start None is' rest = rest is'
-    by_start (Some first) is' rest = by_first first (first.want.transfer == t) refl is' rest
 
 module _ {S : Type 0} (host : HostShown S) (sound : IsSound host.settings host.log) (t : ℕ) where
   free-unheld : (w : Want) → waiting_want (waiting host.log) t ≡ Some w → held_number host.log t ≡ None

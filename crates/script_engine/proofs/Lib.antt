@@ -1,6 +1,7 @@
 pub mod WholeLines
 pub mod EventLines
 pub mod Growth
+pub mod OneBudget
 pub mod Tickets
 pub mod Leases
 pub mod Answering

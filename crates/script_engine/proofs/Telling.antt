@@ -5,13 +5,13 @@ use Rattle.conn_log.specs.declared.entry.Want.{Want}
 use Rattle.conn_log.specs.declared.entry.Entry.{Entry}
 use Rattle.conn_log.specs.Connections.{is_among, held_number}
 use Rattle.conn_log.specs.Legal.{LimitAndFirst}
-use Rattle.bundle.specs.declared.refusal.Refusal.{Refusal}
-use Rattle.bundle.specs.declared.refusal.Refusal.TheVariants.{Memory, TransferBusy, Exhausted}
-use Rattle.bundle.specs.Calls.{refusal, after_acquire, after_give_back, after_abandon}
+use Rattle.budget.specs.declared.refusal.Refusal.{Refusal}
+use Rattle.budget.specs.declared.refusal.Refusal.TheVariants.{Memory, BadSite, TransferBusy, StrangeLease, StrangeTicket, Exhausted, Busy, PassesMissing, BadLimit}
+use Rattle.bundle.specs.Calls.{refusal, after_give_back, after_abandon}
 use Rattle.script_text.specs.Lines.{lines}
 use Rattle.script_text.specs.Printing.{refused}
 use Rattle.script_text.specs.Grammar.{reading}
-use Rattle.script_engine.specs.Meaning.{ScriptHost, Run, Answer, start, step, settings_of, facts_of_ending, refusal_word, claimed_number, replied, grown, get_at, get_unless, claim_at, claim_of, back_at, back_of, drop_at, drop_of, leave_at, after_leaving, look_at, stranger, at_host, at_no_host, answer_of, with_limits, add_site, with_url, with_action, are_good}
+use Rattle.script_engine.specs.Meaning.{ScriptHost, Run, Answer, start, step, settings_of, facts_of_ending, refusal_word, claimed_number, replied, grown, begun, get_at, get_unless, claim_at, claim_of, back_at, back_of, drop_at, drop_of, leave_at, after_leaving, look_at, stranger, at_host, at_no_host, answer_of, with_limits, add_site, with_url, with_action, are_good}
 use Rattle.conn_key.specs.declared.site.Site.{Site}
 use Rattle.conn_key.specs.Sites.{with_site}
 use Rattle.script_text.specs.Site.{site_named}
@@ -28,7 +28,7 @@ use Rattle.script_text.specs.declared.command.Ending.{Ending}
 use Rattle.script_text.specs.declared.fault.FaultKind.{FaultKind}
 use Rattle.script_text.specs.declared.fault.FaultKind.TheVariants.{Place, BadLimits, TooManySites, ScriptTooLong}
 use Rattle.script_engine.proofs.WholeLines.{lines-text_of}
-use Rattle.script_engine.proofs.Growth.{grows-acquire, grows-give_back, grows-abandon, grows-withdraw}
+use Rattle.script_engine.proofs.Growth.{grows-begun, grows-give_back, grows-abandon, grows-withdraw}
 use Rattle.script_engine.proofs.EventLines.{Tells, tells-nothing, tells-both, tells-refused, tells-grown, tells-look, tells-claimed, tells-still}
 
 abbrev TellsAnswer : List Entry → Answer → Type 0
@@ -46,15 +46,21 @@ tells-refusal : (host : ScriptHost) (reason : Refusal) → TellsAnswer host.log 
 tells-refusal host Memory = tells-refused host.log (codes "memory") refl
 tells-refusal host TransferBusy = tells-refused host.log (codes "busy") refl
 tells-refusal host Exhausted = tells-refused host.log (codes "exhausted") refl
+tells-refusal host BadSite = tells-refused host.log [] refl
+tells-refusal host StrangeLease = tells-refused host.log [] refl
+tells-refusal host StrangeTicket = tells-refused host.log [] refl
+tells-refusal host (Busy n) = tells-refused host.log [] refl
+tells-refusal host PassesMissing = tells-refused host.log [] refl
+tells-refusal host BadLimit = tells-refused host.log [] refl
 
 module _ (settings : LimitAndFirst) (host : ScriptHost) where
   tells-get : (want : Want) (moment : ℕ) → TellsAnswer host.log (get_at settings want moment host)
   unfolding get_at
-  tells-get want moment = by_refusal (refusal settings host.log want)
+  tells-get want moment = by_refusal (refusal settings host.log [] want)
     where
       by_refusal : (reason : Option Refusal) → TellsAnswer host.log (get_unless settings want moment host reason)
       by_refusal (Some r) = tells-refusal host r
-      by_refusal None = tells-grown host.log (after_acquire settings host.log want moment) (grows-acquire settings host.log want moment)
+      by_refusal None = tells-grown host.log (begun settings host.log want moment).log (grows-begun settings host.log want moment)
 
   tells-claim : (transfer : ℕ) → TellsAnswer host.log (claim_at transfer host)
   unfolding claim_at

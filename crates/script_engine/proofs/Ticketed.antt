@@ -1,28 +1,29 @@
 -- Each command leaves tickets to those that wait or have yet to claim, so the tickets after a script stand.
-use Rattle.std.proofs.Common.{◌≡◌, ℕ, Bool, true, false, cond, ◌||◌, ◌&&◌, List, [], ◌∷◌, Option, Some, None, Result, Ok, Err, is_some, refl, ap, sym, subst, inl, inr, ◌∙◌}
-use Rattle.std.specs.Prelude.{◌==◌, ◌⊎◌, nat_lt, if◌then◌else◌, length}
+use Rattle.std.proofs.Common.{◌≡◌, ℕ, Bool, true, false, cond, ◌||◌, ◌&&◌, List, [], ◌∷◌, Option, Some, None, Result, Ok, Err, is_some, refl, ap, sym, subst, ◌∙◌}
+use Rattle.std.specs.Prelude.{◌==◌, nat_lt, if◌then◌else◌, length}
 use Rattle.std.proofs.lemmas.Bool.{eqb-true}
 use Rattle.conn_log.specs.declared.entry.Want.{Want}
-use Rattle.conn_log.specs.declared.entry.Event.TheVariants.{Opened, Waited}
 use Rattle.conn_log.specs.declared.entry.Entry.{Entry}
 use Rattle.conn_log.specs.Connections.{is_among, held_number}
 use Rattle.conn_log.specs.Waiting.{waiting, waits}
-use Rattle.conn_log.specs.Fit.{newest_fit}
+use Rattle.conn_log.specs.declared.entry.Cause.TheVariants.{HostRoom}
+use Rattle.conn_log.specs.Fit.{newest_fit, oldest}
 use Rattle.conn_log.specs.Legal.{LimitAndFirst}
 use Rattle.conn_log.specs.Sound.{AreDistinct, IsSound}
-use Rattle.bundle.specs.declared.refusal.Refusal.{Refusal}
+use Rattle.budget.specs.declared.permits.Try.TheVariants.{Got}
+use Rattle.budget.specs.declared.refusal.Refusal.{Refusal}
 use Rattle.host_state.specs.declared.closing.Closing.TheVariants.{TooOld}
-use Rattle.host_state.specs.Steps.{moment_at, without_picked, with_host_room, is_full, next_number}
-use Rattle.bundle.specs.Calls.{refusal, after_acquire, start_on, start_unless, newest_start, Wait, newest_wait}
+use Rattle.host_state.specs.Steps.{moment_at, without_picked, is_full}
+use Rattle.bundle.specs.Calls.{refusal, Start, Reply, starts, waits_on, no_room, again, start_on, start_behind, start_in_place_of, start_opened}
 use Rattle.bundle.proofs.Told.{told, Told}
-use Rattle.bundle.proofs.Acquired.{begun, Starts, Waits}
+use Rattle.bundle.proofs.Acquired.{comes_to, ComesTo, Starts, Waits}
 use Rattle.conn_key.specs.declared.site.Site.{Site}
 use Rattle.conn_key.specs.Sites.{with_site}
 use Rattle.script_text.specs.Lines.{lines}
 use Rattle.script_text.specs.Grammar.{reading}
 use Rattle.script_text.specs.Site.{site_named}
 use Rattle.script_engine.specs.Meaning.{has_site, is_one_too_many}
-use Rattle.script_engine.specs.Meaning.{ScriptHost, Run, start, step, settings_of, facts_of_ending, with_ticket, without_ticket, claimed_number, tickets_with, replied, stranger, grown, get_at, get_unless, claim_at, claim_of, back_at, back_of, drop_at, drop_of, leave_at, after_leaving, look_at, at_host, at_no_host, with_limits, add_site, with_url, with_action, are_good}
+use Rattle.script_engine.specs.Meaning.{ScriptHost, Run, start, step, settings_of, facts_of_ending, with_ticket, without_ticket, claimed_number, tickets_with, replied, stranger, grown, begun, get_at, get_unless, claim_at, claim_of, back_at, back_of, drop_at, drop_of, leave_at, after_leaving, look_at, at_host, at_no_host, with_limits, add_site, with_url, with_action, are_good}
 use Rattle.script_engine.specs.Transcript.{line_step, line_step_of, LONGEST_SCRIPT}
 use Rattle.script_engine.specs.Law.{run_after, after_line, is_served, TicketsStand, EveryTicketStands}
 use Rattle.script_text.specs.declared.command.Limits.{Limits}
@@ -83,24 +84,24 @@ or-true : (b : Bool) → (b || true) ≡ true
 or-true true = refl
 or-true false = refl
 
-begins : (want : Want) (host : ScriptHost) (new : List Entry) → Starts want host.log new → Fits host → Fits (record host { log = new })
-begins want host new starts fits = record {
+begins : (want : Want) (first : Start) (host : ScriptHost) (new : List Entry) → Starts want first host.log new → Fits host → Fits (record host { log = new })
+begins want first host new begun' fits = record {
   stands = record { ticketed = λ u w. ticketed u (want.transfer == u) refl w; served = λ u among. served u (want.transfer == u) refl among };
   distinct = fits.distinct;
 }
   where
     unwaited : waits new want.transfer ≡ false
-    unwaited = sym (waits-want (waiting new) want.transfer) ∙ ap (λ (t : Told). is_some t.awaited) starts.mine
+    unwaited = sym (waits-want (waiting new) want.transfer) ∙ ap is_some begun'.awaited
 
     ticketed : (u : ℕ) (own : Bool) → (want.transfer == u) ≡ own → waits new u ≡ true → is_among u host.tickets ≡ true
     ticketed u true is w = absurd (no-both (waits new u) w (ap (waits new) (sym (eqb-true want.transfer u is)) ∙ unwaited))
-    ticketed u false is w = fits.stands.ticketed u (sym (told-waits host.log new u (starts.others u is)) ∙ w)
+    ticketed u false is w = fits.stands.ticketed u (sym (told-waits host.log new u (begun'.others u is)) ∙ w)
 
     served : (u : ℕ) (own : Bool) → (want.transfer == u) ≡ own → is_among u host.tickets ≡ true → is_served new u ≡ true
     served u true is among =
         subst (λ (k : ℕ). is_served new k ≡ true) (eqb-true want.transfer u is)
-        (ap (λ (t : Told). waits new want.transfer || is_some t.number) starts.mine ∙ or-true (waits new want.transfer))
-    served u false is among = told-served host.log new u (starts.others u is) ∙ fits.stands.served u among
+        (ap (λ (n : Option ℕ). waits new want.transfer || is_some n) begun'.number ∙ or-true (waits new want.transfer))
+    served u false is among = told-served host.log new u (begun'.others u is) ∙ fits.stands.served u among
 
 waits-there : (want : Want) (host : ScriptHost) (new : List Entry) → held_number host.log want.transfer ≡ None → waits host.log want.transfer ≡ false → Waits want host.log new → Fits host
     → Fits (record { log = new; tickets = with_ticket want.transfer host.tickets })
@@ -131,52 +132,55 @@ waits-there want host new free unwaiting begins_to fits = record {
     served u true is among = subst (λ (k : ℕ). is_served new k ≡ true) (eqb-true want.transfer u is) (ap (λ b. b || is_some (held_number new want.transfer)) waited)
     served u false is among = told-served host.log new u (begins_to.others u is) ∙ fits.stands.served u (sym (ap (λ b. b || is_among u host.tickets) is) ∙ among)
 
--- the newest entry of an acquire is a start or a wait
-abbrev IsEither : List Entry → Type 0
-IsEither log = newest_start log ≡ None → is_some (newest_wait log) ≡ true
+-- where the budget has room an acquire is a start or a wait
+abbrev IsBegun : Reply → Type 0
+IsBegun (starts s) = Unit {0}
+IsBegun (waits_on w) = Unit {0}
+IsBegun _ = ⊥
 
-either-on : (settings : LimitAndFirst) (want : Want) (moment : ℕ) (log : List Entry) (fit : Option ℕ) → IsEither (start_on settings want moment log fit)
-either-on settings want moment log None = by_room (is_full settings (with_host_room settings moment log))
+begins-in-place : (settings : LimitAndFirst) (want : Want) (moment : ℕ) (log : List Entry) (first : Option ℕ) → IsBegun (start_in_place_of first HostRoom settings want moment log).reply
+begins-in-place settings want moment log None = tt
+begins-in-place settings want moment log (Some c) = tt
+
+begins-on : (settings : LimitAndFirst) (want : Want) (moment : ℕ) (log : List Entry) (fit : Option ℕ) → IsBegun (start_on fit false Got settings want moment log).reply
+begins-on settings want moment log (Some c) = tt
+begins-on settings want moment log None = by_room (is_full settings log)
   where
-    room : List Entry
-    room = with_host_room settings moment log
+    by_room : (full : Bool) → IsBegun (cond full (start_in_place_of (oldest log) HostRoom settings want moment log) (start_opened settings want moment log)).reply
+    by_room true = begins-in-place settings want moment log (oldest log)
+    by_room false = tt
 
-    by_room : (full : Bool) → IsEither (cond full (record { moment = moment; event = Waited want } ∷ room) (record { moment = moment; event = Opened (next_number settings room) want } ∷ room))
-    by_room true = λ none. refl
-    by_room false = λ none. cc
-either-on settings want moment log (Some c) = λ none. cc
-
-either-start : (settings : LimitAndFirst) (log : List Entry) (want : Want) (now : ℕ) → IsEither (after_acquire settings log want now)
-either-start settings log want now = by_waiting (waiting log)
+begins-at-once : (settings : LimitAndFirst) (log : List Entry) (want : Want) (now : ℕ) → IsBegun (begun settings log want now).reply
+begins-at-once settings log want now = by_waiting (waiting log)
   where
     moment : ℕ
     moment = moment_at log now
 
-    by_waiting : (wants : List Want) → IsEither (start_unless wants settings want moment log)
-    by_waiting [] = let closed = without_picked (TooOld want) moment log in either-on settings want moment closed (newest_fit closed want moment)
-    by_waiting (head ∷ others) = λ none. refl
+    by_waiting : (wants : List Want) → IsBegun (start_behind wants false Got settings want moment log).reply
+    by_waiting [] = let closed = without_picked (TooOld want) moment log in begins-on settings want moment closed (newest_fit closed want moment)
+    by_waiting (head ∷ others) = tt
 
 module _ (settings : LimitAndFirst) (host : ScriptHost) (sound : IsSound settings host.log) (fits : Fits host) where
   fits_get : (want : Want) (moment : ℕ) → Fits (get_at settings want moment host).host
   unfolding get_at
-  fits_get want moment = by_refusal (refusal settings host.log want) refl
+  fits_get want moment = by_refusal (refusal settings host.log [] want) refl
     where
       new : List Entry
-      new = after_acquire settings host.log want moment
+      new = (begun settings host.log want moment).log
 
-      by_wait : (wait : Option Wait) → is_some wait ≡ true → Fits (record { log = new; tickets = with_ticket want.transfer host.tickets }) → Fits (record { log = new; tickets = tickets_with want.transfer host.tickets wait })
-      by_wait (Some wait) there fits_new = fits_new
-      by_wait None there fits_new = absurd (cc)
-
-      by_begin : refusal settings host.log want ≡ None → Starts want host.log new ⊎ Waits want host.log new → Fits (record { log = new; tickets = tickets_with want.transfer host.tickets (newest_wait new) })
-      by_begin is (inl starts) = subst (λ wait. Fits (record { log = new; tickets = tickets_with want.transfer host.tickets wait })) (sym starts.no_wait) (begins want host new starts fits)
-      by_begin is (inr begins_to) =
+      by_reply : refusal settings host.log [] want ≡ None → (reply : Reply) → IsBegun reply → ComesTo want host.log new reply → Fits (record { log = new; tickets = tickets_with want.transfer host.tickets reply })
+      by_reply is (starts s) begins_to comes = begins want s host new comes fits
+      by_reply is (waits_on w) begins_to comes =
           let free = accepted-free settings host.log sound want is in
-          by_wait (newest_wait new) (either-start settings host.log want moment begins_to.no_start) (waits-there want host new free.0 free.1 begins_to fits)
+          waits-there want host new free.0 free.1 comes fits
+      by_reply is no_room never comes = absurd never
+      by_reply is again never comes = absurd never
 
-      by_refusal : (reason : Option Refusal) → refusal settings host.log want ≡ reason → Fits (get_unless settings want moment host reason).host
+      by_refusal : (reason : Option Refusal) → refusal settings host.log [] want ≡ reason → Fits (get_unless settings want moment host reason).host
       by_refusal (Some r) is = fits
-      by_refusal None is = by_begin is (begun settings host.log want moment sound is)
+      by_refusal None is =
+          let free = accepted-free settings host.log sound want is in
+          by_reply is (begun settings host.log want moment).reply (begins-at-once settings host.log want moment) (comes_to false Got settings host.log want moment sound free.0 free.1)
 
   holder-unwaiting : (transfer c : ℕ) → held_number host.log transfer ≡ Some c → waits host.log transfer ≡ false
   holder-unwaiting transfer c held = by_waits (waits host.log transfer) refl
@@ -257,7 +261,7 @@ fits_command run site action None sound fits = tt
 fits_command run site action (Some limits) sound fits = by_test (has_site run.sites && (site == 0))
   where
     by_test : (here : Bool) → Fits (if here then at_host (settings_of limits) run.host action else replied run.host (at_no_host action)).host
-    by_test true = fits_at_host (settings_of limits) run.host sound.sound fits action
+    by_test true = fits_at_host (settings_of limits) run.host sound.kept.sound fits action
     by_test false = fits
 
 fits_limits : (run : Run) (limits : Limits) (old : Option Limits) → FitRun run → FitStep (with_limits run limits old)

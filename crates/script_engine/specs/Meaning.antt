@@ -8,9 +8,10 @@ use Rattle.conn_log.specs.declared.entry.Want.{Want}
 use Rattle.conn_log.specs.Legal.{LimitAndFirst}
 use Rattle.conn_log.specs.Connections.{is_among, open_connections, idle_connections, held_number}
 use Rattle.conn_log.specs.Waiting.{waiting}
-use Rattle.bundle.specs.declared.refusal.Refusal.{Refusal}
-use Rattle.bundle.specs.declared.refusal.Refusal.TheVariants.{Memory, TransferBusy, Exhausted}
-use Rattle.bundle.specs.Calls.{after_acquire, after_give_back, after_abandon, after_withdraw, refusal, Wait, newest_wait}
+use Rattle.budget.specs.declared.permits.Try.TheVariants.{Got}
+use Rattle.budget.specs.declared.refusal.Refusal.{Refusal}
+use Rattle.budget.specs.declared.refusal.Refusal.TheVariants.{Memory, TransferBusy, Exhausted}
+use Rattle.bundle.specs.Calls.{Acquired, Reply, waits_on, acquired, after_give_back, after_abandon, after_withdraw, refusal}
 use Rattle.conn_key.specs.declared.site.Site.{Site}
 use Rattle.conn_key.specs.Sites.{with_site, index_of}
 use Rattle.script_text.specs.Printing.{lines_since, refused, claimed_line, still_line, look_line}
@@ -78,26 +79,31 @@ replied host text = record { host = host; text = text }
 abbrev pub grown : ScriptHost → ScriptHost → Answer
 grown old new = record { host = new; text = lines_since old.log new.log }
 
--- why an acquire is refused, in a word
+-- why an acquire is refused, in a word; it is for no other reason
 abbrev pub refusal_word : Refusal → List ℕ
 refusal_word Memory = codes "memory"
 refusal_word TransferBusy = codes "busy"
 refusal_word Exhausted = codes "exhausted"
+refusal_word _ = []
+
+-- an acquire: all hosts have no limit, so there is room among them
+abbrev pub begun : LimitAndFirst → List Entry → Want → ℕ → Acquired
+begun settings log want now = acquired false Got settings log want now
 
 -- get: where the transfer waits it has a ticket
-abbrev pub tickets_with : ℕ → List ℕ → Option Wait → List ℕ
-tickets_with transfer tickets None = tickets
-tickets_with transfer tickets (Some wait) = with_ticket transfer tickets
+abbrev pub tickets_with : ℕ → List ℕ → Reply → List ℕ
+tickets_with transfer tickets (waits_on wait) = with_ticket transfer tickets
+tickets_with transfer tickets _ = tickets
 
-abbrev pub acquired : Want → ScriptHost → List Entry → Answer
-acquired want host new = grown host (record { log = new; tickets = tickets_with want.transfer host.tickets (newest_wait new) })
+abbrev pub got_by : Want → ScriptHost → Acquired → Answer
+got_by want host after = grown host (record { log = after.log; tickets = tickets_with want.transfer host.tickets after.reply })
 
 abbrev pub get_unless : LimitAndFirst → Want → ℕ → ScriptHost → Option Refusal → Answer
-get_unless settings want moment host None = acquired want host (after_acquire settings host.log want moment)
+get_unless settings want moment host None = got_by want host (begun settings host.log want moment)
 get_unless settings want moment host (Some r) = replied host (refused (refusal_word r))
 
 unfoldable pub get_at : LimitAndFirst → Want → ℕ → ScriptHost → Answer
-get_at settings want moment host = get_unless settings want moment host (refusal settings host.log want)
+get_at settings want moment host = get_unless settings want moment host (refusal settings host.log [] want)
 
 -- a stranger: back and drop need a lease, claim and leave a ticket
 abbrev pub stranger : ScriptHost → Answer

@@ -1,13 +1,15 @@
 //! The one host of a script: its bundle, and the leases and tickets that its transfers have.
 
-ghost use Rattle.std.specs.Prelude.{◌≡◌, IfOk, IfErr, string_bytes};
-ghost use Rattle.script_engine.specs.Meaning.{settings_of, new_host};
+ghost use Rattle.std.specs.Prelude.{◌≡◌, true, IfOk, IfErr, string_bytes};
+ghost use Rattle.script_engine.specs.Meaning.{settings_of, new_host, are_good};
 ghost use Rattle.script_engine.specs.Ending.{IsEnding};
 ghost use Rattle.script_engine.specs.Hosted.{Gives};
 ghost use Rattle.script_text.specs.declared.command.Action.TheVariants as actions;
 
 use crate::kept::{abandon, give_back, keep_lease, keep_ticket, spend_all, withdraw};
-use bundle::{Bundle, Claimed, Got, Lease, Refusal, Snapshot, Ticket};
+use crate::sole::{Begun, HOST, SoleHost};
+use budget::Refusal;
+use bundle::{Bundle, Claimed, Lease, Snapshot, Ticket};
 use conn_log::Want;
 use script_text::{
     Ending, FaultKind, Limits, LookLine, claimed, lines_since, reply, still_waiting,
@@ -16,16 +18,10 @@ use std::alloc::Global;
 use std::collections::BTreeMap;
 use std::marker::Model;
 
-/// The host's index.
-const HOST: u32 = 0;
-
-/// The number of its first connection.
-const FIRST: u32 = 1;
-
 /// The host's bundle, and the lease or ticket of each transfer that has one. No stream is behind a
 /// lease.
 pub struct OneHost {
-    bundle: Bundle<()>,
+    bundle: SoleHost,
     leases: BTreeMap<u64, Lease<()>>,
     tickets: BTreeMap<u64, Ticket>,
 }
@@ -49,15 +45,16 @@ impl Model for OneHost {
 }
 
 impl OneHost {
-    /// A host without connections.
+    /// A host without connections, where the limits can be kept.
     pub fn new(alloc: Global, limits: Limits) -> Result<OneHost, FaultKind>
+        requires { are_good limits ≡ true }
         ensures ok { IfOk result (λ h. h ≡ record {
           settings = settings_of limits;
           host = new_host;
         }) }
         ensures err { IfErr result (λ kind. kind ≡ FaultKind.Memory) }
     {
-        match Bundle::new(alloc, limits.host, HOST, FIRST) {
+        match SoleHost::new(alloc, limits.host, limits.kept) {
             Ok(bundle) => Ok(OneHost {
                 bundle,
                 leases: BTreeMap::new(alloc),
@@ -75,19 +72,20 @@ impl OneHost {
     {
         let place = self.bundle.log().len();
         match self.bundle.acquire(want, moment) {
-            Ok(Got::Lease(lease)) => {
+            Ok(Begun::Lease(lease)) => {
                 let text = lines_since(alloc, HOST, self.bundle.log(), place, want.transfer);
                 keep_lease(&mut self.bundle, &mut self.leases, lease)?;
                 text
             }
-            Ok(Got::Wait(ticket)) => {
+            Ok(Begun::Wait(ticket)) => {
                 let text = lines_since(alloc, HOST, self.bundle.log(), place, want.transfer);
                 keep_ticket(&mut self.bundle, &mut self.tickets, ticket)?;
                 text
             }
-            Err(Refusal::Memory) => Err(FaultKind::Memory),
             Err(Refusal::TransferBusy) => reply(alloc, "busy"),
             Err(Refusal::Exhausted) => reply(alloc, "exhausted"),
+            // It is for no other reason.
+            Err(_) => Err(FaultKind::Memory),
         }
     }
 
@@ -215,6 +213,6 @@ impl OneHost {
             tickets,
         } = self;
         spend_all(&mut bundle, leases, tickets);
-        bundle
+        bundle.into_bundle()
     }
 }

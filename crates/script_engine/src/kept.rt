@@ -15,13 +15,14 @@ ghost use Rattle.script_engine.specs.Hosted.{due_others, lease_facts, kept_host,
 ghost use Rattle.script_engine.specs.Hosted.{merged};
 
 use crate::facts::facts_of_ending;
-use bundle::{Bundle, Lease, Ticket};
+use crate::sole::SoleHost;
+use bundle::{Lease, Ticket};
 use script_text::{Ending, FaultKind};
 use std::alloc::AllocError;
 use std::collections::BTreeMap;
 
 /// Gives a lease back. A lease that is not the bundle's own is scrapped.
-pub fn give_back(bundle: &mut Bundle<()>, lease: Lease<()>, ending: Ending, moment: u64)
+pub fn give_back(bundle: &mut SoleHost, lease: Lease<()>, ending: Ending, moment: u64)
     requires { IsSome lease.stream }
     ensures log { is_held_by bundle.old.log lease.start.want.transfer lease.start.number ≡ true
         → bundle.new.log ≡ after_give_back bundle.old.settings bundle.old.log lease.start.number
@@ -36,7 +37,7 @@ pub fn give_back(bundle: &mut Bundle<()>, lease: Lease<()>, ending: Ending, mome
 }
 
 /// Abandons a lease. A lease that is not the bundle's own is scrapped.
-pub fn abandon(bundle: &mut Bundle<()>, lease: Lease<()>, moment: u64)
+pub fn abandon(bundle: &mut SoleHost, lease: Lease<()>, moment: u64)
     ensures log { is_held_by bundle.old.log lease.start.want.transfer lease.start.number ≡ true
         → bundle.new.log ≡ after_abandon bundle.old.settings bundle.old.log lease.start.number
         moment }
@@ -50,7 +51,7 @@ pub fn abandon(bundle: &mut Bundle<()>, lease: Lease<()>, moment: u64)
 }
 
 /// Withdraws a ticket. A ticket that is not the bundle's own is scrapped.
-pub fn withdraw(bundle: &mut Bundle<()>, ticket: Ticket, moment: u64)
+pub fn withdraw(bundle: &mut SoleHost, ticket: Ticket, moment: u64)
     ensures log { is_valid_ticket bundle.old ticket.wait.want ≡ true
         → bundle.new.log ≡ after_withdraw bundle.old.settings bundle.old.log
         ticket.wait.want.transfer moment }
@@ -77,7 +78,7 @@ fn with_stream(lease: Lease<()>) -> Lease<()>
 /// Keeps a lease for its transfer, with an empty stream. Where memory is short, it is abandoned at
 /// moment 0.
 pub fn keep_lease(
-    bundle: &mut Bundle<()>,
+    bundle: &mut SoleHost,
     leases: &mut BTreeMap<u64, Lease<()>>,
     lease: Lease<()>,
 ) -> Result<(), FaultKind>
@@ -111,7 +112,7 @@ pub fn keep_lease(
 
 /// Keeps a ticket for its transfer. Where memory is short, it is withdrawn at moment 0.
 pub fn keep_ticket(
-    bundle: &mut Bundle<()>,
+    bundle: &mut SoleHost,
     tickets: &mut BTreeMap<u64, Ticket>,
     ticket: Ticket,
 ) -> Result<(), FaultKind>
@@ -148,7 +149,7 @@ pub fn keep_ticket(
 
 /// Abandons the leases and withdraws the tickets, by transfer, at moment 0.
 pub fn spend_all(
-    bundle: &mut Bundle<()>,
+    bundle: &mut SoleHost,
     leases: BTreeMap<u64, Lease<()>>,
     tickets: BTreeMap<u64, Ticket>,
 )
@@ -173,7 +174,7 @@ pub fn spend_all(
 /// Spends the lease or the ticket of the first transfer that has one, at moment 0. Tells which
 /// transfer that is; `None` where none has one.
 fn spend_first(
-    bundle: &mut Bundle<()>,
+    bundle: &mut SoleHost,
     leases: &mut BTreeMap<u64, Lease<()>>,
     tickets: &mut BTreeMap<u64, Ticket>,
 ) -> Option<u64>

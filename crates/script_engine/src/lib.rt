@@ -8,6 +8,7 @@ mod kept;
 pub mod law;
 mod line;
 mod machine;
+mod sole;
 pub mod worked;
 
 pub use line::line_text;

@@ -48,10 +48,10 @@ pub struct Engine {
 }
 
 impl Model for Engine {
-    ghost use Rattle.std.specs.Prelude.{◌≡◌, None, false, ◌&&◌, if◌then◌else◌};
+    ghost use Rattle.std.specs.Prelude.{◌≡◌, None, true, false, ◌&&◌, if◌then◌else◌, IfSome};
     ghost use Rattle.std.specs.Option.{option_map, option_map_or};
     ghost use Rattle.script_engine.specs.Hosted.{Hosted};
-    ghost use Rattle.script_engine.specs.Meaning.{Run, new_host, settings_of, has_site};
+    ghost use Rattle.script_engine.specs.Meaning.{Run, new_host, settings_of, has_site, are_good};
 
     ghost Value = { Run };
 
@@ -64,7 +64,8 @@ impl Model for Engine {
 
     ghost invariant = { λ e. (option_map (λ (h : Hosted). h.settings) e.host
         ≡ (if e.has_begun && has_site e.sites then option_map settings_of e.limits else None))
-        × (e.limits ≡ None → e.has_begun ≡ false) };
+        × (e.limits ≡ None → e.has_begun ≡ false)
+        × IfSome e.limits (λ limits. are_good limits ≡ true) };
 }
 
 impl Machine for Engine {

@@ -3,6 +3,7 @@ use Rattle.std.specs.Ordering.{nat_cmp}
 use Rattle.std.specs.Map.{keys_of}
 use Rattle.std.specs.BTreeMap.{get, keys}
 use Rattle.conn_log.specs.declared.entry.Entry.{Entry}
+use Rattle.conn_log.specs.declared.entry.Want.{Want}
 use Rattle.conn_log.specs.Connections.{is_among, held_number}
 use Rattle.std.proofs.lemmas.Result.{err_from_is_err_and}
 use Rattle.bundle.specs.Calls.{after_abandon, after_withdraw}
@@ -12,7 +13,7 @@ use Rattle.script_text.specs.Printing.{claimed_line, still_line}
 use Rattle.script_engine.specs.Meaning.{replied, with_ticket, without_ticket}
 use Rattle.script_text.specs.declared.command.Action.TheVariants as actions
 use Rattle.script_engine.proofs.Tickets.{at-key, among-keys, keys-removed, put-back}
-use Rattle.script_engine.proofs.Leases.{itself, kept-valid, kept-removed, leased-held, last-start-own, ticket-no-lease, still-unheld}
+use Rattle.script_engine.proofs.Leases.{itself, kept-valid, kept-removed, leased-held, ticket-no-lease, still-unheld}
 use Rattle.script_engine.proofs.Answering.{gives-answer, claim-stranger, claim-still, claim-granted}
 use Rattle.script_engine.proofs.GivingUp.{gives-memory, claim-unleased, claim-unticketed}
 use Rattle.script_engine.proofs.Spending.{kept-ticket, ticketed, lease-awaits, lease-own, lease-no-ticket, claimed-kept}
@@ -35,7 +36,7 @@ keep_lease-requires-clause-own c =
     let lease = c.in-Ok-Lease.lease in
     let transfer = c.in-Some.ticket.wait.want.transfer in
     let gets : GetsLease host new transfer lease.start.number = rw c.in-Ok-Lease.field-0-is at c.in-Ok-Lease.ensures.gets_lease in
-    let own : lease.start.want.transfer ≡ transfer = last-start-own host.log transfer lease.start (rw c.in-Ok-Lease.field-0-is at c.in-Ok-Lease.ensures.lease).1 in
+    let own : lease.start.want.transfer ≡ transfer = ap (λ (w : Want). w.transfer) (rw c.in-Ok-Lease.field-0-is at c.in-Ok-Lease.ensures.want) in
     subst (λ (t : ℕ). lease_number new t ≡ Some lease.start.number) (sym own) (lease-own host new transfer lease.start.number gets)
 
 pub keep_lease-requires-clause-spent : goal.keep_lease-requires-clause-spent
@@ -45,7 +46,7 @@ keep_lease-requires-clause-spent c =
     let lease = c.in-Ok-Lease.lease in
     let transfer = c.in-Some.ticket.wait.want.transfer in
     let gets : GetsLease host new transfer lease.start.number = rw c.in-Ok-Lease.field-0-is at c.in-Ok-Lease.ensures.gets_lease in
-    let own : lease.start.want.transfer ≡ transfer = last-start-own host.log transfer lease.start (rw c.in-Ok-Lease.field-0-is at c.in-Ok-Lease.ensures.lease).1 in
+    let own : lease.start.want.transfer ≡ transfer = ap (λ (w : Want). w.transfer) (rw c.in-Ok-Lease.field-0-is at c.in-Ok-Lease.ensures.want) in
     subst (λ (t : ℕ). ticket_want new t ≡ None) (sym own) (lease-no-ticket host new transfer lease.start.number gets)
 
 pub keep_lease-requires-clause-others : goal.keep_lease-requires-clause-others
@@ -57,7 +58,7 @@ keep_lease-requires-clause-others c =
     let kept = kept-ticket host c.log-log.ensures.sound c.self.inside.tickets.entries c.args.transfer c.in-Some.ticket c.self.invariant.1.tickets (sym c.in-Some.is ∙ c.remove.ensures.value) in
     let none : lease_number host want.transfer ≡ None = ap (lease_number host) kept.1 ∙ ticket-no-lease host c.log-log.ensures.sound c.args.transfer want kept.0 in
     let gets : GetsLease host new want.transfer lease.start.number = rw c.in-Ok-Lease.field-0-is at c.in-Ok-Lease.ensures.gets_lease in
-    let own : lease.start.want.transfer ≡ want.transfer = last-start-own host.log want.transfer lease.start (rw c.in-Ok-Lease.field-0-is at c.in-Ok-Lease.ensures.lease).1 in
+    let own : lease.start.want.transfer ≡ want.transfer = ap (λ (w : Want). w.transfer) (rw c.in-Ok-Lease.field-0-is at c.in-Ok-Lease.ensures.want) in
     subst (λ (t : ℕ). KeepsLeases (due_others t (leases_of new)) (get nat_cmp c.self.inside.leases)) (sym own)
     (lease-awaits host new want.transfer lease.start.number (get nat_cmp c.self.inside.leases) c.self.invariant.1.leases none gets)
 
