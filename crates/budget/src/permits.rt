@@ -23,9 +23,9 @@ pub struct Held {
 /// One host's part of a budget: what asks for permits, and gives them back.
 ///
 /// Ghost members say what contracts may know of it. `opening` and `keeping` relate an earlier time,
-/// a later one and an answer. `Full`: in between the budget was asked and answered so, and this part
-/// has left the number since. `Contended`: it was asked and answered so at least once. `Got` tells
-/// nothing. What each tells of the number is the budget's to say.
+/// a later one and an answer. `Full`: in between the budget was asked and answered so, and this
+/// part has left the number since. `Contended`: it was asked and answered so at least once. `Got`
+/// tells nothing. What each tells of the number is the budget's to say.
 pub trait Permits {
     ghost use Rattle.budget.specs.declared.permits.Held.{Held};
     ghost use Rattle.budget.specs.declared.permits.Try.{Try};

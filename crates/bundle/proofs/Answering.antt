@@ -21,12 +21,12 @@ use Rattle.host_state.specs.declared.held.Held.{Held}
 use Rattle.bundle.specs.declared.answers.Got.{Got}
 use Rattle.bundle.specs.declared.answers.Got.TheVariants.{Lease, Wait, NoRoom, Again}
 use Rattle.host_state.specs.Steps.{add, next_number}
-use Rattle.bundle.specs.Calls.{start_new, open_for, unfit_cause, pass_to}
+use Rattle.bundle.specs.Calls.{start_new, open_for, unfit_cause, grant_to}
 use Rattle.host_state.specs.Idle.{stream_of}
 use Rattle.bundle.specs.Laws.{IsSoundAndQuiet}
 use Rattle.host_state.specs.Queue.{waiting_want}
 use Rattle.bundle.specs.Lease.{HostShown, Leasing, Ticketed, granted_want, is_same_want, GetsLease, GetsTicket, Spends}
-use Rattle.bundle.specs.Grants.{grant_of, without_grant, grant_starts, grant_transfers, with_stream, grant_streams, GrantsKept, with_new, with_passed, IsAlone}
+use Rattle.bundle.specs.Grants.{grant_of, without_grant, grant_starts, grant_transfers, with_stream, grant_streams, GrantsKept, with_new, with_granted, IsAlone}
 use Rattle.bundle.specs.Replies.{GivesLease, GivesTicket}
 use Rattle.host_state.specs.State.{HostState, ComesBack, facts_of_held}
 use Rattle.bundle.proofs.KeptSound.{held_want, only_idle}
@@ -302,23 +302,23 @@ module _ {S : Type 0} where
   with_new_streams settings m log [] grants d = refl
   with_new_streams settings m log (head ∷ others) grants d = pushed_none grants (record { want = head; number = next_number settings log; moment = m; stream = None }) d refl
 
-  pub with_passed_streams : (settings : LimitAndFirst) (c m : ℕ) (stream : Option S) (log : List Entry) (wants : List Want) (grants : List (Grant S)) (d : ℕ) → (c == d) ≡ false → stream_of (grant_streams (with_passed settings c m stream log wants grants)) d ≡ stream_of (grant_streams grants) d
-  with_passed_streams settings c m stream log [] grants d other = refl
-  with_passed_streams settings c m stream log (head ∷ others) grants d other = by_fit (is_fit log head m c)
+  pub with_granted_streams : (settings : LimitAndFirst) (c m : ℕ) (stream : Option S) (log : List Entry) (wants : List Want) (grants : List (Grant S)) (d : ℕ) → (c == d) ≡ false → stream_of (grant_streams (with_granted settings c m stream log wants grants)) d ≡ stream_of (grant_streams grants) d
+  with_granted_streams settings c m stream log [] grants d other = refl
+  with_granted_streams settings c m stream log (head ∷ others) grants d other = by_fit (is_fit log head m c)
     where
       by_fit : (fits : Bool) → stream_of (grant_streams (if fits then grants ++ record { want = head; number = c; moment = m; stream = stream } ∷ [] else with_new settings m log (head ∷ others) grants)) d ≡ stream_of (grant_streams grants) d
       by_fit true = stream_of-push grants (record { want = head; number = c; moment = m; stream = stream }) d other
       by_fit false = with_new_streams settings m log (head ∷ others) grants d
 
   -- the stream of the connection that came back, where it stays open
-  pub passed_stream : (settings : LimitAndFirst) (c m : ℕ) (log : List Entry) (grants : List (Grant S)) (stream : S) (xs ys : List (ℕ × S)) → stream_of (grant_streams grants) c ≡ None → stream_of xs c ≡ Some stream → (waiting log ≡ [] → ys ≡ xs) → is_open (pass_to settings c m log (waiting log)) c ≡ true → stream_of (grant_streams (with_passed settings c m (stream_of xs c) log (waiting log) grants) ++ ys) c ≡ Some stream
+  pub passed_stream : (settings : LimitAndFirst) (c m : ℕ) (log : List Entry) (grants : List (Grant S)) (stream : S) (xs ys : List (ℕ × S)) → stream_of (grant_streams grants) c ≡ None → stream_of xs c ≡ Some stream → (waiting log ≡ [] → ys ≡ xs) → is_open (grant_to settings c m log (waiting log)) c ≡ true → stream_of (grant_streams (with_granted settings c m (stream_of xs c) log (waiting log) grants) ++ ys) c ≡ Some stream
   passed_stream settings c m log grants stream xs ys none kept_is nobody = by_queue (waiting log) nobody
     where
       by_fit : (head : Want) (others : List Want) (fits : Bool) → is_open (if fits then add m (Leased c head) log else start_new settings head m (add m (Closed c (unfit_cause settings log head m c)) log)) c ≡ true → stream_of (grant_streams (if fits then grants ++ record { want = head; number = c; moment = m; stream = stream_of xs c } ∷ [] else with_new settings m log (head ∷ others) grants) ++ ys) c ≡ Some stream
       by_fit head others true still = front_first (grant_streams (grants ++ record { want = head; number = c; moment = m; stream = stream_of xs c } ∷ [])) ys c stream (stream_of-pushed grants (record { want = head; number = c; moment = m; stream = stream_of xs c }) none ∙ kept_is)
       by_fit head others false still = absurd (false≢true (sym (closed_not_open settings m c (unfit_cause settings log head m c) log (head ∷ others)) ∙ still))
 
-      by_queue : (wants : List Want) → (wants ≡ [] → ys ≡ xs) → is_open (pass_to settings c m log wants) c ≡ true → stream_of (grant_streams (with_passed settings c m (stream_of xs c) log wants grants) ++ ys) c ≡ Some stream
+      by_queue : (wants : List Want) → (wants ≡ [] → ys ≡ xs) → is_open (grant_to settings c m log wants) c ≡ true → stream_of (grant_streams (with_granted settings c m (stream_of xs c) log wants grants) ++ ys) c ≡ Some stream
       by_queue [] same still = behind_only (grant_streams grants) ys c none ∙ ap (λ zs. stream_of zs c) (same refl) ∙ kept_is
       by_queue (head ∷ others) same still = by_fit head others (is_fit log head m c) still
 

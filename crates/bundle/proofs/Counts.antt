@@ -23,10 +23,10 @@ use Rattle.conn_log.proofs.Firsts.{first_among}
 use Rattle.conn_log.proofs.Soundness.{and_left, next_free, next_is_new, sound_return, sound_end, sound_drop, sound_close, sound_limit, idle_may_close}
 use Rattle.host_state.specs.declared.closing.Closing.TheVariants.{TooOld, Pruned, Above}
 use Rattle.host_state.specs.Steps.{moment_at, add, close_each, cause_of, picked, without_picked, is_full, next_number}
-use Rattle.bundle.specs.Calls.{Returning, spent, not_kept, keep_again, start_new, start_in_place_of, start_in_place, start_as_told, start_on, start, start_behind, acquired, open_for, open_for_head, open_for_first, unfit_cause, pass_to, settle, returned, after_give_back, is_anyone, rests, keep_as_told, given_back, after_close, after_abandon, close_granted, after_withdraw, after_turn, after_limit, kept_limit, limit_refusal, startable, is_queued, is_freed}
+use Rattle.bundle.specs.Calls.{Returning, spent, not_kept, keep_again, start_new, start_in_place_of, start_in_place, start_as_told, start_on, start, start_behind, acquired, open_for, open_for_head, open_for_first, unfit_cause, grant_to, settle, returned, after_give_back, is_anyone, becomes_idle, keep_as_told, given_back, after_close, after_abandon, close_granted, after_withdraw, after_turn, after_limit, kept_limit, limit_refusal, starts_due, is_queued, is_freed}
 use Rattle.bundle.specs.Laws.{IsSoundAndQuiet}
 use Rattle.bundle.specs.Effects.{open_len, idle_len, Closes, OpensForHead, Starts, Waits, Leaves, SpendsOne, ChangesLimit, tidied, asks_for_one, is_got, DoesAs}
-use Rattle.bundle.proofs.KeptSound.{later, someone, head_is_next, head_open, head_idle, AreIdle, passing_idle, HasClosedIdle, closes_idle, still_none_idle, settled_by, AfterClosing, after_closing, newest_is_fit, held_want, gone_room, not_full_after, still_free, opened_for_head, after_head, back_is_idle, unfit_is_of_idle, stays_persistent, rests_as_returned, kept_acquired, kept_give_back, kept_unkept, kept_close, kept_withdraw, kept_turn, kept_evict, kept_prune, closes_pruned, closes_above, picked_above, limit_allows, kept_new_limit}
+use Rattle.bundle.proofs.KeptSound.{later, someone, head_is_next, head_open, head_idle, AreIdle, passing_idle, HasClosedIdle, closes_idle, still_none_idle, settled_by, AfterClosing, after_closing, newest_is_fit, held_want, gone_room, not_full_after, still_free, opened_for_head, after_head, back_is_idle, unfit_is_of_idle, stays_persistent, idle_as_returned, kept_acquired, kept_give_back, kept_unkept, kept_close, kept_withdraw, kept_turn, kept_evict, kept_prune, closes_pruned, closes_above, picked_above, limit_allows, kept_new_limit}
 
 -- closing idle ones
 closes_is : (settings : LimitAndFirst) (moment n : ℕ) (log after : List Entry) → HasClosedIdle settings moment n log after → IsSoundAndQuiet settings after → Closes n settings log after
@@ -202,14 +202,14 @@ module _ (settings : LimitAndFirst) (log : List Entry) (sound : IsSound settings
       }
 
 -- what was held is given back
-give_back_spends : (settings : LimitAndFirst) (log : List Entry) (transfer c : ℕ) (facts : Facts) (now : ℕ) → IsSoundAndQuiet settings log → held_number log transfer ≡ Some c → SpendsOne (rests log c facts now) settings log (after_give_back settings log c facts now)
+give_back_spends : (settings : LimitAndFirst) (log : List Entry) (transfer c : ℕ) (facts : Facts) (now : ℕ) → IsSoundAndQuiet settings log → held_number log transfer ≡ Some c → SpendsOne (becomes_idle log c facts now) settings log (after_give_back settings log c facts now)
 give_back_spends settings log transfer c facts now kept held =
     let m = moment_at log now in
     let w = held_want settings log kept.sound transfer c held in
     let settled = kept_give_back settings log transfer c facts now kept held in
     rw w.1 (by_end m w.0 w.1 (later log now) (ends_use facts w.0) refl (rw w.1 at settled))
   where
-    by_queue : (m : ℕ) (w : Want) → holder_want log c ≡ Some w → last_moment log ≤ m → ends_use facts w ≡ false → (wants : List Want) → waiting log ≡ wants → IsSoundAndQuiet settings (pass_to settings c m (add m (Returned c facts) log) wants) → SpendsOne (not (is_anyone wants)) settings log (pass_to settings c m (add m (Returned c facts) log) wants)
+    by_queue : (m : ℕ) (w : Want) → holder_want log c ≡ Some w → last_moment log ≤ m → ends_use facts w ≡ false → (wants : List Want) → waiting log ≡ wants → IsSoundAndQuiet settings (grant_to settings c m (add m (Returned c facts) log) wants) → SpendsOne (not (is_anyone wants)) settings log (grant_to settings c m (add m (Returned c facts) log) wants)
     by_queue m w is le stays [] nobody settled =
         let more = more_idle settings log kept.sound.orderly m c facts (stays_persistent (is_persistent facts) w.forbid_reuse stays) (kept.sound.orderly.held_open c (ap is_some is)) (ap is_some is) in
         spends_kept settings log (add m (Returned c facts) log) refl more nobody nobody settled
@@ -240,16 +240,16 @@ log_of other (spent log) = log
 log_of other not_kept = other
 log_of other keep_again = other
 
-pub given_back_spends : (close_if_full : Bool) (told : Try) (settings : LimitAndFirst) (log after : List Entry) (transfer c : ℕ) (facts : Facts) (now : ℕ) → IsSoundAndQuiet settings log → held_number log transfer ≡ Some c → given_back close_if_full told settings log c facts now ≡ spent after → SpendsOne (rests log c facts now && is_got told) settings log after
-given_back_spends close_if_full told settings log after transfer c facts now kept held is = by_rest (rests log c facts now) refl is
+pub given_back_spends : (close_if_full : Bool) (told : Try) (settings : LimitAndFirst) (log after : List Entry) (transfer c : ℕ) (facts : Facts) (now : ℕ) → IsSoundAndQuiet settings log → held_number log transfer ≡ Some c → given_back close_if_full told settings log c facts now ≡ spent after → SpendsOne (becomes_idle log c facts now && is_got told) settings log after
+given_back_spends close_if_full told settings log after transfer c facts now kept held is = by_rest (becomes_idle log c facts now) refl is
   where
-    spends : (idle : Bool) → rests log c facts now ≡ idle → SpendsOne idle settings log (after_give_back settings log c facts now)
+    spends : (idle : Bool) → becomes_idle log c facts now ≡ idle → SpendsOne idle settings log (after_give_back settings log c facts now)
     spends idle is = subst (λ (b : Bool). SpendsOne b settings log (after_give_back settings log c facts now)) is (give_back_spends settings log transfer c facts now kept held)
 
-    rested : rests log c facts now ≡ true → SpendsOne true settings log (returned log c facts now)
-    rested idle = subst (SpendsOne true settings log) (rests_as_returned settings log c facts now idle) (spends true idle)
+    rested : becomes_idle log c facts now ≡ true → SpendsOne true settings log (returned log c facts now)
+    rested idle = subst (SpendsOne true settings log) (idle_as_returned settings log c facts now idle) (spends true idle)
 
-    by_told : rests log c facts now ≡ true → (close_if_full : Bool) (told : Try) → keep_as_told close_if_full told c (moment_at log now) (returned log c facts now) ≡ spent after → SpendsOne (is_got told) settings log after
+    by_told : becomes_idle log c facts now ≡ true → (close_if_full : Bool) (told : Try) → keep_as_told close_if_full told c (moment_at log now) (returned log c facts now) ≡ spent after → SpendsOne (is_got told) settings log after
     by_told idle close_if_full Got is = subst (SpendsOne true settings log) (ap (log_of log) is) (rested idle)
     by_told idle close_if_full Contended is = absurd (cc)
     by_told idle true Full is =
@@ -259,7 +259,7 @@ given_back_spends close_if_full told settings log after transfer c facts now kep
         subst (SpendsOne false settings log) (ap (log_of log) is) (unkept_spends settings log c m facts now (rested idle) idle_now (kept_unkept settings log transfer c facts now kept held idle))
     by_told idle false Full is = absurd (cc)
 
-    by_rest : (idle : Bool) → rests log c facts now ≡ idle → (if idle then keep_as_told close_if_full told c (moment_at log now) (returned log c facts now) else spent (after_give_back settings log c facts now)) ≡ spent after → SpendsOne (idle && is_got told) settings log after
+    by_rest : (idle : Bool) → becomes_idle log c facts now ≡ idle → (if idle then keep_as_told close_if_full told c (moment_at log now) (returned log c facts now) else spent (after_give_back settings log c facts now)) ≡ spent after → SpendsOne (idle && is_got told) settings log after
     by_rest true idle is = by_told idle close_if_full told is
     by_rest false ends is = subst (SpendsOne false settings log) (ap (log_of log) is) (spends false ends)
 
@@ -384,11 +384,11 @@ opens_for_first (suc n) settings moment log kept le room there =
       limit = rest.limit ∙ after.limit;
     }
 
-startable_within : (queued : Bool) (waiting_len room given : ℕ) → given ≤ (if queued then 0 else min waiting_len room) → (given ≤ waiting_len) × (given ≤ room)
-startable_within true waiting_len room given within = (omega (arith, within), omega (arith, within))
-startable_within false waiting_len room given within = (omega (arith, within), omega (arith, within))
+starts_due_within : (queued : Bool) (waiting_len room given : ℕ) → given ≤ (if queued then 0 else min waiting_len room) → (given ≤ waiting_len) × (given ≤ room)
+starts_due_within true waiting_len room given within = (omega (arith, within), omega (arith, within))
+starts_due_within false waiting_len room given within = (omega (arith, within), omega (arith, within))
 
-pub limit_changes : (settings : LimitAndFirst) (log : List Entry) (n given now : ℕ) → IsSoundAndQuiet settings log → limit_refusal n log ≡ None → given ≤ startable (is_queued settings log) (kept_limit n) log → ChangesLimit (kept_limit n) (open_len log - kept_limit n) given settings log (after_limit (kept_limit n) given settings log now)
+pub limit_changes : (settings : LimitAndFirst) (log : List Entry) (n given now : ℕ) → IsSoundAndQuiet settings log → limit_refusal n log ≡ None → given ≤ starts_due (is_queued settings log) (kept_limit n) log → ChangesLimit (kept_limit n) (open_len log - kept_limit n) given settings log (after_limit (kept_limit n) given settings log now)
 limit_changes settings log n given now kept allowed within =
     let m = moment_at log now in
     let most = kept_limit n in
@@ -396,7 +396,7 @@ limit_changes settings log n given now kept allowed within =
     let limited = add m (Limit most) young in
     let closed = closes_above settings log most now kept.sound in
     let so_many = picked_above log most m (limit_allows n log allowed) in
-    let fits = startable_within (is_queued settings log) (length (waiting log)) (most - length (open_connections log)) given within in
+    let fits = starts_due_within (is_queued settings log) (length (waiting log)) (most - length (open_connections log)) given within in
     let sound = sound_limit settings young closed.sound m closed.later most (omega (arith, closed.open_fewer, so_many)) in
     let quiet = settled_by settings limited sound (still_none_idle settings _ _ log young closed kept.quiet.none_idle) in
     let first = opens_for_first given settings m limited quiet (omega arith) (omega (arith, closed.open_fewer, so_many, fits.1)) (omega (arith, fits.0, ap length closed.waiting)) in

@@ -6,7 +6,7 @@ use Rattle.budget.specs.Plain.{Plain, held_at_host, KeepsOtherHosts}
 use Rattle.budget.specs.Lobby.{Queue}
 use Rattle.bundle.specs.Calls.{is_queued}
 use Rattle.bundle.specs.Lease.{HostShown, StaysThere, held_by}
-use Rattle.bundle.specs.Lobbies.{Lists, IsMarked, HadTurn, IsTurned}
+use Rattle.bundle.specs.Lobbies.{Lists, IsMarked, HadTurn, IsServed}
 use Rattle.bundle.specs.declared.answers.Served.{Served}
 use Rattle.bundle.specs.declared.answers.Served.TheVariants.{Given, Full, Contended}
 use Rattle.bundle.proofs.OtherHosts.{lists_other, lists_other_after_turn}
@@ -54,7 +54,7 @@ is_given Full = false
 is_given Contended = false
 
 -- and as a turn leaves it
-pub after_turned : {S : Type 0} (result : Served) (old new other : HostShown S) (before start end : Plain) (entry exit index : ℕ) (was now : Queue) → Tells old other before was → index ≡ old.host → start ≡ before → entry ≡ index → exit ≡ entry → KeepsOtherHosts entry start end → held_at_host end.hosts exit ≡ held_by new.log → StaysThere old new → IsTurned old.host result (is_queued new.settings new.log) was now → ((result ≡ Given → ⊥) → new ≡ old) → Tells new other end now
+pub after_turned : {S : Type 0} (result : Served) (old new other : HostShown S) (before start end : Plain) (entry exit index : ℕ) (was now : Queue) → Tells old other before was → index ≡ old.host → start ≡ before → entry ≡ index → exit ≡ entry → KeepsOtherHosts entry start end → held_at_host end.hosts exit ≡ held_by new.log → StaysThere old new → IsServed old.host result (is_queued new.settings new.log) was now → ((result ≡ Given → ⊥) → new ≡ old) → Tells new other end now
 unfolding is_given
 after_turned Given old new other before start end entry exit index was now tells found begins at stays keeps part same turned unchanged =
     after_call old new other before start end entry exit index was now tells found begins at stays keeps part same turned.lists (lists_other_after_turn old.host other.host _ _ was now (differ old.host other.host tells.two) turned tells.lists_other)

@@ -17,7 +17,7 @@ use Rattle.conn_log.specs.Legal.{LimitAndFirst, owed}
 use Rattle.host_state.specs.declared.closing.Closing.{Closing}
 use Rattle.host_state.specs.declared.closing.Closing.TheVariants.{TooOld, Pruned, Above}
 use Rattle.host_state.specs.Steps.{add, moment_at, close_each, cause_of, picked, without_picked, is_full}
-use Rattle.bundle.specs.Calls.{Returning, spent, start_new, start_in_place_of, start_in_place, start_as_told, start_on, start_behind, acquired, open_for, open_for_head, open_for_first, unfit_cause, pass_to, settle, returned, after_give_back, rests, keep_as_told, given_back, after_close, after_abandon, close_granted, after_withdraw, after_turn, after_limit, GrowsBy}
+use Rattle.bundle.specs.Calls.{Returning, spent, start_new, start_in_place_of, start_in_place, start_as_told, start_on, start_behind, acquired, open_for, open_for_head, open_for_first, unfit_cause, grant_to, settle, returned, after_give_back, becomes_idle, keep_as_told, given_back, after_close, after_abandon, close_granted, after_withdraw, after_turn, after_limit, GrowsBy}
 
 pub grows_same : (log : List Entry) → GrowsBy log log
 grows_same log = ([], refl)
@@ -64,7 +64,7 @@ module _ (settings : LimitAndFirst) (moment : ℕ) (old : List Entry) where
   grows_for_first zero log grew = grew
   grows_for_first (suc n) log grew = grows_for_first n (open_for_head settings moment log) (grows_for log grew (waiting log))
 
-  grows_passed : (c : ℕ) (log : List Entry) → GrowsBy old log → (wants : List Want) → GrowsBy old (pass_to settings c moment log wants)
+  grows_passed : (c : ℕ) (log : List Entry) → GrowsBy old log → (wants : List Want) → GrowsBy old (grant_to settings c moment log wants)
   grows_passed c log grew [] = grew
   grows_passed c log grew (head ∷ others) =
       let closed = add moment (Closed c (unfit_cause settings log head moment c)) log in
@@ -102,7 +102,7 @@ GrowsWhereSpent old (spent log) = GrowsBy old log
 GrowsWhereSpent old _ = Unit {0}
 
 pub grows_given_back : (close_if_full : Bool) (told : Try) (settings : LimitAndFirst) (log after : List Entry) (c : ℕ) (facts : Facts) (now : ℕ) → given_back close_if_full told settings log c facts now ≡ spent after → GrowsBy log after
-grows_given_back close_if_full told settings log after c facts now is = subst (GrowsWhereSpent log) is (by_rest (rests log c facts now))
+grows_given_back close_if_full told settings log after c facts now is = subst (GrowsWhereSpent log) is (by_rest (becomes_idle log c facts now))
   where
     by_told : (close_if_full : Bool) (told : Try) → GrowsWhereSpent log (keep_as_told close_if_full told c (moment_at log now) (returned log c facts now))
     by_told close_if_full Got = grows_returned log c facts now

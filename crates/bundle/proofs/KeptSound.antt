@@ -31,7 +31,7 @@ use Rattle.conn_log.proofs.Firsts.{first_among}
 use Rattle.conn_log.proofs.Soundness.{and_left, and_right, holds_is, next_free, next_is_new, sound_open, sound_lease, sound_return, sound_end, sound_drop, sound_wait, sound_leave, sound_limit, sound_close, idle_may_close}
 use Rattle.host_state.specs.declared.closing.Closing.TheVariants.{TooOld, Pruned, Above}
 use Rattle.host_state.specs.Steps.{moment_at, add, close_each, picked, without_picked, is_full, next_number}
-use Rattle.bundle.specs.Calls.{Returning, spent, not_kept, keep_again, start_new, start_in_place_of, start_in_place, start_as_told, start_on, start, start_behind, acquired, open_for, open_for_head, open_for_first, unfit_cause, pass_to, settle, returned, after_give_back, is_anyone, rests, keep_as_told, given_back, after_close, after_abandon, close_granted, after_withdraw, after_turn, after_limit, kept_limit as limit_kept, greatest_limit, leased_len, limit_refusal, startable, is_queued}
+use Rattle.bundle.specs.Calls.{Returning, spent, not_kept, keep_again, start_new, start_in_place_of, start_in_place, start_as_told, start_on, start, start_behind, acquired, open_for, open_for_head, open_for_first, unfit_cause, grant_to, settle, returned, after_give_back, is_anyone, becomes_idle, keep_as_told, given_back, after_close, after_abandon, close_granted, after_withdraw, after_turn, after_limit, kept_limit as limit_kept, greatest_limit, leased_len, limit_refusal, starts_due, is_queued}
 use Rattle.bundle.specs.Laws.{IsSoundAndQuiet}
 
 -- the moment of a call is not below the last one
@@ -408,7 +408,7 @@ kept_give_back settings log transfer c facts now kept held =
     let w = held_want settings log kept.sound transfer c held in
     rw w.1 (by_end m w.0 w.1 (later log now) (ends_use facts w.0) refl)
   where
-    by_queue : (m : ℕ) (w : Want) → holder_want log c ≡ Some w → last_moment log ≤ m → ends_use facts w ≡ false → (wants : List Want) → waiting log ≡ wants → IsSoundAndQuiet settings (pass_to settings c m (add m (Returned c facts) log) wants)
+    by_queue : (m : ℕ) (w : Want) → holder_want log c ≡ Some w → last_moment log ≤ m → ends_use facts w ≡ false → (wants : List Want) → waiting log ≡ wants → IsSoundAndQuiet settings (grant_to settings c m (add m (Returned c facts) log) wants)
     by_queue m w is le stays [] nobody = nobody_after settings (add m (Returned c facts) log) (sound_return settings log kept.sound m le c facts w is stays) nobody
     by_queue m w is le stays (head ∷ others) queue =
         let alone = only_idle settings log kept c (ap is_some is) m facts (someone log head others queue) (stays_persistent (is_persistent facts) w.forbid_reuse stays) in
@@ -419,37 +419,37 @@ kept_give_back settings log transfer c facts now kept held =
     by_end m w is le false stays = by_queue m w is le stays (waiting log) refl
 
 -- what came back is to be idle: its use does not end, and nobody waits
-pub rests_unowed : (log : List Entry) (c : ℕ) (facts : Facts) (now : ℕ) → rests log c facts now ≡ true → owed (returned log c facts now) ≡ None
-rests_unowed log c facts now idle = nothing (owed (returned log c facts now)) (and_left (is_none (owed (returned log c facts now))) (not (is_anyone (waiting log))) idle)
+pub idle_unowed : (log : List Entry) (c : ℕ) (facts : Facts) (now : ℕ) → becomes_idle log c facts now ≡ true → owed (returned log c facts now) ≡ None
+idle_unowed log c facts now idle = nothing (owed (returned log c facts now)) (and_left (is_none (owed (returned log c facts now))) (not (is_anyone (waiting log))) idle)
   where
     nothing : (due : Option (ℕ × Cause)) → is_none due ≡ true → due ≡ None
     nothing None e = refl
     nothing (Some close) e = absurd (false≢true e)
 
-pub rests_nobody : (log : List Entry) (c : ℕ) (facts : Facts) (now : ℕ) → rests log c facts now ≡ true → waiting log ≡ []
-rests_nobody log c facts now idle = none_there (waiting log) (and_right (is_none (owed (returned log c facts now))) (not (is_anyone (waiting log))) idle)
+pub idle_nobody : (log : List Entry) (c : ℕ) (facts : Facts) (now : ℕ) → becomes_idle log c facts now ≡ true → waiting log ≡ []
+idle_nobody log c facts now idle = none_there (waiting log) (and_right (is_none (owed (returned log c facts now))) (not (is_anyone (waiting log))) idle)
   where
     none_there : (wants : List Want) → not (is_anyone wants) ≡ true → wants ≡ []
     none_there [] e = refl
     none_there (head ∷ others) e = absurd (false≢true e)
 
-pub rests_as_returned : (settings : LimitAndFirst) (log : List Entry) (c : ℕ) (facts : Facts) (now : ℕ) → rests log c facts now ≡ true → after_give_back settings log c facts now ≡ returned log c facts now
-rests_as_returned settings log c facts now idle =
-    ap (settle settings c (moment_at log now) (returned log c facts now)) (rests_unowed log c facts now idle)
-    ∙ ap (pass_to settings c (moment_at log now) (returned log c facts now)) (rests_nobody log c facts now idle)
+pub idle_as_returned : (settings : LimitAndFirst) (log : List Entry) (c : ℕ) (facts : Facts) (now : ℕ) → becomes_idle log c facts now ≡ true → after_give_back settings log c facts now ≡ returned log c facts now
+idle_as_returned settings log c facts now idle =
+    ap (settle settings c (moment_at log now) (returned log c facts now)) (idle_unowed log c facts now idle)
+    ∙ ap (grant_to settings c (moment_at log now) (returned log c facts now)) (idle_nobody log c facts now idle)
 
-pub kept_rests : (settings : LimitAndFirst) (log : List Entry) (transfer c : ℕ) (facts : Facts) (now : ℕ) → IsSoundAndQuiet settings log → held_number log transfer ≡ Some c → rests log c facts now ≡ true → IsSoundAndQuiet settings (returned log c facts now)
-kept_rests settings log transfer c facts now kept held idle = subst (IsSoundAndQuiet settings) (rests_as_returned settings log c facts now idle) (kept_give_back settings log transfer c facts now kept held)
+pub kept_becoming_idle : (settings : LimitAndFirst) (log : List Entry) (transfer c : ℕ) (facts : Facts) (now : ℕ) → IsSoundAndQuiet settings log → held_number log transfer ≡ Some c → becomes_idle log c facts now ≡ true → IsSoundAndQuiet settings (returned log c facts now)
+kept_becoming_idle settings log transfer c facts now kept held idle = subst (IsSoundAndQuiet settings) (idle_as_returned settings log c facts now idle) (kept_give_back settings log transfer c facts now kept held)
 
 -- and is closed at once, since the cache is full
-pub kept_unkept : (settings : LimitAndFirst) (log : List Entry) (transfer c : ℕ) (facts : Facts) (now : ℕ) → IsSoundAndQuiet settings log → held_number log transfer ≡ Some c → rests log c facts now ≡ true → IsSoundAndQuiet settings (add (moment_at log now) (Closed c CacheFull) (returned log c facts now))
+pub kept_unkept : (settings : LimitAndFirst) (log : List Entry) (transfer c : ℕ) (facts : Facts) (now : ℕ) → IsSoundAndQuiet settings log → held_number log transfer ≡ Some c → becomes_idle log c facts now ≡ true → IsSoundAndQuiet settings (add (moment_at log now) (Closed c CacheFull) (returned log c facts now))
 kept_unkept settings log transfer c facts now kept held idle =
     let m = moment_at log now in
     let back = returned log c facts now in
-    let before = kept_rests settings log transfer c facts now kept held idle in
+    let before = kept_becoming_idle settings log transfer c facts now kept held idle in
     let w = held_want settings log kept.sound transfer c held in
     let idle_now = back_is_idle settings log kept.sound c (ap is_some w.1) m facts in
-    nobody_after settings (add m (Closed c CacheFull) back) (sound_close settings back before.sound m (omega arith) c CacheFull (before.sound.settled, idle_now) idle_now) (rests_nobody log c facts now idle)
+    nobody_after settings (add m (Closed c CacheFull) back) (sound_close settings back before.sound m (omega arith) c CacheFull (before.sound.settled, idle_now) idle_now) (idle_nobody log c facts now idle)
 
 -- whatever the budget answers
 abbrev log_of : List Entry → Returning → List Entry
@@ -458,15 +458,15 @@ log_of other not_kept = other
 log_of other keep_again = other
 
 pub kept_given_back : (close_if_full : Bool) (told : Try) (settings : LimitAndFirst) (log after : List Entry) (transfer c : ℕ) (facts : Facts) (now : ℕ) → IsSoundAndQuiet settings log → held_number log transfer ≡ Some c → given_back close_if_full told settings log c facts now ≡ spent after → IsSoundAndQuiet settings after
-kept_given_back close_if_full told settings log after transfer c facts now kept held is = by_rest (rests log c facts now) refl is
+kept_given_back close_if_full told settings log after transfer c facts now kept held is = by_rest (becomes_idle log c facts now) refl is
   where
-    by_told : rests log c facts now ≡ true → (close_if_full : Bool) (told : Try) → keep_as_told close_if_full told c (moment_at log now) (returned log c facts now) ≡ spent after → IsSoundAndQuiet settings after
-    by_told idle close_if_full Got is = subst (IsSoundAndQuiet settings) (ap (log_of log) is) (kept_rests settings log transfer c facts now kept held idle)
+    by_told : becomes_idle log c facts now ≡ true → (close_if_full : Bool) (told : Try) → keep_as_told close_if_full told c (moment_at log now) (returned log c facts now) ≡ spent after → IsSoundAndQuiet settings after
+    by_told idle close_if_full Got is = subst (IsSoundAndQuiet settings) (ap (log_of log) is) (kept_becoming_idle settings log transfer c facts now kept held idle)
     by_told idle close_if_full Contended is = absurd (cc)
     by_told idle true Full is = subst (IsSoundAndQuiet settings) (ap (log_of log) is) (kept_unkept settings log transfer c facts now kept held idle)
     by_told idle false Full is = absurd (cc)
 
-    by_rest : (idle : Bool) → rests log c facts now ≡ idle → (if idle then keep_as_told close_if_full told c (moment_at log now) (returned log c facts now) else spent (after_give_back settings log c facts now)) ≡ spent after → IsSoundAndQuiet settings after
+    by_rest : (idle : Bool) → becomes_idle log c facts now ≡ idle → (if idle then keep_as_told close_if_full told c (moment_at log now) (returned log c facts now) else spent (after_give_back settings log c facts now)) ≡ spent after → IsSoundAndQuiet settings after
     by_rest true idle is = by_told idle close_if_full told is
     by_rest false ends is = subst (IsSoundAndQuiet settings) (ap (log_of log) is) (kept_give_back settings log transfer c facts now kept held)
 
@@ -558,18 +558,18 @@ limit_allows n log allowed =
     let neither_is = neither_refused (nat_lt greatest_limit n) (nat_lt (limit_kept n) (leased_len log)) BadLimit (Busy (leased_len log)) allowed in
     not_below (limit_kept n) (leased_len log) neither_is.1
 
-startable_fits : (queued : Bool) (waiting_len room given : ℕ) → given ≤ (if queued then 0 else min waiting_len room) → given ≤ room
-startable_fits true waiting_len room given within = omega (arith, within)
-startable_fits false waiting_len room given within = omega (arith, within)
+starts_due_fits : (queued : Bool) (waiting_len room given : ℕ) → given ≤ (if queued then 0 else min waiting_len room) → given ≤ room
+starts_due_fits true waiting_len room given within = omega (arith, within)
+starts_due_fits false waiting_len room given within = omega (arith, within)
 
 -- the limit changes
-pub kept_new_limit : (settings : LimitAndFirst) (log : List Entry) (n given now : ℕ) → IsSoundAndQuiet settings log → limit_refusal n log ≡ None → given ≤ startable (is_queued settings log) (limit_kept n) log → IsSoundAndQuiet settings (after_limit (limit_kept n) given settings log now)
+pub kept_new_limit : (settings : LimitAndFirst) (log : List Entry) (n given now : ℕ) → IsSoundAndQuiet settings log → limit_refusal n log ≡ None → given ≤ starts_due (is_queued settings log) (limit_kept n) log → IsSoundAndQuiet settings (after_limit (limit_kept n) given settings log now)
 kept_new_limit settings log n given now kept allowed within =
     let m = moment_at log now in
     let most = limit_kept n in
     let young = without_picked (Above most) m log in
     let closed = closes_above settings log most now kept.sound in
     let so_many = picked_above log most m (limit_allows n log allowed) in
-    let fits = startable_fits (is_queued settings log) (length (waiting log)) (most - length (open_connections log)) given within in
+    let fits = starts_due_fits (is_queued settings log) (length (waiting log)) (most - length (open_connections log)) given within in
     let limited = sound_limit settings young closed.sound m closed.later most (omega (arith, closed.open_fewer, so_many)) in
     opened_for_first given settings m (add m (Limit most) young) (settled_by settings (add m (Limit most) young) limited (still_none_idle settings _ _ log young closed kept.quiet.none_idle)) (omega arith) (omega (arith, closed.open_fewer, so_many, fits))

@@ -16,7 +16,7 @@ use Rattle.host_state.specs.Steps.{add, moment_at, picked, without_picked}
 use Rattle.host_state.specs.Idle.{stream_of}
 use Rattle.host_state.specs.State.{HostState, KeepsOpen}
 use Rattle.bundle.specs.declared.grant.Grant.{Grant}
-use Rattle.bundle.specs.Calls.{open_for, open_for_head, open_for_first, after_limit, kept_limit as limit_kept, limit_refusal, leased_len, startable, is_queued, GrowsBy}
+use Rattle.bundle.specs.Calls.{open_for, open_for_head, open_for_first, after_limit, kept_limit as limit_kept, limit_refusal, leased_len, starts_due, is_queued, GrowsBy}
 use Rattle.bundle.specs.Laws.{IsSoundAndQuiet}
 use Rattle.bundle.specs.Lease.{AreBooked}
 use Rattle.bundle.specs.Grants.{grant_streams, GrantsKept, with_first, with_limit}
@@ -84,7 +84,7 @@ pub record AfterLimit {S : Type 0} (settings : LimitAndFirst) (log after : List 
   pub streams : (d : ℕ) → stream_of (grant_streams granted) d ≡ stream_of (grant_streams grants) d
   pub grew : GrowsBy log after
 
-module _ {S : Type 0} (settings : LimitAndFirst) (log : List Entry) (grants : List (Grant S)) (booked : List ℕ) (limit given now : ℕ) (kept : IsSoundAndQuiet settings log) (grants_kept : GrantsKept log grants) (are : AreBooked log booked) (allowed : limit_refusal limit log ≡ None) (within : given ≤ startable (is_queued settings log) (limit_kept limit) log) where
+module _ {S : Type 0} (settings : LimitAndFirst) (log : List Entry) (grants : List (Grant S)) (booked : List ℕ) (limit given now : ℕ) (kept : IsSoundAndQuiet settings log) (grants_kept : GrantsKept log grants) (are : AreBooked log booked) (allowed : limit_refusal limit log ≡ None) (within : given ≤ starts_due (is_queued settings log) (limit_kept limit) log) where
   limit_kept_so : AfterLimit settings log (after_limit (limit_kept limit) given settings log now) grants (with_limit (limit_kept limit) given settings log now grants) booked
   limit_kept_so =
       let most = limit_kept limit in

@@ -22,9 +22,9 @@ use Rattle.conn_log.proofs.Firsts.{first_among}
 use Rattle.conn_log.proofs.Soundness.{sound_return, sound_end, sound_drop, sound_close, idle_may_close}
 use Rattle.host_state.specs.declared.closing.Closing.TheVariants.{TooOld, Pruned}
 use Rattle.host_state.specs.Steps.{moment_at, add, without_picked, is_full}
-use Rattle.bundle.specs.Calls.{start_new, start_in_place_of, start_in_place, start_as_told, start_on, start, start_behind, acquired, open_for, open_for_head, unfit_cause, pass_to, settle, returned, after_give_back, is_anyone, rests, after_close, after_abandon, close_granted, after_withdraw, is_queued}
+use Rattle.bundle.specs.Calls.{start_new, start_in_place_of, start_in_place, start_as_told, start_on, start, start_behind, acquired, open_for, open_for_head, unfit_cause, grant_to, settle, returned, after_give_back, is_anyone, becomes_idle, after_close, after_abandon, close_granted, after_withdraw, is_queued}
 use Rattle.bundle.specs.Laws.{IsSoundAndQuiet}
-use Rattle.bundle.proofs.KeptSound.{anyone_is, someone, waits_someone, later, held_want, gone_room, head_open, only_idle, IsOnlyIdle, unfit_is_of_idle, stays_persistent, rests_nobody, after_closing, closes_pruned}
+use Rattle.bundle.proofs.KeptSound.{anyone_is, someone, waits_someone, later, held_want, gone_room, head_open, only_idle, IsOnlyIdle, unfit_is_of_idle, stays_persistent, idle_nobody, after_closing, closes_pruned}
 
 -- it is not queued where nobody waits, or where it is full
 pub unqueued_nobody : (settings : LimitAndFirst) (log : List Entry) → waiting log ≡ [] → is_queued settings log ≡ false
@@ -115,7 +115,7 @@ mark_give_back settings log transfer c facts now kept held unqueued =
     let w = held_want settings log kept.sound transfer c held in
     rw w.1 (by_end m w.0 w.1 (later log now) (ends_use facts w.0) refl)
   where
-    by_queue : (m : ℕ) (w : Want) → holder_want log c ≡ Some w → last_moment log ≤ m → ends_use facts w ≡ false → (wants : List Want) → waiting log ≡ wants → is_queued settings (pass_to settings c m (add m (Returned c facts) log) wants) ≡ false
+    by_queue : (m : ℕ) (w : Want) → holder_want log c ≡ Some w → last_moment log ≤ m → ends_use facts w ≡ false → (wants : List Want) → waiting log ≡ wants → is_queued settings (grant_to settings c m (add m (Returned c facts) log) wants) ≡ false
     by_queue m w is le stays [] nobody = unqueued_nobody settings (add m (Returned c facts) log) nobody
     by_queue m w is le stays (head ∷ others) queue =
         let anyone = someone log head others queue in
@@ -128,8 +128,8 @@ mark_give_back settings log transfer c facts now kept held unqueued =
     by_end m w is le false stays = by_queue m w is le stays (waiting log) refl
 
 -- where it is to be idle nobody waits, so neither is it queued once that is closed at once
-pub mark_unkept : (settings : LimitAndFirst) (log : List Entry) (c : ℕ) (facts : Facts) (now : ℕ) → rests log c facts now ≡ true → is_queued settings (add (moment_at log now) (Closed c CacheFull) (returned log c facts now)) ≡ false
-mark_unkept settings log c facts now idle = unqueued_nobody settings (add (moment_at log now) (Closed c CacheFull) (returned log c facts now)) (rests_nobody log c facts now idle)
+pub mark_unkept : (settings : LimitAndFirst) (log : List Entry) (c : ℕ) (facts : Facts) (now : ℕ) → becomes_idle log c facts now ≡ true → is_queued settings (add (moment_at log now) (Closed c CacheFull) (returned log c facts now)) ≡ false
+mark_unkept settings log c facts now idle = unqueued_nobody settings (add (moment_at log now) (Closed c CacheFull) (returned log c facts now)) (idle_nobody log c facts now idle)
 
 -- after what was held is closed, or abandoned
 pub mark_close : (settings : LimitAndFirst) (log : List Entry) (transfer c : ℕ) (cause : Cause) (now : ℕ) → is_of_holder cause ≡ true → IsSoundAndQuiet settings log → held_number log transfer ≡ Some c → is_queued settings log ≡ false → is_queued settings (after_close settings log c cause now) ≡ false

@@ -15,8 +15,8 @@ use Rattle.conn_log.proofs.Steps.{idle_open_unheld, new_not_held, unheld}
 use Rattle.conn_log.proofs.Soundness.{next_is_new, idle_may_close, sound_close}
 use Rattle.bundle.specs.declared.grant.Grant.{Grant}
 use Rattle.host_state.specs.Steps.{add, next_number}
-use Rattle.bundle.specs.Calls.{start_new, open_for, open_for_head, unfit_cause, pass_to}
-use Rattle.bundle.specs.Grants.{with_new, with_passed, GrantsKept}
+use Rattle.bundle.specs.Calls.{start_new, open_for, open_for_head, unfit_cause, grant_to}
+use Rattle.bundle.specs.Grants.{with_new, with_granted, GrantsKept}
 use Rattle.bundle.proofs.KeptSound.{head_is_next, unfit_is_of_idle}
 use Rattle.bundle.proofs.Told.{told_unheld, freed_closed, started_open, started_lease}
 use Rattle.bundle.proofs.Granting.{Grants, grants_nothing, grants_then, grants_head}
@@ -38,7 +38,7 @@ module _ {S : Type 0} (settings : LimitAndFirst) (log : List Entry) (sound : IsS
 
 module _ {S : Type 0} (settings : LimitAndFirst) (log : List Entry) (sound : IsSound settings log) where
   -- what came back goes to the first that waits, or makes room for a new one
-  pub grants_passed : (grants : List (Grant S)) → GrantsKept log grants → (c m : ℕ) → last_moment log ≤ m → (stream : S) → (IsAnyone (waiting log) → idle_connections log ≡ c ∷ []) → Grants log grants (pass_to settings c m log (waiting log)) (with_passed settings c m (Some stream) log (waiting log) grants)
+  pub grants_passed : (grants : List (Grant S)) → GrantsKept log grants → (c m : ℕ) → last_moment log ≤ m → (stream : S) → (IsAnyone (waiting log) → idle_connections log ≡ c ∷ []) → Grants log grants (grant_to settings c m log (waiting log)) (with_granted settings c m (Some stream) log (waiting log) grants)
   grants_passed grants kept c m le stream alone = by_queue (waiting log) refl alone
     where
       by_fit : (head : Want) (others : List Want) → waiting log ≡ head ∷ others → is_idle log c ≡ true → (fits : Bool) → is_fit log head m c ≡ fits → Grants log grants (if fits then add m (Leased c head) log else start_new settings head m (add m (Closed c (unfit_cause settings log head m c)) log)) (if fits then grants ++ record { want = head; number = c; moment = m; stream = Some stream } ∷ [] else with_new settings m log (head ∷ others) grants)
@@ -64,7 +64,7 @@ module _ {S : Type 0} (settings : LimitAndFirst) (log : List Entry) (sound : IsS
           nobody None e = refl
           nobody (Some want) e = absurd (false≢true e)
 
-      by_queue : (wants : List Want) → waiting log ≡ wants → (IsAnyone wants → idle_connections log ≡ c ∷ []) → Grants log grants (pass_to settings c m log wants) (with_passed settings c m (Some stream) log wants grants)
+      by_queue : (wants : List Want) → waiting log ≡ wants → (IsAnyone wants → idle_connections log ≡ c ∷ []) → Grants log grants (grant_to settings c m log wants) (with_granted settings c m (Some stream) log wants grants)
       by_queue [] is alone' = grants_nothing log log grants (λ u. refl) kept
       by_queue (head ∷ others) is alone' =
           let idle : is_idle log c ≡ true = ap (is_among c) (alone' tt) ∙ grind (arith, nat_tests) in

@@ -25,19 +25,19 @@ use Rattle.host_state.specs.Steps.{add, moment_at}
 use Rattle.bundle.specs.declared.grant.Grant.{Grant}
 use Rattle.bundle.specs.declared.answers.Back.{Back}
 use Rattle.bundle.specs.declared.answers.Back.TheVariants.{Spent, NoKeep, Again}
-use Rattle.bundle.specs.Calls.{Start, spent, open_for_head, pass_to, settle, returned, after_give_back, is_anyone, rests, keep_as_told, given_back, is_freed}
+use Rattle.bundle.specs.Calls.{Start, spent, open_for_head, grant_to, settle, returned, after_give_back, is_anyone, becomes_idle, keep_as_told, given_back, is_freed}
 use Rattle.bundle.specs.Lease.{HostShown, Leasing, held_by}
 use Rattle.bundle.specs.Grants.{grant_starts, grant_streams}
 use Rattle.bundle.specs.Replies.{IsBack, GivesBack}
-use Rattle.bundle.proofs.KeptSound.{held_want, rests_as_returned}
+use Rattle.bundle.proofs.KeptSound.{held_want, idle_as_returned}
 use Rattle.bundle.proofs.Answering.{known}
 
 -- where the budget gave a permit, or was not asked
 pub got_is_spent : (close_if_full : Bool) (settings : LimitAndFirst) (log : List Entry) (c : ℕ) (facts : Facts) (now : ℕ) → given_back close_if_full Got settings log c facts now ≡ spent (after_give_back settings log c facts now)
-got_is_spent close_if_full settings log c facts now = by_rest (rests log c facts now) refl
+got_is_spent close_if_full settings log c facts now = by_rest (becomes_idle log c facts now) refl
   where
-    by_rest : (idle : Bool) → rests log c facts now ≡ idle → (if idle then keep_as_told close_if_full Got c (moment_at log now) (returned log c facts now) else spent (after_give_back settings log c facts now)) ≡ spent (after_give_back settings log c facts now)
-    by_rest true idle = ap spent (sym (rests_as_returned settings log c facts now idle))
+    by_rest : (idle : Bool) → becomes_idle log c facts now ≡ idle → (if idle then keep_as_told close_if_full Got c (moment_at log now) (returned log c facts now) else spent (after_give_back settings log c facts now)) ≡ spent (after_give_back settings log c facts now)
+    by_rest true idle = ap spent (sym (idle_as_returned settings log c facts now idle))
     by_rest false idle = refl
 
 module _ {S : Type 0} (old new : HostShown S) (lease : Leasing S) (facts : Facts) (now : ℕ) where
@@ -45,7 +45,7 @@ module _ {S : Type 0} (old new : HostShown S) (lease : Leasing S) (facts : Facts
   back_spent close_if_full freed log_is freed_is = subst (λ returning. IsBack old new lease returning (Spent freed)) (sym (got_is_spent close_if_full old.settings old.log lease.start.number facts now)) (log_is, freed_is ∙ ap (is_freed old.log) log_is)
 
   -- where it is to be idle, as the budget answered
-  module _ (idle : rests old.log lease.start.number facts now ≡ true) where
+  module _ (idle : becomes_idle old.log lease.start.number facts now ≡ true) where
     told_back : (close_if_full : Bool) (told : Try) (back : Back S) → IsBack old new lease (keep_as_told close_if_full told lease.start.number (moment_at old.log now) (returned old.log lease.start.number facts now)) back → GivesBack close_if_full told old new lease facts now back
     told_back close_if_full told back is = subst (λ returning. IsBack old new lease returning back) (sym (ap (λ b. if b then keep_as_told close_if_full told lease.start.number (moment_at old.log now) (returned old.log lease.start.number facts now) else spent (after_give_back old.settings old.log lease.start.number facts now)) idle)) is
 
@@ -59,11 +59,11 @@ module _ {S : Type 0} (old new : HostShown S) (lease : Leasing S) (facts : Facts
     back_closed close_if_full asks freed log_is freed_is = subst (λ b. GivesBack b Full old new lease facts now (Spent freed)) (sym asks) (told_back true Full (Spent freed) (log_is, freed_is ∙ ap (is_freed old.log) log_is))
 
 -- the log that it leaves, where it stays open, and where its use ends
-pub passed_given_back : (settings : LimitAndFirst) (log : List Entry) (c : ℕ) (facts : Facts) (now : ℕ) (settings' : LimitAndFirst) → settings' ≡ settings → (m : ℕ) → m ≡ moment_at log now → (back : List Entry) → back ≡ add m (Returned c facts) log → owed back ≡ None → (after : List Entry) → after ≡ pass_to settings' c m back (waiting back) → after ≡ after_give_back settings log c facts now
+pub passed_given_back : (settings : LimitAndFirst) (log : List Entry) (c : ℕ) (facts : Facts) (now : ℕ) (settings' : LimitAndFirst) → settings' ≡ settings → (m : ℕ) → m ≡ moment_at log now → (back : List Entry) → back ≡ add m (Returned c facts) log → owed back ≡ None → (after : List Entry) → after ≡ grant_to settings' c m back (waiting back) → after ≡ after_give_back settings log c facts now
 passed_given_back settings log c facts now settings' e_terms m e_m back e_back unowed after e_after =
     let n = moment_at log now in
     let e : back ≡ returned log c facts now = e_back ∙ ap (λ k. add k (Returned c facts) log) e_m in
-    e_after ∙ ap (λ tm. pass_to tm c m back (waiting back)) e_terms ∙ ap (λ k. pass_to settings c k back (waiting back)) e_m ∙ ap (λ l. pass_to settings c n l (waiting l)) e
+    e_after ∙ ap (λ tm. grant_to tm c m back (waiting back)) e_terms ∙ ap (λ k. grant_to settings c k back (waiting back)) e_m ∙ ap (λ l. grant_to settings c n l (waiting l)) e
     ∙ sym (ap (settle settings c n (returned log c facts now)) (ap owed (sym e) ∙ unowed))
 
 pub ended_given_back : (settings : LimitAndFirst) (log : List Entry) (c : ℕ) (facts : Facts) (now : ℕ) (settings' : LimitAndFirst) → settings' ≡ settings → (m : ℕ) → m ≡ moment_at log now → (cause : Cause) → owed (add m (Returned c facts) log) ≡ Some (c, cause) → (closed : List Entry) → closed ≡ add m (Closed c cause) (add m (Returned c facts) log) → (after : List Entry) → after ≡ open_for_head settings' m closed → after ≡ after_give_back settings log c facts now
@@ -84,17 +84,17 @@ forbids_as log transfer kept is = by_number (held_number log transfer) is
         let number : c ≡ kept.number = ap (λ (f : HeldFacts). f.number) same in
         subst (λ (k : ℕ). option_map_or (λ (want : Want). want.forbid_reuse) (holder_want log k) false ≡ kept.forbids_reuse) number (ap (λ (f : HeldFacts). f.forbids_reuse) same)
 
-rests_open : (log : List Entry) (c : ℕ) (facts : Facts) (now : ℕ) (want : Want) → holder_want log c ≡ Some want → (is_persistent facts && not want.forbid_reuse) ≡ true → waiting log ≡ [] → rests log c facts now ≡ true
-rests_open log c facts now want is stays nobody =
+idle_open : (log : List Entry) (c : ℕ) (facts : Facts) (now : ℕ) (want : Want) → holder_want log c ≡ Some want → (is_persistent facts && not want.forbid_reuse) ≡ true → waiting log ≡ [] → becomes_idle log c facts now ≡ true
+idle_open log c facts now want is stays nobody =
     let unowed : owed (returned log c facts now) ≡ None = ap (option_and_then (owed_for c facts)) is ∙ ap (λ b. if not b then Some (c, ending_cause facts want) else None) stays in
     ap (λ due. is_none due && not (is_anyone (waiting log))) unowed ∙ ap (λ wants. not (is_anyone wants)) nobody
 
-pub would_rest : {S : Type 0} (settings : LimitAndFirst) (state : HostState S) → IsSound settings state.log → (transfer c : ℕ) (facts : Facts) (now : ℕ) → WouldStay state transfer c facts → waiting state.log ≡ [] → rests state.log c facts now ≡ true
+pub would_rest : {S : Type 0} (settings : LimitAndFirst) (state : HostState S) → IsSound settings state.log → (transfer c : ℕ) (facts : Facts) (now : ℕ) → WouldStay state transfer c facts → waiting state.log ≡ [] → becomes_idle state.log c facts now ≡ true
 would_rest settings state sound transfer c facts now would nobody =
     let it = known state.log transfer would.held would.was_held in
     let holder = held_want settings state.log sound transfer would.held.number it.number in
     let forbids : holder.0.forbid_reuse ≡ would.held.forbids_reuse = sym (ap (λ (w : Option Want). option_map_or (λ (want : Want). want.forbid_reuse) w false) holder.1) ∙ forbids_as state.log transfer would.held would.was_held in
-    subst (λ (k : ℕ). rests state.log k facts now ≡ true) would.number (rests_open state.log would.held.number facts now holder.0 holder.1 (ap (λ b. is_persistent facts && not b) forbids ∙ would.stays) nobody)
+    subst (λ (k : ℕ). becomes_idle state.log k facts now ≡ true) would.number (idle_open state.log would.held.number facts now holder.0 holder.1 (ap (λ b. is_persistent facts && not b) forbids ∙ would.stays) nobody)
 
 -- what is said of an answer that is not there
 pub if_none : {A P Q : Type 0} (o : Option A) → (P → Q) → IfNone o P → IfNone o Q

@@ -21,8 +21,8 @@ use Rattle.conn_log.proofs.Soundness.{sound_return, sound_end, sound_drop}
 use Rattle.bundle.specs.declared.grant.Grant.{Grant}
 use Rattle.host_state.specs.declared.held.Held.{Held}
 use Rattle.host_state.specs.Steps.{add, moment_at, is_full}
-use Rattle.bundle.specs.Calls.{open_for_head, pass_to, settle, close_granted, after_withdraw, returned, rests, is_queued, GrowsBy}
-use Rattle.bundle.specs.Grants.{without_grant, grant_streams, GrantsKept, with_new, with_passed, IsAlone}
+use Rattle.bundle.specs.Calls.{open_for_head, grant_to, settle, close_granted, after_withdraw, returned, becomes_idle, is_queued, GrowsBy}
+use Rattle.bundle.specs.Grants.{without_grant, grant_streams, GrantsKept, with_new, with_granted, IsAlone}
 use Rattle.host_state.specs.Idle.{stream_of}
 use Rattle.bundle.specs.Lobbies.{IsMarked}
 use Rattle.bundle.specs.Laws.{IsSoundAndQuiet}
@@ -33,7 +33,7 @@ use Rattle.bundle.proofs.Marks.{mark_close, mark_give_back, mark_unkept}
 use Rattle.bundle.proofs.Told.{freed_closed, freed_returned, freed_ended}
 use Rattle.bundle.proofs.Granting.{Freed, Grants, frees, freed_then, stream_of-without}
 use Rattle.bundle.proofs.Passing.{grants_new, grants_passed}
-use Rattle.bundle.proofs.Answering.{known, came_back_alone, both_same, with_new_streams, with_passed_streams, passed_stream, freed_stream, closed_not_open, left_freed}
+use Rattle.bundle.proofs.Answering.{known, came_back_alone, both_same, with_new_streams, with_granted_streams, passed_stream, freed_stream, closed_not_open, left_freed}
 
 -- there is room once what was held is gone
 pub room_gone : (settings : LimitAndFirst) (log : List Entry) → IsSoundAndQuiet settings log → (c : ℕ) → is_some (holder_want log c) ≡ true → (after : List Entry) → IsGone c log after → is_full settings after ≡ false
@@ -127,23 +127,23 @@ module _ {S : Type 0} where
         }
 
     -- it came back, and went to the first that waits
-    passed_out : (facts : Facts) (stream : S) (xs ys : List (ℕ × S)) → owed (add (moment_at log now) (Returned c facts) log) ≡ None → stream_of xs c ≡ Some stream → (let returned = add (moment_at log now) (Returned c facts) log in ((d : ℕ) → (c == d) ≡ false → is_open (pass_to settings c (moment_at log now) returned (waiting returned)) d ≡ true → stream_of ys d ≡ stream_of streams d) → Settled settings log grants streams t c (pass_to settings c (moment_at log now) returned (waiting returned)) (with_passed settings c (moment_at log now) (stream_of xs c) returned (waiting returned) (without_grant t grants)) ys)
+    passed_out : (facts : Facts) (stream : S) (xs ys : List (ℕ × S)) → owed (add (moment_at log now) (Returned c facts) log) ≡ None → stream_of xs c ≡ Some stream → (let returned = add (moment_at log now) (Returned c facts) log in ((d : ℕ) → (c == d) ≡ false → is_open (grant_to settings c (moment_at log now) returned (waiting returned)) d ≡ true → stream_of ys d ≡ stream_of streams d) → Settled settings log grants streams t c (grant_to settings c (moment_at log now) returned (waiting returned)) (with_granted settings c (moment_at log now) (stream_of xs c) returned (waiting returned) (without_grant t grants)) ys)
     passed_out facts stream xs ys unowed kept_is others =
         let returned = add (moment_at log now) (Returned c facts) log in
         let left = without_grant t grants in
-        let after = pass_to settings c (moment_at log now) returned (waiting returned) in
+        let after = grant_to settings c (moment_at log now) returned (waiting returned) in
         let stays = owed_stays c facts holder.0 (sym (ap (option_and_then (owed_for c facts)) holder.1) ∙ unowed) in
         let persists = stays_persistent (is_persistent facts) holder.0.forbid_reuse stays in
         let sound = sound_return settings log kept.sound (moment_at log now) (later log now) c facts holder.0 holder.1 stays in
         let freed = frees settings log kept.sound.orderly grants grants_kept c t mine returned (freed_returned (moment_at log now) c facts log kept.sound.orderly.transfers_once) in
         let passed = grants_passed settings returned sound left freed.kept c (moment_at log now) (omega arith) stream (alone facts persists) in
-        let granted = subst (λ s. Grants returned left after (with_passed settings c (moment_at log now) s returned (waiting returned) left)) (sym kept_is) passed in
+        let granted = subst (λ s. Grants returned left after (with_granted settings c (moment_at log now) s returned (waiting returned) left)) (sym kept_is) passed in
         record {
           settled = subst (λ l. IsSoundAndQuiet settings l) (ap (settle settings c (moment_at log now) returned) unowed) (kept_give_back settings log t c facts now kept mine);
-          freed = freed_then t log grants returned left after (with_passed settings c (moment_at log now) (stream_of xs c) returned (waiting returned) left) freed granted;
+          freed = freed_then t log grants returned left after (with_granted settings c (moment_at log now) (stream_of xs c) returned (waiting returned) left) freed granted;
           grew = subst (λ l. GrowsBy log l) (ap (settle settings c (moment_at log now) returned) unowed) (grows_give_back settings log c facts now);
           mark = λ unmarked. ap (is_queued settings) (sym (ap (settle settings c (moment_at log now) returned) unowed)) ∙ mark_give_back settings log t c facts now kept mine unmarked;
-          others = λ d other still. both_same (grant_streams (with_passed settings c (moment_at log now) (stream_of xs c) returned (waiting returned) left)) (grant_streams grants) ys streams d (with_passed_streams settings c (moment_at log now) (stream_of xs c) returned (waiting returned) left d other ∙ stream_of-without log grants t c d grants_kept mine other) (others d other still);
+          others = λ d other still. both_same (grant_streams (with_granted settings c (moment_at log now) (stream_of xs c) returned (waiting returned) left)) (grant_streams grants) ys streams d (with_granted_streams settings c (moment_at log now) (stream_of xs c) returned (waiting returned) left d other ∙ stream_of-without log grants t c d grants_kept mine other) (others d other still);
         }
       where
         alone : (facts : Facts) → is_persistent facts ≡ true → (let returned = add (moment_at log now) (Returned c facts) log in IsAnyone (waiting returned) → idle_connections returned ≡ c ∷ [])
@@ -162,19 +162,19 @@ module _ {S : Type 0} where
         let e : closed ≡ closed' = e_closed ∙ ap (λ k. add k (Closed c cause) (add k (Returned c facts) log)) e_m in
         moved settings log grants streams t c (moment_at log now) closed' (ended_out facts cause owes) settings' e_terms m e_m closed e left e_left after e_after granted e_granted streams' e_streams
 
-    pub settled_passed : (facts : Facts) (stream : S) (settings' : LimitAndFirst) → settings' ≡ settings → (m : ℕ) → m ≡ moment_at log now → (returned : List Entry) → returned ≡ add m (Returned c facts) log → owed returned ≡ None → (xs : List (ℕ × S)) → stream_of xs c ≡ Some stream → (left : List (Grant S)) → left ≡ without_grant t grants → (after : List Entry) → after ≡ pass_to settings' c m returned (waiting returned) → (granted : List (Grant S)) → granted ≡ with_passed settings' c m (stream_of xs c) returned (waiting returned) left → (ys : List (ℕ × S)) → ((d : ℕ) → (c == d) ≡ false → is_open after d ≡ true → stream_of ys d ≡ stream_of streams d) → Settled settings log grants streams t c after granted ys
+    pub settled_passed : (facts : Facts) (stream : S) (settings' : LimitAndFirst) → settings' ≡ settings → (m : ℕ) → m ≡ moment_at log now → (returned : List Entry) → returned ≡ add m (Returned c facts) log → owed returned ≡ None → (xs : List (ℕ × S)) → stream_of xs c ≡ Some stream → (left : List (Grant S)) → left ≡ without_grant t grants → (after : List Entry) → after ≡ grant_to settings' c m returned (waiting returned) → (granted : List (Grant S)) → granted ≡ with_granted settings' c m (stream_of xs c) returned (waiting returned) left → (ys : List (ℕ × S)) → ((d : ℕ) → (c == d) ≡ false → is_open after d ≡ true → stream_of ys d ≡ stream_of streams d) → Settled settings log grants streams t c after granted ys
     settled_passed facts stream settings' e_terms m e_m returned e_returned unowed xs kept_is left e_left after e_after granted e_granted ys others =
         let n = moment_at log now in
         let returned' = add n (Returned c facts) log in
         let e : returned ≡ returned' = e_returned ∙ ap (λ k. add k (Returned c facts) log) e_m in
-        let after_is : after ≡ pass_to settings c n returned' (waiting returned') = e_after ∙ ap (λ tm. pass_to tm c m returned (waiting returned)) e_terms ∙ ap (λ k. pass_to settings c k returned (waiting returned)) e_m ∙ ap (λ l. pass_to settings c n l (waiting l)) e in
-        let granted_is : granted ≡ with_passed settings c n (stream_of xs c) returned' (waiting returned') (without_grant t grants) = e_granted ∙ ap (λ tm. with_passed tm c m (stream_of xs c) returned (waiting returned) left) e_terms ∙ ap (λ k. with_passed settings c k (stream_of xs c) returned (waiting returned) left) e_m ∙ ap (λ l. with_passed settings c n (stream_of xs c) l (waiting l) left) e ∙ ap (with_passed settings c n (stream_of xs c) returned' (waiting returned')) e_left in
+        let after_is : after ≡ grant_to settings c n returned' (waiting returned') = e_after ∙ ap (λ tm. grant_to tm c m returned (waiting returned)) e_terms ∙ ap (λ k. grant_to settings c k returned (waiting returned)) e_m ∙ ap (λ l. grant_to settings c n l (waiting l)) e in
+        let granted_is : granted ≡ with_granted settings c n (stream_of xs c) returned' (waiting returned') (without_grant t grants) = e_granted ∙ ap (λ tm. with_granted tm c m (stream_of xs c) returned (waiting returned) left) e_terms ∙ ap (λ k. with_granted settings c k (stream_of xs c) returned (waiting returned) left) e_m ∙ ap (λ l. with_granted settings c n (stream_of xs c) l (waiting l) left) e ∙ ap (with_granted settings c n (stream_of xs c) returned' (waiting returned')) e_left in
         let base = passed_out facts stream xs ys (ap owed (sym e) ∙ unowed) kept_is (λ d other still. others d other (ap (λ l. is_open l d) after_is ∙ still)) in
-        let first = subst (λ l. Settled settings log grants streams t c l (with_passed settings c n (stream_of xs c) returned' (waiting returned') (without_grant t grants)) ys) (sym after_is) base in
+        let first = subst (λ l. Settled settings log grants streams t c l (with_granted settings c n (stream_of xs c) returned' (waiting returned') (without_grant t grants)) ys) (sym after_is) base in
         subst (λ gs. Settled settings log grants streams t c after gs ys) (sym granted_is) first
 
     -- it came back, and was closed at once, since the cache is full
-    unkept_out : (facts : Facts) → rests log c facts now ≡ true → Settled settings log grants streams t c (add (moment_at log now) (Closed c CacheFull) (returned log c facts now)) (without_grant t grants) streams
+    unkept_out : (facts : Facts) → becomes_idle log c facts now ≡ true → Settled settings log grants streams t c (add (moment_at log now) (Closed c CacheFull) (returned log c facts now)) (without_grant t grants) streams
     unkept_out facts idle =
         let m = moment_at log now in
         let freed = frees settings log kept.sound.orderly grants grants_kept c t mine (add m (Closed c CacheFull) (returned log c facts now)) (freed_ended m c facts CacheFull log kept.sound.orderly.transfers_once) in
@@ -186,7 +186,7 @@ module _ {S : Type 0} where
           others = λ d other still. both_same (grant_streams (without_grant t grants)) (grant_streams grants) streams streams d (stream_of-without log grants t c d grants_kept mine other) refl;
         }
 
-    pub settled_unkept : (facts : Facts) → rests log c facts now ≡ true → (m : ℕ) → m ≡ moment_at log now → (left : List (Grant S)) → left ≡ without_grant t grants → (after : List Entry) → after ≡ add m (Closed c CacheFull) (add m (Returned c facts) log) → (streams' : List (ℕ × S)) → streams' ≡ streams → Settled settings log grants streams t c after left streams'
+    pub settled_unkept : (facts : Facts) → becomes_idle log c facts now ≡ true → (m : ℕ) → m ≡ moment_at log now → (left : List (Grant S)) → left ≡ without_grant t grants → (after : List Entry) → after ≡ add m (Closed c CacheFull) (add m (Returned c facts) log) → (streams' : List (ℕ × S)) → streams' ≡ streams → Settled settings log grants streams t c after left streams'
     settled_unkept facts idle m e_m left e_left after e_after streams' e_streams =
         let after_is : after ≡ add (moment_at log now) (Closed c CacheFull) (returned log c facts now) = e_after ∙ ap (λ k. add k (Closed c CacheFull) (add k (Returned c facts) log)) e_m in
         let first = subst (λ l. Settled settings log grants streams t c l (without_grant t grants) streams) (sym after_is) (unkept_out facts idle) in
@@ -203,7 +203,7 @@ module _ {S : Type 0} where
         ap (λ tm. is_full tm closed) e_terms ∙ ap (is_full settings) e_closed ∙ room_gone settings log kept c (ap is_some holder.1) (add m (Closed c cause) (add m (Returned c facts) log)) (gone_ended m c facts cause log)
 
     -- the connection that came back keeps its stream, where it stays open
-    pub passed_kept : (stream : S) (settings' : LimitAndFirst) (m : ℕ) (returned : List Entry) (xs : List (ℕ × S)) → stream_of xs c ≡ Some stream → (left : List (Grant S)) → left ≡ without_grant t grants → (after : List Entry) → after ≡ pass_to settings' c m returned (waiting returned) → (granted : List (Grant S)) → granted ≡ with_passed settings' c m (stream_of xs c) returned (waiting returned) left → (ys : List (ℕ × S)) → (waiting returned ≡ [] → ys ≡ xs) → is_open after c ≡ true → stream_of (grant_streams granted ++ ys) c ≡ Some stream
+    pub passed_kept : (stream : S) (settings' : LimitAndFirst) (m : ℕ) (returned : List Entry) (xs : List (ℕ × S)) → stream_of xs c ≡ Some stream → (left : List (Grant S)) → left ≡ without_grant t grants → (after : List Entry) → after ≡ grant_to settings' c m returned (waiting returned) → (granted : List (Grant S)) → granted ≡ with_granted settings' c m (stream_of xs c) returned (waiting returned) left → (ys : List (ℕ × S)) → (waiting returned ≡ [] → ys ≡ xs) → is_open after c ≡ true → stream_of (grant_streams granted ++ ys) c ≡ Some stream
     passed_kept stream settings' m returned xs kept_is left e_left after e_after granted e_granted ys nobody still =
         let none : stream_of (grant_streams left) c ≡ None = ap (λ gs. stream_of (grant_streams gs) c) e_left ∙ freed_stream settings log kept.sound.orderly grants grants_kept c t mine in
         ap (λ gs. stream_of (grant_streams gs ++ ys) c) e_granted ∙ passed_stream settings' c m returned left stream xs ys none kept_is nobody (ap (λ l. is_open l c) (sym e_after) ∙ still)

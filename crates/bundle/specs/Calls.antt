@@ -106,14 +106,14 @@ unfit_cause settings log head moment c = if is_too_old_in_lane log head moment c
 
 -- a connection that came back goes to the first transfer that waits, where it fits; where it does not,
 -- it is closed and one is opened for that transfer; where nobody waits it is idle
-abbrev pub pass_to : LimitAndFirst → ℕ → ℕ → List Entry → List Want → List Entry
-pass_to settings c moment log [] = log
-pass_to settings c moment log (head ∷ others) =
+abbrev pub grant_to : LimitAndFirst → ℕ → ℕ → List Entry → List Want → List Entry
+grant_to settings c moment log [] = log
+grant_to settings c moment log (head ∷ others) =
     if is_fit log head moment c then add moment (Leased c head) log else start_new settings head moment (add moment (Closed c (unfit_cause settings log head moment c)) log)
 
 -- a use that ends has its close at once, and one is opened for the first transfer that waits
 abbrev pub settle : LimitAndFirst → ℕ → ℕ → List Entry → Option (ℕ × Cause) → List Entry
-settle settings c moment log None = pass_to settings c moment log (waiting log)
+settle settings c moment log None = grant_to settings c moment log (waiting log)
 settle settings c moment log (Some close) = open_for_head settings moment (add moment (Closed close.0 close.1) log)
 
 abbrev pub after_return : LimitAndFirst → ℕ → ℕ → List Entry → List Entry
@@ -132,8 +132,8 @@ abbrev pub is_anyone : List Want → Bool
 is_anyone [] = false
 is_anyone (head ∷ others) = true
 
-abbrev pub rests : List Entry → ℕ → Facts → ℕ → Bool
-rests log c facts now = is_none (owed (returned log c facts now)) && not (is_anyone (waiting log))
+abbrev pub becomes_idle : List Entry → ℕ → Facts → ℕ → Bool
+becomes_idle log c facts now = is_none (owed (returned log c facts now)) && not (is_anyone (waiting log))
 
 -- what a give back comes to: the lease is spent, or, where the budget was asked to keep one connection more,
 -- it keeps none, or has to be asked again
@@ -152,7 +152,7 @@ keep_as_told false Full c moment log = not_kept
 -- a connection is given back: where it is to be idle, as the budget answers
 abbrev pub given_back : Bool → Try → LimitAndFirst → List Entry → ℕ → Facts → ℕ → Returning
 given_back close_if_full told settings log c facts now =
-    if rests log c facts now then keep_as_told close_if_full told c (moment_at log now) (returned log c facts now) else spent (after_give_back settings log c facts now)
+    if becomes_idle log c facts now then keep_as_told close_if_full told c (moment_at log now) (returned log c facts now) else spent (after_give_back settings log c facts now)
 
 -- the log after a connection is closed by its holder, and one is opened for the first that waits
 abbrev pub after_close : LimitAndFirst → List Entry → ℕ → Cause → ℕ → List Entry
@@ -206,8 +206,8 @@ limit_refusal n log =
 
 -- how many of those that wait a new limit lets start where the budget has room for all; none where the host
 -- is queued, and has its turn to come
-abbrev pub startable : Bool → ℕ → List Entry → ℕ
-startable queued most log = if queued then 0 else min (length (waiting log)) (most - length (open_connections log))
+abbrev pub starts_due : Bool → ℕ → List Entry → ℕ
+starts_due queued most log = if queued then 0 else min (length (waiting log)) (most - length (open_connections log))
 
 -- queued for room among all hosts: a transfer waits, and the host has room
 abbrev pub is_queued : LimitAndFirst → List Entry → Bool

@@ -15,7 +15,7 @@ use Rattle.conn_log.specs.Legal.{LimitAndFirst, limit_in_force}
 use Rattle.conn_log.specs.Sound.{is_of_idle}
 use Rattle.host_state.specs.Steps.{moment_at, add, is_full, picked, without_picked}
 use Rattle.host_state.specs.declared.closing.Closing.TheVariants.{TooOld, Pruned}
-use Rattle.bundle.specs.Calls.{Reply, starts, waits_on, no_room, again, spent, acquired, is_anyone, rests, given_back, after_abandon, after_withdraw, after_turn, after_limit, kept_limit, limit_refusal, startable, is_queued, is_busy, is_freed}
+use Rattle.bundle.specs.Calls.{Reply, starts, waits_on, no_room, again, spent, acquired, is_anyone, becomes_idle, given_back, after_abandon, after_withdraw, after_turn, after_limit, kept_limit, limit_refusal, starts_due, is_queued, is_busy, is_freed}
 use Rattle.bundle.specs.Laws.{IsSoundAndQuiet}
 
 -- how many are open, and idle
@@ -109,44 +109,92 @@ DoesAs again asked told want settings old new = (asked ≡ true) × (told ≡ Co
 -- connection more exactly where the budget was asked for it and gave it, and a wait beside room comes only where the
 -- budget has none
 abbrev pub AcquireTidies : Type 0
-AcquireTidies = (settings : LimitAndFirst) (log : List Entry) (want : Want) (now : ℕ) → IsSoundAndQuiet settings log → Closes (length (picked (TooOld want) (moment_at log now) log)) settings log (tidied want (moment_at log now) log)
+AcquireTidies =
+    (settings : LimitAndFirst) (log : List Entry) (want : Want) (now : ℕ)
+    → IsSoundAndQuiet settings log
+    → Closes (length (picked (TooOld want) (moment_at log now) log)) settings log (tidied want (moment_at log now) log)
 
 abbrev pub AcquireDoesAsReplied : Type 0
-AcquireDoesAsReplied = (is_last : Bool) (told : Try) (settings : LimitAndFirst) (log : List Entry) (want : Want) (now : ℕ) → IsSoundAndQuiet settings log → is_busy log [] want.transfer ≡ false → (let moment = moment_at log now in let old = tidied want moment log in let outcome = acquired is_last told settings log want now in DoesAs outcome.reply (asks_for_one settings old want moment) told want settings old outcome.log)
+AcquireDoesAsReplied =
+    (is_last : Bool) (told : Try) (settings : LimitAndFirst) (log : List Entry) (want : Want) (now : ℕ)
+    → IsSoundAndQuiet settings log
+    → is_busy log [] want.transfer ≡ false
+    → (let moment = moment_at log now in
+       let old = tidied want moment log in
+       let outcome = acquired is_last told settings log want now in
+       DoesAs outcome.reply (asks_for_one settings old want moment) told want settings old outcome.log)
 
--- a give back, an abandoned lease and a withdrawn ticket that was granted spend one; only what rests is kept, and
--- only where the budget keeps it
+-- a give back, an abandoned lease and a withdrawn ticket that was granted spend one; only what is to be idle is
+-- kept, and only where the budget keeps it
 abbrev pub GiveBackSpendsOne : Type 0
-GiveBackSpendsOne = (close_if_full : Bool) (told : Try) (settings : LimitAndFirst) (log after : List Entry) (transfer c : ℕ) (facts : Facts) (now : ℕ) → IsSoundAndQuiet settings log → held_number log transfer ≡ Some c → given_back close_if_full told settings log c facts now ≡ spent after → SpendsOne (rests log c facts now && is_got told) settings log after
+GiveBackSpendsOne =
+    (close_if_full : Bool) (told : Try) (settings : LimitAndFirst) (log after : List Entry) (transfer c : ℕ) (facts : Facts) (now : ℕ)
+    → IsSoundAndQuiet settings log
+    → held_number log transfer ≡ Some c
+    → given_back close_if_full told settings log c facts now ≡ spent after
+    → SpendsOne (becomes_idle log c facts now && is_got told) settings log after
 
 abbrev pub AbandonSpendsOne : Type 0
-AbandonSpendsOne = (settings : LimitAndFirst) (log : List Entry) (transfer c now : ℕ) → IsSoundAndQuiet settings log → held_number log transfer ≡ Some c → SpendsOne false settings log (after_abandon settings log c now)
+AbandonSpendsOne =
+    (settings : LimitAndFirst) (log : List Entry) (transfer c now : ℕ)
+    → IsSoundAndQuiet settings log
+    → held_number log transfer ≡ Some c
+    → SpendsOne false settings log (after_abandon settings log c now)
 
 abbrev pub WithdrawSpendsOne : Type 0
-WithdrawSpendsOne = (settings : LimitAndFirst) (log : List Entry) (transfer c now : ℕ) → IsSoundAndQuiet settings log → held_number log transfer ≡ Some c → SpendsOne false settings log (after_withdraw settings log transfer now)
+WithdrawSpendsOne =
+    (settings : LimitAndFirst) (log : List Entry) (transfer c now : ℕ)
+    → IsSoundAndQuiet settings log
+    → held_number log transfer ≡ Some c
+    → SpendsOne false settings log (after_withdraw settings log transfer now)
 
 -- a withdrawn ticket of a transfer that waits has it leave
 abbrev pub WithdrawLeaves : Type 0
-WithdrawLeaves = (settings : LimitAndFirst) (log : List Entry) (transfer now : ℕ) → IsSoundAndQuiet settings log → waits log transfer ≡ true → Leaves transfer settings log (after_withdraw settings log transfer now)
+WithdrawLeaves =
+    (settings : LimitAndFirst) (log : List Entry) (transfer now : ℕ)
+    → IsSoundAndQuiet settings log
+    → waits log transfer ≡ true
+    → Leaves transfer settings log (after_withdraw settings log transfer now)
 
 -- a queued host's turn, where the budget gives the permit, opens one for the first that waits
 abbrev pub TurnOpensForHead : Type 0
-TurnOpensForHead = (settings : LimitAndFirst) (log : List Entry) (now : ℕ) → IsSoundAndQuiet settings log → is_queued settings log ≡ true → OpensForHead settings log (after_turn Got settings log now)
+TurnOpensForHead =
+    (settings : LimitAndFirst) (log : List Entry) (now : ℕ)
+    → IsSoundAndQuiet settings log
+    → is_queued settings log ≡ true
+    → OpensForHead settings log (after_turn Got settings log now)
 
 -- closing the oldest closes one, and a prune all that it picks
 abbrev pub EvictingClosesOne : Type 0
-EvictingClosesOne = (settings : LimitAndFirst) (log : List Entry) (c : ℕ) (cause : Cause) (now : ℕ) → IsSoundAndQuiet settings log → oldest log ≡ Some c → is_of_idle cause ≡ true → Closes 1 settings log (add (moment_at log now) (Closed c cause) log)
+EvictingClosesOne =
+    (settings : LimitAndFirst) (log : List Entry) (c : ℕ) (cause : Cause) (now : ℕ)
+    → IsSoundAndQuiet settings log
+    → oldest log ≡ Some c
+    → is_of_idle cause ≡ true
+    → Closes 1 settings log (add (moment_at log now) (Closed c cause) log)
 
 abbrev pub PruneCloses : Type 0
-PruneCloses = (settings : LimitAndFirst) (log : List Entry) (max_age max_life now : ℕ) → IsSoundAndQuiet settings log → Closes (length (picked (Pruned max_age max_life) (moment_at log now) log)) settings log (without_picked (Pruned max_age max_life) (moment_at log now) log)
+PruneCloses =
+    (settings : LimitAndFirst) (log : List Entry) (max_age max_life now : ℕ)
+    → IsSoundAndQuiet settings log
+    → Closes (length (picked (Pruned max_age max_life) (moment_at log now) log)) settings log (without_picked (Pruned max_age max_life) (moment_at log now) log)
 
 -- a new limit closes as many as are open above it
 abbrev pub LimitChanges : Type 0
-LimitChanges = (settings : LimitAndFirst) (log : List Entry) (n given now : ℕ) → IsSoundAndQuiet settings log → limit_refusal n log ≡ None → given ≤ startable (is_queued settings log) (kept_limit n) log → ChangesLimit (kept_limit n) (open_len log - kept_limit n) given settings log (after_limit (kept_limit n) given settings log now)
+LimitChanges =
+    (settings : LimitAndFirst) (log : List Entry) (n given now : ℕ)
+    → IsSoundAndQuiet settings log
+    → limit_refusal n log ≡ None
+    → given ≤ starts_due (is_queued settings log) (kept_limit n) log
+    → ChangesLimit (kept_limit n) (open_len log - kept_limit n) given settings log (after_limit (kept_limit n) given settings log now)
 
 -- once those that are too old are closed none of them is left, whatever the log
 abbrev pub NoneTooOldIsLeft : Type 0
-NoneTooOldIsLeft = (want : Want) (moment : ℕ) (log : List Entry) → picked (TooOld want) moment (without_picked (TooOld want) moment log) ≡ []
+NoneTooOldIsLeft =
+    (want : Want) (moment : ℕ) (log : List Entry)
+    → picked (TooOld want) moment (without_picked (TooOld want) moment log) ≡ []
 
 abbrev pub NoneToPruneIsLeft : Type 0
-NoneToPruneIsLeft = (max_age max_life moment : ℕ) (log : List Entry) → picked (Pruned max_age max_life) moment (without_picked (Pruned max_age max_life) moment log) ≡ []
+NoneToPruneIsLeft =
+    (max_age max_life moment : ℕ) (log : List Entry)
+    → picked (Pruned max_age max_life) moment (without_picked (Pruned max_age max_life) moment log) ≡ []

@@ -76,9 +76,9 @@ with_new settings moment log (head ∷ others) grants = grants ++ record { want 
 
 -- once a connection that came back went to the first transfer that waits, where it fits, or a new one was
 -- opened for that transfer
-abbrev pub with_passed : {S : Type 0} → LimitAndFirst → ℕ → ℕ → Option S → List Entry → List Want → List (Grant S) → List (Grant S)
-with_passed settings c moment stream log [] grants = grants
-with_passed settings c moment stream log (head ∷ others) grants =
+abbrev pub with_granted : {S : Type 0} → LimitAndFirst → ℕ → ℕ → Option S → List Entry → List Want → List (Grant S) → List (Grant S)
+with_granted settings c moment stream log [] grants = grants
+with_granted settings c moment stream log (head ∷ others) grants =
     if is_fit log head moment c then grants ++ record { want = head; number = c; moment = moment; stream = stream } ∷ [] else with_new settings moment log (head ∷ others) grants
 
 -- the connection that has just come back is the only idle one

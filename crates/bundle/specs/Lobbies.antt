@@ -47,7 +47,7 @@ pub record HadTurn (host : ℕ) (is : Bool) (old new : Queue) : Type 0 where
   pub order : new.order ≡ order_after_turn host is old.order
   pub lists : Lists host is new
 
-abbrev pub IsTurned : ℕ → Served → Bool → Queue → Queue → Type 0
-IsTurned host Given is old new = HadTurn host is old new
-IsTurned host Full is old new = new ≡ old
-IsTurned host Contended is old new = new ≡ old
+abbrev pub IsServed : ℕ → Served → Bool → Queue → Queue → Type 0
+IsServed host Given is old new = HadTurn host is old new
+IsServed host Full is old new = new ≡ old
+IsServed host Contended is old new = new ≡ old

@@ -3,7 +3,7 @@ use Rattle.std.specs.Prelude.{◌≡◌, ℕ, ◌<◌, ◌≤◌, Bool, true, fa
 use Rattle.conn_log.specs.declared.entry.Want.{Want}
 use Rattle.persistence.specs.declared.facts.Facts.{Facts}
 use Rattle.budget.specs.declared.permits.Try.{Try}
-use Rattle.budget.specs.declared.permits.Try.TheVariants.{Got as Given, Full as NoneLeft, Contended as Missed}
+use Rattle.budget.specs.declared.permits.Try.TheVariants.{Got as TryGot, Full as TryFull, Contended as TryContended}
 use Rattle.bundle.specs.declared.answers.Got.{Got}
 use Rattle.bundle.specs.declared.answers.Got.TheVariants.{Lease, Wait, NoRoom, Again}
 use Rattle.bundle.specs.declared.answers.Claimed.{Claimed}
@@ -11,7 +11,7 @@ use Rattle.bundle.specs.declared.answers.Claimed.TheVariants.{Lease as Granted, 
 use Rattle.bundle.specs.declared.answers.Back.{Back}
 use Rattle.bundle.specs.declared.answers.Back.TheVariants.{Spent, NoKeep, Again as KeepAgain, Strange}
 use Rattle.bundle.specs.declared.answers.Served.{Served}
-use Rattle.bundle.specs.declared.answers.Served.TheVariants.{Given as Opened, Full, Contended}
+use Rattle.bundle.specs.declared.answers.Served.TheVariants.{Given, Full, Contended}
 use Rattle.bundle.specs.declared.answers.Changed.{Changed}
 use Rattle.bundle.specs.declared.answers.Changed.TheVariants.{Done, Again as ChangeAgain}
 use Rattle.bundle.specs.Calls.{Reply, Returning, acquired, given_back, is_freed, starts, waits_on, no_room, again, spent, not_kept, keep_again, after_limit, kept_limit}
@@ -62,9 +62,9 @@ UnlessSpent _ P = P
 
 -- a turn answers what the budget answered
 abbrev pub answer_of : Try → Served
-answer_of Given = Opened
-answer_of NoneLeft = Full
-answer_of Missed = Contended
+answer_of TryGot = Given
+answer_of TryFull = Full
+answer_of TryContended = Contended
 
 -- where a limit is changed, and where the budget has to be asked again
 abbrev pub IfChanged : {E : Type 0} → Result Changed E → (Bool → Type 0) → Type 0

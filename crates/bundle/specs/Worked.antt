@@ -12,7 +12,7 @@ use Rattle.conn_log.specs.Legal.{LimitAndFirst, limit_in_force}
 use Rattle.conn_log.specs.Worked.{opened◌for◌at◌, leased◌to◌at◌, returned◌with◌at◌, closed◌for◌at◌, waits◌at◌, limit◌at◌, log_after, get, get_of_age_0, get_of_life_60, get_of_lane_1, keep, close, cut, limits, busy_and_no_such_site, reuse_then_drop, newest_is_reused, not_persistent_at_the_limit, idle_as_long_as_the_age, idle_longer_than_the_age, as_old_as_the_lifetime, older_than_the_lifetime, another_lane_at_the_host_limit, forbidden_and_cut, moment_goes_back, wait_then_claim, withdraw_a_grant, moments_clamped_per_host, limit_raised, limit_lowered}
 use Rattle.host_state.specs.Steps.{picked, without_picked}
 use Rattle.host_state.specs.declared.closing.Closing.TheVariants.{Pruned as ForPrune}
-use Rattle.bundle.specs.Calls.{Start, Reply, Acquired, acquired, given_back, after_abandon, after_withdraw, after_turn, after_limit, kept_limit, limit_refusal, startable, refusal, is_queued, is_freed, is_stranger, last_start, starts, waits_on, no_room, again, spent, not_kept, keep_again}
+use Rattle.bundle.specs.Calls.{Start, Reply, Acquired, acquired, given_back, after_abandon, after_withdraw, after_turn, after_limit, kept_limit, limit_refusal, starts_due, refusal, is_queued, is_freed, is_stranger, last_start, starts, waits_on, no_room, again, spent, not_kept, keep_again}
 
 -- what an acquire comes to: the log after it, and its reply
 abbrev pub comes_to : List Entry → Reply → Acquired
@@ -299,7 +299,7 @@ pub record PruneByLifetime : Type 0 where
 -- get 1 at 0, get 2 at 1, get 3 at 2, limit 2 at 5, limit 1 at 6, back 1 keep at 7
 pub record LimitRaisedCalls : Type 0 where
   pub accepted : limit_refusal 2 (log_after 3 limit_raised) ≡ None
-  pub one_may_start : startable false 2 (log_after 3 limit_raised) ≡ 1
+  pub one_may_start : starts_due false 2 (log_after 3 limit_raised) ≡ 1
   pub raised : after_limit 2 1 (limits 1) (log_after 3 limit_raised) 5 ≡ log_after 5 limit_raised
   pub not_queued : is_queued (limits 1) (log_after 5 limit_raised) ≡ false
   pub lowered_below_what_is_held : limit_refusal 1 (log_after 5 limit_raised) ≡ Some (Busy 2)
@@ -323,14 +323,14 @@ abbrev pub raised_to_4 : List Entry
 raised_to_4 = opened 2 for get 2 at 5 ∷ limit 4 at 5 ∷ three_wait
 
 pub record LimitRaisedBeyondTheTotal : Type 0 where
-  pub all_may_start : startable false 4 three_wait ≡ 3
-  pub two_may_start : startable false 3 three_wait ≡ 2
+  pub all_may_start : starts_due false 4 three_wait ≡ 3
+  pub two_may_start : starts_due false 3 three_wait ≡ 2
   pub all : after_limit 4 3 (limits 1) three_wait 5 ≡ opened 4 for get 4 at 5 ∷ opened 3 for get 3 at 5 ∷ raised_to_4
   pub all_started : is_queued (limits 1) (after_limit 4 3 (limits 1) three_wait 5) ≡ false
   pub room_for_one : after_limit 4 1 (limits 1) three_wait 5 ≡ raised_to_4
   pub queued : is_queued (limits 1) raised_to_4 ≡ true
   pub room_for_none : after_limit 4 0 (limits 1) three_wait 5 ≡ limit 4 at 5 ∷ three_wait
-  pub none_while_queued : startable true 65535 raised_to_4 ≡ 0
+  pub none_while_queued : starts_due true 65535 raised_to_4 ≡ 0
   pub while_queued : after_limit 3 0 (limits 1) raised_to_4 6 ≡ limit 3 at 6 ∷ raised_to_4
   pub still_queued : is_queued (limits 1) (limit 3 at 6 ∷ raised_to_4) ≡ true
   pub at_its_limit : is_queued (limits 1) (limit 2 at 6 ∷ raised_to_4) ≡ false

@@ -4,7 +4,7 @@ ghost use Rattle.std.specs.Prelude.{◌≡◌, ℕ, ◌+◌, ◌<◌, ◌++◌, 
 ghost use Rattle.std.specs.Prelude.{length, is_some, vec_len, vec_capacity, IfSome, IfNone, IfErr};
 ghost use Rattle.std.specs.Prelude.{IfOk, OnOk, OnErr, OnSome, if◌then◌else◌, ◌≤◌};
 ghost use Rattle.budget.specs.declared.permits.Try.{Try};
-ghost use Rattle.budget.specs.declared.permits.Try.TheVariants.{Got as Given};
+ghost use Rattle.budget.specs.declared.permits.Try.TheVariants.{Got as TryGot};
 ghost use Rattle.conn_log.specs.Connections.{held_number, is_among, last_moment};
 ghost use Rattle.conn_log.specs.Waiting.{waiting, waits};
 ghost use Rattle.host_state.specs.Steps.{is_exhausted};
@@ -131,7 +131,8 @@ impl<S: Drop> Bundle<S> {
         requires part { P.held permits.old ≡ held_by self.old.log }
         ensures told { (told : Try) × P.opening permits.old permits.new told
             × Acquires (is_lent lobby.entry) told self.old self.new booking.want now result }
-        ensures has_stream { GivesLease result (λ lease. is_some lease.stream ≡ lease.start.reused) }
+        ensures has_stream { GivesLease result
+            (λ lease. is_some lease.stream ≡ lease.start.reused) }
         ensures stream { GivesLease result (HasItsStream self.old.streams) }
         ensures streams { GivesLease result
             (λ lease. KeepsOthers lease.start.number self.old self.new) }
@@ -181,7 +182,8 @@ impl<S: Drop> Bundle<S> {
         requires part { P.held permits.old ≡ held_by self.old.log }
         ensures told { (told : Try) × P.opening permits.old permits.new told
             × Acquires is_last told self.old self.new booking.want now result }
-        ensures has_stream { GivesLease result (λ lease. is_some lease.stream ≡ lease.start.reused) }
+        ensures has_stream { GivesLease result
+            (λ lease. is_some lease.stream ≡ lease.start.reused) }
         ensures stream { GivesLease result (HasItsStream self.old.streams) }
         ensures streams { GivesLease result
             (λ lease. KeepsOthers lease.start.number self.old self.new) }
@@ -245,7 +247,7 @@ fn lease_at_once<S: Drop, P: Permits>(
     ensures none { IfNone result (state.new ≡ state.old) }
     ensures none_permits { IfNone result (permits.new ≡ permits.old) }
     ensures due { let wants = waiting state.old.log in
-        let due = start_behind wants false Given state.old.settings want moment state.old.log in
+        let due = start_behind wants false TryGot state.old.settings want moment state.old.log in
         IfSome result (λ lease. (state.new.log ≡ due.log)
         × IsGot state.old.host want due.reply (Got.Lease lease)) }
     ensures nobody { OnSome result (bookings.now ≡ []) }

@@ -37,7 +37,7 @@ pub enum Claimed<S> {
     Still(Ticket),
 }
 
-/// What a give back comes to. All but `Spent` change nothing of the bundle.
+/// What a give back comes to. All but `Spent` leave the bundle as it was.
 pub enum Back<S> {
     /// The lease is spent.
     Spent {

@@ -3,8 +3,8 @@ ghost use Rattle.std.specs.Prelude.{◌≡◌};
 use conn_log::Want;
 use std::marker::Model;
 
-/// An acquire that is halfway: the budget gave it no room yet. It has to be spent: tried again until
-/// it comes to a lease or a ticket.
+/// An acquire that is halfway: the budget gave it no room yet. It has to be spent: tried again
+/// until it comes to a lease or a ticket.
 pub struct Booking {
     host: u32,
     wanted: Want,

@@ -8,7 +8,7 @@ ghost use Rattle.budget.specs.Permits.{held};
 ghost use Rattle.conn_log.specs.Connections.{open_connections, idle_connections};
 ghost use Rattle.conn_log.specs.Waiting.{waiting};
 ghost use Rattle.host_state.specs.State.{IsSameHost, KeepsOpen};
-ghost use Rattle.bundle.specs.Calls.{after_limit, kept_limit, limit_refusal, startable};
+ghost use Rattle.bundle.specs.Calls.{after_limit, kept_limit, limit_refusal, starts_due};
 ghost use Rattle.bundle.specs.Calls.{leased_len, is_queued, is_freed, GrowsBy};
 ghost use Rattle.bundle.specs.Grants.{HasSpare, with_limit};
 ghost use Rattle.bundle.specs.Lease.{KeepsStreams, KeepsAll, StaysThere, held_by};
@@ -51,9 +51,9 @@ impl<S: Drop> Bundle<S> {
             IfErr result (λ reason. (due ≡ Some reason) ⊎ (reason ≡ Refusal.Memory)) }
         ensures log { let most = kept_limit limit in
             let queued = is_queued self.old.settings self.old.log in
-            let startable = startable queued most self.old.log in
-            IfChanged result (λ freed. (given : ℕ) × (given ≤ startable)
-            × (given < startable → P.opening permits.old permits.new Full)
+            let starts_due = starts_due queued most self.old.log in
+            IfChanged result (λ freed. (given : ℕ) × (given ≤ starts_due)
+            × (given < starts_due → P.opening permits.old permits.new Full)
             × (self.new.log ≡ after_limit most given self.old.settings self.old.log now)) }
         ensures freed { IfChanged result (λ freed. freed ≡ is_freed self.old.log self.new.log) }
         ensures contended { OnChangeAgain result (P.opening permits.old permits.new Contended) }
@@ -77,7 +77,7 @@ impl<S: Drop> Bundle<S> {
         }
         let most = kept_limit(limit);
         let was_queued = self.queued();
-        let count = startable(&self.state, was_queued, most);
+        let count = starts_due(&self.state, was_queued, most);
         let Ok(()) = self.state.reserve_for_limit() else {
             return Err(Refusal::Memory);
         };
@@ -112,8 +112,8 @@ fn reason_against<S: Drop>(state: &State<S>, limit: u32) -> Option<Refusal>
 }
 
 // How many of those that wait a new limit lets start.
-fn startable<S: Drop>(state: &State<S>, is_queued: bool, most: u32) -> u32
-    ensures { result ≡ startable is_queued most state.now.log }
+fn starts_due<S: Drop>(state: &State<S>, is_queued: bool, most: u32) -> u32
+    ensures { result ≡ starts_due is_queued most state.now.log }
 {
     if is_queued {
         return 0;

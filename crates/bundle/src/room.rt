@@ -10,7 +10,7 @@ ghost use Rattle.host_state.specs.Steps.{moment_at, add, picked, without_picked}
 ghost use Rattle.host_state.specs.declared.closing.Closing.TheVariants.{Pruned};
 ghost use Rattle.bundle.specs.Calls.{after_turn, is_queued, GrowsBy};
 ghost use Rattle.bundle.specs.Lease.{KeepsStreams, KeepsAll, StaysThere, held_by};
-ghost use Rattle.bundle.specs.Lobbies.{Lists, IsTurned, HadTurn};
+ghost use Rattle.bundle.specs.Lobbies.{Lists, IsServed, HadTurn};
 ghost use Rattle.bundle.specs.Replies.{answer_of};
 
 use crate::answers::Served;
@@ -42,7 +42,7 @@ impl<S: Drop> Bundle<S> {
             × (self.new.log ≡ after_turn told self.old.settings self.old.log now) }
         ensures unchanged { (result ≡ Served.Given → ⊥) → self.new ≡ self.old }
         ensures turned { let is = is_queued self.new.settings self.new.log in
-            IsTurned self.old.host result is lobby.old lobby.new }
+            IsServed self.old.host result is lobby.old lobby.new }
         ensures streams { KeepsStreams self.old self.new }
         ensures booked { self.new.booked ≡ self.old.booked }
         ensures stands { P.stands permits.new }

@@ -14,9 +14,9 @@ ghost use Rattle.conn_log.specs.Fit.{is_older};
 ghost use Rattle.conn_log.specs.Legal.{IsAnyone};
 ghost use Rattle.conn_log.specs.Sound.{is_of_idle};
 ghost use Rattle.host_state.specs.Steps.{add, is_full, picked, without_picked};
-ghost use Rattle.bundle.specs.Calls.{start_behind, start_as_told, start_in_place, pass_to};
+ghost use Rattle.bundle.specs.Calls.{start_behind, start_as_told, start_in_place, grant_to};
 ghost use Rattle.bundle.specs.Calls.{open_for_head, open_for_first};
-ghost use Rattle.bundle.specs.Grants.{with_new, with_passed, with_first, IsAlone, HasSpare};
+ghost use Rattle.bundle.specs.Grants.{with_new, with_granted, with_first, IsAlone, HasSpare};
 ghost use Rattle.bundle.specs.Lease.{HasItsStream, held_by};
 ghost use Rattle.host_state.specs.Idle.{stream_of};
 ghost use Rattle.bundle.specs.Replies.{GivesLease, GivesTicket, GivesBooking, UnlessBooking};
@@ -299,7 +299,7 @@ pub(crate) fn hand_on<S: Drop, P: Permits>(
 /// Grants a connection that has just come back to the first transfer that waits, if one does. Where
 /// it does not fit that transfer's want it is closed, and one is opened for that transfer.
 #[inline(always)]
-pub(crate) fn pass_to_head<S: Drop>(
+pub(crate) fn grant_to_head<S: Drop>(
     state: &mut State<S>,
     grants: &mut Vec<Grant<S>>,
     held: &Held,
@@ -311,11 +311,11 @@ pub(crate) fn pass_to_head<S: Drop>(
         (vec_capacity grants.old) }
     ensures log { let log = state.old.log in
         let wants = waiting state.old.log in
-        state.new.log ≡ pass_to state.old.settings held.now.number moment log wants }
+        state.new.log ≡ grant_to state.old.settings held.now.number moment log wants }
     ensures grants { let log = state.old.log in
         let wants = waiting state.old.log in
         let stream = stream_of state.old.streams held.now.number in
-        let passed = with_passed state.old.settings held.now.number moment stream log wants in
+        let passed = with_granted state.old.settings held.now.number moment stream log wants in
         grants.new.items ≡ passed grants.old.items }
     ensures spare { HasSpare state.new.log state.new.booked (vec_len grants.new)
         (vec_capacity grants.new) }

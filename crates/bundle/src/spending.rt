@@ -21,7 +21,7 @@ use crate::answers::{Back, Claimed};
 use crate::grant::{Grant, granted_want, take_grant};
 use crate::host::Bundle;
 use crate::lease::{Lease, Stray};
-use crate::serving::{hand_on, pass_to_head};
+use crate::serving::{hand_on, grant_to_head};
 use crate::ticket::Ticket;
 use budget::{Lobby, Permits, Try};
 use conn_log::{Cause, Want};
@@ -181,7 +181,7 @@ impl<S: Drop> Bundle<S> {
         match back {
             Returned::Idle(held) => {
                 spend(lease, &mut self.grants, transfer);
-                pass_to_head(&mut self.state, &mut self.grants, &held, moment);
+                grant_to_head(&mut self.state, &mut self.grants, &held, moment);
                 Back::Spent { freed: false }
             }
             Returned::Ended => {

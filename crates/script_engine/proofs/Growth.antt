@@ -20,7 +20,7 @@ use Rattle.host_state.specs.declared.closing.Closing.TheVariants.{TooOld}
 use Rattle.host_state.specs.Steps.{add, moment_at, close_each, picked, without_picked, is_full}
 use Rattle.budget.specs.declared.permits.Try.{Try}
 use Rattle.budget.specs.declared.permits.Try.TheVariants.{Got, Full, Contended}
-use Rattle.bundle.specs.Calls.{Acquired, acquired, start_as_told, after_give_back, after_close, after_abandon, after_withdraw, start_new, start_in_place, start_in_place_of, start_on, start_behind, open_for, unfit_cause, pass_to, settle, close_granted, GrowsBy}
+use Rattle.bundle.specs.Calls.{Acquired, acquired, start_as_told, after_give_back, after_close, after_abandon, after_withdraw, start_new, start_in_place, start_in_place_of, start_on, start_behind, open_for, unfit_cause, grant_to, settle, close_granted, GrowsBy}
 use Rattle.script_text.specs.Printing.{entry_line, event_text, returned_by, newest_lines, lines_since}
 use Rattle.script_engine.specs.Meaning.{begun}
 
@@ -152,7 +152,7 @@ module _ (Says : Event → List Entry → Type 0) (silent : (event : Event) (bef
   adds_open_for settings moment log [] so_far = so_far
   adds_open_for settings moment log (head ∷ others) so_far = adds_new settings head moment log so_far
 
-  adds_pass : (settings : LimitAndFirst) (c moment : ℕ) (log : List Entry) (wants : List Want) → Adds Says old log → Adds Says old (pass_to settings c moment log wants)
+  adds_pass : (settings : LimitAndFirst) (c moment : ℕ) (log : List Entry) (wants : List Want) → Adds Says old log → Adds Says old (grant_to settings c moment log wants)
   adds_pass settings c moment log [] so_far = so_far
   adds_pass settings c moment log (head ∷ others) so_far =
       let cause = unfit_cause settings log head moment c in

@@ -28,7 +28,7 @@ use Rattle.bundle.specs.declared.answers.Got.{Got}
 use Rattle.bundle.specs.declared.answers.Got.TheVariants.{Lease, Wait, NoRoom, Again}
 use Rattle.bundle.specs.declared.answers.Back.{Back}
 use Rattle.bundle.specs.declared.answers.Back.TheVariants.{Spent, NoKeep, Again as KeepAgain}
-use Rattle.bundle.specs.Calls.{Start, Wait as Waiting, Reply, starts, waits_on, no_room, again, Acquired, acquired, start_on, start_behind, start_in_place_of, start_as_told, spent, keep_as_told, given_back, rests, is_anyone, returned, settle, pass_to, after_give_back, is_queued}
+use Rattle.bundle.specs.Calls.{Start, Wait as Waiting, Reply, starts, waits_on, no_room, again, Acquired, acquired, start_on, start_behind, start_in_place_of, start_as_told, spent, keep_as_told, given_back, becomes_idle, is_anyone, returned, settle, grant_to, after_give_back, is_queued}
 use Rattle.bundle.specs.Lease.{HostShown, Leasing, Ticketed, Booked, held_by, is_held_lease}
 use Rattle.bundle.specs.Replies.{IsGot, IsBack, Acquires, GivesBack, IfGot, GivesLease, GivesTicket, UnlessBooking}
 use Rattle.script_engine.specs.Meaning.{begun}
@@ -176,13 +176,13 @@ module _ {S : Type 0} (old new : HostShown S) (budget : Plain) (want : Want) (no
   told-limit (Ok got) told stays unchanged = limit-told got told stays
 
 -- a connection that is given back and is to be idle is the newest idle one
-rested : (settings : LimitAndFirst) (log : List Entry) (c : ℕ) (facts : Facts) (now : ℕ) → rests log c facts now ≡ true → after_give_back settings log c facts now ≡ returned log c facts now
+rested : (settings : LimitAndFirst) (log : List Entry) (c : ℕ) (facts : Facts) (now : ℕ) → becomes_idle log c facts now ≡ true → after_give_back settings log c facts now ≡ returned log c facts now
 rested settings log c facts now e = by_owed (owed back) e
   where
     back : List Entry
     back = returned log c facts now
 
-    by_waiting : (wants : List Want) → not (is_anyone wants) ≡ true → pass_to settings c (moment_at log now) back wants ≡ back
+    by_waiting : (wants : List Want) → not (is_anyone wants) ≡ true → grant_to settings c (moment_at log now) back wants ≡ back
     by_waiting [] e' = refl
     by_waiting (head ∷ others) e' = absurd (cc)
 
@@ -191,9 +191,9 @@ rested settings log c facts now e = by_owed (owed back) e
     by_owed (Some close) e' = absurd (cc)
 
 pub kept-back : (settings : LimitAndFirst) (log : List Entry) (c : ℕ) (facts : Facts) (now : ℕ) → given_back false Given settings log c facts now ≡ spent (after_give_back settings log c facts now)
-kept-back settings log c facts now = by_rest (rests log c facts now) refl
+kept-back settings log c facts now = by_rest (becomes_idle log c facts now) refl
   where
-    by_rest : (b : Bool) → rests log c facts now ≡ b → cond b (spent (returned log c facts now)) (spent (after_give_back settings log c facts now)) ≡ spent (after_give_back settings log c facts now)
+    by_rest : (b : Bool) → becomes_idle log c facts now ≡ b → cond b (spent (returned log c facts now)) (spent (after_give_back settings log c facts now)) ≡ spent (after_give_back settings log c facts now)
     by_rest true is = ap spent (sym (rested settings log c facts now is))
     by_rest false is = refl
 
@@ -209,9 +209,9 @@ module _ {S : Type 0} (old new : HostShown S) (budget : Plain) (lease : Leasing 
   back_log = returned old.log lease.start.number facts now
 
   pub gave-log : (freed : Bool) → Gave (Spent freed) → new.log ≡ after_give_back old.settings old.log lease.start.number facts now
-  gave-log freed gave = by_rest (rests old.log lease.start.number facts now) refl gave.0 gave.2
+  gave-log freed gave = by_rest (becomes_idle old.log lease.start.number facts now) refl gave.0 gave.2
     where
-      by_rest : (b : Bool) → rests old.log lease.start.number facts now ≡ b → (told : Try)
+      by_rest : (b : Bool) → becomes_idle old.log lease.start.number facts now ≡ b → (told : Try)
           → IsBack old new lease (cond b (keep_as_told false told lease.start.number (moment_at old.log now) back_log) (spent after_back)) (Spent freed) → new.log ≡ after_back
       by_rest true is Given back = back.0 ∙ sym (rested old.settings old.log lease.start.number facts now is)
       by_rest true is Full back = absurd back
@@ -223,7 +223,7 @@ module _ {S : Type 0} (old new : HostShown S) (budget : Plain) (lease : Leasing 
       ap (λ (s : LimitAndFirst). limit_in_force s new.log) stays ∙ ap (limit_in_force old.settings) (gave-log freed gave) ∙ limit-give_back old.settings old.log lease.start.number facts now
 
   pub gave-no-keep : (same : Leasing S) → Gave (NoKeep same) → (kept_in budget.hosts ≡ budget.limits.connects) × (new ≡ old)
-  gave-no-keep same gave = by_rest (rests old.log lease.start.number facts now) gave.0 gave.1 gave.2
+  gave-no-keep same gave = by_rest (becomes_idle old.log lease.start.number facts now) gave.0 gave.1 gave.2
     where
       by_rest : (b : Bool) (told : Try) → TellsOfKept budget told → IsBack old new lease (cond b (keep_as_told false told lease.start.number (moment_at old.log now) back_log) (spent after_back)) (NoKeep same)
           → (kept_in budget.hosts ≡ budget.limits.connects) × (new ≡ old)
@@ -233,7 +233,7 @@ module _ {S : Type 0} (old new : HostShown S) (budget : Plain) (lease : Leasing 
       by_rest false told tells back = absurd back
 
   pub gave-again : (same : Leasing S) → Gave (KeepAgain same) → ⊥
-  gave-again same gave = by_rest (rests old.log lease.start.number facts now) gave.0 gave.1 gave.2
+  gave-again same gave = by_rest (becomes_idle old.log lease.start.number facts now) gave.0 gave.1 gave.2
     where
       by_rest : (b : Bool) (told : Try) → TellsOfKept budget told → IsBack old new lease (cond b (keep_as_told false told lease.start.number (moment_at old.log now) back_log) (spent after_back)) (KeepAgain same) → ⊥
       by_rest true Given tells back = back

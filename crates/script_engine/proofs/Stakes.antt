@@ -17,7 +17,7 @@ use Rattle.conn_log.specs.Legal.{LimitAndFirst, owed, owed_for, ends_use, ending
 use Rattle.conn_log.specs.Sound.{AreDistinct, IsSound}
 use Rattle.conn_log.proofs.Holdings.{unless_it_is, transfers_without, number_closed, number_returned}
 use Rattle.host_state.specs.Steps.{add, moment_at, next_number}
-use Rattle.bundle.specs.Calls.{start_new, open_for, unfit_cause, pass_to, settle, after_give_back, after_close, after_abandon, close_granted, after_withdraw}
+use Rattle.bundle.specs.Calls.{start_new, open_for, unfit_cause, grant_to, settle, after_give_back, after_close, after_abandon, close_granted, after_withdraw}
 use Rattle.script_engine.specs.Law.{is_served}
 use Rattle.script_engine.proofs.Leases.{held-passes}
 use Rattle.script_engine.proofs.TicketLists.{no-both}
@@ -181,7 +181,7 @@ module _ (settings : LimitAndFirst) (log : List Entry) (sound : IsSound settings
           let closed = add moment (Closed c cause) returned in
           both t returned closed (start_new settings head moment closed) (let_go t c returned closed refl (λ u. number_closed moment c cause returned u once-more) apart) (opens t settings head moment closed)
 
-      by_waiting : (wants : List Want) → Moves t returned (pass_to settings c moment returned wants)
+      by_waiting : (wants : List Want) → Moves t returned (grant_to settings c moment returned wants)
       by_waiting [] = still t returned
       by_waiting (head ∷ others) = passed head (is_fit returned head moment c) (unfit_cause settings returned head moment c)
 

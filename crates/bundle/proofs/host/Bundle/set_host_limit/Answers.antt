@@ -4,7 +4,7 @@ use Rattle.conn_log.specs.Connections.{open_connections}
 use Rattle.conn_log.specs.Waiting.{waiting}
 use Rattle.host_state.specs.Idle.{stream_of}
 use Rattle.host_state.specs.State.{HostState}
-use Rattle.bundle.specs.Calls.{after_limit, kept_limit, startable, is_queued}
+use Rattle.bundle.specs.Calls.{after_limit, kept_limit, starts_due, is_queued}
 use Rattle.bundle.specs.Grants.{with_limit}
 use Rattle.bundle.specs.Lease.{HostShown}
 use Rattle.bundle.proofs.Answering.{both_same}
@@ -24,8 +24,8 @@ invariant_of-self-2 g c =
     let reserved = c.in-Ok.ensures.ok in
     let allowed = sym c.reason_against.ensures ∙ c.in_default.is in
     let queued : c.queued-was_queued.result ≡ is_queued state.settings state.log = c.queued-was_queued.ensures ∙ sym (ap (λ (v : HostShown g.row.S.Denot). is_queued v.settings v.log) c.self.view_is) in
-    let so_many = c.startable-count.ensures ∙ ap (λ b. startable b c.kept_limit-most.result state.log) queued ∙ ap (λ n. startable (is_queued state.settings state.log) n state.log) c.kept_limit-most.ensures in
-    let within : given ≤ startable (is_queued state.settings state.log) (kept_limit c.args.limit) state.log = subst (λ n. given ≤ n) so_many c.in-Some-reserve_up_to.ensures.most in
+    let so_many = c.starts_due-count.ensures ∙ ap (λ b. starts_due b c.kept_limit-most.result state.log) queued ∙ ap (λ n. starts_due (is_queued state.settings state.log) n state.log) c.kept_limit-most.ensures in
+    let within : given ≤ starts_due (is_queued state.settings state.log) (kept_limit c.args.limit) state.log = subst (λ n. given ≤ n) so_many c.in-Some-reserve_up_to.ensures.most in
     let changed = c.change_limit-freed.ensures in
     let same_settings = changed.same.settings ∙ ap (λ (v : HostState g.row.S.Denot). v.settings) reserved in
     let log_is = changed.log ∙ ap (λ (v : HostState g.row.S.Denot). after_limit c.kept_limit-most.result given v.settings v.log c.args.now) reserved in
@@ -48,7 +48,7 @@ returns-clause-log g c =
     let most = c.kept_limit-most in
     let log_is = ap (λ (v : HostState g.row.S.Denot). v.log) reserved ∙ ap (λ (v : HostShown g.row.S.Denot). v.log) c.self.view_is in
     let queued = is_queued before.settings before.log in
-    let so_many : c.startable-count.result ≡ startable queued (kept_limit c.args.limit) before.log = c.startable-count.ensures ∙ ap (λ b. startable b most.result c.self.inside.state.log) c.queued-was_queued.ensures ∙ ap (λ n. startable queued n c.self.inside.state.log) most.ensures ∙ ap (λ (v : HostShown g.row.S.Denot). startable queued (kept_limit c.args.limit) v.log) c.self.view_is in (
+    let so_many : c.starts_due-count.result ≡ starts_due queued (kept_limit c.args.limit) before.log = c.starts_due-count.ensures ∙ ap (λ b. starts_due b most.result c.self.inside.state.log) c.queued-was_queued.ensures ∙ ap (λ n. starts_due queued n c.self.inside.state.log) most.ensures ∙ ap (λ (v : HostShown g.row.S.Denot). starts_due queued (kept_limit c.args.limit) v.log) c.self.view_is in (
       given,
       subst (λ n. given ≤ n) so_many c.in-Some-reserve_up_to.ensures.most,
       λ fewer.
@@ -69,8 +69,8 @@ returns-clause-streams g c d still =
     let reserved = c.in-Ok.ensures.ok in
     let allowed = sym c.reason_against.ensures ∙ c.in_default.is in
     let queued : c.queued-was_queued.result ≡ is_queued state.settings state.log = c.queued-was_queued.ensures ∙ sym (ap (λ (v : HostShown g.row.S.Denot). is_queued v.settings v.log) c.self.view_is) in
-    let so_many = c.startable-count.ensures ∙ ap (λ b. startable b c.kept_limit-most.result state.log) queued ∙ ap (λ n. startable (is_queued state.settings state.log) n state.log) c.kept_limit-most.ensures in
-    let within : given ≤ startable (is_queued state.settings state.log) (kept_limit c.args.limit) state.log = subst (λ n. given ≤ n) so_many c.in-Some-reserve_up_to.ensures.most in
+    let so_many = c.starts_due-count.ensures ∙ ap (λ b. starts_due b c.kept_limit-most.result state.log) queued ∙ ap (λ n. starts_due (is_queued state.settings state.log) n state.log) c.kept_limit-most.ensures in
+    let within : given ≤ starts_due (is_queued state.settings state.log) (kept_limit c.args.limit) state.log = subst (λ n. given ≤ n) so_many c.in-Some-reserve_up_to.ensures.most in
     let changed = c.change_limit-freed.ensures in
     let same_settings = changed.same.settings ∙ ap (λ (v : HostState g.row.S.Denot). v.settings) reserved in
     let log_is = changed.log ∙ ap (λ (v : HostState g.row.S.Denot). after_limit c.kept_limit-most.result given v.settings v.log c.args.now) reserved in
@@ -87,8 +87,8 @@ returns-clause-keeps g c =
     let reserved = c.in-Ok.ensures.ok in
     let allowed = sym c.reason_against.ensures ∙ c.in_default.is in
     let queued : c.queued-was_queued.result ≡ is_queued state.settings state.log = c.queued-was_queued.ensures ∙ sym (ap (λ (v : HostShown g.row.S.Denot). is_queued v.settings v.log) c.self.view_is) in
-    let so_many = c.startable-count.ensures ∙ ap (λ b. startable b c.kept_limit-most.result state.log) queued ∙ ap (λ n. startable (is_queued state.settings state.log) n state.log) c.kept_limit-most.ensures in
-    let within : given ≤ startable (is_queued state.settings state.log) (kept_limit c.args.limit) state.log = subst (λ n. given ≤ n) so_many c.in-Some-reserve_up_to.ensures.most in
+    let so_many = c.starts_due-count.ensures ∙ ap (λ b. starts_due b c.kept_limit-most.result state.log) queued ∙ ap (λ n. starts_due (is_queued state.settings state.log) n state.log) c.kept_limit-most.ensures in
+    let within : given ≤ starts_due (is_queued state.settings state.log) (kept_limit c.args.limit) state.log = subst (λ n. given ≤ n) so_many c.in-Some-reserve_up_to.ensures.most in
     let changed = c.change_limit-freed.ensures in
     let same_settings = changed.same.settings ∙ ap (λ (v : HostState g.row.S.Denot). v.settings) reserved in
     let log_is = changed.log ∙ ap (λ (v : HostState g.row.S.Denot). after_limit c.kept_limit-most.result given v.settings v.log c.args.now) reserved in
@@ -104,8 +104,8 @@ returns-clause-grew g c =
     let reserved = c.in-Ok.ensures.ok in
     let allowed = sym c.reason_against.ensures ∙ c.in_default.is in
     let queued : c.queued-was_queued.result ≡ is_queued state.settings state.log = c.queued-was_queued.ensures ∙ sym (ap (λ (v : HostShown g.row.S.Denot). is_queued v.settings v.log) c.self.view_is) in
-    let so_many = c.startable-count.ensures ∙ ap (λ b. startable b c.kept_limit-most.result state.log) queued ∙ ap (λ n. startable (is_queued state.settings state.log) n state.log) c.kept_limit-most.ensures in
-    let within : given ≤ startable (is_queued state.settings state.log) (kept_limit c.args.limit) state.log = subst (λ n. given ≤ n) so_many c.in-Some-reserve_up_to.ensures.most in
+    let so_many = c.starts_due-count.ensures ∙ ap (λ b. starts_due b c.kept_limit-most.result state.log) queued ∙ ap (λ n. starts_due (is_queued state.settings state.log) n state.log) c.kept_limit-most.ensures in
+    let within : given ≤ starts_due (is_queued state.settings state.log) (kept_limit c.args.limit) state.log = subst (λ n. given ≤ n) so_many c.in-Some-reserve_up_to.ensures.most in
     let changed = c.change_limit-freed.ensures in
     let same_settings = changed.same.settings ∙ ap (λ (v : HostState g.row.S.Denot). v.settings) reserved in
     let log_is = changed.log ∙ ap (λ (v : HostState g.row.S.Denot). after_limit c.kept_limit-most.result given v.settings v.log c.args.now) reserved in

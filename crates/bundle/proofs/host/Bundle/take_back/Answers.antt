@@ -9,7 +9,7 @@ use Rattle.conn_log.specs.Waiting.{waiting}
 use Rattle.conn_log.proofs.Soundness.{and_left}
 use Rattle.host_state.specs.State.{HostState}
 use Rattle.host_state.specs.Steps.{add, moment_at}
-use Rattle.bundle.specs.Calls.{after_give_back, returned, rests, is_freed}
+use Rattle.bundle.specs.Calls.{after_give_back, returned, becomes_idle, is_freed}
 use Rattle.host_state.specs.Idle.{stream_of}
 use Rattle.bundle.specs.Laws.{IsSoundAndQuiet}
 use Rattle.bundle.specs.Lease.{HostShown, held_by}
@@ -20,8 +20,8 @@ use Rattle.bundle.proofs.Freeing.{part_fewer, freed_end}
 use Rattle.bundle.proofs.Resting.{back_spent, passed_given_back, ended_given_back, would_rest, back_again, back_not_kept, back_closed, shown, same_lease, full_told, freed_one, if_none, if_some, if_there, passed_open, not_freed, passed_part, released_part}
 use Rattle.bundle.proofs.host.Bundle.take_back.Goals as goal
 
-pub pass_to_head-requires-clause-alone : goal.pass_to_head-requires-clause-alone
-pass_to_head-requires-clause-alone g c anyone =
+pub grant_to_head-requires-clause-alone : goal.grant_to_head-requires-clause-alone
+grant_to_head-requires-clause-alone g c anyone =
     let state = c.self.inside.state in
     let back = c.in-Idle.ensures.idle in
     alone_passed state.settings state.log c.self.invariant.settled c.transfer-transfer.result c.in-Idle.held back.was_held c.moment-moment.result c.args.facts c.give_back-back.new.self.log back.log back.settled anyone
@@ -33,13 +33,13 @@ invariant_of-self g c =
     let inv = c.self.invariant in
     let held = c.in-Idle.held in
     let it = known state.log c.transfer-transfer.result held back.was_held in
-    let settled = settled_passed state.settings state.log c.self.inside.grants.items inv.settled inv.grants state.streams c.transfer-transfer.result held.number it.number c.args.now c.args.facts c.detach-stream.result c.give_back-back.new.self.settings back.same.settings c.moment-moment.result c.moment-moment.ensures c.give_back-back.new.self.log back.log back.settled c.give_back-back.new.self.streams back.kept c.spend.new.grants.items c.spend.ensures.others c.pass_to_head.new.state.log c.pass_to_head.ensures.log c.pass_to_head.new.grants.items c.pass_to_head.ensures.grants c.pass_to_head.new.state.streams (λ d other still. c.pass_to_head.ensures.others d other still ∙ back.others d other) in
+    let settled = settled_passed state.settings state.log c.self.inside.grants.items inv.settled inv.grants state.streams c.transfer-transfer.result held.number it.number c.args.now c.args.facts c.detach-stream.result c.give_back-back.new.self.settings back.same.settings c.moment-moment.result c.moment-moment.ensures c.give_back-back.new.self.log back.log back.settled c.give_back-back.new.self.streams back.kept c.spend.new.grants.items c.spend.ensures.others c.grant_to_head.new.state.log c.grant_to_head.ensures.log c.grant_to_head.new.grants.items c.grant_to_head.ensures.grants c.grant_to_head.new.state.streams (λ d other still. c.grant_to_head.ensures.others d other still ∙ back.others d other) in
     record {
-      count = c.pass_to_head.ensures.booked ∙ back.booked ∙ inv.count;
+      count = c.grant_to_head.ensures.booked ∙ back.booked ∙ inv.count;
       bookings = booked_freed _ _ _ _ _ inv.grants settled.freed c.self.inside.bookings.items inv.bookings;
-      settled = subst (λ settings. IsSoundAndQuiet settings c.pass_to_head.new.state.log) (sym (c.pass_to_head.ensures.same.settings ∙ back.same.settings)) settled.settled;
+      settled = subst (λ settings. IsSoundAndQuiet settings c.grant_to_head.new.state.log) (sym (c.grant_to_head.ensures.same.settings ∙ back.same.settings)) settled.settled;
       grants = settled.freed.kept;
-      spare = c.pass_to_head.ensures.spare;
+      spare = c.grant_to_head.ensures.spare;
     }
 
 pub returns-in-Idle-clause-stream : goal.returns-in-Idle-clause-stream
@@ -50,7 +50,7 @@ returns-in-Idle-clause-stream g c still =
     let held = c.in-Idle.held in
     let it = known state.log c.transfer-transfer.result held back.was_held in
     let number = c.in-Idle.ensures.number ∙ c.number-number.ensures in
-    let kept = passed_kept state.settings state.log c.self.inside.grants.items inv.settled inv.grants state.streams c.transfer-transfer.result held.number it.number c.args.now c.detach-stream.result c.give_back-back.new.self.settings c.moment-moment.result c.give_back-back.new.self.log c.give_back-back.new.self.streams back.kept c.spend.new.grants.items c.spend.ensures.others c.pass_to_head.new.state.log c.pass_to_head.ensures.log c.pass_to_head.new.grants.items c.pass_to_head.ensures.grants c.pass_to_head.new.state.streams (λ none. ap (λ (s : HostState g.row.S.Denot). s.streams) (c.pass_to_head.ensures.nobody none)) (ap (is_open c.pass_to_head.new.state.log) number ∙ still) in
+    let kept = passed_kept state.settings state.log c.self.inside.grants.items inv.settled inv.grants state.streams c.transfer-transfer.result held.number it.number c.args.now c.detach-stream.result c.give_back-back.new.self.settings c.moment-moment.result c.give_back-back.new.self.log c.give_back-back.new.self.streams back.kept c.spend.new.grants.items c.spend.ensures.others c.grant_to_head.new.state.log c.grant_to_head.ensures.log c.grant_to_head.new.grants.items c.grant_to_head.ensures.grants c.grant_to_head.new.state.streams (λ none. ap (λ (s : HostState g.row.S.Denot). s.streams) (c.grant_to_head.ensures.nobody none)) (ap (is_open c.grant_to_head.new.state.log) number ∙ still) in
     ap (stream_of _) (sym number) ∙ kept ∙ sym c.detach-stream.ensures.stream
 
 pub returns-in-Idle-clause-streams : goal.returns-in-Idle-clause-streams
@@ -60,7 +60,7 @@ returns-in-Idle-clause-streams g c d other still =
     let inv = c.self.invariant in
     let held = c.in-Idle.held in
     let it = known state.log c.transfer-transfer.result held back.was_held in
-    let settled = settled_passed state.settings state.log c.self.inside.grants.items inv.settled inv.grants state.streams c.transfer-transfer.result held.number it.number c.args.now c.args.facts c.detach-stream.result c.give_back-back.new.self.settings back.same.settings c.moment-moment.result c.moment-moment.ensures c.give_back-back.new.self.log back.log back.settled c.give_back-back.new.self.streams back.kept c.spend.new.grants.items c.spend.ensures.others c.pass_to_head.new.state.log c.pass_to_head.ensures.log c.pass_to_head.new.grants.items c.pass_to_head.ensures.grants c.pass_to_head.new.state.streams (λ d other still. c.pass_to_head.ensures.others d other still ∙ back.others d other) in
+    let settled = settled_passed state.settings state.log c.self.inside.grants.items inv.settled inv.grants state.streams c.transfer-transfer.result held.number it.number c.args.now c.args.facts c.detach-stream.result c.give_back-back.new.self.settings back.same.settings c.moment-moment.result c.moment-moment.ensures c.give_back-back.new.self.log back.log back.settled c.give_back-back.new.self.streams back.kept c.spend.new.grants.items c.spend.ensures.others c.grant_to_head.new.state.log c.grant_to_head.ensures.log c.grant_to_head.new.grants.items c.grant_to_head.ensures.grants c.grant_to_head.new.state.streams (λ d other still. c.grant_to_head.ensures.others d other still ∙ back.others d other) in
     let apart : (held.number == d) ≡ false = ap (λ (n : ℕ). n == d) (c.in-Idle.ensures.number ∙ c.number-number.ensures) ∙ other in
     settled.others d apart still ∙ ap (λ (v : HostShown g.row.S.Denot). stream_of v.streams d) c.self.view_is
 
@@ -71,7 +71,7 @@ returns-in-Idle-clause-spends g c =
     let inv = c.self.invariant in
     let held = c.in-Idle.held in
     let it = known state.log c.transfer-transfer.result held back.was_held in
-    let settled = settled_passed state.settings state.log c.self.inside.grants.items inv.settled inv.grants state.streams c.transfer-transfer.result held.number it.number c.args.now c.args.facts c.detach-stream.result c.give_back-back.new.self.settings back.same.settings c.moment-moment.result c.moment-moment.ensures c.give_back-back.new.self.log back.log back.settled c.give_back-back.new.self.streams back.kept c.spend.new.grants.items c.spend.ensures.others c.pass_to_head.new.state.log c.pass_to_head.ensures.log c.pass_to_head.new.grants.items c.pass_to_head.ensures.grants c.pass_to_head.new.state.streams (λ d other still. c.pass_to_head.ensures.others d other still ∙ back.others d other) in
+    let settled = settled_passed state.settings state.log c.self.inside.grants.items inv.settled inv.grants state.streams c.transfer-transfer.result held.number it.number c.args.now c.args.facts c.detach-stream.result c.give_back-back.new.self.settings back.same.settings c.moment-moment.result c.moment-moment.ensures c.give_back-back.new.self.log back.log back.settled c.give_back-back.new.self.streams back.kept c.spend.new.grants.items c.spend.ensures.others c.grant_to_head.new.state.log c.grant_to_head.ensures.log c.grant_to_head.new.grants.items c.grant_to_head.ensures.grants c.grant_to_head.new.state.streams (λ d other still. c.grant_to_head.ensures.others d other still ∙ back.others d other) in
     spends_at _ _ _ _ _ c.self.view_is c.transfer-transfer.ensures (freed_spends _ _ _ _ _ _ _ _ _ _ _ _ _ settled.freed)
 
 pub returns-in-Idle-clause-grew : goal.returns-in-Idle-clause-grew
@@ -81,7 +81,7 @@ returns-in-Idle-clause-grew g c =
     let inv = c.self.invariant in
     let held = c.in-Idle.held in
     let it = known state.log c.transfer-transfer.result held back.was_held in
-    let settled = settled_passed state.settings state.log c.self.inside.grants.items inv.settled inv.grants state.streams c.transfer-transfer.result held.number it.number c.args.now c.args.facts c.detach-stream.result c.give_back-back.new.self.settings back.same.settings c.moment-moment.result c.moment-moment.ensures c.give_back-back.new.self.log back.log back.settled c.give_back-back.new.self.streams back.kept c.spend.new.grants.items c.spend.ensures.others c.pass_to_head.new.state.log c.pass_to_head.ensures.log c.pass_to_head.new.grants.items c.pass_to_head.ensures.grants c.pass_to_head.new.state.streams (λ d other still. c.pass_to_head.ensures.others d other still ∙ back.others d other) in
+    let settled = settled_passed state.settings state.log c.self.inside.grants.items inv.settled inv.grants state.streams c.transfer-transfer.result held.number it.number c.args.now c.args.facts c.detach-stream.result c.give_back-back.new.self.settings back.same.settings c.moment-moment.result c.moment-moment.ensures c.give_back-back.new.self.log back.log back.settled c.give_back-back.new.self.streams back.kept c.spend.new.grants.items c.spend.ensures.others c.grant_to_head.new.state.log c.grant_to_head.ensures.log c.grant_to_head.new.grants.items c.grant_to_head.ensures.grants c.grant_to_head.new.state.streams (λ d other still. c.grant_to_head.ensures.others d other still ∙ back.others d other) in
     grows_from _ _ _ (ap (λ (v : HostShown g.row.S.Denot). v.log) c.self.view_is) settled.grew
 
 pub hand_on-requires-clause-room : goal.hand_on-requires-clause-room
@@ -141,18 +141,18 @@ returns-in-Idle-clause-told g c =
     let state = c.self.inside.state in
     let back = c.in-Idle.ensures.idle in
     let held = c.in-Idle.held in
-    let log_is = passed_given_back state.settings state.log held.number c.args.facts c.args.now c.give_back-back.new.self.settings back.same.settings c.moment-moment.result c.moment-moment.ensures c.give_back-back.new.self.log back.log back.settled c.pass_to_head.new.state.log c.pass_to_head.ensures.log
+    let log_is = passed_given_back state.settings state.log held.number c.args.facts c.args.now c.give_back-back.new.self.settings back.same.settings c.moment-moment.result c.moment-moment.ensures c.give_back-back.new.self.log back.log back.settled c.grant_to_head.new.state.log c.grant_to_head.ensures.log
     ∙ ap (λ (n : ℕ). after_give_back state.settings state.log n c.args.facts c.args.now) (c.in-Idle.ensures.number ∙ c.number-number.ensures)
     ∙ ap (λ (v : HostShown g.row.S.Denot). after_give_back v.settings v.log c.args.lease.start.number c.args.facts c.args.now) c.self.view_is in
-    let opens = passed_open c.give_back-back.new.self.log c.pass_to_head.new.state.log c.pass_to_head.ensures.taken (λ none. ap (λ (s : HostState g.row.S.Denot). s.log) (c.pass_to_head.ensures.nobody none)) ∙ back.as_many_open ∙ ap (λ (v : HostShown g.row.S.Denot). length (open_connections v.log)) c.self.view_is in
-    (Got, g.met.P.Permits.not_asked_to_keep _ _ c.ask_to_keep-asked.ensures.stays, back_spent c.args.self.now (shown c.pass_to_head.new.state c.pass_to_head.new.grants.items c.self.inside.bookings.items) c.args.lease c.args.facts c.args.now c.args.close_if_full false log_is (not_freed c.args.self.now.log c.pass_to_head.new.state.log opens))
+    let opens = passed_open c.give_back-back.new.self.log c.grant_to_head.new.state.log c.grant_to_head.ensures.taken (λ none. ap (λ (s : HostState g.row.S.Denot). s.log) (c.grant_to_head.ensures.nobody none)) ∙ back.as_many_open ∙ ap (λ (v : HostShown g.row.S.Denot). length (open_connections v.log)) c.self.view_is in
+    (Got, g.met.P.Permits.not_asked_to_keep _ _ c.ask_to_keep-asked.ensures.stays, back_spent c.args.self.now (shown c.grant_to_head.new.state c.grant_to_head.new.grants.items c.self.inside.bookings.items) c.args.lease c.args.facts c.args.now c.args.close_if_full false log_is (not_freed c.args.self.now.log c.grant_to_head.new.state.log opens))
 
 pub returns-in-Idle-clause-part : goal.returns-in-Idle-clause-part
 returns-in-Idle-clause-part g c =
     let state = c.self.inside.state in
     let back = c.in-Idle.ensures.idle in
     let asked = c.ask_to_keep-asked in
-    passed_part state.log c.give_back-back.new.self.log c.pass_to_head.new.state.log asked.result (g.P.Permits.held c.args.permits.now) (g.P.Permits.held asked.new.permits) (is_persistent c.args.facts) (ap waiting back.log) back.as_many_open back.more_idle c.pass_to_head.ensures.taken (λ none. ap (λ (s : HostState g.row.S.Denot). s.log) (c.pass_to_head.ensures.nobody none)) (c.requires.part ∙ ap (λ (v : HostShown g.row.S.Denot). held_by v.log) (sym c.self.view_is)) (and_left (is_persistent c.args.facts) (not c.in-Idle.held.forbids_reuse) back.stays) (if_none asked.result (ap g.P.Permits.held) asked.ensures.not_asked) asked.ensures.asked asked.ensures.nobody asked.ensures.held (c.may_keep.ensures.yes c.in-Idle.ensures.kept)
+    passed_part state.log c.give_back-back.new.self.log c.grant_to_head.new.state.log asked.result (g.P.Permits.held c.args.permits.now) (g.P.Permits.held asked.new.permits) (is_persistent c.args.facts) (ap waiting back.log) back.as_many_open back.more_idle c.grant_to_head.ensures.taken (λ none. ap (λ (s : HostState g.row.S.Denot). s.log) (c.grant_to_head.ensures.nobody none)) (c.requires.part ∙ ap (λ (v : HostShown g.row.S.Denot). held_by v.log) (sym c.self.view_is)) (and_left (is_persistent c.args.facts) (not c.in-Idle.held.forbids_reuse) back.stays) (if_none asked.result (ap g.P.Permits.held) asked.ensures.not_asked) asked.ensures.asked asked.ensures.nobody asked.ensures.held (c.may_keep.ensures.yes c.in-Idle.ensures.kept)
 
 pub returns-in-Idle-clause-mark : goal.returns-in-Idle-clause-mark
 returns-in-Idle-clause-mark g c =
@@ -161,8 +161,8 @@ returns-in-Idle-clause-mark g c =
     let inv = c.self.invariant in
     let held = c.in-Idle.held in
     let it = known state.log c.transfer-transfer.result held back.was_held in
-    let settled = settled_passed state.settings state.log c.self.inside.grants.items inv.settled inv.grants state.streams c.transfer-transfer.result held.number it.number c.args.now c.args.facts c.detach-stream.result c.give_back-back.new.self.settings back.same.settings c.moment-moment.result c.moment-moment.ensures c.give_back-back.new.self.log back.log back.settled c.give_back-back.new.self.streams back.kept c.spend.new.grants.items c.spend.ensures.others c.pass_to_head.new.state.log c.pass_to_head.ensures.log c.pass_to_head.new.grants.items c.pass_to_head.ensures.grants c.pass_to_head.new.state.streams (λ d other still. c.pass_to_head.ensures.others d other still ∙ back.others d other) in
-    unmarked_from state.settings c.args.self.now.settings c.pass_to_head.new.state.settings state.log c.args.self.now.log c.pass_to_head.new.state.log (c.pass_to_head.ensures.same.settings ∙ back.same.settings) (ap (λ (v : HostShown g.row.S.Denot). v.settings) c.self.view_is) (ap (λ (v : HostShown g.row.S.Denot). v.log) c.self.view_is) settled.mark
+    let settled = settled_passed state.settings state.log c.self.inside.grants.items inv.settled inv.grants state.streams c.transfer-transfer.result held.number it.number c.args.now c.args.facts c.detach-stream.result c.give_back-back.new.self.settings back.same.settings c.moment-moment.result c.moment-moment.ensures c.give_back-back.new.self.log back.log back.settled c.give_back-back.new.self.streams back.kept c.spend.new.grants.items c.spend.ensures.others c.grant_to_head.new.state.log c.grant_to_head.ensures.log c.grant_to_head.new.grants.items c.grant_to_head.ensures.grants c.grant_to_head.new.state.streams (λ d other still. c.grant_to_head.ensures.others d other still ∙ back.others d other) in
+    unmarked_from state.settings c.args.self.now.settings c.grant_to_head.new.state.settings state.log c.args.self.now.log c.grant_to_head.new.state.log (c.grant_to_head.ensures.same.settings ∙ back.same.settings) (ap (λ (v : HostShown g.row.S.Denot). v.settings) c.self.view_is) (ap (λ (v : HostShown g.row.S.Denot). v.log) c.self.view_is) settled.mark
 
 pub hand_on-requires-clause-part : goal.hand_on-requires-clause-part
 hand_on-requires-clause-part g c =
@@ -203,10 +203,10 @@ returns-then-must_ask_again-clause-told g c =
     let not_given = c.may_keep.ensures.no c.in-Unkept.ensures.unkept.0 in
     let same = c.in-Unkept.ensures.unkept_same.1 in
     let idle = would_rest state.settings state inv.settled.sound c.transfer-transfer.result number c.args.facts c.args.now c.in-Unkept.ensures.unkept.1 (if_there asked.result not_given.0 asked.ensures.nobody) in
-    let rests_here = ap (λ (v : HostShown g.row.S.Denot). rests v.log c.args.lease.start.number c.args.facts c.args.now) (sym c.self.view_is) ∙ ap (λ (n : ℕ). rests state.log n c.args.facts c.args.now) (sym c.number-number.ensures) ∙ idle in
+    let idle_here = ap (λ (v : HostShown g.row.S.Denot). becomes_idle v.log c.args.lease.start.number c.args.facts c.args.now) (sym c.self.view_is) ∙ ap (λ (n : ℕ). becomes_idle state.log n c.args.facts c.args.now) (sym c.number-number.ensures) ∙ idle in
     let unchanged = ap (λ (s : HostState g.row.S.Denot). shown s c.self.inside.grants.items c.self.inside.bookings.items) same ∙ c.self.view_is in
     let missed = c.must_ask_again.ensures.yes c.if-must_ask_again.true in
-    (Contended, if_some asked.result Contended (λ told. g.P.Permits.keeping c.args.permits.now asked.new.permits told) missed asked.ensures.told, back_again c.args.self.now (shown c.give_back-back.new.self c.self.inside.grants.items c.self.inside.bookings.items) c.args.lease c.args.facts c.args.now rests_here c.args.close_if_full _ (same_lease _ _ _ _ _ c.detach-stream.ensures.stream c.detach-stream.ensures.rest c.with_stream.ensures c.in-Unkept.ensures.unkept_same.0) unchanged)
+    (Contended, if_some asked.result Contended (λ told. g.P.Permits.keeping c.args.permits.now asked.new.permits told) missed asked.ensures.told, back_again c.args.self.now (shown c.give_back-back.new.self c.self.inside.grants.items c.self.inside.bookings.items) c.args.lease c.args.facts c.args.now idle_here c.args.close_if_full _ (same_lease _ _ _ _ _ c.detach-stream.ensures.stream c.detach-stream.ensures.rest c.with_stream.ensures c.in-Unkept.ensures.unkept_same.0) unchanged)
 
 pub returns-then-not-close_if_full-clause-told : goal.returns-then-not-close_if_full-clause-told
 returns-then-not-close_if_full-clause-told g c =
@@ -217,10 +217,10 @@ returns-then-not-close_if_full-clause-told g c =
     let not_given = c.may_keep.ensures.no c.in-Unkept.ensures.unkept.0 in
     let same = c.in-Unkept.ensures.unkept_same.1 in
     let idle = would_rest state.settings state inv.settled.sound c.transfer-transfer.result number c.args.facts c.args.now c.in-Unkept.ensures.unkept.1 (if_there asked.result not_given.0 asked.ensures.nobody) in
-    let rests_here = ap (λ (v : HostShown g.row.S.Denot). rests v.log c.args.lease.start.number c.args.facts c.args.now) (sym c.self.view_is) ∙ ap (λ (n : ℕ). rests state.log n c.args.facts c.args.now) (sym c.number-number.ensures) ∙ idle in
+    let idle_here = ap (λ (v : HostShown g.row.S.Denot). becomes_idle v.log c.args.lease.start.number c.args.facts c.args.now) (sym c.self.view_is) ∙ ap (λ (n : ℕ). becomes_idle state.log n c.args.facts c.args.now) (sym c.number-number.ensures) ∙ idle in
     let unchanged = ap (λ (s : HostState g.row.S.Denot). shown s c.self.inside.grants.items c.self.inside.bookings.items) same ∙ c.self.view_is in
     let full = full_told asked.result not_given.0 not_given.1 (c.must_ask_again.ensures.no c.if-must_ask_again.false) in
-    (Full, if_some asked.result Full (λ told. g.P.Permits.keeping c.args.permits.now asked.new.permits told) full asked.ensures.told, back_not_kept c.args.self.now (shown c.give_back-back.new.self c.self.inside.grants.items c.self.inside.bookings.items) c.args.lease c.args.facts c.args.now rests_here c.args.close_if_full c.if-not-close_if_full.true _ (same_lease _ _ _ _ _ c.detach-stream.ensures.stream c.detach-stream.ensures.rest c.with_stream-then-not-close_if_full.ensures c.in-Unkept.ensures.unkept_same.0) unchanged)
+    (Full, if_some asked.result Full (λ told. g.P.Permits.keeping c.args.permits.now asked.new.permits told) full asked.ensures.told, back_not_kept c.args.self.now (shown c.give_back-back.new.self c.self.inside.grants.items c.self.inside.bookings.items) c.args.lease c.args.facts c.args.now idle_here c.args.close_if_full c.if-not-close_if_full.true _ (same_lease _ _ _ _ _ c.detach-stream.ensures.stream c.detach-stream.ensures.rest c.with_stream-then-not-close_if_full.ensures c.in-Unkept.ensures.unkept_same.0) unchanged)
 
 pub invariant_of-self-in-Unkept : goal.invariant_of-self-in-Unkept
 invariant_of-self-in-Unkept g c =
@@ -255,7 +255,7 @@ returns-else-not-close_if_full-clause-told g c =
     let not_given = c.may_keep.ensures.no c.in-Unkept.ensures.unkept.0 in
     let same = c.in-Unkept.ensures.unkept_same.1 in
     let idle = would_rest state.settings state inv.settled.sound c.transfer-transfer.result number c.args.facts c.args.now c.in-Unkept.ensures.unkept.1 (if_there asked.result not_given.0 asked.ensures.nobody) in
-    let rests_here = ap (λ (v : HostShown g.row.S.Denot). rests v.log c.args.lease.start.number c.args.facts c.args.now) (sym c.self.view_is) ∙ ap (λ (n : ℕ). rests state.log n c.args.facts c.args.now) (sym c.number-number.ensures) ∙ idle in
+    let idle_here = ap (λ (v : HostShown g.row.S.Denot). becomes_idle v.log c.args.lease.start.number c.args.facts c.args.now) (sym c.self.view_is) ∙ ap (λ (n : ℕ). becomes_idle state.log n c.args.facts c.args.now) (sym c.number-number.ensures) ∙ idle in
     let full = full_told asked.result not_given.0 not_given.1 (c.must_ask_again.ensures.no c.if-must_ask_again.false) in
     let keeps = if_some asked.result Full (λ told. g.P.Permits.keeping c.args.permits.now asked.new.permits told) full asked.ensures.told in
     let log_is = c.give_back_to_close.ensures.log ∙ ap (λ (s : HostState g.row.S.Denot). add c.moment-moment.result (Closed number CacheFull) (add c.moment-moment.result (Returned number c.args.facts) s.log)) same
@@ -263,7 +263,7 @@ returns-else-not-close_if_full-clause-told g c =
     ∙ ap (λ (n : ℕ). add (moment_at state.log c.args.now) (Closed n CacheFull) (returned state.log n c.args.facts c.args.now)) c.number-number.ensures
     ∙ ap (λ (v : HostShown g.row.S.Denot). add (moment_at v.log c.args.now) (Closed c.args.lease.start.number CacheFull) (returned v.log c.args.lease.start.number c.args.facts c.args.now)) c.self.view_is in
     let fewer = ap (λ (v : HostShown g.row.S.Denot). length (open_connections v.log)) (sym c.self.view_is) ∙ ap (λ (s : HostState g.row.S.Denot). length (open_connections s.log)) (sym same) ∙ c.give_back_to_close.ensures.fewer_open in
-    (Full, g.met.P.Permits.keeping_still _ _ _ Full keeps c.release_open.ensures.stays c.release_open.ensures.same_kept, back_closed c.args.self.now (shown c.give_back_to_close.new.self c.spend-in-Unkept.new.grants.items c.self.inside.bookings.items) c.args.lease c.args.facts c.args.now rests_here c.args.close_if_full c.if-not-close_if_full.false true log_is (freed_one c.args.self.now.log c.give_back_to_close.new.self.log fewer))
+    (Full, g.met.P.Permits.keeping_still _ _ _ Full keeps c.release_open.ensures.stays c.release_open.ensures.same_kept, back_closed c.args.self.now (shown c.give_back_to_close.new.self c.spend-in-Unkept.new.grants.items c.self.inside.bookings.items) c.args.lease c.args.facts c.args.now idle_here c.args.close_if_full c.if-not-close_if_full.false true log_is (freed_one c.args.self.now.log c.give_back_to_close.new.self.log fewer))
 
 pub returns-else-not-close_if_full-clause-streams : goal.returns-else-not-close_if_full-clause-streams
 returns-else-not-close_if_full-clause-streams g c d other still =

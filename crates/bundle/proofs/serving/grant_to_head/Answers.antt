@@ -2,7 +2,7 @@ use Rattle.std.proofs.Common.{length, ap, ◌∙◌, arith}
 use Rattle.conn_log.specs.Waiting.{waiting}
 use Rattle.host_state.specs.State.{booked_after_start}
 use Rattle.bundle.proofs.StartLogs.{fewer_after_head}
-use Rattle.bundle.proofs.serving.pass_to_head.Goals as goal
+use Rattle.bundle.proofs.serving.grant_to_head.Goals as goal
 
 pub returns-in-Some-lease_newest_fit-clause-spare :
     goal.returns-in-Some-lease_newest_fit-clause-spare
