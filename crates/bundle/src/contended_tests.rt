@@ -1,14 +1,20 @@
 //! What no clause says of calls where the budget has to be asked again: that they change nothing
 //! and succeed when they come again.
 ghost use Rattle.std.specs.Prelude.{◌≡◌};
+ghost use Rattle.bundle.specs.Lease.{IsBookedHere};
 
-use crate::answers::{Back, Changed, Served};
+use crate::answers::{Back, Changed, Got, Served};
+use crate::booking::Booking;
 use crate::desk::{
-    KEEP, Stream, again_of, attach_new, booking_of, lease_of, scrap_back, spent, ticket_of, want_of,
+    KEEP, Stream, accept, again_of, attach_new, booking_of, lease_of, scrap_back, spent, ticket_of,
+    want_of, with_stream,
 };
 use crate::host::Bundle;
+use crate::lease::Lease;
 use crate::ticket::Ticket;
-use budget::{Held, Lobby, Permits, Try};
+use budget::{Held, Lobby, Permits, Refusal, Try};
+use std::alloc::Global;
+use std::marker::Model;
 use std::process::Abort;
 use std::test::Fail;
 
@@ -105,94 +111,189 @@ impl Permits for Told {
     ghost same_kept_from_start = { λ x. tt };
 }
 
-// A part that holds nothing yet, and has to be asked again.
-fn contended() -> Told {
-    Told {
-        held: Held { alive: 0, kept: 0 },
-        answer: Try::Contended,
-    }
+// Host 0 under such a budget. What its part holds is what its log tells, and the lobby lists it
+// where it is queued.
+#[derive(Drop)]
+struct ToldHost {
+    bundle: Bundle<Stream>,
+    permits: Told,
+    lobby: Lobby,
 }
 
-fn withdraw(rt: &impl Abort, bundle: &mut Bundle<Stream>, permits: &mut Told, ticket: Ticket) {
-    if let Err(stray) = bundle.withdraw(ticket, 9, permits, None) {
-        stray.scrap();
-        panic!(rt; "the ticket is a stranger");
+impl Model for ToldHost {
+    ghost use Rattle.std.specs.Prelude.{◌≡◌};
+    ghost use Rattle.bundle.specs.Calls.{is_queued};
+    ghost use Rattle.bundle.specs.Lease.{HostShown, held_by};
+    ghost use Rattle.bundle.specs.Lobbies.{Lists};
+    ghost use Rattle.bundle.specs.declared.desk.Stream.{Stream};
+
+    ghost Value = { HostShown Stream };
+
+    ghost view = { λ told. told.bundle };
+
+    ghost invariant = { λ told. record {
+      part : told.permits.held ≡ held_by told.bundle.log;
+      lists : let host = told.bundle in
+          Lists host.host (is_queued host.settings host.log) told.lobby;
+    } };
+}
+
+impl ToldHost {
+    // The host may have so many open.
+    fn new(alloc: Global, limit: u32, answer: Try) -> Result<Self, Refusal> {
+        Ok(ToldHost {
+            bundle: Bundle::new(alloc, limit, 0, 1)?,
+            permits: Told {
+                held: Held { alive: 0, kept: 0 },
+                answer,
+            },
+            lobby: Lobby::new(alloc, 1)?,
+        })
+    }
+
+    // From now on the budget answers that.
+    fn answer(&mut self, answer: Try) {
+        self.permits.answer = answer;
+    }
+
+    fn held(&self) -> Held {
+        self.permits.held
+    }
+
+    fn acquire(&mut self, transfer: u64, now: u64) -> Result<Got<Stream>, Refusal> {
+        self.bundle.acquire(want_of(transfer), now, &mut self.permits)
+    }
+
+    // Another try of an acquire that is halfway here.
+    fn retry(&mut self, rt: &impl Abort, booking: Booking, now: u64) -> Got<Stream> {
+        let booking = self.booked(rt, booking);
+        self.bundle.retry(booking, now, &mut self.permits, None)
+    }
+
+    // And the last one.
+    fn retry_at_last(&mut self, rt: &impl Abort, booking: Booking, now: u64) -> Got<Stream> {
+        let booking = self.booked(rt, booking);
+        let lobby = Some(&mut self.lobby);
+        self.bundle.retry(booking, now, &mut self.permits, lobby)
+    }
+
+    // The booking, which has to be the host's.
+    fn booked(&self, rt: &impl Abort, booking: Booking) -> Booking
+        ensures same { result ≡ booking }
+        ensures here { IsBookedHere self.now booking }
+    {
+        let is_here = booking.site() == self.bundle.host();
+        if !is_here || !self.bundle.bookings.contains(&booking.transfer()) {
+            let _ = booking.spend();
+            panic!(rt; "a booking of another host");
+        }
+        booking
+    }
+
+    fn give_back(
+        &mut self,
+        rt: &impl Abort,
+        lease: Lease<Stream>,
+        now: u64,
+        close_if_full: bool,
+    ) -> Back<Stream> {
+        let lease = with_stream(rt, lease);
+        let lobby = Some(&mut self.lobby);
+        self.bundle
+            .give_back(lease, KEEP, now, &mut self.permits, lobby, close_if_full)
+    }
+
+    fn abandon(&mut self, rt: &impl Abort, lease: Lease<Stream>, now: u64) -> bool {
+        let lobby = Some(&mut self.lobby);
+        accept(rt, self.bundle.abandon(lease, now, &mut self.permits, lobby))
+    }
+
+    fn withdraw(&mut self, rt: &impl Abort, ticket: Ticket, now: u64) -> bool {
+        let lobby = Some(&mut self.lobby);
+        match self.bundle.withdraw(ticket, now, &mut self.permits, lobby) {
+            Ok(freed) => freed,
+            Err(stray) => {
+                stray.scrap();
+                panic!(rt; "the ticket is a stranger");
+            }
+        }
+    }
+
+    // A turn of the host, if it is queued and first.
+    fn serve_queued(&mut self, now: u64) -> Option<Served> {
+        if !self.bundle.queued() || self.lobby.first() != Some(self.bundle.host()) {
+            return None;
+        }
+        let lobby = &mut self.lobby;
+        Some(self.bundle.serve_queued(now, &mut self.permits, lobby))
+    }
+
+    fn set_host_limit(&mut self, limit: u32, now: u64) -> Result<Changed, Refusal> {
+        let lobby = &mut self.lobby;
+        self.bundle.set_host_limit(limit, now, &mut self.permits, lobby)
     }
 }
 
 #[test]
 fn an_acquire_is_tried_again(rt: HostRuntime) -> Result<(), Fail> {
-    let mut permits = contended();
-    let mut lobby = Lobby::new(rt.alloc(), 1)?;
-    let mut bundle = Bundle::<Stream>::new(rt.alloc(), 4, 0, 1)?;
-    let got = bundle.acquire(want_of(1), 0, &mut permits)?;
+    let mut host = ToldHost::new(rt.alloc(), 4, Try::Contended)?;
+    let got = host.acquire(1, 0)?;
     let booking = again_of(&rt, got);
-    let booking = again_of(&rt, bundle.retry(booking, 1, &mut permits, None));
-    let got = bundle.retry(booking, 2, &mut permits, Some(&mut lobby));
-    let booking = again_of(&rt, got);
-    assert_eq!(rt; (bundle.log().len(), lobby.first()), (0, None));
-    permits.answer = Try::Got;
-    let lease = lease_of(&rt, bundle.retry(booking, 3, &mut permits, None));
-    assert_eq!(rt; (lease.moment(), permits.held.alive), (3, 1));
-    if let Err(stray) = bundle.abandon(lease, 4, &mut permits, None) {
-        stray.scrap();
-    }
-    assert_eq!(rt; permits.held, Held { alive: 0, kept: 0 });
+    let booking = again_of(&rt, host.retry(&rt, booking, 1));
+    let booking = again_of(&rt, host.retry_at_last(&rt, booking, 2));
+    assert_eq!(rt; (host.bundle.log().len(), host.lobby.first()), (0, None));
+    host.answer(Try::Got);
+    let lease = lease_of(&rt, host.retry(&rt, booking, 3));
+    assert_eq!(rt; (lease.moment(), host.held().alive), (3, 1));
+    assert_eq!(rt; host.abandon(&rt, lease, 4), true);
+    assert_eq!(rt; host.held(), Held { alive: 0, kept: 0 });
     Ok(())
 }
 
 #[test]
 fn a_give_back_comes_again(rt: HostRuntime) -> Result<(), Fail> {
     for close_if_full in [true, false] {
-        let mut permits = contended();
-        permits.answer = Try::Got;
-        let mut bundle = Bundle::new(rt.alloc(), 4, 0, 1)?;
-        let got = bundle.acquire(want_of(1), 0, &mut permits)?;
+        let mut host = ToldHost::new(rt.alloc(), 4, Try::Got)?;
+        let got = host.acquire(1, 0)?;
         let mut lease = lease_of(&rt, got);
         attach_new(&mut lease);
-        permits.answer = Try::Contended;
-        let back = bundle.give_back(lease, KEEP, 1, &mut permits, None, close_if_full);
+        host.answer(Try::Contended);
+        let back = host.give_back(&rt, lease, 1, close_if_full);
         let Back::Again(lease) = back else {
             scrap_back(back);
             panic!(rt; "it does not come again");
         };
-        assert_eq!(rt; (bundle.log().len(), lease.has_stream()), (1, true));
-        permits.answer = Try::Got;
-        let back = bundle.give_back(lease, KEEP, 2, &mut permits, None, close_if_full);
+        assert_eq!(rt; (host.bundle.log().len(), lease.has_stream()), (1, true));
+        host.answer(Try::Got);
+        let back = host.give_back(&rt, lease, 2, close_if_full);
         assert_eq!(rt; spent(&rt, back), false);
-        assert_eq!(rt; permits.held, Held { alive: 1, kept: 1 });
+        assert_eq!(rt; host.held(), Held { alive: 1, kept: 1 });
     }
     Ok(())
 }
 
 #[test]
 fn a_turn_and_a_new_limit_come_again(rt: HostRuntime) -> Result<(), Fail> {
-    let mut permits = contended();
-    permits.answer = Try::Full;
-    let mut lobby = Lobby::new(rt.alloc(), 1)?;
-    let mut bundle = Bundle::<Stream>::new(rt.alloc(), 1, 0, 1)?;
-    let got = bundle.acquire(want_of(1), 0, &mut permits)?;
+    let mut host = ToldHost::new(rt.alloc(), 1, Try::Full)?;
+    let got = host.acquire(1, 0)?;
     let booking = booking_of(&rt, got);
-    let got = bundle.retry(booking, 0, &mut permits, Some(&mut lobby));
-    let first = ticket_of(&rt, got);
-    permits.answer = Try::Contended;
-    let turn = bundle.serve_queued(1, &mut permits, &mut lobby);
-    assert_eq!(rt; (turn, lobby.first()), (Served::Contended, Some(0)));
-    permits.answer = Try::Got;
-    let turn = bundle.serve_queued(2, &mut permits, &mut lobby);
-    assert_eq!(rt; (turn, lobby.first()), (Served::Given, None));
-    let got = bundle.acquire(want_of(2), 3, &mut permits);
-    let got = got.expect(&rt, "an answer");
-    let second = ticket_of(&rt, got);
-    permits.answer = Try::Contended;
-    let changed = bundle.set_host_limit(2, 4, &mut permits, &mut lobby);
-    assert_eq!(rt; (changed, bundle.log().len()), (Ok(Changed::Again), 3));
-    permits.answer = Try::Got;
-    let changed = bundle.set_host_limit(2, 5, &mut permits, &mut lobby);
-    assert_eq!(rt; changed, Ok(Changed::Done { freed: false }));
-    assert_eq!(rt; permits.held, Held { alive: 2, kept: 0 });
-    withdraw(&rt, &mut bundle, &mut permits, first);
-    withdraw(&rt, &mut bundle, &mut permits, second);
-    assert_eq!(rt; permits.held, Held { alive: 0, kept: 0 });
+    let first = ticket_of(&rt, host.retry_at_last(&rt, booking, 0));
+    host.answer(Try::Contended);
+    let turn = host.serve_queued(1);
+    assert_eq!(rt; (turn, host.lobby.first()), (Some(Served::Contended), Some(0)));
+    host.answer(Try::Got);
+    let turn = host.serve_queued(2);
+    assert_eq!(rt; (turn, host.lobby.first()), (Some(Served::Given), None));
+    let got = host.acquire(2, 3);
+    let second = ticket_of(&rt, got.expect(&rt, "an answer"));
+    host.answer(Try::Contended);
+    let changed = host.set_host_limit(2, 4);
+    assert_eq!(rt; (changed, host.bundle.log().len()), (Ok(Changed::Again), 3));
+    host.answer(Try::Got);
+    assert_eq!(rt; host.set_host_limit(2, 5), Ok(Changed::Done { freed: false }));
+    assert_eq!(rt; host.held(), Held { alive: 2, kept: 0 });
+    host.withdraw(&rt, first, 9);
+    host.withdraw(&rt, second, 9);
+    assert_eq!(rt; host.held(), Held { alive: 0, kept: 0 });
     Ok(())
 }

@@ -255,8 +255,8 @@ fn close_one<P: Permits>(permits: &mut P)
     }
 }
 
-// The lease, which has to have a stream.
-fn with_stream<S: Drop>(rt: &impl Abort, lease: Lease<S>) -> Lease<S>
+/// The lease, which has to have a stream.
+pub(crate) fn with_stream<S: Drop>(rt: &impl Abort, lease: Lease<S>) -> Lease<S>
     ensures same { result ≡ lease }
     ensures stream { IsSome result.stream }
 {

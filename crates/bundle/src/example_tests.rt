@@ -21,6 +21,7 @@ fn the_second_request_reuses_the_connection(rt: HostRuntime) -> Result<(), Fail>
     let limits = Limits::new(6, 20, 4)?;
     let mut budget = PlainBudget::new(rt.alloc(), limits, 1)?;
     let mut bundle = Bundle::new(rt.alloc(), limits.host(), 0, 1)?;
+    let mut permits = budget.at(0);
     for transfer in 1..=2 {
         let now = 10 * transfer;
         let mut reader = ResponseReader::new(rt.alloc(), Method::Get, false)?;
@@ -32,7 +33,7 @@ fn the_second_request_reuses_the_connection(rt: HostRuntime) -> Result<(), Fail>
             fresh: false,
             forbid_reuse: false,
         };
-        match bundle.acquire(want, now, &mut budget.at(0))? {
+        match bundle.acquire(want, now, &mut permits)? {
             Got::Lease(mut lease) => {
                 assert_eq!(rt; lease.reused(), transfer == 2);
                 if !lease.has_stream() {
@@ -42,8 +43,7 @@ fn the_second_request_reuses_the_connection(rt: HostRuntime) -> Result<(), Fail>
                     let _ = reader.feed(piece);
                 }
                 let facts = reader.facts();
-                let back = bundle.give_back(lease, facts, now, &mut budget.at(0), None, true);
-                scrap_back(back);
+                scrap_back(bundle.give_back(lease, facts, now, &mut permits, None, true));
             }
             got => scrap(got),
         }
