@@ -1,12 +1,13 @@
 -- Who has a lease or a ticket after a turn of a host, or after idle connections are closed, and the streams
 -- that are kept.
+use mathlib.Core.Bool.{false≢true}
 use Rattle.std.proofs.Common.{◌≡◌, ℕ, zero, suc, ◌<◌, Bool, true, false, ◌||◌, List, is_some, [], ◌∷◌, Some, None, refl, sym, ap, subst, ◌∙◌, arith}
 use Rattle.std.specs.Prelude.{◌==◌, if◌then◌else◌}
 use Rattle.std.specs.List.{list_any}
 use Rattle.budget.specs.declared.permits.Try.TheVariants.{Got}
 use Rattle.conn_log.specs.declared.entry.Want.{Want}
 use Rattle.conn_log.specs.declared.entry.Cause.{Cause}
-use Rattle.conn_log.specs.declared.entry.Cause.TheVariants.{Pruned as ForPrune}
+use Rattle.conn_log.specs.declared.entry.Cause.TheVariants.{NotPersistent, Cut, Forbidden, TooOld, HostRoom, TotalRoom, CacheFull, Dropped, Withdrawn, Pruned as ForPrune}
 use Rattle.conn_log.specs.declared.entry.Event.TheVariants.{Closed}
 use Rattle.conn_log.specs.declared.entry.Entry.{Entry}
 use Rattle.conn_log.specs.Connections.{held_number, holder_want}
@@ -20,7 +21,7 @@ use Rattle.host_state.specs.declared.closing.Closing.TheVariants.{Pruned}
 use Rattle.host_state.specs.Idle.{stream_of}
 use Rattle.host_state.specs.Queue.{waiting_want}
 use Rattle.bundle.specs.declared.grant.Grant.{Grant}
-use Rattle.bundle.specs.Calls.{last_start, start_new, open_for, open_for_head, open_for_first, is_queued, GrowsBy}
+use Rattle.bundle.specs.Calls.{last_start, start_new, open_for, open_for_head, open_for_first, is_queued, makes_room_for_others, GrowsBy}
 use Rattle.bundle.specs.Grants.{grant_starts, grant_streams, GrantsKept, with_new, with_first}
 use Rattle.bundle.specs.Laws.{IsSoundAndQuiet}
 use Rattle.bundle.specs.Lease.{HostShown, AreBooked, KeepsAll}
@@ -143,6 +144,19 @@ closings_keep settings log before cause moment numbers grants booked grants_kept
       halfway = booked_same log after booked (λ t out. same t) are;
       grew = grew;
     }
+
+-- what makes room for others is idle
+pub of_idle_for_others : (cause : Cause) → makes_room_for_others cause ≡ true → is_of_idle cause ≡ true
+of_idle_for_others NotPersistent fits = absurd (false≢true fits)
+of_idle_for_others Cut fits = absurd (false≢true fits)
+of_idle_for_others Forbidden fits = absurd (false≢true fits)
+of_idle_for_others TooOld fits = refl
+of_idle_for_others HostRoom fits = refl
+of_idle_for_others TotalRoom fits = refl
+of_idle_for_others CacheFull fits = refl
+of_idle_for_others Dropped fits = absurd (false≢true fits)
+of_idle_for_others Withdrawn fits = absurd (false≢true fits)
+of_idle_for_others ForPrune fits = refl
 
 module _ {S : Type 0} (settings settings' : LimitAndFirst) (log after : List Entry) (grants : List (Grant S)) (booked : List ℕ) (now moment : ℕ) (kept : IsSoundAndQuiet settings log) (grants_kept : GrantsKept log grants) (are : AreBooked log booked) (same_settings : settings' ≡ settings) (same_moment : moment ≡ moment_at log now) (same_held : (t : ℕ) → held_number after t ≡ held_number log t) (same_waiting : waiting after ≡ waiting log) where
   at_settings : AfterClosings settings log after grants booked → AfterClosings settings' log after grants booked

@@ -1,7 +1,7 @@
 -- What a call of a bundle answers: the log after it and the reply, from the log before it, the call, its
 -- moment, and what the budget answered where it was asked. Steps take the log last, so that they read in
 -- their order.
-use Rattle.std.specs.Prelude.{◌≡◌, ℕ, zero, suc, ◌+◌, ◌-◌, min, Bool, true, false, not, nat_lt, nat_le, ◌==◌, ◌&&◌, ◌||◌, if◌then◌else◌, List, [], ◌∷◌, ◌++◌, length, Option, Some, None, is_none}
+use Rattle.std.specs.Prelude.{◌≡◌, ℕ, zero, suc, ◌-◌, min, Bool, true, false, not, nat_lt, ◌==◌, ◌&&◌, ◌||◌, if◌then◌else◌, List, [], ◌∷◌, ◌++◌, length, Option, Some, None, is_none}
 use Rattle.persistence.specs.declared.facts.Facts.{Facts}
 use Rattle.budget.specs.declared.permits.Try.{Try}
 use Rattle.budget.specs.declared.permits.Try.TheVariants.{Got, Full, Contended}
@@ -127,11 +127,11 @@ returned log c facts now = add (moment_at log now) (Returned c facts) log
 abbrev pub after_give_back : LimitAndFirst → List Entry → ℕ → Facts → ℕ → List Entry
 after_give_back settings log c facts now = after_return settings c (moment_at log now) (returned log c facts now)
 
--- it is to be idle: its use does not end, and nobody waits
 abbrev pub is_anyone : List Want → Bool
 is_anyone [] = false
 is_anyone (head ∷ others) = true
 
+-- it is to be idle: its use does not end, and nobody waits
 abbrev pub becomes_idle : List Entry → ℕ → Facts → ℕ → Bool
 becomes_idle log c facts now = is_none (owed (returned log c facts now)) && not (is_anyone (waiting log))
 
@@ -241,6 +241,12 @@ start_of transfer (Some start) sooner = if start.want.transfer == transfer then 
 abbrev pub last_start : List Entry → ℕ → Option Start
 last_start [] transfer = None
 last_start (e ∷ before) transfer = start_of transfer (start_by e.moment e.event) (last_start before transfer)
+
+-- the causes for which a host closes its oldest idle connection for others
+abbrev pub makes_room_for_others : Cause → Bool
+makes_room_for_others TotalRoom = true
+makes_room_for_others CacheFull = true
+makes_room_for_others _ = false
 
 -- a permit was freed: fewer are open
 abbrev pub is_freed : List Entry → List Entry → Bool

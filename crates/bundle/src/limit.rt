@@ -56,7 +56,10 @@ impl<S: Drop> Bundle<S> {
             × (given < starts_due → P.opening permits.old permits.new Full)
             × (self.new.log ≡ after_limit most given self.old.settings self.old.log now)) }
         ensures freed { IfChanged result (λ freed. freed ≡ is_freed self.old.log self.new.log) }
-        ensures contended { OnChangeAgain result (P.opening permits.old permits.new Contended) }
+        ensures contended { let most = kept_limit limit in
+            let queued = is_queued self.old.settings self.old.log in
+            OnChangeAgain result ((0 < starts_due queued most self.old.log)
+            × P.opening permits.old permits.new Contended) }
         ensures again { OnChangeAgain result ((self.new ≡ self.old) × (lobby.new ≡ lobby.old)) }
         ensures err { OnErr result ((self.new ≡ self.old) × (lobby.new ≡ lobby.old)) }
         ensures err_permits { OnErr result (permits.new ≡ permits.old) }
@@ -173,6 +176,7 @@ fn reserve_up_to<P: Permits>(count: u32, permits: &mut P) -> Option<u32>
     requires stands { P.stands permits.old }
     ensures most { IfSome result (λ got. got ≤ count) }
     ensures full { IfSome result (λ got. got < count → P.opening permits.old permits.new Full) }
+    ensures asked { IfNone result (0 < count) }
     ensures contended { IfNone result (P.opening permits.old permits.new Contended) }
     ensures got { IfSome result (λ got. let before = P.held permits.old in
         P.held permits.new ≡ held (before.alive + got) before.kept) }

@@ -5,10 +5,9 @@ ghost use Rattle.std.specs.Prelude.{if◌then◌else◌};
 ghost use Rattle.budget.specs.declared.permits.Try.{Try};
 ghost use Rattle.conn_log.specs.declared.entry.Event.TheVariants.{Closed};
 ghost use Rattle.conn_log.specs.Fit.{oldest_stamp};
-ghost use Rattle.conn_log.specs.Sound.{is_of_idle};
 ghost use Rattle.host_state.specs.Steps.{moment_at, add, picked, without_picked};
 ghost use Rattle.host_state.specs.declared.closing.Closing.TheVariants.{Pruned};
-ghost use Rattle.bundle.specs.Calls.{after_turn, is_queued, GrowsBy};
+ghost use Rattle.bundle.specs.Calls.{after_turn, is_queued, makes_room_for_others, GrowsBy};
 ghost use Rattle.bundle.specs.Lease.{KeepsStreams, KeepsAll, StaysThere, held_by};
 ghost use Rattle.bundle.specs.Lobbies.{Lists, IsServed, HadTurn};
 ghost use Rattle.bundle.specs.Replies.{answer_of};
@@ -81,7 +80,7 @@ impl<S: Drop> Bundle<S> {
     /// Closes the oldest idle connection for that cause, where its stamp is that one, and frees its
     /// permits; it answers whether it did. `now` is in seconds. It takes no memory.
     ///
-    /// Asked of the caller: the cause is one for which idle connections are closed.
+    /// Asked of the caller: the cause is [`Cause::TotalRoom`] or [`Cause::CacheFull`].
     pub fn evict_oldest<P: Permits>(
         &mut self,
         stamp: Stamp,
@@ -89,7 +88,7 @@ impl<S: Drop> Bundle<S> {
         now: u64,
         permits: &mut P,
     ) -> bool
-        requires cause { is_of_idle cause ≡ true }
+        requires cause { makes_room_for_others cause ≡ true }
         requires stands { P.stands permits.old }
         requires part { P.held permits.old ≡ held_by self.old.log }
         ensures oldest { result ≡ true → oldest_stamp self.old.log self.old.host ≡ Some stamp }

@@ -88,7 +88,8 @@ impl<S: Drop> Bundle<S> {
     /// is in seconds. Spending takes no memory.
     ///
     /// A lease that this host's log does not show comes back in a [`Stray`]; for one whose transfer
-    /// holds nothing here the table of holders may grow. All but [`Back::Spent`] change nothing.
+    /// holds nothing here the table of holders may grow. All but [`Back::Spent`] leave the host as
+    /// it was.
     ///
     /// Asked of the caller: a queued host is lent the lobby, which lists it exactly where it is
     /// queued.
@@ -239,6 +240,7 @@ impl<S: Drop> Bundle<S> {
         ensures freed { IfOk result (λ freed. freed ≡ is_freed self.old.log self.new.log) }
         ensures streams { OnOk result (KeepsOthers lease.start.number self.old self.new) }
         ensures err { OnErr result (self.new ≡ self.old) }
+        ensures err_permits { OnErr result (permits.new ≡ permits.old) }
         ensures spends { OnOk result (Spends self.old self.new lease.start.want.transfer) }
         ensures booked { self.new.booked ≡ self.old.booked }
         ensures stands { P.stands permits.new }
@@ -280,6 +282,7 @@ impl<S: Drop> Bundle<S> {
         ensures freed { IfOk result (λ freed. freed ≡ is_freed self.old.log self.new.log) }
         ensures streams { OnOk result (KeepsOthers lease.start.number self.old self.new) }
         ensures err { OnErr result (self.new ≡ self.old) }
+        ensures err_permits { OnErr result (permits.new ≡ permits.old) }
         ensures spends { OnOk result (Spends self.old self.new lease.start.want.transfer) }
         ensures booked { self.new.booked ≡ self.old.booked }
         ensures stands { P.stands permits.new }
@@ -333,6 +336,7 @@ impl<S: Drop> Bundle<S> {
         ensures freed { IfOk result (λ freed. freed ≡ is_freed self.old.log self.new.log) }
         ensures streams { OnOk result (KeepsStreams self.old self.new) }
         ensures err { OnErr result (self.new ≡ self.old) }
+        ensures err_permits { OnErr result (permits.new ≡ permits.old) }
         ensures spends { OnOk result (Spends self.old self.new ticket.wait.want.transfer) }
         ensures booked { self.new.booked ≡ self.old.booked }
         ensures stands { P.stands permits.new }
@@ -375,6 +379,7 @@ impl<S: Drop> Bundle<S> {
         ensures freed { IfOk result (λ freed. freed ≡ is_freed self.old.log self.new.log) }
         ensures streams { OnOk result (KeepsStreams self.old self.new) }
         ensures err { OnErr result (self.new ≡ self.old) }
+        ensures err_permits { OnErr result (permits.new ≡ permits.old) }
         ensures spends { OnOk result (Spends self.old self.new ticket.wait.want.transfer) }
         ensures booked { self.new.booked ≡ self.old.booked }
         ensures stands { P.stands permits.new }

@@ -4,7 +4,7 @@ use Rattle.std.specs.Prelude.{List}
 use Rattle.host_state.specs.Idle.{stream_of}
 use Rattle.bundle.specs.Lease.{HostShown}
 use Rattle.bundle.proofs.Answering.{behind_same}
-use Rattle.bundle.proofs.TurnLogs.{evict_keeps, grants_keep, keeps_at, grows_at}
+use Rattle.bundle.proofs.TurnLogs.{evict_keeps, of_idle_for_others, grants_keep, keeps_at, grows_at}
 use Rattle.bundle.proofs.host.Bundle.evict_oldest.Goals as goal
 
 pub invariant_of-self : goal.invariant_of-self
@@ -12,7 +12,7 @@ invariant_of-self g c =
     let inv = c.self.invariant in
     let closed = c.close_oldest.ensures in
     let closes = closed.closes in
-    let after = evict_keeps _ _ _ _ _ _ c.args.now _ inv.settled inv.grants inv.bookings closes.same.settings c.moment-moment.ensures closes.holders closes.waiting closed.number c.args.cause closed.oldest c.requires.cause closed.log in
+    let after = evict_keeps _ _ _ _ _ _ c.args.now _ inv.settled inv.grants inv.bookings closes.same.settings c.moment-moment.ensures closes.holders closes.waiting closed.number c.args.cause closed.oldest (of_idle_for_others c.args.cause c.requires.cause) closed.log in
     record {
       count = closes.booked ∙ inv.count;
       bookings = after.halfway;
@@ -31,7 +31,7 @@ returns-clause-keeps g c =
     let inv = c.self.invariant in
     let closed = c.close_oldest.ensures in
     let closes = closed.closes in
-    let after = evict_keeps _ _ _ _ _ _ c.args.now _ inv.settled inv.grants inv.bookings closes.same.settings c.moment-moment.ensures closes.holders closes.waiting closed.number c.args.cause closed.oldest c.requires.cause closed.log in
+    let after = evict_keeps _ _ _ _ _ _ c.args.now _ inv.settled inv.grants inv.bookings closes.same.settings c.moment-moment.ensures closes.holders closes.waiting closed.number c.args.cause closed.oldest (of_idle_for_others c.args.cause c.requires.cause) closed.log in
     keeps_at _ _ _ c.self.view_is (grants_keep _ _ _ _ _ _ _ _ _ _ _ _ after.same)
 
 pub returns-clause-grew : goal.returns-clause-grew
@@ -39,5 +39,8 @@ returns-clause-grew g c =
     let inv = c.self.invariant in
     let closed = c.close_oldest.ensures in
     let closes = closed.closes in
-    let after = evict_keeps _ _ _ _ _ _ c.args.now _ inv.settled inv.grants inv.bookings closes.same.settings c.moment-moment.ensures closes.holders closes.waiting closed.number c.args.cause closed.oldest c.requires.cause closed.log in
+    let after = evict_keeps _ _ _ _ _ _ c.args.now _ inv.settled inv.grants inv.bookings closes.same.settings c.moment-moment.ensures closes.holders closes.waiting closed.number c.args.cause closed.oldest (of_idle_for_others c.args.cause c.requires.cause) closed.log in
     grows_at _ _ _ (ap (λ (v : HostShown g.row.S.Denot). v.log) c.self.view_is) after.grew
+
+pub close_oldest-requires-clause-cause : goal.close_oldest-requires-clause-cause
+close_oldest-requires-clause-cause g c = of_idle_for_others c.args.cause c.requires.cause
