@@ -1,12 +1,12 @@
 -- What a desk of two hosts holds and lists, as a call of one of them leaves it.
-use Rattle.std.proofs.Common.{◌≡◌, ◌≢◌, ℕ, ◌<◌, length, Bool, true, false, ◌==◌, refl, sym, ap, subst, ◌∙◌, arith}
+use Rattle.std.proofs.Common.{◌≡◌, ◌≢◌, ℕ, ◌<◌, length, Bool, true, false, ◌==◌, sym, ap, subst, ◌∙◌, arith}
 use mathlib.Core.Bool.{false≢true}
 use Rattle.std.proofs.lemmas.Bool.Decides.{nat_tests}
 use Rattle.budget.specs.Plain.{Plain, held_at_host, KeepsOtherHosts}
 use Rattle.budget.specs.Lobby.{Queue}
 use Rattle.bundle.specs.Calls.{is_queued}
 use Rattle.bundle.specs.Lease.{HostShown, StaysThere, held_by}
-use Rattle.bundle.specs.Lobbies.{Lists, IsMarked, HadTurn, IsServed}
+use Rattle.bundle.specs.Lobbies.{Lists, IsMarked, IsServed}
 use Rattle.bundle.specs.declared.answers.Served.{Served}
 use Rattle.bundle.specs.declared.answers.Served.TheVariants.{Given, Full, Contended}
 use Rattle.bundle.proofs.OtherHosts.{lists_other, lists_other_after_turn}

@@ -1,7 +1,7 @@
 -- What becomes of another host's place in the lobby as one host is marked, or had its turn.
-use Rattle.std.proofs.Common.{◌≡◌, ℕ, Bool, true, false, not, ◌&&◌, ◌||◌, ◌==◌, List, [], ◌∷◌, ◌++◌, refl, ◌∙◌, arith}
+use Rattle.std.proofs.Common.{◌≡◌, ℕ, Bool, true, false, ◌==◌, List, refl, ◌∙◌, arith}
 use Rattle.std.proofs.lemmas.Bool.Decides.{nat_tests}
-use Rattle.budget.specs.Lobby.{Queue, is_listed, without_host, turned}
+use Rattle.budget.specs.Lobby.{Queue, is_listed}
 use Rattle.budget.proofs.Queues.{listed_last, listed_without, listed_turned}
 use Rattle.bundle.specs.Lobbies.{Lists, IsMarked, HadTurn, order_after, order_after_turn}
 

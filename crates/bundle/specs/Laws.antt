@@ -1,19 +1,18 @@
 -- What the calls' answers keep of a log, whatever the log.
-use Rattle.std.specs.Prelude.{◌≡◌, ℕ, ◌≤◌, Bool, true, false, List, [], Option, Some, None}
+use Rattle.std.specs.Prelude.{◌≡◌, ℕ, ◌≤◌, Bool, true, false, List, [], Some, None}
 use Rattle.persistence.specs.declared.facts.Facts.{Facts}
 use Rattle.budget.specs.declared.permits.Try.{Try}
 use Rattle.conn_log.specs.declared.entry.Want.{Want}
 use Rattle.conn_log.specs.declared.entry.Cause.{Cause}
 use Rattle.conn_log.specs.declared.entry.Entry.{Entry}
 use Rattle.conn_log.specs.declared.entry.Event.TheVariants.{Closed}
-use Rattle.conn_log.specs.Connections.{held_number, open_connections}
-use Rattle.conn_log.specs.Waiting.{waiting}
+use Rattle.conn_log.specs.Connections.{held_number}
 use Rattle.conn_log.specs.Fit.{oldest}
 use Rattle.conn_log.specs.Legal.{LimitAndFirst, IsQuiet}
 use Rattle.conn_log.specs.Sound.{IsSound, is_of_idle}
 use Rattle.host_state.specs.Steps.{moment_at, add, without_picked}
 use Rattle.host_state.specs.declared.closing.Closing.TheVariants.{Pruned}
-use Rattle.bundle.specs.Calls.{Returning, spent, acquired, given_back, after_abandon, after_withdraw, after_turn, after_limit, kept_limit, limit_refusal, starts_due, is_queued, is_busy}
+use Rattle.bundle.specs.Calls.{spent, acquired, given_back, after_abandon, after_withdraw, after_turn, after_limit, kept_limit, limit_refusal, starts_due, is_queued, is_busy}
 
 -- what holds between two calls: the log is sound, and quiet with its mark
 pub record IsSoundAndQuiet (settings : LimitAndFirst) (log : List Entry) : Type 0 where

@@ -1,5 +1,5 @@
 -- What calls answer, by the case of the answer.
-use Rattle.std.specs.Prelude.{◌≡◌, ℕ, ◌<◌, ◌≤◌, Bool, true, false, Result, Ok}
+use Rattle.std.specs.Prelude.{◌≡◌, ℕ, Bool, true, false, Result, Ok}
 use Rattle.conn_log.specs.declared.entry.Want.{Want}
 use Rattle.persistence.specs.declared.facts.Facts.{Facts}
 use Rattle.budget.specs.declared.permits.Try.{Try}
@@ -14,7 +14,7 @@ use Rattle.bundle.specs.declared.answers.Served.{Served}
 use Rattle.bundle.specs.declared.answers.Served.TheVariants.{Given, Full, Contended}
 use Rattle.bundle.specs.declared.answers.Changed.{Changed}
 use Rattle.bundle.specs.declared.answers.Changed.TheVariants.{Done, Again as ChangeAgain}
-use Rattle.bundle.specs.Calls.{Reply, Returning, acquired, given_back, is_freed, starts, waits_on, no_room, again, spent, not_kept, keep_again, after_limit, kept_limit}
+use Rattle.bundle.specs.Calls.{Reply, Returning, acquired, given_back, is_freed, starts, waits_on, no_room, again, spent, not_kept, keep_again}
 use Rattle.bundle.specs.Lease.{Leasing, Ticketed, Booked, HostShown}
 
 -- what an acquire gives, as its reply says: a lease of its start, a ticket of its wait, or its booking
