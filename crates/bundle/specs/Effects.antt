@@ -120,9 +120,9 @@ AcquireDoesAsReplied =
     → IsSoundAndQuiet settings log
     → is_busy log [] want.transfer ≡ false
     → (let moment = moment_at log now in
-       let old = tidied want moment log in
-       let outcome = acquired is_last told settings log want now in
-       DoesAs outcome.reply (asks_for_one settings old want moment) told want settings old outcome.log)
+    let old = tidied want moment log in
+    let outcome = acquired is_last told settings log want now in
+    DoesAs outcome.reply (asks_for_one settings old want moment) told want settings old outcome.log)
 
 -- a give back, an abandoned lease and a withdrawn ticket that was granted spend one; only what is to be idle is
 -- kept, and only where the budget keeps it

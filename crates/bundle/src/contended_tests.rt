@@ -161,7 +161,8 @@ impl ToldHost {
     }
 
     fn acquire(&mut self, transfer: u64, now: u64) -> Result<Got<Stream>, Refusal> {
-        self.bundle.acquire(want_of(transfer), now, &mut self.permits)
+        self.bundle
+            .acquire(want_of(transfer), now, &mut self.permits)
     }
 
     // Another try of an acquire that is halfway here.
@@ -205,7 +206,10 @@ impl ToldHost {
 
     fn abandon(&mut self, rt: &impl Abort, lease: Lease<Stream>, now: u64) -> bool {
         let lobby = Some(&mut self.lobby);
-        accept(rt, self.bundle.abandon(lease, now, &mut self.permits, lobby))
+        accept(
+            rt,
+            self.bundle.abandon(lease, now, &mut self.permits, lobby),
+        )
     }
 
     fn withdraw(&mut self, rt: &impl Abort, ticket: Ticket, now: u64) -> bool {
@@ -230,7 +234,8 @@ impl ToldHost {
 
     fn set_host_limit(&mut self, limit: u32, now: u64) -> Result<Changed, Refusal> {
         let lobby = &mut self.lobby;
-        self.bundle.set_host_limit(limit, now, &mut self.permits, lobby)
+        self.bundle
+            .set_host_limit(limit, now, &mut self.permits, lobby)
     }
 }
 
@@ -280,7 +285,10 @@ fn a_turn_and_a_new_limit_come_again(rt: HostRuntime) -> Result<(), Fail> {
     let first = ticket_of(&rt, host.retry_at_last(&rt, booking, 0));
     host.answer(Try::Contended);
     let turn = host.serve_queued(1);
-    assert_eq!(rt; (turn, host.lobby.first()), (Some(Served::Contended), Some(0)));
+    assert_eq!(rt;
+        (turn, host.lobby.first()),
+        (Some(Served::Contended), Some(0))
+    );
     host.answer(Try::Got);
     let turn = host.serve_queued(2);
     assert_eq!(rt; (turn, host.lobby.first()), (Some(Served::Given), None));
@@ -290,7 +298,10 @@ fn a_turn_and_a_new_limit_come_again(rt: HostRuntime) -> Result<(), Fail> {
     let changed = host.set_host_limit(2, 4);
     assert_eq!(rt; (changed, host.bundle.log().len()), (Ok(Changed::Again), 3));
     host.answer(Try::Got);
-    assert_eq!(rt; host.set_host_limit(2, 5), Ok(Changed::Done { freed: false }));
+    assert_eq!(rt;
+        host.set_host_limit(2, 5),
+        Ok(Changed::Done { freed: false })
+    );
     assert_eq!(rt; host.held(), Held { alive: 2, kept: 0 });
     host.withdraw(&rt, first, 9);
     host.withdraw(&rt, second, 9);

@@ -21,7 +21,7 @@ use crate::answers::{Back, Claimed};
 use crate::grant::{Grant, granted_want, take_grant};
 use crate::host::Bundle;
 use crate::lease::{Lease, Stray};
-use crate::serving::{hand_on, grant_to_head};
+use crate::serving::{grant_to_head, hand_on};
 use crate::ticket::Ticket;
 use budget::{Lobby, Permits, Try};
 use conn_log::{Cause, Want};
