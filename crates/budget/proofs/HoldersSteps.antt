@@ -14,7 +14,7 @@ use Rattle.budget.proofs.Sums.{one_if, sum-set, sum-cut, sum-join, word-set, at-
 
 -- pairs, and how often one stands in a list that changes
 
-pair_tells : (p q : Pair) → ((is_pair p q ≡ true) × (p ≡ q)) ⊎ ((is_pair p q ≡ false) × (p ≢ q))
+pub pair_tells : (p q : Pair) → ((is_pair p q ≡ true) × (p ≡ q)) ⊎ ((is_pair p q ≡ false) × (p ≢ q))
 pair_tells p q =
     ⊎_elim
     (λ (t : (eqb p.0 q.0 ≡ true) × (p.0 ≡ q.0)).
@@ -25,7 +25,7 @@ pair_tells p q =
     (λ (t : (eqb p.0 q.0 ≡ false) × (p.0 ≢ q.0)). inr (ap (λ b. b && eqb p.1 q.1) t.0, (λ e. t.1 (ap (λ (z : Pair). z.0) e))))
     (eqb_tells p.0 q.0)
 
-own_pair : (p : Pair) → one_if (is_pair p p) ≡ 1
+pub own_pair : (p : Pair) → one_if (is_pair p p) ≡ 1
 own_pair p =
     ⊎_elim
     (λ (t : (is_pair p p ≡ true) × (p ≡ p)). ap one_if t.0)
@@ -39,10 +39,10 @@ other_pair p q ne =
     (λ (t : (is_pair p q ≡ false) × (p ≢ q)). ap one_if t.0)
     (pair_tells p q)
 
-times_cons : (p q : Pair) (pairs : List Pair) → pair_count p (q ∷ pairs) ≡ one_if (is_pair p q) + pair_count p pairs
+pub times_cons : (p q : Pair) (pairs : List Pair) → pair_count p (q ∷ pairs) ≡ one_if (is_pair p q) + pair_count p pairs
 times_cons p q pairs = sum_by-cons (λ (z : Pair). cond (is_pair p z) 1 0) q pairs
 
-times_without : (q p : Pair) (pairs : List Pair) → q ≢ p → pair_count q (without_pair p pairs) ≡ pair_count q pairs
+pub times_without : (q p : Pair) (pairs : List Pair) → q ≢ p → pair_count q (without_pair p pairs) ≡ pair_count q pairs
 times_without q p [] ne = refl
 times_without q p (x ∷ xs) ne =
     let rest = times_without q p xs ne in
@@ -52,7 +52,7 @@ times_without q p (x ∷ xs) ne =
     (λ (t : (is_pair p x ≡ false) × (p ≢ x)). subst P (sym t.0) (omega (arith, times_cons q x xs, times_cons q x (without_pair p xs))))
     (pair_tells p x)
 
-times_without_it : (p : Pair) (pairs : List Pair) → pair_count p (without_pair p pairs) ≡ 0
+pub times_without_it : (p : Pair) (pairs : List Pair) → pair_count p (without_pair p pairs) ≡ 0
 times_without_it p [] = refl
 times_without_it p (x ∷ xs) =
     let rest = times_without_it p xs in
@@ -62,7 +62,7 @@ times_without_it p (x ∷ xs) =
     (λ (t : (is_pair p x ≡ false) × (p ≢ x)). subst P (sym t.0) (omega (arith, times_cons p x (without_pair p xs), ap one_if t.0)))
     (pair_tells p x)
 
-length_without : (p : Pair) (pairs : List Pair) → length (without_pair p pairs) + pair_count p pairs ≡ length pairs
+pub length_without : (p : Pair) (pairs : List Pair) → length (without_pair p pairs) + pair_count p pairs ≡ length pairs
 length_without p [] = refl
 length_without p (x ∷ xs) =
     let rest = length_without p xs in
@@ -73,7 +73,7 @@ length_without p (x ∷ xs) =
     (pair_tells p x)
 
 -- a pair that stands there once is taken out
-without_one : (q p : Pair) (pairs : List Pair) → pair_count p pairs ≡ 1 → pair_count q (without_pair p pairs) + one_if (is_pair q p) ≡ pair_count q pairs
+pub without_one : (q p : Pair) (pairs : List Pair) → pair_count p pairs ≡ 1 → pair_count q (without_pair p pairs) + one_if (is_pair q p) ≡ pair_count q pairs
 without_one q p pairs once =
     ⊎_elim
     (λ (t : (is_pair q p ≡ true) × (q ≡ p)).

@@ -143,6 +143,14 @@ impl Model for HolderSeat {
     ghost invariant = { λ holder. IsHolderSeat holder.seat.me };
 }
 
+impl HolderSeat {
+    /// Gives it up. Its pair stays held for good.
+    pub fn discard(self) {
+        let HolderSeat { seat } = self;
+        drop(seat);
+    }
+}
+
 impl Holders {
     /// No pair is held.
     ///
