@@ -2,6 +2,10 @@ pub mod StartLogs
 pub mod Growth
 pub mod KeptSound
 pub mod Marks
+pub mod Seating
+pub mod LeaseEnds
+pub mod Starting
+pub mod Unfit
 pub mod NoneLeft
 pub mod Counts
 pub mod Told
@@ -24,3 +28,4 @@ pub mod AtOnce
 pub mod LimitLogs
 pub mod OtherHosts
 pub mod DeskHosts
+pub mod ComingBack

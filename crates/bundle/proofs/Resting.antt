@@ -4,6 +4,7 @@ use Rattle.std.specs.Prelude.{nat_lt, if◌then◌else◌}
 use Rattle.std.specs.Option.{option_map, option_map_or, option_and_then, IsSome, IfSome, IfNone}
 use mathlib.Core.Bool.{false≢true}
 use Rattle.std.proofs.lemmas.Bool.Decides.{nat_tests}
+use Rattle.atomic_table.specs.Seated.{TableId}
 use Rattle.persistence.specs.declared.facts.Facts.{Facts}
 use Rattle.persistence.specs.Persistent.{is_persistent}
 use Rattle.budget.specs.declared.permits.Held.{Held as Part}
@@ -26,7 +27,7 @@ use Rattle.bundle.specs.declared.grant.Grant.{Grant}
 use Rattle.bundle.specs.declared.answers.Back.{Back}
 use Rattle.bundle.specs.declared.answers.Back.TheVariants.{Spent, NoKeep, Again}
 use Rattle.bundle.specs.Calls.{Start, spent, open_for_head, grant_to, settle, returned, after_give_back, is_anyone, becomes_idle, keep_as_told, given_back, is_freed}
-use Rattle.bundle.specs.Lease.{HostShown, Leasing, held_by}
+use Rattle.bundle.specs.Lease.{HostShown, Leasing, Using, lease_at, held_by}
 use Rattle.bundle.specs.Grants.{grant_starts, grant_streams}
 use Rattle.bundle.specs.Replies.{IsBack, GivesBack}
 use Rattle.bundle.proofs.KeptSound.{held_want, idle_as_returned}
@@ -116,16 +117,16 @@ full_told (Some Full) there not_got not_missed = refl
 full_told (Some Contended) there not_got not_missed = absurd (not_missed refl)
 
 -- a host, from its state, what it granted, and who is halfway
-abbrev pub shown : {S : Type 0} → HostState S → List (Grant S) → List ℕ → HostShown S
-shown state grants booked = record { log = state.log; settings = state.settings; host = state.host; streams = grant_streams grants ++ state.streams; unclaimed = grant_starts grants; booked = booked }
+abbrev pub shown : {S : Type 0} → HostState S → List (Grant S) → List ℕ → TableId → HostShown S
+shown state grants booked table = record { log = state.log; settings = state.settings; host = state.host; streams = grant_streams grants ++ state.streams; unclaimed = grant_starts grants; booked = booked; table = table }
 
--- a lease that gets its stream again is as it was
-pub same_lease : {S : Type 0} (lease between after : Leasing S) (stream back : S) → lease.stream ≡ Some stream → (let taken : Leasing S = record { site = lease.site; start = lease.start; stream = None } in between ≡ taken) → (let given : Leasing S = record { site = between.site; start = between.start; stream = Some back } in after ≡ given) → back ≡ stream → after ≡ lease
-same_lease {S} lease between after stream back had taken given same =
-    given ∙ ap (λ (l : Leasing S). put l.site l.start (Some back)) taken ∙ ap (λ (s : S). put lease.site lease.start (Some s)) same ∙ ap (put lease.site lease.start) (sym had)
+-- a lease that was taken apart, and has its stream and its seat again, is as it was
+pub same_lease : {S : Type 0} (lease after : Leasing S) (used between : Using S) (table now : TableId) (stream back : S) → lease ≡ lease_at table used → used.stream ≡ Some stream → (let taken : Using S = record { site = used.site; start = used.start; stream = None } in between ≡ taken) → (let given : Using S = record { site = between.site; start = between.start; stream = Some back } in after ≡ lease_at now given) → now ≡ table → back ≡ stream → after ≡ lease
+same_lease {S} lease after used between table now stream back apart had taken given same_table same =
+    given ∙ ap (λ (u : Using S). put now u.site u.start (Some back)) taken ∙ ap (λ (k : TableId). put k used.site used.start (Some back)) same_table ∙ ap (λ (s : S). put table used.site used.start (Some s)) same ∙ ap (put table used.site used.start) (sym had) ∙ sym apart
   where
-    put : ℕ → Start → Option S → Leasing S
-    put site start held_stream = record { site = site; start = start; stream = held_stream }
+    put : TableId → ℕ → Start → Option S → Leasing S
+    put at site start held_stream = record { site = site; start = start; stream = held_stream; table = at }
 
 -- as many are open where what came back goes to the first that waits
 pub passed_open : (back after : List Entry) → (IsAnyone (waiting back) → one_more_kept (held_by after) ≡ held_by back) → (waiting back ≡ [] → after ≡ back) → length (open_connections after) ≡ length (open_connections back)

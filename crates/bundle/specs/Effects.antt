@@ -17,6 +17,7 @@ use Rattle.host_state.specs.Steps.{moment_at, add, is_full, picked, without_pick
 use Rattle.host_state.specs.declared.closing.Closing.TheVariants.{TooOld, Pruned}
 use Rattle.bundle.specs.Calls.{Reply, starts, waits_on, no_room, again, spent, acquired, is_anyone, becomes_idle, given_back, after_abandon, after_withdraw, after_turn, after_limit, kept_limit, limit_refusal, starts_due, is_queued, is_busy, is_freed}
 use Rattle.bundle.specs.Laws.{IsSoundAndQuiet}
+use Rattle.bundle.specs.Seats.{one_if}
 
 -- how many are open, and idle
 abbrev pub open_len : List Entry → ℕ
@@ -24,10 +25,6 @@ open_len log = length (open_connections log)
 
 abbrev pub idle_len : List Entry → ℕ
 idle_len log = length (idle_connections log)
-
-abbrev pub one_if : Bool → ℕ
-one_if true = 1
-one_if false = 0
 
 -- so many idle connections are closed
 pub record Closes (closed : ℕ) (settings : LimitAndFirst) (old new : List Entry) : Type 0 where

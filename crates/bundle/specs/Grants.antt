@@ -12,7 +12,7 @@ use Rattle.host_state.specs.declared.held.Held.{Held}
 use Rattle.host_state.specs.declared.closing.Closing.TheVariants.{Above}
 use Rattle.host_state.specs.Steps.{moment_at, add, next_number, without_picked}
 use Rattle.bundle.specs.Calls.{Start, last_start, open_for_head}
-use Rattle.bundle.specs.Lease.{Leasing, granted_want, starters}
+use Rattle.bundle.specs.Lease.{Using, granted_want, starters}
 
 -- what a transfer was granted
 abbrev pub grant_of : {S : Type 0} → List (Grant S) → ℕ → Option (Grant S)
@@ -44,9 +44,9 @@ grant_starts grants = map grant_start grants
 abbrev pub grant_transfers : {S : Type 0} → List (Grant S) → List ℕ
 grant_transfers grants = starters (grant_starts grants)
 
--- the lease of it, once it is claimed
-abbrev pub granted_lease : {S : Type 0} → ℕ → Grant S → Leasing S
-granted_lease host grant = record { site = host; start = grant_start grant; stream = grant.stream }
+-- the use of it, once it is claimed
+abbrev pub granted_use : {S : Type 0} → ℕ → Grant S → Using S
+granted_use host grant = record { site = host; start = grant_start grant; stream = grant.stream }
 
 -- the streams of the connections that came back, by number
 abbrev pub with_stream : {S : Type 0} → ℕ → Option S → List (ℕ × S) → List (ℕ × S)

@@ -1,8 +1,10 @@
 pub mod Calls
 pub mod Lease
+pub mod Seats
 pub mod Grants
 pub mod Replies
 pub mod Lobbies
 pub mod Laws
 pub mod Worked
 pub mod Effects
+pub mod Desks

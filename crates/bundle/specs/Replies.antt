@@ -41,14 +41,12 @@ IsBack old new lease returning back = ⊥
 abbrev pub GivesBack : {S : Type 0} → Bool → Try → HostShown S → HostShown S → Leasing S → Facts → ℕ → Back S → Type 0
 GivesBack close_if_full told old new lease facts now back = IsBack old new lease (given_back close_if_full told old.settings old.log lease.start.number facts now) back
 
--- where a lease comes back as a stranger, and where it does not
-abbrev pub IfStrange : {S : Type 0} → Back S → (Leasing S → Type 0) → Type 0
-IfStrange (Strange stray) P = P stray
-IfStrange _ P = Unit {0}
-
-abbrev pub UnlessStrange : {S : Type 0} → Back S → Type 0 → Type 0
-UnlessStrange (Strange stray) P = Unit {0}
-UnlessStrange _ P = P
+-- where a lease comes back
+abbrev pub IfBack : {S : Type 0} → Back S → (Leasing S → Type 0) → Type 0
+IfBack (Spent freed) P = Unit {0}
+IfBack (NoKeep same) P = P same
+IfBack (KeepAgain same) P = P same
+IfBack (Strange stray) P = P stray
 
 -- where a lease is spent
 abbrev pub OnSpent : {S : Type 0} → Back S → Type 0 → Type 0

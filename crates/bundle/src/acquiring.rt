@@ -14,13 +14,15 @@ ghost use Rattle.bundle.specs.Lease.{HasItsStream, KeepsStreams, KeepsOthers, Ge
 ghost use Rattle.bundle.specs.Lease.{GetsTicket, KeepsAll, StaysThere, held_by, IsBookedHere};
 ghost use Rattle.bundle.specs.Lease.{without_booked};
 ghost use Rattle.bundle.specs.Lobbies.{IfLent, IfLeft, Lists, IsMarked, is_lent};
+ghost use Rattle.bundle.specs.Seats.{IsSeated, KeepsGranted};
 ghost use Rattle.bundle.specs.Replies.{Acquires, GivesLease, GivesTicket, GivesBooking};
 ghost use Rattle.bundle.specs.Replies.{UnlessBooking, IfGot, IsGot};
 
 use crate::answers::Got;
 use crate::booking::Booking;
 use crate::host::Bundle;
-use crate::lease::Lease;
+use crate::lease::{Lease, Use};
+use crate::seats::Seats;
 use crate::serving::start_or_wait;
 use budget::{Lobby, Permits, Refusal};
 use conn_log::Want;
@@ -78,6 +80,9 @@ impl<S: Drop> Bundle<S> {
         ensures mark { is_queued self.new.settings self.new.log
             ≡ is_queued self.old.settings self.old.log }
 
+        ensures made_here { IfGot result (λ got. GivesLease got
+            (λ lease. lease.table ≡ self.old.table)) }
+
         // For those above: who has a lease or a ticket after the call, that the log only grew, and
         // that the host stays.
         ensures gets_lease { IfGot result (λ got. GivesLease got
@@ -90,7 +95,15 @@ impl<S: Drop> Bundle<S> {
         ensures same { StaysThere self.old self.new }
     {
         let moment = self.state.moment(now);
-        if let Some(lease) = lease_at_once(&mut self.state, &self.bookings, want, moment, permits) {
+        let seats = &mut self.seats;
+        if let Some(lease) = lease_at_once(
+            &mut self.state,
+            seats,
+            &self.bookings,
+            want,
+            moment,
+            permits,
+        ) {
             return Ok(Got::Lease(lease));
         }
         if let Some(reason) = reason_against(&self.state, &self.bookings, &want) {
@@ -106,7 +119,8 @@ impl<S: Drop> Bundle<S> {
         let Ok(()) = self.state.book() else {
             return Err(Refusal::Memory);
         };
-        let got = start_or_wait(&mut self.state, want, moment, permits, false);
+        let seats = &mut self.seats;
+        let got = start_or_wait(&mut self.state, seats, want, moment, permits, false);
         add_booking(&mut self.bookings, &got, want.transfer);
         Ok(got)
     }
@@ -149,6 +163,7 @@ impl<S: Drop> Bundle<S> {
             IfLeft lobby.entry lobby.exit (IsMarked self.old.host was is) }
         ensures mark { let was = is_queued self.old.settings self.old.log in
             is_lent lobby.entry ≡ false → is_queued self.new.settings self.new.log ≡ was }
+        ensures made_here { GivesLease result (λ lease. lease.table ≡ self.old.table) }
         ensures gets_lease { let transfer = booking.want.transfer in
             GivesLease result
             (λ lease. GetsLease self.old self.new transfer lease.start.number) }
@@ -197,6 +212,7 @@ impl<S: Drop> Bundle<S> {
         ensures part { P.held permits.new ≡ held_by self.new.log }
         ensures mark { let was = is_queued self.old.settings self.old.log in
             is_last ≡ false → is_queued self.new.settings self.new.log ≡ was }
+        ensures made_here { GivesLease result (λ lease. lease.table ≡ self.old.table) }
         ensures gets_lease { let transfer = booking.want.transfer in
             GivesLease result
             (λ lease. GetsLease self.old self.new transfer lease.start.number) }
@@ -208,7 +224,8 @@ impl<S: Drop> Bundle<S> {
     {
         let want = booking.spend();
         let moment = self.state.moment(now);
-        let got = start_or_wait(&mut self.state, want, moment, permits, is_last);
+        let seats = &mut self.seats;
+        let got = start_or_wait(&mut self.state, seats, want, moment, permits, is_last);
         take_booking(&mut self.bookings, &got, want.transfer);
         got
     }
@@ -235,17 +252,23 @@ impl<S: Drop> Bundle<S> {
 #[inline(always)]
 fn lease_at_once<S: Drop, P: Permits>(
     state: &mut State<S>,
+    seats: &mut Seats,
     bookings: &[u64],
     want: Want,
     moment: u64,
     permits: &mut P,
 ) -> Option<Lease<S>>
+    requires seated { IsSeated state.old.log seats.old }
     requires count { state.old.booked ≡ length bookings.now }
     requires later { last_moment state.old.log ≤ moment }
     requires stands { P.stands permits.old }
     requires part { P.held permits.old ≡ held_by state.old.log }
     ensures none { IfNone result (state.new ≡ state.old) }
     ensures none_permits { IfNone result (permits.new ≡ permits.old) }
+    ensures none_seats { IfNone result (seats.new ≡ seats.old) }
+    ensures seated { IsSeated state.new.log seats.new }
+    ensures granted { KeepsGranted seats.old seats.new }
+    ensures made_here { IfSome result (λ lease. lease.table ≡ seats.old.table) }
     ensures due { let wants = waiting state.old.log in
         let due = start_behind wants false TryGot state.old.settings want moment state.old.log in
         IfSome result (λ lease. (state.new.log ≡ due.log)
@@ -270,7 +293,11 @@ fn lease_at_once<S: Drop, P: Permits>(
         return None;
     };
     permits.release_kept();
-    Some(Lease::reusing(state.host(), number, want, moment, stream))
+    // One more can be counted.
+    let _open = state.open_len();
+    let seat = seats.lease(number, want.transfer);
+    let used = Use::reusing(state.host(), number, want, moment, stream);
+    Some(Lease::new(used, seat))
 }
 
 // Why log and bookings are against an acquire, if they are.

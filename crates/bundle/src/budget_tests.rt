@@ -1,6 +1,8 @@
 //! What no clause says of a host under a budget: that calls succeed in ample memory, what comes of
 //! them where the budget has no room, and that each closing drops one stream.
 
+ghost use Rattle.std.specs.Prelude.{◌≡◌};
+
 use crate::answers::Served;
 use crate::desk::{
     Desk, KEEP, Stream, asked, attach_new, booking_of, claimed, closed, drop_lease, give_back,
@@ -16,7 +18,9 @@ use std::process::Abort;
 use std::test::Fail;
 
 // The ticket of a transfer that has to wait for the total: its first tries are left halfway.
-fn queued(rt: &impl Abort, desk: &mut Desk<Stream>, transfer: u64, now: u64) -> Ticket {
+fn queued(rt: &impl Abort, desk: &mut Desk<Stream>, transfer: u64, now: u64) -> Ticket
+    ensures same { desk.new ≡ desk.old }
+{
     let got = asked(rt, desk, want_of(transfer), now);
     let booking = booking_of(rt, got);
     let booking = booking_of(rt, desk.retry(rt, booking, now));
@@ -206,6 +210,27 @@ fn the_oldest_goes_where_no_more_are_kept(rt: HostRuntime) -> Result<(), Fail> {
     assert_eq!(rt; desk.bundle.log().get(3), Some(full));
     give_back(&rt, &mut desk, second, 5);
     assert_eq!(rt; desk.bundle.oldest(), Some(Stamp { number: 2, ..other }));
+    Ok(())
+}
+
+#[test]
+fn what_was_not_kept_comes_again(rt: HostRuntime) -> Result<(), Fail> {
+    let mut desk = Desk::new(rt.alloc(), (0, 0, 1), 1)?;
+    let first = leased(&rt, &mut desk, 1, 0);
+    let second = leased(&rt, &mut desk, 2, 0);
+    give_back(&rt, &mut desk, first, 1);
+    let back = desk.give_back(&rt, second, KEEP, 2);
+    let second = not_kept(&rt, back);
+    // its transfer holds it still
+    assert_eq!(rt; refused(&mut desk, 2, 2), Some(Refusal::TransferBusy));
+    let third = leased(&rt, &mut desk, 3, 3);
+    assert_eq!(rt; third.number(), 1);
+    give_back(&rt, &mut desk, second, 4);
+    let back = desk.give_back(&rt, third, KEEP, 5);
+    let third = not_kept(&rt, back);
+    assert_eq!(rt; drop_lease(&rt, &mut desk, third, 6), true);
+    let last = leased(&rt, &mut desk, 4, 7);
+    assert_eq!(rt; stream_under(&rt, &mut desk, last, 8), (2, Some(Stream(2))));
     Ok(())
 }
 

@@ -1,13 +1,14 @@
 //! What no clause says of calls where the budget has to be asked again: that they change nothing
 //! and succeed when they come again.
 ghost use Rattle.std.specs.Prelude.{◌≡◌};
-ghost use Rattle.bundle.specs.Lease.{IsBookedHere};
+ghost use Rattle.bundle.specs.Lease.{IsMadeAt};
+ghost use Rattle.bundle.specs.Replies.{IfBack, IfGot, GivesLease};
 
 use crate::answers::{Back, Changed, Got, Served};
 use crate::booking::Booking;
 use crate::desk::{
-    KEEP, Stream, accept, again_of, attach_new, booking_of, lease_of, scrap_back, spent, ticket_of,
-    want_of, with_stream,
+    KEEP, Stream, accept, again_of, attach_new, booked, booking_of, lease_of, scrap_back, spent,
+    ticket_of, want_of, with_stream,
 };
 use crate::host::Bundle;
 use crate::lease::Lease;
@@ -112,7 +113,7 @@ impl Permits for Told {
 }
 
 // Host 0 under such a budget. What its part holds is what its log tells, and the lobby lists it
-// where it is queued.
+// where it is queued. Contracts see at which table its leases are made.
 #[derive(Drop)]
 struct ToldHost {
     bundle: Bundle<Stream>,
@@ -123,13 +124,13 @@ struct ToldHost {
 impl Model for ToldHost {
     ghost use Rattle.std.specs.Prelude.{◌≡◌};
     ghost use Rattle.bundle.specs.Calls.{is_queued};
-    ghost use Rattle.bundle.specs.Lease.{HostShown, held_by};
+    ghost use Rattle.atomic_table.specs.Seated.{TableId};
+    ghost use Rattle.bundle.specs.Lease.{held_by};
     ghost use Rattle.bundle.specs.Lobbies.{Lists};
-    ghost use Rattle.bundle.specs.declared.desk.Stream.{Stream};
 
-    ghost Value = { HostShown Stream };
+    ghost Value = { TableId };
 
-    ghost view = { λ told. told.bundle };
+    ghost view = { λ told. told.bundle.table };
 
     ghost invariant = { λ told. record {
       part : told.permits.held ≡ held_by told.bundle.log;
@@ -152,7 +153,9 @@ impl ToldHost {
     }
 
     // From now on the budget answers that.
-    fn answer(&mut self, answer: Try) {
+    fn answer(&mut self, answer: Try)
+        ensures same { self.new ≡ self.old }
+    {
         self.permits.answer = answer;
     }
 
@@ -160,35 +163,31 @@ impl ToldHost {
         self.permits.held
     }
 
-    fn acquire(&mut self, transfer: u64, now: u64) -> Result<Got<Stream>, Refusal> {
+    fn acquire(&mut self, transfer: u64, now: u64) -> Result<Got<Stream>, Refusal>
+        ensures made_here { IfGot result (λ got. GivesLease got (IsMadeAt self.old)) }
+        ensures same { self.new ≡ self.old }
+    {
         self.bundle
             .acquire(want_of(transfer), now, &mut self.permits)
     }
 
     // Another try of an acquire that is halfway here.
-    fn retry(&mut self, rt: &impl Abort, booking: Booking, now: u64) -> Got<Stream> {
-        let booking = self.booked(rt, booking);
+    fn retry(&mut self, rt: &impl Abort, booking: Booking, now: u64) -> Got<Stream>
+        ensures made_here { GivesLease result (IsMadeAt self.old) }
+        ensures same { self.new ≡ self.old }
+    {
+        let booking = booked(rt, &self.bundle, booking);
         self.bundle.retry(booking, now, &mut self.permits, None)
     }
 
     // And the last one.
-    fn retry_at_last(&mut self, rt: &impl Abort, booking: Booking, now: u64) -> Got<Stream> {
-        let booking = self.booked(rt, booking);
+    fn retry_at_last(&mut self, rt: &impl Abort, booking: Booking, now: u64) -> Got<Stream>
+        ensures made_here { GivesLease result (IsMadeAt self.old) }
+        ensures same { self.new ≡ self.old }
+    {
+        let booking = booked(rt, &self.bundle, booking);
         let lobby = Some(&mut self.lobby);
         self.bundle.retry(booking, now, &mut self.permits, lobby)
-    }
-
-    // The booking, which has to be the host's.
-    fn booked(&self, rt: &impl Abort, booking: Booking) -> Booking
-        ensures same { result ≡ booking }
-        ensures here { IsBookedHere self.now booking }
-    {
-        let is_here = booking.site() == self.bundle.host();
-        if !is_here || !self.bundle.bookings.contains(&booking.transfer()) {
-            let _ = booking.spend();
-            panic!(rt; "a booking of another host");
-        }
-        booking
     }
 
     fn give_back(
@@ -197,14 +196,21 @@ impl ToldHost {
         lease: Lease<Stream>,
         now: u64,
         close_if_full: bool,
-    ) -> Back<Stream> {
+    ) -> Back<Stream>
+        requires here { lease.table ≡ self.old }
+        ensures made_here { IfBack result (IsMadeAt self.old) }
+        ensures same { self.new ≡ self.old }
+    {
         let lease = with_stream(rt, lease);
         let lobby = Some(&mut self.lobby);
         self.bundle
             .give_back(lease, KEEP, now, &mut self.permits, lobby, close_if_full)
     }
 
-    fn abandon(&mut self, rt: &impl Abort, lease: Lease<Stream>, now: u64) -> bool {
+    fn abandon(&mut self, rt: &impl Abort, lease: Lease<Stream>, now: u64) -> bool
+        requires here { lease.table ≡ self.old }
+        ensures same { self.new ≡ self.old }
+    {
         let lobby = Some(&mut self.lobby);
         accept(
             rt,
@@ -212,7 +218,9 @@ impl ToldHost {
         )
     }
 
-    fn withdraw(&mut self, rt: &impl Abort, ticket: Ticket, now: u64) -> bool {
+    fn withdraw(&mut self, rt: &impl Abort, ticket: Ticket, now: u64) -> bool
+        ensures same { self.new ≡ self.old }
+    {
         let lobby = Some(&mut self.lobby);
         match self.bundle.withdraw(ticket, now, &mut self.permits, lobby) {
             Ok(freed) => freed,
@@ -224,7 +232,9 @@ impl ToldHost {
     }
 
     // A turn of the host, if it is queued and first.
-    fn serve_queued(&mut self, now: u64) -> Option<Served> {
+    fn serve_queued(&mut self, now: u64) -> Option<Served>
+        ensures same { self.new ≡ self.old }
+    {
         if !self.bundle.queued() || self.lobby.first() != Some(self.bundle.host()) {
             return None;
         }
@@ -232,7 +242,9 @@ impl ToldHost {
         Some(self.bundle.serve_queued(now, &mut self.permits, lobby))
     }
 
-    fn set_host_limit(&mut self, limit: u32, now: u64) -> Result<Changed, Refusal> {
+    fn set_host_limit(&mut self, limit: u32, now: u64) -> Result<Changed, Refusal>
+        ensures same { self.new ≡ self.old }
+    {
         let lobby = &mut self.lobby;
         self.bundle
             .set_host_limit(limit, now, &mut self.permits, lobby)

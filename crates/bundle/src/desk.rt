@@ -1,7 +1,8 @@
 //! What tests of calls share: two hosts with their budget and the lobby, and wants and responses.
 
 ghost use Rattle.std.specs.Prelude.{◌≡◌, ◌<◌, IsSome};
-ghost use Rattle.bundle.specs.Lease.{IsBookedHere};
+ghost use Rattle.bundle.specs.Lease.{IsBookedHere, IsMadeAt};
+ghost use Rattle.bundle.specs.Replies.{IfBack, IfClaimed, IfGot, GivesLease};
 
 use crate::answers::{Back, Changed, Claimed, Got, Served};
 use crate::booking::Booking;
@@ -53,7 +54,8 @@ pub(crate) fn closed(moment: u64, connection: u32, cause: Cause) -> Entry {
 }
 
 /// Host 7, and host 3 that can take its place, with their budget and the lobby. Of the budget each
-/// holds what its log tells, and the lobby lists it where it is queued.
+/// holds what its log tells, and the lobby lists it where it is queued. Contracts see at which
+/// tables the leases of the two are made.
 #[derive(Drop)]
 pub(crate) struct Desk<S: Drop> {
     pub bundle: Bundle<S>,
@@ -66,12 +68,13 @@ impl<S: Drop> Model for Desk<S> {
     ghost use Rattle.std.specs.Prelude.{◌≡◌, ◌≢◌, ◌<◌, length};
     ghost use Rattle.budget.specs.Plain.{held_at_host};
     ghost use Rattle.bundle.specs.Calls.{is_queued};
-    ghost use Rattle.bundle.specs.Lease.{HostShown, held_by};
+    ghost use Rattle.bundle.specs.Desks.{Tables};
+    ghost use Rattle.bundle.specs.Lease.{held_by};
     ghost use Rattle.bundle.specs.Lobbies.{Lists};
 
-    ghost Value = { HostShown S };
+    ghost Value = { Tables };
 
-    ghost view = { λ desk. desk.bundle };
+    ghost view = { λ desk. record { here = desk.bundle.table; there = desk.other.table } };
 
     ghost invariant = { λ desk. record {
       hosts : length desk.budget.hosts ≡ 8;
@@ -109,63 +112,63 @@ impl<S: Drop> Desk<S> {
     }
 
     /// The other host comes to the desk.
-    pub fn turn_to_other(&mut self) {
+    pub fn turn_to_other(&mut self)
+        ensures { self.new ≡ record { here = self.old.there; there = self.old.here } }
+    {
         std::mem::swap(&mut self.bundle, &mut self.other);
     }
 
     /// A connection is opened at a host elsewhere, as the budget answers.
-    pub fn open_elsewhere(&mut self) -> Try {
+    pub fn open_elsewhere(&mut self) -> Try
+        ensures same { self.new ≡ self.old }
+    {
         let host = elsewhere(self.bundle.host(), self.other.host());
         self.budget.at(host).reserve_open()
     }
 
     /// And one is closed there.
-    pub fn close_elsewhere(&mut self) {
+    pub fn close_elsewhere(&mut self)
+        ensures same { self.new ≡ self.old }
+    {
         let host = elsewhere(self.bundle.host(), self.other.host());
         let mut permits = self.budget.at(host);
         close_one(&mut permits);
     }
 
-    pub fn acquire(&mut self, want: Want, now: u64) -> Result<Got<S>, Refusal> {
+    pub fn acquire(&mut self, want: Want, now: u64) -> Result<Got<S>, Refusal>
+        ensures made_here { IfGot result (λ got. GivesLease got (IsMadeAt self.old.here)) }
+        ensures same { self.new ≡ self.old }
+    {
         let mut permits = self.budget.at(self.bundle.host());
         self.bundle.acquire(want, now, &mut permits)
     }
 
     /// Another try of an acquire that is halfway here.
-    pub fn retry(&mut self, rt: &impl Abort, booking: Booking, now: u64) -> Got<S> {
-        let booking = self.booked(rt, booking);
+    pub fn retry(&mut self, rt: &impl Abort, booking: Booking, now: u64) -> Got<S>
+        ensures made_here { GivesLease result (IsMadeAt self.old.here) }
+        ensures same { self.new ≡ self.old }
+    {
+        let booking = booked(rt, &self.bundle, booking);
         let mut permits = self.budget.at(self.bundle.host());
         self.bundle.retry(booking, now, &mut permits, None)
     }
 
     /// And the last one.
-    pub fn retry_at_last(&mut self, rt: &impl Abort, booking: Booking, now: u64) -> Got<S> {
-        let booking = self.booked(rt, booking);
+    pub fn retry_at_last(&mut self, rt: &impl Abort, booking: Booking, now: u64) -> Got<S>
+        ensures made_here { GivesLease result (IsMadeAt self.old.here) }
+        ensures same { self.new ≡ self.old }
+    {
+        let booking = booked(rt, &self.bundle, booking);
         let mut permits = self.budget.at(self.bundle.host());
         let lobby = Some(&mut self.lobby);
         self.bundle.retry(booking, now, &mut permits, lobby)
     }
 
-    // The booking, which has to be the host's.
-    fn booked(&self, rt: &impl Abort, booking: Booking) -> Booking
-        ensures same { result ≡ booking }
-        ensures here { IsBookedHere self.now booking }
+    pub fn give_back(&mut self, rt: &impl Abort, lease: Lease<S>, facts: Facts, now: u64) -> Back<S>
+        requires here { lease.table ≡ self.old.here }
+        ensures made_here { IfBack result (IsMadeAt self.old.here) }
+        ensures same { self.new ≡ self.old }
     {
-        let is_here = booking.site() == self.bundle.host();
-        if !is_here || !self.bundle.bookings.contains(&booking.transfer()) {
-            let _ = booking.spend();
-            panic!(rt; "a booking of another host");
-        }
-        booking
-    }
-
-    pub fn give_back(
-        &mut self,
-        rt: &impl Abort,
-        lease: Lease<S>,
-        facts: Facts,
-        now: u64,
-    ) -> Back<S> {
         let lease = with_stream(rt, lease);
         let mut permits = self.budget.at(self.bundle.host());
         let lobby = Some(&mut self.lobby);
@@ -180,7 +183,11 @@ impl<S: Drop> Desk<S> {
         lease: Lease<S>,
         facts: Facts,
         now: u64,
-    ) -> Back<S> {
+    ) -> Back<S>
+        requires here { lease.table ≡ self.old.here }
+        ensures made_here { IfBack result (IsMadeAt self.old.here) }
+        ensures same { self.new ≡ self.old }
+    {
         let lease = with_stream(rt, lease);
         let mut permits = self.budget.at(self.bundle.host());
         let lobby = Some(&mut self.lobby);
@@ -188,24 +195,34 @@ impl<S: Drop> Desk<S> {
             .give_back(lease, facts, now, &mut permits, lobby, true)
     }
 
-    pub fn abandon(&mut self, lease: Lease<S>, now: u64) -> Result<bool, Stray<Lease<S>>> {
+    pub fn abandon(&mut self, lease: Lease<S>, now: u64) -> Result<bool, Stray<Lease<S>>>
+        requires here { lease.table ≡ self.old.here }
+        ensures same { self.new ≡ self.old }
+    {
         let mut permits = self.budget.at(self.bundle.host());
         let lobby = Some(&mut self.lobby);
         self.bundle.abandon(lease, now, &mut permits, lobby)
     }
 
-    pub fn withdraw(&mut self, ticket: Ticket, now: u64) -> Result<bool, Stray<Ticket>> {
+    pub fn withdraw(&mut self, ticket: Ticket, now: u64) -> Result<bool, Stray<Ticket>>
+        ensures same { self.new ≡ self.old }
+    {
         let mut permits = self.budget.at(self.bundle.host());
         let lobby = Some(&mut self.lobby);
         self.bundle.withdraw(ticket, now, &mut permits, lobby)
     }
 
-    pub fn claim(&mut self, ticket: Ticket) -> Result<Claimed<S>, Stray<Ticket>> {
+    pub fn claim(&mut self, ticket: Ticket) -> Result<Claimed<S>, Stray<Ticket>>
+        ensures made_here { IfClaimed result (IsMadeAt self.old.here) }
+        ensures same { self.new ≡ self.old }
+    {
         self.bundle.claim(ticket)
     }
 
     /// A turn of the host, if it is queued and first.
-    pub fn serve_queued(&mut self, now: u64) -> Option<Served> {
+    pub fn serve_queued(&mut self, now: u64) -> Option<Served>
+        ensures same { self.new ≡ self.old }
+    {
         if !self.bundle.queued() || self.lobby.first() != Some(self.bundle.host()) {
             return None;
         }
@@ -214,18 +231,24 @@ impl<S: Drop> Desk<S> {
         Some(self.bundle.serve_queued(now, &mut permits, lobby))
     }
 
-    pub fn evict_oldest(&mut self, stamp: Stamp, now: u64) -> bool {
+    pub fn evict_oldest(&mut self, stamp: Stamp, now: u64) -> bool
+        ensures same { self.new ≡ self.old }
+    {
         let mut permits = self.budget.at(self.bundle.host());
         self.bundle
             .evict_oldest(stamp, Cause::CacheFull, now, &mut permits)
     }
 
-    pub fn prune(&mut self, now: u64, max_age: u64, max_life: u64) -> u32 {
+    pub fn prune(&mut self, now: u64, max_age: u64, max_life: u64) -> u32
+        ensures same { self.new ≡ self.old }
+    {
         let mut permits = self.budget.at(self.bundle.host());
         self.bundle.prune(now, max_age, max_life, &mut permits)
     }
 
-    pub fn set_host_limit(&mut self, limit: u32, now: u64) -> Result<Changed, Refusal> {
+    pub fn set_host_limit(&mut self, limit: u32, now: u64) -> Result<Changed, Refusal>
+        ensures same { self.new ≡ self.old }
+    {
         let mut permits = self.budget.at(self.bundle.host());
         let lobby = &mut self.lobby;
         self.bundle.set_host_limit(limit, now, &mut permits, lobby)
@@ -253,6 +276,19 @@ fn close_one<P: Permits>(permits: &mut P)
     if permits.held().alive > 0 {
         permits.release_open();
     }
+}
+
+/// The booking, which has to be the host's.
+pub(crate) fn booked<S: Drop>(rt: &impl Abort, bundle: &Bundle<S>, booking: Booking) -> Booking
+    ensures same { result ≡ booking }
+    ensures here { IsBookedHere bundle.now booking }
+{
+    let is_here = booking.site() == bundle.host();
+    if !is_here || !bundle.bookings.contains(&booking.transfer()) {
+        let _ = booking.spend();
+        panic!(rt; "a booking of another host");
+    }
+    booking
 }
 
 /// The lease, which has to have a stream.
@@ -291,7 +327,9 @@ pub(crate) fn scrap_back<S: Drop>(back: Back<S>) {
     }
 }
 
-pub(crate) fn attach_new(lease: &mut Lease<Stream>) {
+pub(crate) fn attach_new(lease: &mut Lease<Stream>)
+    ensures same { lease.new.table ≡ lease.old.table }
+{
     if !lease.has_stream() {
         let number = lease.number();
         lease.attach(Stream(number));
@@ -299,7 +337,9 @@ pub(crate) fn attach_new(lease: &mut Lease<Stream>) {
 }
 
 /// The lease that an acquire has to give.
-pub(crate) fn lease_of<S: Drop>(rt: &impl Abort, got: Got<S>) -> Lease<S> {
+pub(crate) fn lease_of<S: Drop>(rt: &impl Abort, got: Got<S>) -> Lease<S>
+    ensures { got ≡ Got.Lease result }
+{
     match got {
         Got::Lease(lease) => lease,
         got => {
@@ -343,7 +383,10 @@ pub(crate) fn again_of<S: Drop>(rt: &impl Abort, got: Got<S>) -> Booking {
 }
 
 /// What an acquire gives that is not to be refused.
-pub(crate) fn asked<S: Drop>(rt: &impl Abort, desk: &mut Desk<S>, want: Want, now: u64) -> Got<S> {
+pub(crate) fn asked<S: Drop>(rt: &impl Abort, desk: &mut Desk<S>, want: Want, now: u64) -> Got<S>
+    ensures made_here { GivesLease result (IsMadeAt desk.old.here) }
+    ensures same { desk.new ≡ desk.old }
+{
     desk.acquire(want, now).expect(rt, "an answer")
 }
 
@@ -353,7 +396,10 @@ pub(crate) fn leased(
     desk: &mut Desk<Stream>,
     transfer: u64,
     now: u64,
-) -> Lease<Stream> {
+) -> Lease<Stream>
+    ensures made_here { result.table ≡ desk.old.here }
+    ensures same { desk.new ≡ desk.old }
+{
     leased_for(rt, desk, want_of(transfer), now)
 }
 
@@ -362,22 +408,31 @@ pub(crate) fn leased_for(
     desk: &mut Desk<Stream>,
     want: Want,
     now: u64,
-) -> Lease<Stream> {
+) -> Lease<Stream>
+    ensures made_here { result.table ≡ desk.old.here }
+    ensures same { desk.new ≡ desk.old }
+{
     let mut lease = lease_of(rt, asked(rt, desk, want, now));
     attach_new(&mut lease);
     lease
 }
 
 /// A ticket that has to be given.
-pub(crate) fn waits(rt: &impl Abort, desk: &mut Desk<Stream>, transfer: u64, now: u64) -> Ticket {
+pub(crate) fn waits(rt: &impl Abort, desk: &mut Desk<Stream>, transfer: u64, now: u64) -> Ticket
+    ensures same { desk.new ≡ desk.old }
+{
     waits_for(rt, desk, want_of(transfer), now)
 }
 
-pub(crate) fn waits_for(rt: &impl Abort, desk: &mut Desk<Stream>, want: Want, now: u64) -> Ticket {
+pub(crate) fn waits_for(rt: &impl Abort, desk: &mut Desk<Stream>, want: Want, now: u64) -> Ticket
+    ensures same { desk.new ≡ desk.old }
+{
     ticket_of(rt, asked(rt, desk, want, now))
 }
 
-pub(crate) fn refused(desk: &mut Desk<Stream>, transfer: u64, now: u64) -> Option<Refusal> {
+pub(crate) fn refused(desk: &mut Desk<Stream>, transfer: u64, now: u64) -> Option<Refusal>
+    ensures same { desk.new ≡ desk.old }
+{
     match desk.acquire(want_of(transfer), now) {
         Err(refusal) => Some(refusal),
         Ok(got) => {
@@ -414,7 +469,9 @@ pub(crate) fn spent<S: Drop>(rt: &impl Abort, back: Back<S>) -> bool {
 }
 
 /// The lease of a connection that is not kept.
-pub(crate) fn not_kept<S: Drop>(rt: &impl Abort, back: Back<S>) -> Lease<S> {
+pub(crate) fn not_kept<S: Drop>(rt: &impl Abort, back: Back<S>) -> Lease<S>
+    ensures { back ≡ Back.NoKeep result }
+{
     match back {
         Back::NoKeep(lease) => lease,
         Back::Spent { freed: _ } => panic!(rt; "the lease was spent"),
@@ -429,7 +486,9 @@ pub(crate) fn not_kept<S: Drop>(rt: &impl Abort, back: Back<S>) -> Lease<S> {
     }
 }
 
-pub(crate) fn leave(rt: &impl Abort, desk: &mut Desk<Stream>, ticket: Ticket, now: u64) -> bool {
+pub(crate) fn leave(rt: &impl Abort, desk: &mut Desk<Stream>, ticket: Ticket, now: u64) -> bool
+    ensures same { desk.new ≡ desk.old }
+{
     match desk.withdraw(ticket, now) {
         Ok(freed) => freed,
         Err(stray) => {
@@ -444,7 +503,10 @@ pub(crate) fn drop_lease(
     desk: &mut Desk<Stream>,
     lease: Lease<Stream>,
     now: u64,
-) -> bool {
+) -> bool
+    requires here { lease.table ≡ desk.old.here }
+    ensures same { desk.new ≡ desk.old }
+{
     accept(rt, desk.abandon(lease, now))
 }
 
@@ -453,7 +515,10 @@ pub(crate) fn give_back(
     desk: &mut Desk<Stream>,
     lease: Lease<Stream>,
     now: u64,
-) -> bool {
+) -> bool
+    requires here { lease.table ≡ desk.old.here }
+    ensures same { desk.new ≡ desk.old }
+{
     let mut lease = lease;
     attach_new(&mut lease);
     spent(rt, desk.give_back(rt, lease, KEEP, now))
@@ -465,16 +530,27 @@ pub(crate) fn stream_under(
     desk: &mut Desk<Stream>,
     lease: Lease<Stream>,
     now: u64,
-) -> (u32, Option<Stream>) {
+) -> (u32, Option<Stream>)
+    requires here { lease.table ≡ desk.old.here }
+    ensures same { desk.new ≡ desk.old }
+{
     let number = lease.number();
-    let again = Lease::opened(desk.bundle.host(), number, lease.want(), lease.moment());
-    let stream = lease.into_stream();
-    drop_lease(rt, desk, again, now);
+    let has_stream = lease.has_stream();
+    let (mut used, seat) = lease.take_apart();
+    let stream = if has_stream {
+        Some(used.detach())
+    } else {
+        None
+    };
+    drop_lease(rt, desk, Lease::new(used, seat), now);
     (number, stream)
 }
 
 /// The lease that a ticket has to give.
-pub(crate) fn claimed(rt: &impl Abort, desk: &mut Desk<Stream>, ticket: Ticket) -> Lease<Stream> {
+pub(crate) fn claimed(rt: &impl Abort, desk: &mut Desk<Stream>, ticket: Ticket) -> Lease<Stream>
+    ensures made_here { result.table ≡ desk.old.here }
+    ensures same { desk.new ≡ desk.old }
+{
     match desk.claim(ticket) {
         Ok(Claimed::Lease(lease)) => lease,
         Ok(Claimed::Still(ticket)) => {
@@ -489,7 +565,9 @@ pub(crate) fn claimed(rt: &impl Abort, desk: &mut Desk<Stream>, ticket: Ticket) 
 }
 
 /// What a ticket comes back in that has to be a stranger.
-pub(crate) fn stray(rt: &impl Abort, desk: &mut Desk<Stream>, ticket: Ticket) -> Stray<Ticket> {
+pub(crate) fn stray(rt: &impl Abort, desk: &mut Desk<Stream>, ticket: Ticket) -> Stray<Ticket>
+    ensures same { desk.new ≡ desk.old }
+{
     match desk.claim(ticket) {
         Err(stray) => stray,
         Ok(Claimed::Still(ticket)) => {
@@ -504,7 +582,9 @@ pub(crate) fn stray(rt: &impl Abort, desk: &mut Desk<Stream>, ticket: Ticket) ->
 }
 
 /// The ticket of a transfer that has to wait on.
-pub(crate) fn still(rt: &impl Abort, desk: &mut Desk<Stream>, ticket: Ticket) -> Ticket {
+pub(crate) fn still(rt: &impl Abort, desk: &mut Desk<Stream>, ticket: Ticket) -> Ticket
+    ensures same { desk.new ≡ desk.old }
+{
     match desk.claim(ticket) {
         Ok(Claimed::Still(ticket)) => ticket,
         Ok(Claimed::Lease(lease)) => {

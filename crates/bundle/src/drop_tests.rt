@@ -1,6 +1,8 @@
 //! What no clause says of streams: one is dropped for each connection that is closed with its
 //! stream here, and no other one.
 
+ghost use Rattle.std.specs.Prelude.{◌≡◌};
+
 use crate::desk::{Desk, KEEP, accept, asked, lease_of, spent, want_of};
 use crate::lease::Lease;
 use conn_log::Want;
@@ -25,7 +27,10 @@ fn leased<'a>(
     want: Want,
     now: u64,
     ends: &'a Cell<u32>,
-) -> Lease<Counted<'a>> {
+) -> Lease<Counted<'a>>
+    ensures made_here { result.table ≡ desk.old.here }
+    ensures same { desk.new ≡ desk.old }
+{
     let mut lease = lease_of(rt, asked(rt, desk, want, now));
     if !lease.has_stream() {
         lease.attach(Counted(ends));
@@ -33,12 +38,10 @@ fn leased<'a>(
     lease
 }
 
-fn give_back<'a>(
-    rt: &impl Abort,
-    desk: &mut Desk<Counted<'a>>,
-    lease: Lease<Counted<'a>>,
-    now: u64,
-) {
+fn give_back<'a>(rt: &impl Abort, desk: &mut Desk<Counted<'a>>, lease: Lease<Counted<'a>>, now: u64)
+    requires here { lease.table ≡ desk.old.here }
+    ensures same { desk.new ≡ desk.old }
+{
     spent(rt, desk.give_back(rt, lease, KEEP, now));
 }
 

@@ -1,5 +1,5 @@
-ghost use Rattle.std.specs.Prelude.{◌≡◌, ℕ, ◌<◌, ◌≤◌, length, IfOk, IfErr};
-ghost use Rattle.conn_log.specs.Connections.{open_connections};
+ghost use Rattle.std.specs.Prelude.{◌≡◌, ℕ, ◌-◌, ◌<◌, ◌≤◌, length, IfOk, IfErr};
+ghost use Rattle.conn_log.specs.Connections.{open_connections, idle_connections};
 ghost use Rattle.conn_log.specs.Fit.{oldest_stamp};
 ghost use Rattle.conn_log.specs.Legal.{IsLegal, IsQuiet, limit_in_force};
 ghost use Rattle.conn_log.specs.Sound.{IsSound};
@@ -9,6 +9,7 @@ ghost use Rattle.bundle.specs.Lease.{IsNewHost, snapshot_of, HasItsStreams, Uncl
 ghost use Rattle.bundle.specs.Lease.{AreBooked};
 
 use crate::grant::Grant;
+use crate::seats::Seats;
 use crate::snapshot::Snapshot;
 use budget::Refusal;
 use conn_log::{Log, Stamp};
@@ -22,6 +23,7 @@ pub struct Bundle<S: Drop> {
     pub(crate) state: State<S>,
     pub(crate) grants: Vec<Grant<S>>,
     pub(crate) bookings: Vec<u64>,
+    pub(crate) seats: Seats,
 }
 
 impl<S: Drop> Model for Bundle<S> {
@@ -30,6 +32,7 @@ impl<S: Drop> Model for Bundle<S> {
     ghost use Rattle.bundle.specs.Laws.{IsSoundAndQuiet};
     ghost use Rattle.bundle.specs.Lease.{HostShown, AreBooked};
     ghost use Rattle.bundle.specs.Grants.{grant_streams, grant_starts, GrantsKept, HasSpare};
+    ghost use Rattle.bundle.specs.Seats.{IsSeated, AreUnclaimed};
 
     ghost Value = { HostShown S };
 
@@ -40,6 +43,7 @@ impl<S: Drop> Model for Bundle<S> {
       streams = grant_streams bundle.grants.items ++ bundle.state.streams;
       unclaimed = grant_starts bundle.grants.items;
       booked = bundle.bookings.items;
+      table = bundle.seats.table;
     } };
 
     ghost invariant = { λ bundle. record {
@@ -49,6 +53,8 @@ impl<S: Drop> Model for Bundle<S> {
       grants : GrantsKept bundle.state.log bundle.grants.items;
       spare : let granted = vec_len bundle.grants in
           HasSpare bundle.state.log bundle.state.booked granted (vec_capacity bundle.grants);
+      seated : IsSeated bundle.state.log bundle.seats;
+      unclaimed : AreUnclaimed (grant_starts bundle.grants.items) bundle.seats;
     } };
 }
 
@@ -69,6 +75,7 @@ impl<S: Drop> Bundle<S> {
             state,
             grants: Vec::new(alloc),
             bookings: Vec::new(alloc),
+            seats: Seats::new(alloc)?,
         })
     }
 
@@ -114,6 +121,15 @@ impl<S: Drop> Bundle<S> {
             waiting: self.state.waiting_len(),
             queued: self.queued(),
         }
+    }
+
+    /// How many connections transfers hold, read off the lease word.
+    pub fn held(&mut self) -> u64
+        ensures same { self.new ≡ self.old }
+        ensures held { let idle = length (idle_connections self.old.log) in
+            result ≡ length (open_connections self.old.log) - idle }
+    {
+        self.seats.held()
     }
 
     /// The stamp of the connection that is idle for the longest.

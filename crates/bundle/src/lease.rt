@@ -1,16 +1,36 @@
 ghost use Rattle.std.specs.Prelude.{◌≡◌, is_some, IsSome, None, Some, true, false};
-ghost use Rattle.bundle.specs.Lease.{Leasing, new_lease, reusing_lease};
-ghost use Rattle.bundle.specs.Grants.{granted_lease};
+ghost use Rattle.bundle.specs.Lease.{Leasing, lease_at, new_use, reuse_of};
+ghost use Rattle.bundle.specs.Grants.{granted_use};
 
 use crate::grant::Grant;
+use crate::seats::LeaseSeat;
 use crate::ticket::Ticket;
 use conn_key::Key;
 use conn_log::Want;
 use std::marker::Model;
 
-/// One transfer's use of one connection. It has to be spent: given back, or abandoned.
-// With the flags at the end six bytes of padding would follow them, which are copied apart.
+/// One transfer's use of one connection. It has to be spent at the host that gave it: given back,
+/// or abandoned.
 pub struct Lease<S> {
+    used: Use<S>,
+    seat: LeaseSeat,
+}
+
+impl<S> Model for Lease<S> {
+    ghost use Rattle.std.specs.Prelude.{◌≡◌};
+    ghost use Rattle.bundle.specs.Lease.{Leasing, lease_at};
+
+    ghost Value = { Leasing S };
+
+    ghost view = { λ lease. lease_at lease.seat.table lease.used };
+
+    ghost invariant = { λ lease.
+        lease.seat.pair ≡ (lease.used.start.number, lease.used.start.want.transfer) };
+}
+
+// What a lease tells, and its connection's stream.
+// With the flags at the end six bytes of padding would follow them, which are copied apart.
+pub(crate) struct Use<S> {
     host: u32,
     reused: bool,
     stream: Option<S>,
@@ -19,30 +39,30 @@ pub struct Lease<S> {
     wanted: Want,
 }
 
-impl<S> Model for Lease<S> {
-    ghost use Rattle.bundle.specs.Lease.{Leasing};
+impl<S> Model for Use<S> {
+    ghost use Rattle.bundle.specs.Lease.{Using};
 
-    ghost Value = { Leasing S };
+    ghost Value = { Using S };
 
-    ghost view = { λ lease. record {
-      site = lease.host;
+    ghost view = { λ used. record {
+      site = used.host;
       start = record {
-        number = lease.number;
-        want = lease.wanted;
-        moment = lease.moment;
-        reused = lease.reused;
+        number = used.number;
+        want = used.wanted;
+        moment = used.moment;
+        reused = used.reused;
       };
-      stream = lease.stream;
+      stream = used.stream;
     } };
 }
 
-impl<S> Lease<S> {
-    // A lease on a new connection, which has no stream yet.
+impl<S> Use<S> {
+    // That of a new connection, which has no stream yet.
     #[inline(always)]
     pub(crate) fn opened(host: u32, number: u32, want: Want, moment: u64) -> Self
-        ensures { result ≡ new_lease host number want moment }
+        ensures { result ≡ new_use host number want moment }
     {
-        Lease {
+        Use {
             host,
             number,
             wanted: want,
@@ -52,12 +72,12 @@ impl<S> Lease<S> {
         }
     }
 
-    // A lease on a connection that was idle, with its stream.
+    // That of a connection that was idle, with its stream.
     #[inline(always)]
     pub(crate) fn reusing(host: u32, number: u32, want: Want, moment: u64, stream: S) -> Self
-        ensures { result ≡ reusing_lease host number want moment stream }
+        ensures { result ≡ reuse_of host number want moment stream }
     {
-        Lease {
+        Use {
             host,
             number,
             wanted: want,
@@ -67,11 +87,11 @@ impl<S> Lease<S> {
         }
     }
 
-    // A lease on what a transfer was granted.
+    // That of what a transfer was granted.
     pub(crate) fn granted(host: u32, grant: Grant<S>) -> Self
-        ensures { result ≡ granted_lease host grant }
+        ensures { result ≡ granted_use host grant }
     {
-        Lease {
+        Use {
             host,
             number: grant.number,
             wanted: grant.want,
@@ -96,7 +116,7 @@ impl<S> Lease<S> {
     pub(crate) fn into_stream(self) -> Option<S>
         ensures { result ≡ self.stream }
     {
-        let Lease {
+        let Use {
             host: _,
             number: _,
             wanted: _,
@@ -107,13 +127,68 @@ impl<S> Lease<S> {
         stream
     }
 
+    #[inline(always)]
+    pub(crate) fn number(&self) -> u32
+        ensures { result ≡ self.now.start.number }
+    {
+        self.number
+    }
+
+    #[inline(always)]
+    pub(crate) fn transfer(&self) -> u64
+        ensures { result ≡ self.now.start.want.transfer }
+    {
+        self.wanted.transfer
+    }
+}
+
+impl<S: Drop> Use<S> {
+    // Gives it its stream again.
+    #[inline(always)]
+    pub(crate) fn attach(&mut self, stream: S)
+        requires { self.old.stream ≡ None }
+        ensures { self.new ≡ record self.old { stream = Some stream } }
+    {
+        self.stream = Some(stream);
+    }
+}
+
+impl<S> Lease<S> {
+    // The lease of that use, with the seat of its pair.
+    #[inline(always)]
+    pub(crate) fn new(used: Use<S>, seat: LeaseSeat) -> Self
+        requires { seat.pair ≡ (used.start.number, used.start.want.transfer) }
+        ensures { result ≡ lease_at seat.table used }
+    {
+        Lease { used, seat }
+    }
+
+    // Takes it apart, so that its host can take its seat back.
+    #[inline(always)]
+    pub(crate) fn take_apart(self) -> (Use<S>, LeaseSeat)
+        ensures used { self ≡ lease_at result.1.table result.0 }
+        ensures pair { result.1.pair ≡ (self.start.number, self.start.want.transfer) }
+    {
+        let Lease { used, seat } = self;
+        (used, seat)
+    }
+
+    // The stream of a lease that is given up: its pair stays held for good.
+    pub(crate) fn into_stream(self) -> Option<S>
+        ensures { result ≡ self.stream }
+    {
+        let (used, seat) = self.take_apart();
+        seat.discard();
+        used.into_stream()
+    }
+
     /// The key of its connection: its host's index, and its lane.
     pub fn key(&self) -> Key
         ensures { result ≡ record { site = self.now.site; lane = self.now.start.want.lane } }
     {
         Key {
-            site: self.host,
-            lane: self.wanted.lane,
+            site: self.used.host,
+            lane: self.used.wanted.lane,
         }
     }
 
@@ -121,42 +196,42 @@ impl<S> Lease<S> {
     pub fn number(&self) -> u32
         ensures { result ≡ self.now.start.number }
     {
-        self.number
+        self.used.number
     }
 
     /// The transfer whose lease it is.
     pub fn transfer(&self) -> u64
         ensures { result ≡ self.now.start.want.transfer }
     {
-        self.want().transfer
+        self.used.wanted.transfer
     }
 
     /// What the transfer wanted.
     pub fn want(&self) -> Want
         ensures { result ≡ self.now.start.want }
     {
-        self.wanted
+        self.used.wanted
     }
 
     /// The moment of its start, in seconds.
     pub fn moment(&self) -> u64
         ensures { result ≡ self.now.start.moment }
     {
-        self.moment
+        self.used.moment
     }
 
     /// Whether its connection was idle before.
     pub fn reused(&self) -> bool
         ensures { result ≡ self.now.start.reused }
     {
-        self.reused
+        self.used.reused
     }
 
     /// Whether it has its connection's stream.
     pub fn has_stream(&self) -> bool
         ensures { result ≡ is_some self.now.stream }
     {
-        self.stream.is_some()
+        self.used.stream.is_some()
     }
 }
 
@@ -166,7 +241,7 @@ impl<S: Drop> Lease<S> {
         requires { self.old.stream ≡ None }
         ensures { self.new ≡ record self.old { stream = Some stream } }
     {
-        self.stream = Some(stream);
+        self.used.attach(stream);
     }
 }
 

@@ -24,6 +24,7 @@ mod limit_tests;
 #[cfg(test)]
 mod memory_tests;
 mod room;
+mod seats;
 mod serving;
 mod snapshot;
 mod spending;

@@ -10,7 +10,8 @@ ghost use Rattle.conn_log.specs.Waiting.{waiting};
 ghost use Rattle.host_state.specs.State.{IsSameHost, KeepsOpen};
 ghost use Rattle.bundle.specs.Calls.{after_limit, kept_limit, limit_refusal, starts_due};
 ghost use Rattle.bundle.specs.Calls.{leased_len, is_queued, is_freed, GrowsBy};
-ghost use Rattle.bundle.specs.Grants.{HasSpare, with_limit};
+ghost use Rattle.bundle.specs.Grants.{HasSpare, grant_starts, with_limit};
+ghost use Rattle.bundle.specs.Seats.{IsSeated, AreUnclaimed};
 ghost use Rattle.bundle.specs.Lease.{KeepsStreams, KeepsAll, StaysThere, held_by};
 ghost use Rattle.bundle.specs.Lobbies.{Lists, IsMarked};
 ghost use Rattle.bundle.specs.Replies.{IfChanged, OnChangeAgain};
@@ -18,6 +19,7 @@ ghost use Rattle.bundle.specs.Replies.{IfChanged, OnChangeAgain};
 use crate::answers::Changed;
 use crate::grant::Grant;
 use crate::host::Bundle;
+use crate::seats::Seats;
 use crate::serving::open_for_first;
 use budget::{GREATEST_LIMIT, Lobby, Permits, Refusal, Try};
 use host_state::State;
@@ -87,7 +89,8 @@ impl<S: Drop> Bundle<S> {
         let Some(given) = reserve_up_to(count, permits) else {
             return Ok(Changed::Again);
         };
-        let freed = change_limit(&mut self.state, &mut self.grants, most, given, now, permits);
+        let (state, seats) = (&mut self.state, &mut self.seats);
+        let freed = change_limit(state, seats, &mut self.grants, most, given, now, permits);
         self.mark(was_queued, lobby);
         Ok(Changed::Done { freed })
     }
@@ -129,12 +132,15 @@ fn starts_due<S: Drop>(state: &State<S>, is_queued: bool, most: u32) -> u32
 // already. It answers whether fewer are open than before.
 fn change_limit<S: Drop, P: Permits>(
     state: &mut State<S>,
+    seats: &mut Seats,
     grants: &mut Vec<Grant<S>>,
     most: u32,
     given: u32,
     now: u64,
     permits: &mut P,
 ) -> bool
+    requires seated { IsSeated state.old.log seats.old }
+    requires unclaimed { AreUnclaimed (grant_starts grants.old.items) seats.old }
     requires reserved { state.old.has_limit_room ≡ true }
     requires leased { leased_len state.old.log ≤ most }
     requires waits { given ≤ length (waiting state.old.log) }
@@ -150,6 +156,9 @@ fn change_limit<S: Drop, P: Permits>(
         grants.new.items ≡ with_limit most given state.old.settings state.old.log now granted }
     ensures spare { HasSpare state.new.log state.new.booked (vec_len grants.new)
         (vec_capacity grants.new) }
+    ensures seated { IsSeated state.new.log seats.new }
+    ensures unclaimed { AreUnclaimed (grant_starts grants.new.items) seats.new }
+    ensures table { seats.new.table ≡ seats.old.table }
     ensures freed { result ≡ is_freed state.old.log state.new.log }
     ensures none_closed { length (open_connections state.old.log) < most →
         permits.new ≡ permits.old }
@@ -166,7 +175,7 @@ fn change_limit<S: Drop, P: Permits>(
     let closed = state.set_limit(most, moment);
     release_closed(closed, permits);
     let _changed = state.log();
-    open_for_first(state, grants, moment, given);
+    open_for_first(state, seats, grants, moment, given);
     closed > 0
 }
 

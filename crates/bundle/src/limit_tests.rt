@@ -175,3 +175,27 @@ fn a_queued_host_waits_for_its_turn(rt: HostRuntime) -> Result<(), Fail> {
     drop_lease(&rt, &mut desk, first, 3);
     Ok(())
 }
+
+#[test]
+fn a_lease_outlasts_changes_of_the_limit(rt: HostRuntime) -> Result<(), Fail> {
+    for comes_back in [true, false] {
+        let mut desk = Desk::new(rt.alloc(), (3, 0, 4), 1)?;
+        let first = leased(&rt, &mut desk, 1, 0);
+        let second = leased(&rt, &mut desk, 2, 0);
+        give_back(&rt, &mut desk, second, 1);
+        assert_eq!(rt; desk.set_host_limit(1, 2), FREED);
+        assert_eq!(rt; desk.set_host_limit(2, 3), DONE);
+        if comes_back {
+            give_back(&rt, &mut desk, first, 4);
+            let again = leased(&rt, &mut desk, 3, 5);
+            assert_eq!(rt;
+                stream_under(&rt, &mut desk, again, 6),
+                (1, Some(Stream(1)))
+            );
+        } else {
+            assert_eq!(rt; drop_lease(&rt, &mut desk, first, 4), true);
+        }
+        assert_eq!(rt; desk.bundle.look().alive, 0);
+    }
+    Ok(())
+}

@@ -1,11 +1,16 @@
 //! What want of memory leaves. Each of these tests passes whichever allocation fails: the refusal
 //! says so and changes nothing, the call succeeds when it comes again, and spending takes none.
 
+ghost use Rattle.std.specs.Prelude.{◌≡◌};
+ghost use Rattle.bundle.specs.Lease.{IsMadeAt};
+ghost use Rattle.bundle.specs.Replies.{GivesLease};
+
 use crate::answers::{Changed, Got};
 use crate::desk::{
     Desk, Stream, attach_new, booking_of, claimed, drop_lease, give_back, lease_of, leave,
     ticket_of, want_of,
 };
+use crate::host::Bundle;
 use crate::lease::Lease;
 use crate::ticket::Ticket;
 use budget::Refusal;
@@ -29,8 +34,25 @@ fn new_at_last(
     }
 }
 
+#[test]
+fn want_of_memory_refuses_a_new_host(rt: HostRuntime) -> Result<(), Fail> {
+    let made: Result<Bundle<Stream>, Refusal> = Bundle::new(rt.alloc(), 4, 7, 1);
+    let bundle = match made {
+        Ok(bundle) => bundle,
+        Err(refusal) => {
+            assert_eq!(rt; refusal, Refusal::Memory);
+            Bundle::new(rt.alloc(), 4, 7, 1)?
+        }
+    };
+    assert_eq!(rt; (bundle.host(), bundle.log().len()), (7, 0));
+    Ok(())
+}
+
 // What an acquire gives; where memory runs out it changes nothing, and comes again.
-fn asked_at_last(rt: &impl Abort, desk: &mut Desk<Stream>, want: Want) -> Got<Stream> {
+fn asked_at_last(rt: &impl Abort, desk: &mut Desk<Stream>, want: Want) -> Got<Stream>
+    ensures made_here { GivesLease result (IsMadeAt desk.old.here) }
+    ensures same { desk.new ≡ desk.old }
+{
     let entries = desk.bundle.log().len();
     let before = desk.bundle.look();
     match desk.acquire(want, 0) {
@@ -44,13 +66,18 @@ fn asked_at_last(rt: &impl Abort, desk: &mut Desk<Stream>, want: Want) -> Got<St
     }
 }
 
-fn leased_at_last(rt: &impl Abort, desk: &mut Desk<Stream>, transfer: u64) -> Lease<Stream> {
+fn leased_at_last(rt: &impl Abort, desk: &mut Desk<Stream>, transfer: u64) -> Lease<Stream>
+    ensures made_here { result.table ≡ desk.old.here }
+    ensures same { desk.new ≡ desk.old }
+{
     let mut lease = lease_of(rt, asked_at_last(rt, desk, want_of(transfer)));
     attach_new(&mut lease);
     lease
 }
 
-fn waits_at_last(rt: &impl Abort, desk: &mut Desk<Stream>, transfer: u64) -> Ticket {
+fn waits_at_last(rt: &impl Abort, desk: &mut Desk<Stream>, transfer: u64) -> Ticket
+    ensures same { desk.new ≡ desk.old }
+{
     ticket_of(rt, asked_at_last(rt, desk, want_of(transfer)))
 }
 
@@ -104,7 +131,9 @@ fn want_of_memory_leaves_no_booking(rt: HostRuntime) -> Result<(), Fail> {
 }
 
 // A limit that has to be changed; where memory runs out nothing is, and it comes again.
-fn limit_at_last(rt: &impl Abort, desk: &mut Desk<Stream>, limit: u32) -> Changed {
+fn limit_at_last(rt: &impl Abort, desk: &mut Desk<Stream>, limit: u32) -> Changed
+    ensures same { desk.new ≡ desk.old }
+{
     let entries = desk.bundle.log().len();
     let before = desk.bundle.look();
     match desk.set_host_limit(limit, 0) {

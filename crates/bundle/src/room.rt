@@ -57,7 +57,7 @@ impl<S: Drop> Bundle<S> {
             Try::Contended => return Served::Contended,
         }
         let moment = self.state.moment(now);
-        open_for_head(&mut self.state, &mut self.grants, moment);
+        open_for_head(&mut self.state, &mut self.seats, &mut self.grants, moment);
         self.end_turn(lobby);
         Served::Given
     }

@@ -17,17 +17,20 @@ ghost use Rattle.host_state.specs.Steps.{add, is_full, picked, without_picked};
 ghost use Rattle.bundle.specs.Calls.{start_behind, start_as_told, start_in_place, grant_to};
 ghost use Rattle.bundle.specs.Calls.{open_for_head, open_for_first};
 ghost use Rattle.bundle.specs.Grants.{with_new, with_granted, with_first, IsAlone, HasSpare};
+ghost use Rattle.bundle.specs.Grants.{grant_starts};
 ghost use Rattle.bundle.specs.Lease.{HasItsStream, held_by};
+ghost use Rattle.bundle.specs.Seats.{IsSeated, AreUnclaimed, KeepsGranted};
 ghost use Rattle.host_state.specs.Idle.{stream_of};
 ghost use Rattle.bundle.specs.Replies.{GivesLease, GivesTicket, GivesBooking, UnlessBooking};
 ghost use Rattle.bundle.specs.Replies.{IsGot};
 ghost use Rattle.host_state.specs.State.{IsSameHost, KeepsOpen, KeepsOpenBut, ClosesIdle, limit_of};
-ghost use Rattle.host_state.specs.State.{OpensOnly};
+ghost use Rattle.host_state.specs.State.{OpensOnly, open_len, idle_len};
 
 use crate::answers::Got;
 use crate::booking::Booking;
 use crate::grant::Grant;
-use crate::lease::Lease;
+use crate::lease::{Lease, Use};
+use crate::seats::Seats;
 use crate::ticket::Ticket;
 use budget::{Permits, Try};
 use conn_log::{Cause, Want};
@@ -51,6 +54,8 @@ pub(crate) fn close_idle<S: Drop, P: Permits>(
     ensures stands { P.stands permits.new }
     ensures stays { P.stays permits.old permits.new }
     ensures part { P.held permits.new ≡ held_by state.new.log }
+    ensures as_many_held { open_len state.new + idle_len state.old
+        ≡ open_len state.old + idle_len state.new }
 {
     let idle_before = state.idle_len();
     while state.close_next(closing, moment) {
@@ -69,11 +74,13 @@ pub(crate) fn close_idle<S: Drop, P: Permits>(
 #[inline(never)]
 pub(crate) fn start_or_wait<S: Drop, P: Permits>(
     state: &mut State<S>,
+    seats: &mut Seats,
     want: Want,
     moment: u64,
     permits: &mut P,
     is_last: bool,
 ) -> Got<S>
+    requires seated { IsSeated state.old.log seats.old }
     requires booked { 0 < state.old.booked }
     requires later { last_moment state.old.log ≤ moment }
     requires free { held_number state.old.log want.transfer ≡ None }
@@ -85,6 +92,9 @@ pub(crate) fn start_or_wait<S: Drop, P: Permits>(
         × (let wants = waiting state.old.log in
         let due = start_behind wants is_last told state.old.settings want moment state.old.log in
         (state.new.log ≡ due.log) × IsGot state.old.host want due.reply result) }
+    ensures seated { IsSeated state.new.log seats.new }
+    ensures granted { KeepsGranted seats.old seats.new }
+    ensures made_here { GivesLease result (λ lease. lease.table ≡ seats.old.table) }
     ensures has_stream { GivesLease result (λ lease. is_some lease.stream ≡ lease.start.reused) }
     ensures stream { GivesLease result (HasItsStream state.old.streams) }
     ensures others { GivesLease result
@@ -102,25 +112,31 @@ pub(crate) fn start_or_wait<S: Drop, P: Permits>(
         return Got::Wait(wait_last(state, want, moment));
     }
     close_idle(state, &Closing::TooOld(want), moment, permits);
+    // One more can be counted.
+    let _open = state.open_len();
     if let Some((number, stream)) = state.lease_newest_fit(&want, moment) {
         permits.release_kept();
-        return Got::Lease(Lease::reusing(state.host(), number, want, moment, stream));
+        let seat = seats.lease(number, want.transfer);
+        let used = Use::reusing(state.host(), number, want, moment, stream);
+        return Got::Lease(Lease::new(used, seat));
     }
     if state.is_full() {
-        return start_in_place(state, want, Cause::HostRoom, moment, permits);
+        return start_in_place(state, seats, want, Cause::HostRoom, moment, permits);
     }
-    start_as_told(state, want, moment, permits, is_last)
+    start_as_told(state, seats, want, moment, permits, is_last)
 }
 
 // The host has room: the budget is asked for one connection more.
 #[inline(always)]
 fn start_as_told<S: Drop, P: Permits>(
     state: &mut State<S>,
+    seats: &mut Seats,
     want: Want,
     moment: u64,
     permits: &mut P,
     is_last: bool,
 ) -> Got<S>
+    requires seated { IsSeated state.old.log seats.old }
     requires booked { 0 < state.old.booked }
     requires later { last_moment state.old.log ≤ moment }
     requires free { held_number state.old.log want.transfer ≡ None }
@@ -131,6 +147,9 @@ fn start_as_told<S: Drop, P: Permits>(
     ensures told { (told : Try) × P.opening permits.old permits.new told
         × (let due = start_as_told is_last told state.old.settings want moment state.old.log in
         (state.new.log ≡ due.log) × IsGot state.old.host want due.reply result) }
+    ensures seated { IsSeated state.new.log seats.new }
+    ensures granted { KeepsGranted seats.old seats.new }
+    ensures made_here { GivesLease result (λ lease. lease.table ≡ seats.old.table) }
     ensures no_stream { GivesLease result (λ lease. lease.stream ≡ None) }
     ensures not_reused { GivesLease result (λ lease. lease.start.reused ≡ false) }
     ensures streams { KeepsOpen state.old state.new }
@@ -148,13 +167,17 @@ fn start_as_told<S: Drop, P: Permits>(
 {
     match permits.reserve_open() {
         Try::Got => {
+            // One more can be counted.
+            let _open = state.open_len();
             let number = state.open(&want, moment);
-            Got::Lease(Lease::opened(state.host(), number, want, moment))
+            let seat = seats.lease(number, want.transfer);
+            let used = Use::opened(state.host(), number, want, moment);
+            Got::Lease(Lease::new(used, seat))
         }
         Try::Contended => Got::Again(Booking::new(state.host(), want)),
         Try::Full => {
             if is_last {
-                return start_in_place(state, want, Cause::TotalRoom, moment, permits);
+                return start_in_place(state, seats, want, Cause::TotalRoom, moment, permits);
             }
             Got::NoRoom(Booking::new(state.host(), want))
         }
@@ -166,11 +189,13 @@ fn start_as_told<S: Drop, P: Permits>(
 #[inline(always)]
 fn start_in_place<S: Drop, P: Permits>(
     state: &mut State<S>,
+    seats: &mut Seats,
     want: Want,
     cause: Cause,
     moment: u64,
     permits: &mut P,
 ) -> Got<S>
+    requires seated { IsSeated state.old.log seats.old }
     requires booked { 0 < state.old.booked }
     requires cause { is_of_idle cause ≡ true }
     requires later { last_moment state.old.log ≤ moment }
@@ -180,6 +205,9 @@ fn start_in_place<S: Drop, P: Permits>(
     requires part { P.held permits.old ≡ held_by state.old.log }
     ensures log { let due = start_in_place cause state.old.settings want moment state.old.log in
         (state.new.log ≡ due.log) × IsGot state.old.host want due.reply result }
+    ensures seated { IsSeated state.new.log seats.new }
+    ensures granted { KeepsGranted seats.old seats.new }
+    ensures made_here { GivesLease result (λ lease. lease.table ≡ seats.old.table) }
     ensures no_stream { GivesLease result (λ lease. lease.stream ≡ None) }
     ensures not_reused { GivesLease result (λ lease. lease.start.reused ≡ false) }
     ensures streams { KeepsOpen state.old state.new }
@@ -200,8 +228,12 @@ fn start_in_place<S: Drop, P: Permits>(
     }
     state.close_oldest(cause, moment);
     permits.release_kept();
+    // One more can be counted.
+    let _open = state.open_len();
     let number = state.open(&want, moment);
-    Got::Lease(Lease::opened(state.host(), number, want, moment))
+    let seat = seats.lease(number, want.transfer);
+    let used = Use::opened(state.host(), number, want, moment);
+    Got::Lease(Lease::new(used, seat))
 }
 
 // The transfer waits after all others.
@@ -229,7 +261,14 @@ fn wait_last<S: Drop>(state: &mut State<S>, want: Want, moment: u64) -> Ticket
 /// Opens a connection for the first transfer that waits, if one does, and grants it. The permit of
 /// the connection is had already.
 #[inline(always)]
-pub(crate) fn open_for_head<S: Drop>(state: &mut State<S>, grants: &mut Vec<Grant<S>>, moment: u64)
+pub(crate) fn open_for_head<S: Drop>(
+    state: &mut State<S>,
+    seats: &mut Seats,
+    grants: &mut Vec<Grant<S>>,
+    moment: u64,
+)
+    requires seated { IsSeated state.old.log seats.old }
+    requires unclaimed { AreUnclaimed (grant_starts grants.old.items) seats.old }
     requires later { last_moment state.old.log ≤ moment }
     requires room { IsAnyone (waiting state.old.log) →
         is_full state.old.settings state.old.log ≡ false }
@@ -239,6 +278,9 @@ pub(crate) fn open_for_head<S: Drop>(state: &mut State<S>, grants: &mut Vec<Gran
     ensures grants { let log = state.old.log in
         let wants = waiting state.old.log in
         grants.new.items ≡ with_new state.old.settings moment log wants grants.old.items }
+    ensures seated { IsSeated state.new.log seats.new }
+    ensures unclaimed { AreUnclaimed (grant_starts grants.new.items) seats.new }
+    ensures table { seats.new.table ≡ seats.old.table }
     ensures spare { HasSpare state.new.log state.new.booked (vec_len grants.new)
         (vec_capacity grants.new) }
     ensures more_open { IsAnyone (waiting state.old.log) →
@@ -251,7 +293,11 @@ pub(crate) fn open_for_head<S: Drop>(state: &mut State<S>, grants: &mut Vec<Gran
     let Some(head) = state.first_waiting() else {
         return;
     };
+    // The log is sound, so whoever waits holds nothing; and one more can be counted.
+    let _log = state.log();
+    let _open = state.open_len();
     let number = state.open(&head, moment);
+    seats.grant(number, head.transfer);
     grants.push_reserved(Grant {
         want: head,
         number,
@@ -265,10 +311,13 @@ pub(crate) fn open_for_head<S: Drop>(state: &mut State<S>, grants: &mut Vec<Gran
 #[inline(always)]
 pub(crate) fn hand_on<S: Drop, P: Permits>(
     state: &mut State<S>,
+    seats: &mut Seats,
     grants: &mut Vec<Grant<S>>,
     moment: u64,
     permits: &mut P,
 )
+    requires seated { IsSeated state.old.log seats.old }
+    requires unclaimed { AreUnclaimed (grant_starts grants.old.items) seats.old }
     requires later { last_moment state.old.log ≤ moment }
     requires room { is_full state.old.settings state.old.log ≡ false }
     requires spare { HasSpare state.old.log state.old.booked (vec_len grants.old)
@@ -279,6 +328,9 @@ pub(crate) fn hand_on<S: Drop, P: Permits>(
     ensures grants { let log = state.old.log in
         let wants = waiting state.old.log in
         grants.new.items ≡ with_new state.old.settings moment log wants grants.old.items }
+    ensures seated { IsSeated state.new.log seats.new }
+    ensures unclaimed { AreUnclaimed (grant_starts grants.new.items) seats.new }
+    ensures table { seats.new.table ≡ seats.old.table }
     ensures spare { HasSpare state.new.log state.new.booked (vec_len grants.new)
         (vec_capacity grants.new) }
     ensures streams { state.new.streams ≡ state.old.streams }
@@ -293,7 +345,7 @@ pub(crate) fn hand_on<S: Drop, P: Permits>(
         permits.release_open();
         return;
     }
-    open_for_head(state, grants, moment);
+    open_for_head(state, seats, grants, moment);
 }
 
 /// Grants a connection that has just come back to the first transfer that waits, if one does. Where
@@ -301,10 +353,13 @@ pub(crate) fn hand_on<S: Drop, P: Permits>(
 #[inline(always)]
 pub(crate) fn grant_to_head<S: Drop>(
     state: &mut State<S>,
+    seats: &mut Seats,
     grants: &mut Vec<Grant<S>>,
     held: &Held,
     moment: u64,
 )
+    requires seated { IsSeated state.old.log seats.old }
+    requires unclaimed { AreUnclaimed (grant_starts grants.old.items) seats.old }
     requires later { last_moment state.old.log ≤ moment }
     requires alone { IsAnyone (waiting state.old.log) → IsAlone state.old.log held.now moment }
     requires spare { HasSpare state.old.log state.old.booked (vec_len grants.old)
@@ -317,6 +372,9 @@ pub(crate) fn grant_to_head<S: Drop>(
         let stream = stream_of state.old.streams held.now.number in
         let passed = with_granted state.old.settings held.now.number moment stream log wants in
         grants.new.items ≡ passed grants.old.items }
+    ensures seated { IsSeated state.new.log seats.new }
+    ensures unclaimed { AreUnclaimed (grant_starts grants.new.items) seats.new }
+    ensures table { seats.new.table ≡ seats.old.table }
     ensures spare { HasSpare state.new.log state.new.booked (vec_len grants.new)
         (vec_capacity grants.new) }
     ensures others { KeepsOpenBut held.now.number state.old state.new }
@@ -329,7 +387,12 @@ pub(crate) fn grant_to_head<S: Drop>(
     let Some(head) = state.first_waiting() else {
         return;
     };
+    // The log is sound, so whoever waits holds nothing.
+    let _log = state.log();
     if let Some((number, stream)) = state.lease_newest_fit(&head, moment) {
+        // One more can be counted.
+        let _open = state.open_len();
+        seats.grant(number, head.transfer);
         grants.push_reserved(Grant {
             want: head,
             number,
@@ -340,17 +403,20 @@ pub(crate) fn grant_to_head<S: Drop>(
     }
     let cause = unfit_cause(held, &head, state.is_full(), moment);
     state.close_oldest(cause, moment);
-    open_for_head(state, grants, moment);
+    open_for_head(state, seats, grants, moment);
 }
 
 /// Opens a connection for each of so many of the first transfers that wait. Their permits are had
 /// already.
 pub(crate) fn open_for_first<S: Drop>(
     state: &mut State<S>,
+    seats: &mut Seats,
     grants: &mut Vec<Grant<S>>,
     moment: u64,
     count: u32,
 )
+    requires seated { IsSeated state.old.log seats.old }
+    requires unclaimed { AreUnclaimed (grant_starts grants.old.items) seats.old }
     requires later { last_moment state.old.log ≤ moment }
     requires waits { count ≤ length (waiting state.old.log) }
     requires room { length (open_connections state.old.log) + count
@@ -360,6 +426,9 @@ pub(crate) fn open_for_first<S: Drop>(
     ensures log { state.new.log ≡ open_for_first count state.old.settings moment state.old.log }
     ensures grants { let granted = grants.old.items in
         grants.new.items ≡ with_first count state.old.settings moment state.old.log granted }
+    ensures seated { IsSeated state.new.log seats.new }
+    ensures unclaimed { AreUnclaimed (grant_starts grants.new.items) seats.new }
+    ensures table { seats.new.table ≡ seats.old.table }
     ensures spare { HasSpare state.new.log state.new.booked (vec_len grants.new)
         (vec_capacity grants.new) }
     ensures more_open { let open_before = length (open_connections state.old.log) in
@@ -373,7 +442,7 @@ pub(crate) fn open_for_first<S: Drop>(
     let _log = state.log();
     let mut opened = 0;
     while opened < count {
-        open_for_head(state, grants, moment);
+        open_for_head(state, seats, grants, moment);
         opened += 1;
     }
 }

@@ -13,14 +13,16 @@ ghost use Rattle.bundle.specs.Grants.{without_grant};
 ghost use Rattle.bundle.specs.Lease.{is_unclaimed, is_valid_ticket, is_same_want, WasGranted};
 ghost use Rattle.bundle.specs.Lease.{is_held_lease, HasItsStream, KeepsItsStream, KeepsStreams};
 ghost use Rattle.bundle.specs.Lease.{KeepsOthers, GetsLease, Spends, StaysThere, held_by};
+ghost use Rattle.bundle.specs.Lease.{lease_at};
 ghost use Rattle.bundle.specs.Lobbies.{IfLent, IfLeft, Lists, IsMarked, is_lent};
-ghost use Rattle.bundle.specs.Replies.{IfClaimed, IfStill, GivesBack, IfStrange, UnlessStrange};
+ghost use Rattle.bundle.specs.Replies.{IfClaimed, IfStill, GivesBack};
 ghost use Rattle.bundle.specs.Replies.{OnSpent, UnlessSpent};
 
 use crate::answers::{Back, Claimed};
 use crate::grant::{Grant, granted_want, take_grant};
 use crate::host::Bundle;
-use crate::lease::{Lease, Stray};
+use crate::lease::{Lease, Stray, Use};
+use crate::seats::Seats;
 use crate::serving::{grant_to_head, hand_on};
 use crate::ticket::Ticket;
 use budget::{Lobby, Permits, Try};
@@ -63,6 +65,7 @@ impl<S: Drop> Bundle<S> {
             (is_unclaimed self.old ticket.wait.want.transfer ≡ false)
             × (same ≡ ticket) × (self.new ≡ self.old)) }
         ensures err { OnErr result (self.new ≡ self.old) }
+        ensures made_here { IfClaimed result (λ lease. lease.table ≡ self.old.table) }
         ensures gets_lease { IfClaimed result (λ lease.
             GetsLease self.old self.new ticket.wait.want.transfer lease.start.number) }
         ensures booked { self.new.booked ≡ self.old.booked }
@@ -76,7 +79,9 @@ impl<S: Drop> Bundle<S> {
             return Ok(Claimed::Still(ticket));
         };
         ticket.spend();
-        Ok(Claimed::Lease(Lease::granted(self.state.host(), grant)))
+        let seat = self.seats.claim(grant.number, want.transfer);
+        let used = Use::granted(self.state.host(), grant);
+        Ok(Claimed::Lease(Lease::new(used, seat)))
     }
 
     /// Takes a connection back with the facts of its response. Where it persists and its want
@@ -87,12 +92,10 @@ impl<S: Drop> Bundle<S> {
     /// Where its use ends it is closed, and one is opened for the first transfer that waits. `now`
     /// is in seconds. Spending takes no memory.
     ///
-    /// A lease that this host's log does not show comes back in a [`Stray`]; for one whose transfer
-    /// holds nothing here the table of holders may grow. All but [`Back::Spent`] leave the host as
-    /// it was.
+    /// All but [`Back::Spent`] leave the host as it was.
     ///
-    /// Asked of the caller: a queued host is lent the lobby, which lists it exactly where it is
-    /// queued.
+    /// Asked of the caller: the lease was made here, so that it is no stranger; a queued host is
+    /// lent the lobby, which lists it exactly where it is queued.
     #[inline(always)]
     pub fn give_back<P: Permits>(
         &mut self,
@@ -103,18 +106,16 @@ impl<S: Drop> Bundle<S> {
         lobby: Option<&mut Lobby>,
         close_if_full: bool,
     ) -> Back<S>
+        requires here { lease.table ≡ self.old.table }
         requires stream { IsSome lease.stream }
         requires lent { is_queued self.old.settings self.old.log ≡ true → is_lent lobby ≡ true }
         requires lists { let mark = is_queued self.old.settings self.old.log in
             IfLent lobby (Lists self.old.host mark) }
         requires stands { P.stands permits.old }
         requires part { P.held permits.old ≡ held_by self.old.log }
-        ensures told { UnlessStrange result
-            ((told : Try) × P.keeping permits.old permits.new told
-            × GivesBack close_if_full told self.old self.new lease facts now result) }
-        ensures known { UnlessStrange result (is_held_lease self.old lease ≡ true) }
-        ensures strange { IfStrange result
-            (λ stray. (is_held_lease self.old lease ≡ false) × (stray ≡ lease)) }
+        ensures told { (told : Try) × P.keeping permits.old permits.new told
+            × GivesBack close_if_full told self.old self.new lease facts now result }
+        ensures known { is_held_lease self.old lease ≡ true }
         ensures stream { OnSpent result (KeepsItsStream self.new lease) }
         ensures streams { OnSpent result (KeepsOthers lease.start.number self.old self.new) }
         ensures unchanged { UnlessSpent result (self.new ≡ self.old) }
@@ -149,15 +150,13 @@ impl<S: Drop> Bundle<S> {
         permits: &mut P,
         close_if_full: bool,
     ) -> Back<S>
+        requires here { lease.table ≡ self.old.table }
         requires stream { IsSome lease.stream }
         requires stands { P.stands permits.old }
         requires part { P.held permits.old ≡ held_by self.old.log }
-        ensures told { UnlessStrange result
-            ((told : Try) × P.keeping permits.old permits.new told
-            × GivesBack close_if_full told self.old self.new lease facts now result) }
-        ensures known { UnlessStrange result (is_held_lease self.old lease ≡ true) }
-        ensures strange { IfStrange result
-            (λ stray. (is_held_lease self.old lease ≡ false) × (stray ≡ lease)) }
+        ensures told { (told : Try) × P.keeping permits.old permits.new told
+            × GivesBack close_if_full told self.old self.new lease facts now result }
+        ensures known { is_held_lease self.old lease ≡ true }
         ensures stream { OnSpent result (KeepsItsStream self.new lease) }
         ensures streams { OnSpent result (KeepsOthers lease.start.number self.old self.new) }
         ensures unchanged { UnlessSpent result (self.new ≡ self.old) }
@@ -171,44 +170,48 @@ impl<S: Drop> Bundle<S> {
         ensures grew { GrowsBy self.old.log self.new.log }
         ensures same { StaysThere self.old self.new }
     {
-        let mut lease = lease;
-        let (transfer, number) = (lease.transfer(), lease.number());
+        let (mut used, seat) = lease.take_apart();
+        self.seats.take_back(seat);
+        let (transfer, number) = (used.transfer(), used.number());
         let moment = self.state.moment(now);
         let asked = ask_to_keep(&self.state, &facts, permits);
-        let stream = lease.detach();
+        let stream = used.detach();
         let back = self
             .state
             .give_back(transfer, number, facts, stream, moment, may_keep(asked));
         match back {
             Returned::Idle(held) => {
-                spend(lease, &mut self.grants, transfer);
-                grant_to_head(&mut self.state, &mut self.grants, &held, moment);
+                self.seats.clear();
+                spend(used, &mut self.grants, transfer);
+                let seats = &mut self.seats;
+                grant_to_head(&mut self.state, seats, &mut self.grants, &held, moment);
                 Back::Spent { freed: false }
             }
             Returned::Ended => {
-                spend(lease, &mut self.grants, transfer);
+                self.seats.clear();
+                spend(used, &mut self.grants, transfer);
                 release_unused(asked, permits);
                 let freed = !self.state.anyone_waits();
-                hand_on(&mut self.state, &mut self.grants, moment, permits);
+                let seats = &mut self.seats;
+                hand_on(&mut self.state, seats, &mut self.grants, moment, permits);
                 Back::Spent { freed }
             }
             Returned::Unkept(stream) => {
                 if must_ask_again(asked) {
-                    return Back::Again(with_stream(lease, stream));
+                    return Back::Again(again(used, stream, &mut self.seats));
                 }
                 if !close_if_full {
-                    return Back::NoKeep(with_stream(lease, stream));
+                    return Back::NoKeep(again(used, stream, &mut self.seats));
                 }
-                spend(lease, &mut self.grants, transfer);
+                self.seats.clear();
+                spend(used, &mut self.grants, transfer);
                 self.state
                     .give_back_to_close(transfer, number, facts, stream, moment);
                 permits.release_open();
                 Back::Spent { freed: true }
             }
-            Returned::Strange(stream) => {
-                release_unused(asked, permits);
-                Back::Strange(Stray::new(with_stream(lease, stream)))
-            }
+            // Its pair stood in the table, so the log shows it.
+            Returned::Strange(_stream) => unreachable!(),
         }
     }
 
@@ -216,10 +219,8 @@ impl<S: Drop> Bundle<S> {
     /// waits; it answers whether a permit was freed instead. `now` is in seconds. It takes no
     /// memory.
     ///
-    /// A lease that this host's log does not show comes back in a [`Stray`], and nothing changed.
-    ///
-    /// Asked of the caller: a queued host is lent the lobby, which lists it exactly where it is
-    /// queued.
+    /// Asked of the caller: the lease was made here, so that it is no stranger; a queued host is
+    /// lent the lobby, which lists it exactly where it is queued.
     pub fn abandon<P: Permits>(
         &mut self,
         lease: Lease<S>,
@@ -227,21 +228,18 @@ impl<S: Drop> Bundle<S> {
         permits: &mut P,
         lobby: Option<&mut Lobby>,
     ) -> Result<bool, Stray<Lease<S>>>
+        requires here { lease.table ≡ self.old.table }
         requires lent { is_queued self.old.settings self.old.log ≡ true → is_lent lobby ≡ true }
         requires lists { let mark = is_queued self.old.settings self.old.log in
             IfLent lobby (Lists self.old.host mark) }
         requires stands { P.stands permits.old }
         requires part { P.held permits.old ≡ held_by self.old.log }
-        ensures ok { OnOk result (is_held_lease self.old lease ≡ true) }
-        ensures strange { IfErr result
-            (λ stray. (is_held_lease self.old lease ≡ false) × (stray ≡ lease)) }
+        ensures known { is_held_lease self.old lease ≡ true }
         ensures log { let number = lease.start.number in
-            OnOk result (self.new.log ≡ after_abandon self.old.settings self.old.log number now) }
-        ensures freed { IfOk result (λ freed. freed ≡ is_freed self.old.log self.new.log) }
-        ensures streams { OnOk result (KeepsOthers lease.start.number self.old self.new) }
-        ensures err { OnErr result (self.new ≡ self.old) }
-        ensures err_permits { OnErr result (permits.new ≡ permits.old) }
-        ensures spends { OnOk result (Spends self.old self.new lease.start.want.transfer) }
+            self.new.log ≡ after_abandon self.old.settings self.old.log number now }
+        ensures freed { result ≡ Ok (is_freed self.old.log self.new.log) }
+        ensures streams { KeepsOthers lease.start.number self.old self.new }
+        ensures spends { Spends self.old self.new lease.start.want.transfer }
         ensures booked { self.new.booked ≡ self.old.booked }
         ensures stands { P.stands permits.new }
         ensures stays { P.stays permits.old permits.new }
@@ -257,33 +255,25 @@ impl<S: Drop> Bundle<S> {
         let was_queued = self.queued();
         match lobby {
             Some(lobby) => {
-                let dropped = self.close_leased(lease, now, permits);
+                let freed = self.close_leased(lease, now, permits);
                 self.mark(was_queued, lobby);
-                dropped
+                Ok(freed)
             }
-            None => self.close_leased(lease, now, permits),
+            None => Ok(self.close_leased(lease, now, permits)),
         }
     }
 
     // The same, whatever becomes of the host's mark.
-    fn close_leased<P: Permits>(
-        &mut self,
-        lease: Lease<S>,
-        now: u64,
-        permits: &mut P,
-    ) -> Result<bool, Stray<Lease<S>>>
+    fn close_leased<P: Permits>(&mut self, lease: Lease<S>, now: u64, permits: &mut P) -> bool
+        requires here { lease.table ≡ self.old.table }
         requires stands { P.stands permits.old }
         requires part { P.held permits.old ≡ held_by self.old.log }
-        ensures ok { OnOk result (is_held_lease self.old lease ≡ true) }
-        ensures strange { IfErr result
-            (λ stray. (is_held_lease self.old lease ≡ false) × (stray ≡ lease)) }
+        ensures known { is_held_lease self.old lease ≡ true }
         ensures log { let number = lease.start.number in
-            OnOk result (self.new.log ≡ after_abandon self.old.settings self.old.log number now) }
-        ensures freed { IfOk result (λ freed. freed ≡ is_freed self.old.log self.new.log) }
-        ensures streams { OnOk result (KeepsOthers lease.start.number self.old self.new) }
-        ensures err { OnErr result (self.new ≡ self.old) }
-        ensures err_permits { OnErr result (permits.new ≡ permits.old) }
-        ensures spends { OnOk result (Spends self.old self.new lease.start.want.transfer) }
+            self.new.log ≡ after_abandon self.old.settings self.old.log number now }
+        ensures freed { result ≡ is_freed self.old.log self.new.log }
+        ensures streams { KeepsOthers lease.start.number self.old self.new }
+        ensures spends { Spends self.old self.new lease.start.want.transfer }
         ensures booked { self.new.booked ≡ self.old.booked }
         ensures stands { P.stands permits.new }
         ensures stays { P.stays permits.old permits.new }
@@ -293,17 +283,20 @@ impl<S: Drop> Bundle<S> {
         ensures grew { GrowsBy self.old.log self.new.log }
         ensures same { StaysThere self.old self.new }
     {
-        let transfer = lease.transfer();
-        let Some(held) = self.state.held(transfer, lease.number()) else {
-            return Err(Stray::new(lease));
-        };
+        let (used, seat) = lease.take_apart();
+        self.seats.take_back(seat);
+        let transfer = used.transfer();
+        // Its pair stood in the table, so the log shows it.
+        let held = self.state.held(transfer, used.number()).unwrap();
         let moment = self.state.moment(now);
-        spend(lease, &mut self.grants, transfer);
+        self.seats.clear();
+        spend(used, &mut self.grants, transfer);
         self.state
             .close_held(transfer, held, Cause::Dropped, moment);
         let freed = !self.state.anyone_waits();
-        hand_on(&mut self.state, &mut self.grants, moment, permits);
-        Ok(freed)
+        let seats = &mut self.seats;
+        hand_on(&mut self.state, seats, &mut self.grants, moment, permits);
+        freed
     }
 
     /// Takes a ticket back: its transfer waits no more, or the connection that it was granted is
@@ -402,10 +395,14 @@ impl<S: Drop> Bundle<S> {
             return Ok(false);
         };
         let held = self.state.held(transfer, grant.number).unwrap();
+        let seat = self.seats.claim(grant.number, transfer);
+        self.seats.take_back(seat);
+        self.seats.clear();
         self.state
             .close_held(transfer, held, Cause::Withdrawn, moment);
         let freed = !self.state.anyone_waits();
-        hand_on(&mut self.state, &mut self.grants, moment, permits);
+        let seats = &mut self.seats;
+        hand_on(&mut self.state, seats, &mut self.grants, moment, permits);
         Ok(freed)
     }
 }
@@ -432,24 +429,26 @@ fn ask_to_keep<S: Drop, P: Permits>(state: &State<S>, facts: &Facts, permits: &m
 
 // Drops the stream of a lease that is spent, and what its transfer was granted.
 #[inline(always)]
-fn spend<S: Drop>(lease: Lease<S>, grants: &mut Vec<Grant<S>>, transfer: u64)
+fn spend<S: Drop>(used: Use<S>, grants: &mut Vec<Grant<S>>, transfer: u64)
     ensures others { grants.new.items ≡ without_grant transfer grants.old.items }
     ensures len { vec_len grants.new ≤ vec_len grants.old }
     ensures capacity { vec_capacity grants.new ≡ vec_capacity grants.old }
 {
-    let _ = lease.into_stream();
+    let _ = used.into_stream();
     let _ = take_grant(grants, transfer);
 }
 
-// The lease, with its stream again.
+// The lease that was taken apart, with its stream and its seat again.
 #[inline(always)]
-fn with_stream<S: Drop>(lease: Lease<S>, stream: S) -> Lease<S>
-    requires { lease.stream ≡ None }
-    ensures { result ≡ record lease { stream = Some stream } }
+fn again<S: Drop>(used: Use<S>, stream: S, seats: &mut Seats) -> Lease<S>
+    requires none { used.stream ≡ None }
+    requires back { seats.old.back ≡ Some (used.start.number, used.start.want.transfer) }
+    ensures lease { result ≡ lease_at seats.old.table (record used { stream = Some stream }) }
+    ensures seats { seats.new ≡ record seats.old { back = None } }
 {
-    let mut lease = lease;
-    lease.attach(stream);
-    lease
+    let mut used = used;
+    used.attach(stream);
+    Lease::new(used, seats.hand_out())
 }
 
 // Whether the budget keeps it, or was not asked.

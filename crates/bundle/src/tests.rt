@@ -1,12 +1,10 @@
 //! What no clause says: that calls succeed in ample memory, and that streams come back with their
 //! own connections.
 
-use crate::answers::Back;
 use crate::desk::{
-    Desk, KEEP, Stream, attach_new, claimed, closed, drop_lease, give_back, leased, leased_for,
-    leave, refused, spent, still, stray, stream_under, waits, waits_for, want_of,
+    Desk, Stream, claimed, closed, drop_lease, give_back, leased, leased_for, leave, refused,
+    spent, still, stray, stream_under, waits, waits_for, want_of,
 };
-use crate::lease::Lease;
 use crate::snapshot::Snapshot;
 use budget::Refusal;
 use conn_key::Key;
@@ -261,13 +259,10 @@ fn a_ticket_may_be_a_stranger(rt: HostRuntime) -> Result<(), Fail> {
     };
     let other = waits_for(&rt, &mut there, want, 1);
     let ticket = stray(&rt, &mut there, ticket).keep();
-    // a lease made elsewhere takes what was granted with it, and the ticket is a stranger
-    let mut taker = Lease::opened(7, 1, want_of(2), 5);
-    give_back(&rt, &mut here, holder_here, 5);
-    attach_new(&mut taker);
-    give_back(&rt, &mut here, taker, 6);
-    stray(&rt, &mut here, ticket).scrap();
-    assert_eq!(rt; here.bundle.look().idle, 1);
+    // where it was taken it still waits
+    let ticket = still(&rt, &mut here, ticket);
+    leave(&rt, &mut here, ticket, 2);
+    give_back(&rt, &mut here, holder_here, 2);
     leave(&rt, &mut there, other, 2);
     give_back(&rt, &mut there, holder_there, 2);
     Ok(())
@@ -292,23 +287,24 @@ fn a_connection_of_another_lane_makes_room(rt: HostRuntime) -> Result<(), Fail> 
 }
 
 #[test]
-fn a_lease_of_another_host_is_a_stranger(rt: HostRuntime) -> Result<(), Fail> {
-    let mut desk = Desk::of_host(rt.alloc(), 4, 1)?;
-    let lease = leased(&rt, &mut desk, 1, 0);
-    desk.turn_to_other();
-    let Err(stray) = desk.abandon(lease, 1) else {
-        panic!(rt; "the lease was taken");
-    };
-    let kept = stray.keep();
-    assert_eq!(rt; (kept.number(), kept.transfer()), (1, 1));
-    let back = desk.give_back(&rt, kept, KEEP, 1);
-    let Back::Strange(stray) = back else {
-        spent(&rt, back);
-        panic!(rt; "the lease was taken");
-    };
-    assert_eq!(rt; desk.bundle.log().len(), 0);
-    desk.turn_to_other();
-    give_back(&rt, &mut desk, stray.keep(), 1);
-    assert_eq!(rt; desk.bundle.look().idle, 1);
+fn a_claimed_connection_comes_back(rt: HostRuntime) -> Result<(), Fail> {
+    for is_passed_on in [true, false] {
+        let mut desk = Desk::of_host(rt.alloc(), 1, 1)?;
+        let first = leased(&rt, &mut desk, 1, 0);
+        let ticket = waits(&rt, &mut desk, 2, 1);
+        if is_passed_on {
+            give_back(&rt, &mut desk, first, 2);
+        } else {
+            drop_lease(&rt, &mut desk, first, 2);
+        }
+        let second = claimed(&rt, &mut desk, ticket);
+        give_back(&rt, &mut desk, second, 3);
+        let third = leased(&rt, &mut desk, 3, 4);
+        let number = if is_passed_on { 1 } else { 2 };
+        assert_eq!(rt;
+            stream_under(&rt, &mut desk, third, 5),
+            (number, Some(Stream(number)))
+        );
+    }
     Ok(())
 }

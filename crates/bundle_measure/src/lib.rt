@@ -2,10 +2,10 @@
 //! part of the product.
 #![tactic(auto)]
 
-ghost use Rattle.std.specs.Prelude.{◌≡◌, ◌≤◌, true, false, is_some, OnSome};
+ghost use Rattle.std.specs.Prelude.{◌≡◌, ◌≤◌, true, false, is_some, All, IfSome, OnSome};
 ghost use Rattle.bundle.specs.Calls.{is_queued};
-ghost use Rattle.bundle.specs.Lease.{IsBookedHere};
-ghost use Rattle.bundle.specs.Replies.{GivesBooking, IfGot, is_halfway};
+ghost use Rattle.bundle.specs.Lease.{IsBookedHere, IsMadeAt};
+ghost use Rattle.bundle.specs.Replies.{GivesBooking, GivesLease, IfBack, IfGot, is_halfway};
 
 use budget::{GREATEST_LIMIT, Limits, Lobby, PlainBudget, Refusal};
 use bundle::{Back, Booking, Bundle, Got, Lease, Ticket};
@@ -108,14 +108,19 @@ pub extern "C" fn closing_rounds(alloc: Global, idle: u32, rounds: u32, is_new_w
 }
 
 /// Opens so many connections, each for a transfer of its own.
-fn open_all(host: &mut Host, leases: &mut Vec<Lease<()>>, count: u32, max_age: u64) {
+fn open_all(host: &mut Host, leases: &mut Vec<Lease<()>>, count: u32, max_age: u64)
+    requires made_here { All (IsMadeAt host.old.table) leases.old.items }
+    ensures made_here { All (IsMadeAt host.new.table) leases.new.items }
+{
     for transfer in 0..count {
         open_one(host, leases, want_of(u64::from(transfer), max_age));
     }
 }
 
 /// Gives each of them back.
-fn give_back_all(host: &mut Host, leases: Vec<Lease<()>>) {
+fn give_back_all(host: &mut Host, leases: Vec<Lease<()>>)
+    requires made_here { All (IsMadeAt host.old.table) leases.items }
+{
     let mut leases = leases;
     while let Some(lease) = leases.pop() {
         give_back(host, lease, 0);
@@ -166,7 +171,10 @@ fn open_often(host: &mut Host, rounds: u32, fresh: bool) -> u64
 }
 
 /// Opens a connection for the transfer of that want.
-fn open_one(host: &mut Host, leases: &mut Vec<Lease<()>>, want: Want) {
+fn open_one(host: &mut Host, leases: &mut Vec<Lease<()>>, want: Want)
+    requires made_here { All (IsMadeAt host.old.table) leases.old.items }
+    ensures made_here { All (IsMadeAt host.new.table) leases.new.items }
+{
     let Ok(got) = acquire(host, want, 0) else {
         return;
     };
@@ -203,6 +211,8 @@ fn use_once(host: &mut Host, want: Want, moment: u64) -> Option<bool>
 #[inline(always)]
 fn acquire(host: &mut Host, want: Want, moment: u64) -> Result<Got<()>, Refusal>
     ensures booked { IfGot result (λ got. GivesBooking got (IsBookedHere host.new)) }
+    ensures made_here { IfGot result (λ got. GivesLease got (IsMadeAt host.new.table)) }
+    ensures table { host.new.table ≡ host.old.table }
     ensures mark { is_queued host.new.settings host.new.log
         ≡ is_queued host.old.settings host.old.log }
 {
@@ -213,7 +223,10 @@ fn acquire(host: &mut Host, want: Want, moment: u64) -> Result<Got<()>, Refusal>
 /// The lease that an acquire gave. One that is halfway has its last try; a transfer that waits
 /// gives up.
 fn lease_of(host: &mut Host, got: Got<()>, moment: u64) -> Option<Lease<()>>
-    requires { GivesBooking got (IsBookedHere host.old) }
+    requires booked { GivesBooking got (IsBookedHere host.old) }
+    requires made_here { GivesLease got (IsMadeAt host.old.table) }
+    ensures made_here { IfSome result (IsMadeAt host.new.table) }
+    ensures table { host.new.table ≡ host.old.table }
 {
     let got = match got {
         Got::NoRoom(booking) | Got::Again(booking) => retry(host, booking, moment),
@@ -232,7 +245,9 @@ fn lease_of(host: &mut Host, got: Got<()>, moment: u64) -> Option<Lease<()>>
 /// The last try of an acquire that is halfway.
 fn retry(host: &mut Host, booking: Booking, moment: u64) -> Got<()>
     requires { IsBookedHere host.old booking }
-    ensures { is_halfway result ≡ false }
+    ensures done { is_halfway result ≡ false }
+    ensures made_here { GivesLease result (IsMadeAt host.new.table) }
+    ensures table { host.new.table ≡ host.old.table }
 {
     let mut permits = host.budget.at(0);
     let lobby = Some(&mut host.lobby);
@@ -240,7 +255,10 @@ fn retry(host: &mut Host, booking: Booking, moment: u64) -> Got<()>
 }
 
 /// Gives a lease back at a host that may be queued.
-fn give_back(host: &mut Host, lease: Lease<()>, moment: u64) {
+fn give_back(host: &mut Host, lease: Lease<()>, moment: u64)
+    requires here { lease.table ≡ host.old.table }
+    ensures table { host.new.table ≡ host.old.table }
+{
     let lease = with_stream(lease);
     let mut permits = host.budget.at(0);
     let lobby = Some(&mut host.lobby);
@@ -253,7 +271,8 @@ fn give_back(host: &mut Host, lease: Lease<()>, moment: u64) {
 /// The same at a host that is not queued, and so needs no lobby.
 #[inline(always)]
 fn give_back_unqueued(host: &mut Host, lease: Lease<()>, moment: u64)
-    requires { is_queued host.old.settings host.old.log ≡ false }
+    requires here { lease.table ≡ host.old.table }
+    requires mark { is_queued host.old.settings host.old.log ≡ false }
     ensures { is_queued host.new.settings host.new.log ≡ false }
 {
     let lease = with_stream(lease);
@@ -267,8 +286,10 @@ fn give_back_unqueued(host: &mut Host, lease: Lease<()>, moment: u64)
 /// Spends the lease that a give back may leave.
 #[inline(always)]
 fn spend_rest(host: &mut Host, back: Back<()>, moment: u64)
-    ensures { is_queued host.old.settings host.old.log ≡ false →
+    requires made_here { IfBack back (IsMadeAt host.old.table) }
+    ensures mark { is_queued host.old.settings host.old.log ≡ false →
         is_queued host.new.settings host.new.log ≡ false }
+    ensures table { host.new.table ≡ host.old.table }
 {
     match back {
         Back::Spent { freed: _ } => {}
@@ -278,8 +299,10 @@ fn spend_rest(host: &mut Host, back: Back<()>, moment: u64)
 }
 
 fn abandon(host: &mut Host, lease: Lease<()>, moment: u64)
-    ensures { is_queued host.old.settings host.old.log ≡ false →
+    requires here { lease.table ≡ host.old.table }
+    ensures mark { is_queued host.old.settings host.old.log ≡ false →
         is_queued host.new.settings host.new.log ≡ false }
+    ensures table { host.new.table ≡ host.old.table }
 {
     let mut permits = host.budget.at(0);
     let lobby = Some(&mut host.lobby);
@@ -288,7 +311,9 @@ fn abandon(host: &mut Host, lease: Lease<()>, moment: u64)
     }
 }
 
-fn leave(host: &mut Host, ticket: Ticket, moment: u64) {
+fn leave(host: &mut Host, ticket: Ticket, moment: u64)
+    ensures table { host.new.table ≡ host.old.table }
+{
     let mut permits = host.budget.at(0);
     let lobby = Some(&mut host.lobby);
     if let Err(stray) = host.bundle.withdraw(ticket, moment, &mut permits, lobby) {
@@ -298,7 +323,8 @@ fn leave(host: &mut Host, ticket: Ticket, moment: u64) {
 
 /// The lease with a stream; where it has none, an empty one.
 fn with_stream(lease: Lease<()>) -> Lease<()>
-    ensures { is_some result.stream ≡ true }
+    ensures stream { is_some result.stream ≡ true }
+    ensures table { result.table ≡ lease.table }
 {
     let mut lease = lease;
     if !lease.has_stream() {

@@ -27,7 +27,7 @@ use Rattle.host_state.specs.Steps.{moment_at, is_full, without_picked}
 use Rattle.bundle.specs.declared.answers.Got.{Got}
 use Rattle.bundle.specs.declared.answers.Got.TheVariants.{Lease, Wait, NoRoom, Again}
 use Rattle.bundle.specs.declared.answers.Back.{Back}
-use Rattle.bundle.specs.declared.answers.Back.TheVariants.{Spent, NoKeep, Again as KeepAgain}
+use Rattle.bundle.specs.declared.answers.Back.TheVariants.{Spent, NoKeep, Again as KeepAgain, Strange}
 use Rattle.bundle.specs.Calls.{Start, Wait as Waiting, Reply, starts, waits_on, no_room, again, Acquired, acquired, start_on, start_behind, start_in_place_of, start_as_told, spent, keep_as_told, given_back, becomes_idle, is_anyone, returned, settle, grant_to, after_give_back, is_queued}
 use Rattle.bundle.specs.Lease.{HostShown, Leasing, Ticketed, Booked, held_by, is_held_lease}
 use Rattle.bundle.specs.Replies.{IsGot, IsBack, Acquires, GivesBack, IfGot, GivesLease, GivesTicket, UnlessBooking}
@@ -240,6 +240,15 @@ module _ {S : Type 0} (old new : HostShown S) (budget : Plain) (lease : Leasing 
       by_rest true Full tells back = back
       by_rest true Contended tells back = tells
       by_rest false told tells back = back
+
+  pub gave-strange : (stray : Leasing S) → Gave (Strange stray) → ⊥
+  gave-strange stray gave = by_rest (becomes_idle old.log lease.start.number facts now) gave.0 gave.2
+    where
+      by_rest : (b : Bool) (told : Try) → IsBack old new lease (cond b (keep_as_told false told lease.start.number (moment_at old.log now) back_log) (spent after_back)) (Strange stray) → ⊥
+      by_rest true Given back = back
+      by_rest true Full back = back
+      by_rest true Contended back = back
+      by_rest false told back = back
 
 -- where a transfer holds a connection, fewer are idle than are open
 no_more : (p : ℕ → Bool) (numbers : List ℕ) → length (filter p numbers) ≤ length numbers

@@ -38,13 +38,13 @@ module _ {S : Type 0} (host : HostShown S) (sound : IsSound host.settings host.l
       let wants : ticket_want host transfer ≡ Some (wanted ticket) = sym (keeps transfer) ∙ ap (option_map wanted) (sym there) in
       (wants, own-ticket host sound transfer (wanted ticket) wants)
 
-module _ {S : Type 0} (old new : HostShown S) (sound : IsSound old.settings old.log) (transfer : ℕ) where
+module _ {S : Type 0} (old new : HostShown S) (here : new.table ≡ old.table) (sound : IsSound old.settings old.log) (transfer : ℕ) where
   -- the lease of the transfer was spent
   pub lease-spent : (leases after : ℕ → Option (Leasing S)) (tickets : ℕ → Option Ticketed) (c : ℕ) → Keeps old leases tickets → lease_number old transfer ≡ Some c
       → ((q : ℕ) → after q ≡ cond (is_at (nat_cmp transfer) q) None (leases q)) → Spends old new transfer → Keeps new after tickets
   lease-spent leases after tickets c keeps leased taken spends = record {
     leases = kept-due lease_facts (due_others transfer (leases_of old)) (leases_of new) after
-        (kept-removed lease_facts transfer (leases_of old) leases after keeps.leases taken) (leases-left old new transfer spends.leases);
+        (kept-removed lease_facts transfer (leases_of old) leases after keeps.leases taken) (leases-left old new here transfer spends.leases);
     tickets = kept-due wanted (ticket_want old) (ticket_want new) tickets keeps.tickets
         (none-stays transfer (ticket_want old) (ticket_want new) (leased-no-ticket old sound transfer c leased) spends.tickets);
   }
@@ -54,17 +54,17 @@ module _ {S : Type 0} (old new : HostShown S) (sound : IsSound old.settings old.
       → ((q : ℕ) → after q ≡ cond (is_at (nat_cmp transfer) q) None (tickets q)) → Spends old new transfer → Keeps new leases after
   ticket-spent leases tickets after want keeps wants taken spends = record {
     leases = kept-due lease_facts (leases_of old) (leases_of new) leases keeps.leases
-        (leases-same old new transfer (none-stays transfer (lease_number old) (lease_number new) (ticket-no-lease old sound transfer want wants) spends.leases));
+        (leases-same old new here transfer (none-stays transfer (lease_number old) (lease_number new) (ticket-no-lease old sound transfer want wants) spends.leases));
     tickets = kept-due wanted (due_others transfer (ticket_want old)) (ticket_want new) after
         (kept-removed wanted transfer (ticket_want old) tickets after keeps.tickets taken) spends.tickets;
   }
 
 module _ {S : Type 0} (old new : HostShown S) where
   -- a transfer that had none got a lease, which is not kept yet
-  pub lease-awaits : (transfer c : ℕ) (leases : ℕ → Option (Leasing S)) → KeepsLeases (leases_of old) leases → lease_number old transfer ≡ None → GetsLease old new transfer c
+  pub lease-awaits : new.table ≡ old.table → (transfer c : ℕ) (leases : ℕ → Option (Leasing S)) → KeepsLeases (leases_of old) leases → lease_number old transfer ≡ None → GetsLease old new transfer c
       → KeepsLeases (due_others transfer (leases_of new)) leases
-  lease-awaits transfer c leases keeps none gets =
-      kept-awaits lease_facts transfer (Some (kept_facts transfer c)) (leases_of old) (leases_of new) leases keeps (ap (option_map (kept_facts transfer)) none) (leases-started old new transfer c gets.leases)
+  lease-awaits here transfer c leases keeps none gets =
+      kept-awaits lease_facts transfer (Some (kept_facts old.table transfer c)) (leases_of old) (leases_of new) leases keeps (ap (option_map (kept_facts old.table transfer)) none) (leases-started old new here transfer c gets.leases)
 
   pub lease-own : (transfer c : ℕ) → GetsLease old new transfer c → lease_number new transfer ≡ Some c
   lease-own transfer c gets = gets.leases transfer ∙ ap (λ b. cond b (Some c) (lease_number old transfer)) (itself transfer)

@@ -6,7 +6,8 @@ ghost use Rattle.script_engine.specs.Ending.{IsEnding};
 ghost use Rattle.script_engine.specs.Hosted.{Gives};
 ghost use Rattle.script_text.specs.declared.command.Action.TheVariants as actions;
 
-use crate::kept::{abandon, give_back, keep_lease, keep_ticket, spend_all, withdraw};
+use crate::facts::facts_of_ending;
+use crate::kept::{keep_lease, keep_ticket, spend_all, withdraw};
 use crate::sole::{Begun, HOST, SoleHost};
 use budget::Refusal;
 use bundle::{Bundle, Claimed, Lease, Snapshot, Ticket};
@@ -132,7 +133,8 @@ impl OneHost {
         let place = self.bundle.log().len();
         match self.leases.remove(&transfer) {
             Some(lease) => {
-                give_back(&mut self.bundle, lease, ending, moment);
+                self.bundle
+                    .give_back(lease, facts_of_ending(ending), moment);
                 lines_since(alloc, HOST, self.bundle.log(), place, transfer)
             }
             None => reply(alloc, "stranger"),
@@ -153,7 +155,7 @@ impl OneHost {
         let place = self.bundle.log().len();
         match self.leases.remove(&transfer) {
             Some(lease) => {
-                abandon(&mut self.bundle, lease, moment);
+                self.bundle.abandon(lease, moment);
                 lines_since(alloc, HOST, self.bundle.log(), place, transfer)
             }
             None => reply(alloc, "stranger"),

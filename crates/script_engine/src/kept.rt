@@ -4,51 +4,20 @@ ghost use Rattle.std.specs.Prelude.{◌≡◌, ◌+◌, ℕ, OnOk, OnErr, IfErr,
 ghost use Rattle.std.specs.Prelude.{is_some, Some, None, true, ◌∷◌, if◌then◌else◌};
 ghost use Rattle.std.specs.Ordering.{nat_cmp};
 ghost use Rattle.std.specs.BTreeMap.{get, keys, btree_map_len, IsOrdered};
-ghost use Rattle.conn_log.specs.Connections.{is_held_by};
-ghost use Rattle.conn_log.specs.Sound.{IsSound};
-ghost use Rattle.bundle.specs.Calls.{after_give_back, after_abandon, after_withdraw};
-ghost use Rattle.bundle.specs.Lease.{Spends, lease_number, ticket_want, is_valid_ticket};
-ghost use Rattle.script_engine.specs.Meaning.{with_ticket, facts_of_ending};
+ghost use Rattle.bundle.specs.Calls.{after_abandon, after_withdraw};
+ghost use Rattle.bundle.specs.Lease.{Spends, StaysThere, lease_number, ticket_want};
+ghost use Rattle.bundle.specs.Lease.{is_valid_ticket};
+ghost use Rattle.script_engine.specs.Meaning.{with_ticket};
 ghost use Rattle.script_engine.specs.Ending.{after_giving_up, IsEnding};
 ghost use Rattle.script_engine.specs.Hosted.{Keeps, KeepsLeases, KeepsTickets, leases_of};
 ghost use Rattle.script_engine.specs.Hosted.{due_others, lease_facts, kept_host, is_ticket_first};
 ghost use Rattle.script_engine.specs.Hosted.{merged};
 
-use crate::facts::facts_of_ending;
 use crate::sole::SoleHost;
 use bundle::{Lease, Ticket};
-use script_text::{Ending, FaultKind};
+use script_text::FaultKind;
 use std::alloc::AllocError;
 use std::collections::BTreeMap;
-
-/// Gives a lease back. A lease that is not the bundle's own is scrapped.
-pub fn give_back(bundle: &mut SoleHost, lease: Lease<()>, ending: Ending, moment: u64)
-    requires { IsSome lease.stream }
-    ensures log { is_held_by bundle.old.log lease.start.want.transfer lease.start.number ≡ true
-        → bundle.new.log ≡ after_give_back bundle.old.settings bundle.old.log lease.start.number
-        (facts_of_ending ending) moment }
-    ensures spends { is_held_by bundle.old.log lease.start.want.transfer lease.start.number ≡ true
-        → Spends bundle.old bundle.new lease.start.want.transfer }
-    ensures settings { bundle.new.settings ≡ bundle.old.settings }
-{
-    if let Err(stray) = bundle.give_back(lease, facts_of_ending(ending), moment) {
-        stray.scrap();
-    }
-}
-
-/// Abandons a lease. A lease that is not the bundle's own is scrapped.
-pub fn abandon(bundle: &mut SoleHost, lease: Lease<()>, moment: u64)
-    ensures log { is_held_by bundle.old.log lease.start.want.transfer lease.start.number ≡ true
-        → bundle.new.log ≡ after_abandon bundle.old.settings bundle.old.log lease.start.number
-        moment }
-    ensures spends { is_held_by bundle.old.log lease.start.want.transfer lease.start.number ≡ true
-        → Spends bundle.old bundle.new lease.start.want.transfer }
-    ensures settings { bundle.new.settings ≡ bundle.old.settings }
-{
-    if let Err(stray) = bundle.abandon(lease, moment) {
-        stray.scrap();
-    }
-}
 
 /// Withdraws a ticket. A ticket that is not the bundle's own is scrapped.
 pub fn withdraw(bundle: &mut SoleHost, ticket: Ticket, moment: u64)
@@ -57,7 +26,7 @@ pub fn withdraw(bundle: &mut SoleHost, ticket: Ticket, moment: u64)
         ticket.wait.want.transfer moment }
     ensures spends { is_valid_ticket bundle.old ticket.wait.want ≡ true
         → Spends bundle.old bundle.new ticket.wait.want.transfer }
-    ensures settings { bundle.new.settings ≡ bundle.old.settings }
+    ensures same { StaysThere bundle.old bundle.new }
 {
     if let Err(stray) = bundle.withdraw(ticket, moment) {
         stray.scrap();
@@ -66,7 +35,8 @@ pub fn withdraw(bundle: &mut SoleHost, ticket: Ticket, moment: u64)
 
 /// The lease with a stream; where it has none, an empty one.
 fn with_stream(lease: Lease<()>) -> Lease<()>
-    ensures same { lease_facts result ≡ (lease.start.number, lease.start.want.transfer, true) }
+    ensures same { lease_facts result
+        ≡ (lease.start.number, lease.start.want.transfer, true, lease.table) }
 {
     let mut lease = lease;
     if !lease.has_stream() {
@@ -82,7 +52,7 @@ pub fn keep_lease(
     leases: &mut BTreeMap<u64, Lease<()>>,
     lease: Lease<()>,
 ) -> Result<(), FaultKind>
-    requires sound { IsSound bundle.old.settings bundle.old.log }
+    requires here { lease.table ≡ bundle.old.table }
     requires own { lease_number bundle.old lease.start.want.transfer ≡ Some lease.start.number }
     requires spent { ticket_want bundle.old lease.start.want.transfer ≡ None }
     requires others { KeepsLeases (due_others lease.start.want.transfer (leases_of bundle.old))
@@ -91,7 +61,7 @@ pub fn keep_lease(
     ensures err { IfErr result (λ kind. kind ≡ FaultKind.Memory) }
     ensures abandoned { OnErr result (bundle.new.log
         ≡ after_abandon bundle.old.settings bundle.old.log lease.start.number 0) }
-    ensures settings { bundle.new.settings ≡ bundle.old.settings }
+    ensures same { StaysThere bundle.old bundle.new }
     ensures leases { KeepsLeases (leases_of bundle.new) (get nat_cmp leases.new) }
     ensures tickets { (t : ℕ) → ticket_want bundle.new t ≡ ticket_want bundle.old t }
 {
@@ -99,12 +69,12 @@ pub fn keep_lease(
     match leases.insert(transfer, with_stream(lease)) {
         Ok(None) => Ok(()),
         Ok(Some(other)) => {
-            abandon(bundle, other, 0);
+            bundle.abandon(other, 0);
             Err(FaultKind::Memory)
         }
         Err(failed) => {
             let (_, lease) = failed.value;
-            abandon(bundle, lease, 0);
+            bundle.abandon(lease, 0);
             Err(FaultKind::Memory)
         }
     }
@@ -127,7 +97,7 @@ pub fn keep_ticket(
     ensures err { IfErr result (λ kind. kind ≡ FaultKind.Memory) }
     ensures withdrawn { OnErr result (bundle.new.log
         ≡ after_withdraw bundle.old.settings bundle.old.log ticket.wait.want.transfer 0) }
-    ensures settings { bundle.new.settings ≡ bundle.old.settings }
+    ensures same { StaysThere bundle.old bundle.new }
     ensures leases { (t : ℕ) → lease_number bundle.new t ≡ lease_number bundle.old t }
     ensures tickets { KeepsTickets (ticket_want bundle.new) (get nat_cmp tickets.new) }
     ensures ordered { IsOrdered nat_cmp tickets.new }
@@ -202,7 +172,7 @@ fn spend_first(
         Some(transfer)
     } else {
         let (transfer, first) = leases.pop_first()?;
-        abandon(bundle, first, 0);
+        bundle.abandon(first, 0);
         Some(transfer)
     }
 }

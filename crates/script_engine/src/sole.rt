@@ -8,7 +8,7 @@ ghost use Rattle.conn_log.specs.Legal.{IsLegal, IsQuiet, limit_in_force};
 ghost use Rattle.conn_log.specs.Sound.{IsSound};
 ghost use Rattle.bundle.specs.Calls.{after_give_back, after_abandon, after_withdraw, refusal};
 ghost use Rattle.bundle.specs.Calls.{starts, waits_on, is_queued};
-ghost use Rattle.bundle.specs.Lease.{IsNewHost, snapshot_of, held_by, is_held_lease};
+ghost use Rattle.bundle.specs.Lease.{IsNewHost, snapshot_of, held_by};
 ghost use Rattle.bundle.specs.Lease.{is_valid_ticket, is_unclaimed, WasGranted, GetsLease};
 ghost use Rattle.bundle.specs.Lease.{GetsTicket, Spends, StaysThere};
 ghost use Rattle.bundle.specs.Replies.{IfGot, UnlessBooking, IfClaimed, IfStill, GivesLease};
@@ -106,6 +106,7 @@ impl SoleHost {
             (begun self.old.settings self.old.log want now).reply ≡ starts lease.start) }
         ensures ticket { IfWaits result (λ ticket.
             (begun self.old.settings self.old.log want now).reply ≡ waits_on ticket.wait) }
+        ensures made_here { IfLeased result (λ lease. lease.table ≡ self.old.table) }
         ensures gets_lease { IfLeased result
             (λ lease. GetsLease self.old self.new want.transfer lease.start.number) }
         ensures gets_ticket { IfWaits result (λ ticket. GetsTicket self.old self.new want) }
@@ -141,6 +142,7 @@ impl SoleHost {
             (is_unclaimed self.old ticket.wait.want.transfer ≡ false)
             × (same ≡ ticket) × (self.new ≡ self.old)) }
         ensures err { OnErr result (self.new ≡ self.old) }
+        ensures made_here { IfClaimed result (λ lease. lease.table ≡ self.old.table) }
         ensures gets_lease { IfClaimed result (λ lease.
             GetsLease self.old self.new ticket.wait.want.transfer lease.start.number) }
         ensures same { StaysThere self.old self.new }
@@ -149,23 +151,13 @@ impl SoleHost {
     }
 
     /// Takes a connection back with the facts of its response; where it is to be idle, it is kept.
-    /// `now` is in seconds. It takes no memory.
-    ///
-    /// A lease that the host's log does not show comes back in a [`Stray`], and nothing changed.
-    pub fn give_back(
-        &mut self,
-        lease: Lease<()>,
-        facts: Facts,
-        now: u64,
-    ) -> Result<(), Stray<Lease<()>>>
-        requires { IsSome lease.stream }
-        ensures ok { OnOk result (is_held_lease self.old lease ≡ true) }
-        ensures strange { IfErr result
-            (λ stray. (is_held_lease self.old lease ≡ false) × (stray ≡ lease)) }
-        ensures log { let number = lease.start.number in OnOk result
-            (self.new.log ≡ after_give_back self.old.settings self.old.log number facts now) }
-        ensures spends { OnOk result (Spends self.old self.new lease.start.want.transfer) }
-        ensures err { OnErr result (self.new ≡ self.old) }
+    /// `now` is in seconds. It takes no memory. Asked of the caller: the lease was made here.
+    pub fn give_back(&mut self, lease: Lease<()>, facts: Facts, now: u64)
+        requires here { lease.table ≡ self.old.table }
+        requires stream { IsSome lease.stream }
+        ensures log { let number = lease.start.number in
+            self.new.log ≡ after_give_back self.old.settings self.old.log number facts now }
+        ensures spends { Spends self.old self.new lease.start.want.transfer }
         ensures same { StaysThere self.old self.new }
     {
         // The log is sound, and no more are open than may be kept.
@@ -175,31 +167,27 @@ impl SoleHost {
             .bundle
             .give_back(lease, facts, now, &mut permits, None, false)
         {
-            Back::Spent { freed: _ } => Ok(()),
+            Back::Spent { freed: _ } => {}
             // The lease's connection is open and not idle: one fewer is kept than may be.
             Back::NoKeep(_lease) => unreachable!(),
             Back::Again(_lease) => unreachable!(),
-            Back::Strange(stray) => Err(stray),
+            Back::Strange(_stray) => unreachable!(),
         }
     }
 
     /// Closes a leased connection without a response. `now` is in seconds. It takes no memory.
-    ///
-    /// A lease that the host's log does not show comes back in a [`Stray`], and nothing changed.
-    pub fn abandon(&mut self, lease: Lease<()>, now: u64) -> Result<(), Stray<Lease<()>>>
-        ensures ok { OnOk result (is_held_lease self.old lease ≡ true) }
-        ensures strange { IfErr result
-            (λ stray. (is_held_lease self.old lease ≡ false) × (stray ≡ lease)) }
-        ensures log { let number = lease.start.number in OnOk result
-            (self.new.log ≡ after_abandon self.old.settings self.old.log number now) }
-        ensures spends { OnOk result (Spends self.old self.new lease.start.want.transfer) }
-        ensures err { OnErr result (self.new ≡ self.old) }
+    /// Asked of the caller: the lease was made here.
+    pub fn abandon(&mut self, lease: Lease<()>, now: u64)
+        requires here { lease.table ≡ self.old.table }
+        ensures log { let number = lease.start.number in
+            self.new.log ≡ after_abandon self.old.settings self.old.log number now }
+        ensures spends { Spends self.old self.new lease.start.want.transfer }
         ensures same { StaysThere self.old self.new }
     {
         let mut permits = self.budget.at(HOST);
         match self.bundle.abandon(lease, now, &mut permits, None) {
-            Ok(_) => Ok(()),
-            Err(stray) => Err(stray),
+            Ok(_) => {}
+            Err(_stray) => unreachable!(),
         }
     }
 
@@ -251,6 +239,8 @@ fn acquire_under(
         (begun bundle.old.settings bundle.old.log want now).reply ≡ starts lease.start)) }
     ensures ticket { IfGot result (λ got. GivesTicket got (λ ticket.
         (begun bundle.old.settings bundle.old.log want now).reply ≡ waits_on ticket.wait)) }
+    ensures made_here { IfGot result (λ got. GivesLease got
+        (λ lease. lease.table ≡ bundle.old.table)) }
     ensures gets_lease { IfGot result (λ got. GivesLease got
         (λ lease. GetsLease bundle.old bundle.new want.transfer lease.start.number)) }
     ensures gets_ticket { IfGot result (λ got. GivesTicket got

@@ -1,10 +1,28 @@
 use Rattle.std.proofs.Common.{◌≡◌, sym, ap, subst, ◌∙◌}
 use Rattle.bundle.specs.declared.answers.Got.TheVariants.{Lease}
 use Rattle.bundle.specs.Calls.{Acquired}
-use Rattle.bundle.specs.Lease.{Leasing}
+use Rattle.bundle.specs.Lease.{Leasing, Using}
 use Rattle.bundle.specs.Replies.{IsGot}
 use Rattle.bundle.proofs.AtOnce.{reused_at_once}
+use Rattle.bundle.proofs.Seating.{apart, seated_leased, leased_granted}
+use Rattle.bundle.proofs.Starting.{begins_lease}
 use Rattle.bundle.proofs.acquiring.lease_at_once.Goals as goal
+
+pub lease-seat-requires-clause-apart : goal.lease-seat-requires-clause-apart
+lease-seat-requires-clause-apart g c = apart c.args.state.now.log c.args.seats.now c.requires.seated c.in-Some.number c.args.want.transfer c.in-Some.ensures.free
+
+pub returns-clause-seated : goal.returns-clause-seated
+returns-clause-seated g c =
+    let before = c.args.state.now in
+    let after = c.lease_last.new.self in
+    let last = c.in-Some.ensures in
+    let leased = last.some in
+    let want = c.args.want in
+    let begins = begins_lease before after c.in-Some.number c.args.moment want leased.log leased.as_many_open leased.fewer_idle in
+    seated_leased before.log after.log c.args.seats.now c.lease-seat.new.self c.in-Some.number want.transfer c.requires.seated last.free begins c.lease-seat.ensures.leased
+
+pub returns-clause-granted : goal.returns-clause-granted
+returns-clause-granted g c = leased_granted c.args.state.now.log c.args.seats.now c.lease-seat.new.self c.in-Some.number c.args.want.transfer c.requires.seated c.in-Some.ensures.free c.lease-seat.ensures.leased
 
 pub returns-clause-due : goal.returns-clause-due
 returns-clause-due g c =
@@ -12,6 +30,7 @@ returns-clause-due g c =
     let last = c.in-Some.ensures in
     let leased = last.some in
     let reused = reused_at_once state.settings state.log c.args.want c.args.moment c.in-Some.number last.alone last.none_too_old leased.newest in
-    let site = ap (λ (l : Leasing g.row.S.Denot). l.site) c.reusing.ensures ∙ c.host.ensures ∙ leased.same.host in
-    let start_is = ap (λ (l : Leasing g.row.S.Denot). l.start) c.reusing.ensures in
-    subst (λ (due : Acquired). (c.lease_last.new.self.log ≡ due.log) × IsGot state.host c.args.want due.reply (Lease c.reusing.result)) (sym reused) (leased.log, (site, start_is))
+    let use_of = c.reusing-used.ensures in
+    let site = ap (λ (l : Leasing g.row.S.Denot). l.site) c.new.ensures ∙ ap (λ (u : Using g.row.S.Denot). u.site) use_of ∙ c.host.ensures ∙ leased.same.host in
+    let start_is = ap (λ (l : Leasing g.row.S.Denot). l.start) c.new.ensures ∙ ap (λ (u : Using g.row.S.Denot). u.start) use_of in
+    subst (λ (due : Acquired). (c.lease_last.new.self.log ≡ due.log) × IsGot state.host c.args.want due.reply (Lease c.new.result)) (sym reused) (leased.log, (site, start_is))

@@ -1,7 +1,7 @@
 use Rattle.std.proofs.Common.{◌≡◌, ◌+◌, length}
 use Rattle.conn_log.specs.Connections.{idle_connections}
 use Rattle.host_state.specs.Steps.{picked, without_picked}
-use Rattle.host_state.specs.State.{ClosesIdle}
+use Rattle.host_state.specs.State.{ClosesIdle, open_len, idle_len}
 use Rattle.bundle.specs.Lease.{held_by}
 use Rattle.bundle.proofs.serving.close_idle.Given as goal
 
@@ -15,5 +15,6 @@ invariant-loop-permits g l = record {
   closes : ClosesIdle l.moment l.fn.state l.state;
   stands : g.P.Permits.stands l.permits;
   stays : g.P.Permits.stays l.fn.permits l.permits;
+  as_many_held : open_len l.state + idle_len l.fn.state ≡ open_len l.fn.state + idle_len l.state;
   part : g.P.Permits.held l.permits ≡ held_by l.state.log;
 }

@@ -4,7 +4,8 @@ use Rattle.conn_log.specs.Waiting.{waiting}
 use Rattle.conn_log.specs.Sound.{WaitOnce}
 use Rattle.host_state.specs.State.{IsSameHost, limit_of}
 use Rattle.bundle.specs.Calls.{open_for_first}
-use Rattle.bundle.specs.Grants.{with_first, HasSpare}
+use Rattle.bundle.specs.Grants.{with_first, HasSpare, grant_starts}
+use Rattle.bundle.specs.Seats.{IsSeated, AreUnclaimed}
 use Rattle.bundle.proofs.serving.open_for_first.Given as goal
 
 abbrev pub decreases-loop-opened : goal.decreases-loop-opened
@@ -21,6 +22,9 @@ invariant-loop-opened g l = record {
   more_open : length (open_connections l.state.log) ≡ length (open_connections l.fn.state.log) + l.opened;
   as_many_idle : length (idle_connections l.state.log) ≡ length (idle_connections l.fn.state.log);
   limit : limit_of l.state ≡ limit_of l.fn.state;
+  seated : IsSeated l.state.log l.seats;
+  unclaimed : AreUnclaimed (grant_starts l.grants.items) l.seats;
+  table : l.seats.table ≡ l.fn.seats.table;
   spare : HasSpare l.state.log l.state.booked (vec_len l.grants) (vec_capacity l.grants);
   streams : l.state.streams ≡ l.fn.state.streams;
   booked : l.state.booked ≡ l.fn.state.booked;

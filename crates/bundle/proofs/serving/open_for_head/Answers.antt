@@ -2,7 +2,34 @@ use Rattle.std.proofs.Common.{length, ap, ◌∙◌, arith}
 use Rattle.conn_log.specs.Waiting.{waiting}
 use Rattle.host_state.specs.State.{booked_after_start}
 use Rattle.bundle.proofs.StartLogs.{fewer_after_head}
+use Rattle.bundle.proofs.Seating.{apart, seated_granted}
+use Rattle.bundle.proofs.Starting.{head_free, few_fit, begins_open, unclaimed_pushed}
 use Rattle.bundle.proofs.serving.open_for_head.Goals as goal
+
+pub grant-requires-clause-apart : goal.grant-requires-clause-apart
+grant-requires-clause-apart g c =
+    let first = c.in-Some.ensures.some in
+    let before = c.args.state.now in
+    let free = head_free before.settings before.log c.in-Some.head first.others c.log-log.ensures.sound first.first in
+    apart before.log c.args.seats.now c.requires.seated c.open-number.result c.in-Some.head.transfer free
+
+pub grant-requires-clause-room : goal.grant-requires-clause-room
+grant-requires-clause-room g c = few_fit c.args.state.now.log c.args.seats.now c.requires.seated c.open_len-open.result c.open_len-open.ensures c.open_len-open.type_inv
+
+pub returns-clause-seated : goal.returns-clause-seated
+returns-clause-seated g c =
+    let first = c.in-Some.ensures.some in
+    let before = c.args.state.now in
+    let after = c.open-number.new.self in
+    let head = c.in-Some.head in
+    let number = c.open-number.result in
+    let opened = c.open-number.ensures in
+    let free = head_free before.settings before.log head first.others c.log-log.ensures.sound first.first in
+    let begins = begins_open before after number c.args.moment head opened.log opened.more_open opened.as_many_idle in
+    seated_granted before.log after.log c.args.seats.now c.grant.new.self number head.transfer c.requires.seated free begins c.grant.ensures
+
+pub returns-clause-unclaimed : goal.returns-clause-unclaimed
+returns-clause-unclaimed g c = unclaimed_pushed c.args.grants.now.items c.push_reserved.new.self.items _ c.args.seats.now c.grant.new.self c.requires.unclaimed c.grant.ensures c.push_reserved.ensures.items
 
 pub returns-clause-spare : goal.returns-clause-spare
 returns-clause-spare g c =

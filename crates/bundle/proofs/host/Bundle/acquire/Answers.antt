@@ -1,17 +1,20 @@
 use Rattle.std.proofs.Common.{◌≡◌, ℕ, ◌+◌, ◌++◌, ◌∷◌, [], List, length, false, None, refl, sym, ap, subst, ◌∙◌, arith}
 use Rattle.budget.specs.declared.permits.Try.TheVariants.{Got as Given}
+use Rattle.budget.specs.Pairs.{HeldPairs}
 use Rattle.conn_log.specs.Connections.{is_among}
 use Rattle.conn_log.specs.Waiting.{waiting}
 use Rattle.host_state.specs.State.{HostState}
 use Rattle.bundle.specs.declared.answers.Got.TheVariants.{Lease}
 use Rattle.bundle.specs.Calls.{start_behind, refusal, is_queued, GrowsBy}
-use Rattle.bundle.specs.Grants.{grant_streams, GrantsKept}
+use Rattle.bundle.specs.Grants.{grant_starts, grant_streams, GrantsKept}
 use Rattle.bundle.specs.Laws.{IsSoundAndQuiet}
 use Rattle.bundle.specs.Lease.{HostShown, AreBooked, HasItsStream}
+use Rattle.bundle.specs.Seats.{IsSeated, AreUnclaimed}
 use Rattle.bundle.specs.Replies.{IsGot, GivesLease, GivesBooking, UnlessBooking}
 use Rattle.bundle.proofs.Bookings.{IsOut}
 use Rattle.bundle.proofs.KeptSound.{none_waits}
 use Rattle.bundle.proofs.Outcomes.{count_added, spare_after, bookings_added}
+use Rattle.bundle.proofs.Seating.{unclaimed_same}
 use Rattle.bundle.proofs.AcquiredHosts.{Leaves, leaves, acquires, not_refused_at_once, grants_after, stream_got, lease_got, ticket_got, booking_got, others_kept, all_kept, halfway_kept}
 use Rattle.bundle.proofs.host.Bundle.acquire.Given.{Over}
 use Rattle.bundle.proofs.host.Bundle.acquire.Goals as goal
@@ -36,6 +39,8 @@ invariant_of-self g c =
       settled = subst (λ settings. IsSoundAndQuiet settings new.log) (sym leased.same.settings) it.settled;
       grants = grants_after inside.state.settings inside.state.log new.log inside.grants.items inv.grants c.args.want it.out.free (Lease c.in-Some.lease) it.outcome;
       spare = omega (arith, inv.spare, leased.booked, it.outcome.queue);
+      seated = leased.seated;
+      unclaimed = unclaimed_same (grant_starts inside.grants.items) inside.seats c.lease_at_once.new.seats inv.unclaimed leased.granted.granted;
     }
 
 pub returns-in-Some-clause-told : goal.returns-in-Some-clause-told
@@ -43,7 +48,7 @@ returns-in-Some-clause-told g c =
     let inside = c.self.inside in
     let leased = c.in-Some.ensures in
     let new = c.lease_at_once.new in
-    (Given, g.met.P.Permits.not_asked_to_open c.args.permits.now new.permits leased.stays, acquires false Given inside.state.settings inside.state.log inside.state.host (grant_streams inside.grants.items ++ inside.state.streams) inside.grants.items inside.bookings.items c.args.self.now _ c.args.want c.args.now c.moment-moment.result (Lease c.in-Some.lease) c.self.view_is c.moment-moment.ensures leased.due.0 leased.due.1)
+    (Given, g.met.P.Permits.not_asked_to_open c.args.permits.now new.permits leased.stays, acquires false Given inside.state.settings inside.state.log inside.state.host (grant_streams inside.grants.items ++ inside.state.streams) inside.grants.items inside.bookings.items inside.seats.table c.args.self.now _ c.args.want c.args.now c.moment-moment.result (Lease c.in-Some.lease) c.self.view_is c.moment-moment.ensures leased.due.0 leased.due.1)
 
 pub returns-in-Some-clause-stream : goal.returns-in-Some-clause-stream
 returns-in-Some-clause-stream g c =
@@ -68,7 +73,7 @@ returns-in-Some-clause-gets_lease g c =
     let inside = c.self.inside in
     let new = c.lease_at_once.new.state in
     let it = at_once g c in
-    lease_got inside.state.settings inside.state.log new.log inside.grants.items c.self.invariant.grants c.args.want it.out.free new.settings inside.state.host new.host (grant_streams inside.grants.items ++ inside.state.streams) (grant_streams inside.grants.items ++ new.streams) inside.bookings.items inside.bookings.items inside.grants.items refl c.args.self.now c.self.view_is c.args.want refl (Lease c.in-Some.lease) it.outcome
+    lease_got inside.state.settings inside.state.log new.log inside.grants.items c.self.invariant.grants c.args.want it.out.free new.settings inside.state.host new.host (grant_streams inside.grants.items ++ inside.state.streams) (grant_streams inside.grants.items ++ new.streams) inside.bookings.items inside.bookings.items inside.seats.table c.lease_at_once.new.seats.table inside.grants.items refl c.args.self.now c.self.view_is c.args.want refl (Lease c.in-Some.lease) it.outcome
 
 pub returns-in-Some-clause-grew : goal.returns-in-Some-clause-grew
 returns-in-Some-clause-grew g c =
@@ -78,6 +83,67 @@ pub returns-in-Some-clause-mark : goal.returns-in-Some-clause-mark
 returns-in-Some-clause-mark g c =
     let new = c.lease_at_once.new.state in
     ap (λ settings. is_queued settings new.log) c.in-Some.ensures.same.settings ∙ (at_once g c).mark refl ∙ ap (λ (v : HostShown g.row.S.Denot). is_queued v.settings v.log) c.self.view_is
+
+-- what holds of a host stays where it refuses
+pub invariant_of-self-in-Some-reason_against : goal.invariant_of-self-in-Some-reason_against
+invariant_of-self-in-Some-reason_against g c =
+    let inside = c.self.inside in
+    let inv = c.self.invariant in
+    let none = c.in_default.ensures.none in
+    record {
+      count = ap (λ (v : HostState g.row.S.Denot). v.booked) none ∙ inv.count;
+      bookings = subst (λ (v : HostState g.row.S.Denot). AreBooked v.log inside.bookings.items) (sym none) inv.bookings;
+      settled = subst (λ (v : HostState g.row.S.Denot). IsSoundAndQuiet v.settings v.log) (sym none) inv.settled;
+      grants = subst (λ (v : HostState g.row.S.Denot). GrantsKept v.log inside.grants.items) (sym none) inv.grants;
+      spare = omega (arith, inv.spare, ap (λ (v : HostState g.row.S.Denot). v.booked) none, ap (λ (v : HostState g.row.S.Denot). length (waiting v.log)) none);
+      seated = c.lease_at_once.ensures.seated;
+      unclaimed = unclaimed_same (grant_starts inside.grants.items) inside.seats c.lease_at_once.new.seats inv.unclaimed c.lease_at_once.ensures.granted.granted;
+    }
+
+pub invariant_of-self-in_default-reserve : goal.invariant_of-self-in_default-reserve
+invariant_of-self-in_default-reserve g c =
+    let inside = c.self.inside in
+    let inv = c.self.invariant in
+    let none = c.in_default.ensures.none in
+    record {
+      count = ap (λ (v : HostState g.row.S.Denot). v.booked) none ∙ inv.count;
+      bookings = subst (λ (v : HostState g.row.S.Denot). AreBooked v.log inside.bookings.items) (sym none) inv.bookings;
+      settled = subst (λ (v : HostState g.row.S.Denot). IsSoundAndQuiet v.settings v.log) (sym none) inv.settled;
+      grants = subst (λ (v : HostState g.row.S.Denot). GrantsKept v.log c.reserve.new.self.items) (sym none) (subst (λ gs. GrantsKept inside.state.log gs) (sym c.reserve.ensures.items) inv.grants);
+      spare = omega (arith, inv.spare, ap (λ (v : HostState g.row.S.Denot). v.booked) none, ap (λ (v : HostState g.row.S.Denot). length (waiting v.log)) none, c.reserve.ensures.len, c.reserve.ensures.capacity);
+      seated = c.lease_at_once.ensures.seated;
+      unclaimed = subst (λ gs. AreUnclaimed (grant_starts gs) c.lease_at_once.new.seats) (sym c.reserve.ensures.items) (unclaimed_same (grant_starts inside.grants.items) inside.seats c.lease_at_once.new.seats inv.unclaimed c.lease_at_once.ensures.granted.granted);
+    }
+
+pub invariant_of-self-in_default-reserve-2 : goal.invariant_of-self-in_default-reserve-2
+invariant_of-self-in_default-reserve-2 g c =
+    let inside = c.self.inside in
+    let inv = c.self.invariant in
+    let none = c.in_default.ensures.none in
+    record {
+      count = ap (λ (v : HostState g.row.S.Denot). v.booked) none ∙ inv.count ∙ ap length (sym {A = List ℕ} c.reserve-2.ensures.items);
+      bookings = subst (λ (v : HostState g.row.S.Denot). AreBooked v.log c.reserve-2.new.self.items) (sym none) (subst (AreBooked inside.state.log) (sym {A = List ℕ} c.reserve-2.ensures.items) inv.bookings);
+      settled = subst (λ (v : HostState g.row.S.Denot). IsSoundAndQuiet v.settings v.log) (sym none) inv.settled;
+      grants = subst (λ (v : HostState g.row.S.Denot). GrantsKept v.log c.reserve.new.self.items) (sym none) (subst (λ gs. GrantsKept inside.state.log gs) (sym c.reserve.ensures.items) inv.grants);
+      spare = omega (arith, inv.spare, ap (λ (v : HostState g.row.S.Denot). v.booked) none, ap (λ (v : HostState g.row.S.Denot). length (waiting v.log)) none, c.reserve.ensures.len, c.reserve.ensures.capacity);
+      seated = c.lease_at_once.ensures.seated;
+      unclaimed = subst (λ gs. AreUnclaimed (grant_starts gs) c.lease_at_once.new.seats) (sym c.reserve.ensures.items) (unclaimed_same (grant_starts inside.grants.items) inside.seats c.lease_at_once.new.seats inv.unclaimed c.lease_at_once.ensures.granted.granted);
+    }
+
+pub invariant_of-self-in_default-book : goal.invariant_of-self-in_default-book
+invariant_of-self-in_default-book g c =
+    let inside = c.self.inside in
+    let inv = c.self.invariant in
+    let none = c.in_default-book.ensures.err ∙ c.in_default.ensures.none in
+    record {
+      count = ap (λ (v : HostState g.row.S.Denot). v.booked) none ∙ inv.count ∙ ap length (sym {A = List ℕ} c.reserve-2.ensures.items);
+      bookings = subst (λ (v : HostState g.row.S.Denot). AreBooked v.log c.reserve-2.new.self.items) (sym none) (subst (AreBooked inside.state.log) (sym {A = List ℕ} c.reserve-2.ensures.items) inv.bookings);
+      settled = subst (λ (v : HostState g.row.S.Denot). IsSoundAndQuiet v.settings v.log) (sym none) inv.settled;
+      grants = subst (λ (v : HostState g.row.S.Denot). GrantsKept v.log c.reserve.new.self.items) (sym none) (subst (λ gs. GrantsKept inside.state.log gs) (sym c.reserve.ensures.items) inv.grants);
+      spare = omega (arith, inv.spare, ap (λ (v : HostState g.row.S.Denot). v.booked) none, ap (λ (v : HostState g.row.S.Denot). length (waiting v.log)) none, c.reserve.ensures.len, c.reserve.ensures.capacity);
+      seated = subst (λ (v : HostState g.row.S.Denot). IsSeated v.log c.lease_at_once.new.seats) (sym c.in_default-book.ensures.err) c.lease_at_once.ensures.seated;
+      unclaimed = subst (λ gs. AreUnclaimed (grant_starts gs) c.lease_at_once.new.seats) (sym c.reserve.ensures.items) (unclaimed_same (grant_starts inside.grants.items) inside.seats c.lease_at_once.new.seats inv.unclaimed c.lease_at_once.ensures.granted.granted);
+    }
 
 -- a start, a wait, or a booking
 booked : (g : Over) (c : goal.After-add_booking g) → c.book.new.self ≡ record c.self.inside.state { booked = c.self.inside.state.booked + 1 }
@@ -121,6 +187,8 @@ invariant_of-self-2 g c =
       settled = subst (λ settings. IsSoundAndQuiet settings new.log) (sym (settings_same g c)) it.settled;
       grants = subst (λ gs. GrantsKept new.log gs) (sym c.reserve.ensures.items) (grants_after inside.state.settings inside.state.log new.log inside.grants.items inv.grants c.args.want it.out.free got it.outcome);
       spare = spare_after c.args.want inside.state.log new.log got it.outcome (inside.state.booked + 1) new.booked _ _ fewer same (omega (arith, c.in-Ok.ensures.ok, c.reserve.ensures.len, waiting_len, c.len.ensures, inv.count, inside.bookings.ok));
+      seated = told.seated;
+      unclaimed = subst (λ gs. AreUnclaimed (grant_starts gs) c.start_or_wait-got.new.seats) (sym c.reserve.ensures.items) (unclaimed_same (grant_starts inside.grants.items) inside.seats c.start_or_wait-got.new.seats inv.unclaimed (told.granted.granted ∙ ap (λ (held : HeldPairs). held.granted) c.in_default.ensures.none_seats));
     }
 
 pub returns-clause-told : goal.returns-clause-told
@@ -128,7 +196,7 @@ returns-clause-told g c =
     let inside = c.self.inside in
     let told = c.start_or_wait-got.ensures.told in
     let new = c.start_or_wait-got.new in
-    (told.0, subst (λ p. g.P.Permits.opening p new.permits told.0) c.in_default.ensures.none_permits told.1, acquires false told.0 inside.state.settings inside.state.log inside.state.host (grant_streams inside.grants.items ++ inside.state.streams) inside.grants.items inside.bookings.items c.args.self.now _ c.args.want c.args.now c.moment-moment.result c.start_or_wait-got.result c.self.view_is c.moment-moment.ensures (due_log g c) (due_got g c))
+    (told.0, subst (λ p. g.P.Permits.opening p new.permits told.0) c.in_default.ensures.none_permits told.1, acquires false told.0 inside.state.settings inside.state.log inside.state.host (grant_streams inside.grants.items ++ inside.state.streams) inside.grants.items inside.bookings.items inside.seats.table c.args.self.now _ c.args.want c.args.now c.moment-moment.result c.start_or_wait-got.result c.self.view_is c.moment-moment.ensures (due_log g c) (due_got g c))
 
 pub returns-clause-stream : goal.returns-clause-stream
 returns-clause-stream g c =
@@ -169,18 +237,18 @@ returns-clause-gets_lease g c =
     let inside = c.self.inside in
     let new = c.start_or_wait-got.new.state in
     let it = left g c in
-    lease_got inside.state.settings inside.state.log new.log inside.grants.items c.self.invariant.grants c.args.want it.out.free new.settings inside.state.host new.host (grant_streams inside.grants.items ++ inside.state.streams) (grant_streams c.reserve.new.self.items ++ new.streams) inside.bookings.items c.add_booking.new.bookings.items c.reserve.new.self.items c.reserve.ensures.items c.args.self.now c.self.view_is c.args.want refl c.start_or_wait-got.result it.outcome
+    lease_got inside.state.settings inside.state.log new.log inside.grants.items c.self.invariant.grants c.args.want it.out.free new.settings inside.state.host new.host (grant_streams inside.grants.items ++ inside.state.streams) (grant_streams c.reserve.new.self.items ++ new.streams) inside.bookings.items c.add_booking.new.bookings.items inside.seats.table c.start_or_wait-got.new.seats.table c.reserve.new.self.items c.reserve.ensures.items c.args.self.now c.self.view_is c.args.want refl c.start_or_wait-got.result it.outcome
 
 pub returns-clause-gets_ticket : goal.returns-clause-gets_ticket
 returns-clause-gets_ticket g c =
     let inside = c.self.inside in
     let new = c.start_or_wait-got.new.state in
     let it = left g c in
-    ticket_got inside.state.settings inside.state.log new.log inside.grants.items c.self.invariant.grants c.args.want it.out.free new.settings inside.state.host new.host (grant_streams inside.grants.items ++ inside.state.streams) (grant_streams c.reserve.new.self.items ++ new.streams) inside.bookings.items c.add_booking.new.bookings.items c.reserve.new.self.items c.reserve.ensures.items c.args.self.now c.self.view_is c.args.want refl c.start_or_wait-got.result it.outcome
+    ticket_got inside.state.settings inside.state.log new.log inside.grants.items c.self.invariant.grants c.args.want it.out.free new.settings inside.state.host new.host (grant_streams inside.grants.items ++ inside.state.streams) (grant_streams c.reserve.new.self.items ++ new.streams) inside.bookings.items c.add_booking.new.bookings.items inside.seats.table c.start_or_wait-got.new.seats.table c.reserve.new.self.items c.reserve.ensures.items c.args.self.now c.self.view_is c.args.want refl c.start_or_wait-got.result it.outcome
 
 pub returns-clause-gets_booking : goal.returns-clause-gets_booking
 returns-clause-gets_booking g c =
     let inside = c.self.inside in
     let new = c.start_or_wait-got.new.state in
     let it = left g c in
-    booking_got inside.state.settings inside.state.log new.log inside.grants.items c.self.invariant.grants c.args.want it.out.free new.settings inside.state.host new.host (grant_streams inside.grants.items ++ inside.state.streams) (grant_streams c.reserve.new.self.items ++ new.streams) inside.bookings.items c.add_booking.new.bookings.items c.reserve.new.self.items c.reserve.ensures.items c.args.self.now c.self.view_is c.args.want refl c.start_or_wait-got.result it.outcome
+    booking_got inside.state.settings inside.state.log new.log inside.grants.items c.self.invariant.grants c.args.want it.out.free new.settings inside.state.host new.host (grant_streams inside.grants.items ++ inside.state.streams) (grant_streams c.reserve.new.self.items ++ new.streams) inside.bookings.items c.add_booking.new.bookings.items inside.seats.table c.start_or_wait-got.new.seats.table c.reserve.new.self.items c.reserve.ensures.items c.args.self.now c.self.view_is c.args.want refl c.start_or_wait-got.result it.outcome

@@ -1,12 +1,16 @@
 use Rattle.std.proofs.Common.{◌≡◌, ℕ, true, false, None, Some, is_some, refl, sym, ap, subst, ◌∙◌, ◌++◌, arith}
 use Rattle.std.specs.Prelude.{◌==◌, if◌then◌else◌}
+use Rattle.budget.specs.Pairs.{LeaseOf}
 use Rattle.conn_log.specs.declared.entry.Want.{Want}
 use Rattle.conn_log.specs.Connections.{is_among}
 use Rattle.bundle.specs.Grants.{GrantsKept, grant_starts, grant_streams, grant_transfers}
 use Rattle.host_state.specs.Idle.{stream_of}
-use Rattle.bundle.specs.Lease.{HostShown, Leasing, start_for, is_unclaimed, is_valid_ticket}
-use Rattle.bundle.proofs.Granting.{is_some-grant_of, start_granted, kept_without}
+use Rattle.bundle.specs.Lease.{HostShown, Using, Leasing, lease_at, start_for, is_unclaimed, is_valid_ticket}
+use Rattle.bundle.specs.Seats.{AreUnclaimed}
+use Rattle.bundle.proofs.Granting.{is_some-grant_of, start_granted, kept_at, kept_without}
 use Rattle.bundle.proofs.Answering.{stood_granted, claimed_left, claimed_stream, claimed_streams, gets_at}
+use Rattle.bundle.proofs.Seating.{granted_once, seated_claimed, unclaimed_claimed}
+use Rattle.bundle.proofs.LeaseEnds.{same_pair}
 use Rattle.bundle.proofs.host.Bundle.claim.Goals as goal
 
 pub returns-in_default-clause-still : goal.returns-in_default-clause-still
@@ -17,10 +21,40 @@ returns-in_default-clause-still g c =
     let items = c.in_default.ensures.unchanged in
     (ap (λ (v : HostShown g.row.S.Denot). is_unclaimed v c.args.ticket.wait.want.transfer) (sym c.self.view_is) ∙ ap (λ (n : ℕ). is_among n (grant_transfers c.self.inside.grants.items)) (sym who) ∙ out, refl, cc)
 
+pub invariant_of-self : goal.invariant_of-self
+invariant_of-self g c =
+    let state = c.self.inside.state in
+    let inv = c.self.invariant in
+    let items = c.in_default.ensures.unchanged in
+    record {
+      count = inv.count;
+      bookings = inv.bookings;
+      settled = inv.settled;
+      grants = subst (λ gs. GrantsKept state.log gs) (sym items) inv.grants;
+      spare = omega (arith, inv.spare, c.take_grant.ensures.len, c.take_grant.ensures.capacity);
+      seated = inv.seated;
+      unclaimed = subst (λ gs. AreUnclaimed (grant_starts gs) c.self.inside.seats) (sym items) inv.unclaimed;
+    }
+
+pub claim-seat-requires-clause-granted : goal.claim-seat-requires-clause-granted
+claim-seat-requires-clause-granted g c =
+    let inv = c.self.invariant in
+    granted_once c.self.inside.state.log c.self.inside.grants.items c.self.inside.seats inv.grants inv.unclaimed c.want-want.result.transfer c.in-Some.grant (sym c.in-Some.ensures.grant)
+
+pub new-requires-2 : goal.new-requires-2
+new-requires-2 g c =
+    let grants = c.self.inside.grants.items in
+    let t = c.want-want.result.transfer in
+    let grant = c.in-Some.grant in
+    let there = kept_at c.self.inside.state.log grants t grant c.self.invariant.grants (sym c.in-Some.ensures.grant) in
+    let used = c.granted-used.ensures in
+    ap (λ (seat : LeaseOf). seat.pair) c.claim-seat.ensures.seat ∙ same_pair grant.number t _ _ (ap (λ (u : Using g.row.S.Denot). u.start.number) (sym used)) (sym there.1 ∙ ap (λ (u : Using g.row.S.Denot). u.start.want.transfer) (sym used))
+
 pub invariant_of-self-2 : goal.invariant_of-self-2
 invariant_of-self-2 g c =
     let state = c.self.inside.state in
     let grants = c.self.inside.grants.items in
+    let held = c.self.inside.seats in
     let inv = c.self.invariant in
     let t = c.want-want.result.transfer in
     let grant = c.in-Some.grant in
@@ -31,6 +65,8 @@ invariant_of-self-2 g c =
       settled = inv.settled;
       grants = subst (λ gs. GrantsKept state.log gs) (sym c.take_grant.ensures.others) (kept_without state.log grants t inv.grants);
       spare = omega (arith, inv.spare, c.take_grant.ensures.len, c.take_grant.ensures.capacity);
+      seated = seated_claimed state.log held c.claim-seat.new.self grant.number t inv.seated (granted_once state.log grants held inv.grants inv.unclaimed t grant is) c.claim-seat.ensures.seats;
+      unclaimed = subst (λ gs. AreUnclaimed (grant_starts gs) c.claim-seat.new.self) (sym c.take_grant.ensures.others) (unclaimed_claimed state.log grants held c.claim-seat.new.self inv.grants inv.unclaimed t grant is c.claim-seat.ensures.seats);
     }
 
 pub returns-clause-lease : goal.returns-clause-lease
@@ -38,7 +74,8 @@ returns-clause-lease g c =
     let grants = c.self.inside.grants.items in
     let t = c.want-want.result.transfer in
     let who : t ≡ c.args.ticket.wait.want.transfer = ap (λ (w : Want). w.transfer) c.want-want.ensures in
-    (ap (λ (v : HostShown g.row.S.Denot). start_for v.unclaimed c.args.ticket.wait.want.transfer) (sym c.self.view_is) ∙ ap (start_for (grant_starts grants)) (sym who) ∙ start_granted grants t c.in-Some.grant (sym c.in-Some.ensures.grant) ∙ ap (λ (l : Leasing g.row.S.Denot). Some l.start) (sym c.granted.ensures), ap (λ (l : Leasing g.row.S.Denot). l.site) c.granted.ensures ∙ c.host.ensures ∙ ap (λ (v : HostShown g.row.S.Denot). v.host) c.self.view_is)
+    let lease_is = c.new-2.ensures ∙ ap (lease_at c.claim-seat.result.table) c.granted-used.ensures in
+    (ap (λ (v : HostShown g.row.S.Denot). start_for v.unclaimed c.args.ticket.wait.want.transfer) (sym c.self.view_is) ∙ ap (start_for (grant_starts grants)) (sym who) ∙ start_granted grants t c.in-Some.grant (sym c.in-Some.ensures.grant) ∙ ap (λ (l : Leasing g.row.S.Denot). Some l.start) (sym lease_is), ap (λ (l : Leasing g.row.S.Denot). l.site) lease_is ∙ c.host.ensures ∙ ap (λ (v : HostShown g.row.S.Denot). v.host) c.self.view_is)
 
 pub returns-clause-want : goal.returns-clause-want
 returns-clause-want g c =
@@ -47,7 +84,7 @@ returns-clause-want g c =
     let test : c.is_valid_ticket.result ≡ true = grind (arith, c.if-not-is_valid_ticket.false) in
     let stood = ap (λ (v : HostShown g.row.S.Denot). is_valid_ticket v c.want-want.result) c.self.view_is ∙ sym c.is_valid_ticket.ensures ∙ test in
     let granted_for = stood_granted state.log grants c.self.invariant.grants c.want-want.result c.in-Some.grant (sym c.in-Some.ensures.grant) stood in
-    ap (λ (l : Leasing g.row.S.Denot). l.start.want) c.granted.ensures ∙ granted_for ∙ c.want-want.ensures
+    ap (λ (l : Leasing g.row.S.Denot). l.start.want) (c.new-2.ensures ∙ ap (lease_at c.claim-seat.result.table) c.granted-used.ensures) ∙ granted_for ∙ c.want-want.ensures
 
 pub returns-clause-stream : goal.returns-clause-stream
 returns-clause-stream g c =
@@ -59,8 +96,8 @@ returns-clause-stream g c =
     let is = sym c.in-Some.ensures.grant in
     let kept = claimed_stream state.settings state.log inv.settled.sound.orderly grants inv.grants t grant is state.streams in
     let streams = grant_streams grants ++ state.streams in
-    let told = subst (λ (l : Leasing g.row.S.Denot). l.stream ≡ (if l.start.reused then stream_of streams l.start.number else None)) (sym c.granted.ensures) kept in
-    subst (λ (v : HostShown g.row.S.Denot). c.granted.result.stream ≡ (if c.granted.result.start.reused then stream_of v.streams c.granted.result.start.number else None)) c.self.view_is told
+    let told = subst (λ (l : Leasing g.row.S.Denot). l.stream ≡ (if l.start.reused then stream_of streams l.start.number else None)) (sym (c.new-2.ensures ∙ ap (lease_at c.claim-seat.result.table) c.granted-used.ensures)) kept in
+    subst (λ (v : HostShown g.row.S.Denot). c.new-2.result.stream ≡ (if c.new-2.result.start.reused then stream_of v.streams c.new-2.result.start.number else None)) c.self.view_is told
 
 pub returns-clause-streams : goal.returns-clause-streams
 returns-clause-streams g c d other still =
@@ -70,7 +107,7 @@ returns-clause-streams g c d other still =
     let t = c.want-want.result.transfer in
     let grant = c.in-Some.grant in
     let is = sym c.in-Some.ensures.grant in
-    let number : c.granted.result.start.number ≡ grant.number = ap (λ (l : Leasing g.row.S.Denot). l.start.number) c.granted.ensures in
+    let number : c.new-2.result.start.number ≡ grant.number = ap (λ (l : Leasing g.row.S.Denot). l.start.number) (c.new-2.ensures ∙ ap (lease_at c.claim-seat.result.table) c.granted-used.ensures) in
     let apart : (grant.number == d) ≡ false = ap (λ (n : ℕ). n == d) (sym number) ∙ other in
     ap (λ gs. stream_of (grant_streams gs ++ state.streams) d) c.take_grant.ensures.others
     ∙ claimed_streams state.settings state.log inv.settled.sound.orderly grants inv.grants t grant is state.streams d apart
@@ -85,5 +122,5 @@ returns-clause-gets_lease g c =
     let grant = c.in-Some.grant in
     let is = sym c.in-Some.ensures.grant in
     let who : t ≡ c.args.ticket.wait.want.transfer = ap (λ (w : Want). w.transfer) c.want-want.ensures in
-    let number : grant.number ≡ c.granted.result.start.number = ap (λ (l : Leasing g.row.S.Denot). l.start.number) (sym c.granted.ensures) in
-    gets_at _ _ _ _ _ _ _ c.self.view_is who number (claimed_left state.settings state.log inv.settled.sound.orderly grants inv.grants t grant is c.take_grant.new.grants.items c.take_grant.ensures.others _ _ _ _ _ _ _)
+    let number : grant.number ≡ c.new-2.result.start.number = ap (λ (l : Leasing g.row.S.Denot). l.start.number) (sym (c.new-2.ensures ∙ ap (lease_at c.claim-seat.result.table) c.granted-used.ensures)) in
+    gets_at _ _ _ _ _ _ _ c.self.view_is who number (claimed_left state.settings state.log inv.settled.sound.orderly grants inv.grants t grant is c.take_grant.new.grants.items c.take_grant.ensures.others _ _ _ _ _ _ _ _ _)

@@ -6,18 +6,47 @@ use Rattle.host_state.specs.Idle.{stream_of}
 use Rattle.bundle.specs.Calls.{is_freed}
 use Rattle.bundle.specs.Laws.{IsSoundAndQuiet}
 use Rattle.bundle.specs.Lease.{HostShown, held_by}
-use Rattle.bundle.proofs.Answering.{known, freed_spends, spends_at}
+use Rattle.bundle.proofs.Answering.{known, there_where, held_told, number_told, freed_spends, spends_at}
+use Rattle.bundle.proofs.Told.{held_here}
+use Rattle.bundle.proofs.LeaseEnds.{ends_closed, lease_held, seated_spent, unclaimed_spent, apart_number, apart_transfer, apart_pair}
 use Rattle.bundle.proofs.Settling.{settled_closed, room_closed, grows_from, unmarked_from}
 use Rattle.bundle.proofs.Halfway.{booked_freed}
 use Rattle.bundle.proofs.Freeing.{part_fewer, freed_close}
 use Rattle.bundle.proofs.host.Bundle.close_leased.Goals as goal
 
+pub unwrap-held-requires : goal.unwrap-held-requires
+unwrap-held-requires g c =
+    let state = c.self.inside.state in
+    let inv = c.self.invariant in
+    let t = c.transfer-transfer.result in
+    let n = c.number.result in
+    let pair_is = apart_pair c.args.lease _ _ c.take_apart-used.ensures.used n t c.number.ensures c.transfer-transfer.ensures _ c.take_apart-used.ensures.pair in
+    there_where _ _ c.held.ensures.none (held_here state.settings state.log inv.settled.sound.orderly t n (lease_held state.log c.self.inside.seats _ n t pair_is inv.seated c.take_back.ensures.leased))
+
+pub hand_on-requires-clause-seated : goal.hand_on-requires-clause-seated
+hand_on-requires-clause-seated g c =
+    let state = c.self.inside.state in
+    let t = c.transfer-transfer.result in
+    let n = c.number.result in
+    let pair_is = apart_pair c.args.lease _ _ c.take_apart-used.ensures.used n t c.number.ensures c.transfer-transfer.ensures _ c.take_apart-used.ensures.pair in
+    let ends = ends_closed state.log c.close_held.new.self.log t c.close_held.ensures.holders c.close_held.ensures.fewer_open c.close_held.ensures.as_many_idle in
+    seated_spent state.log c.self.inside.seats _ n t pair_is c.self.invariant.seated c.take_back.ensures.leased c.take_back.new.self c.clear.new.self c.take_back.ensures.back c.clear.ensures _ ends
+
+pub hand_on-requires-clause-unclaimed : goal.hand_on-requires-clause-unclaimed
+hand_on-requires-clause-unclaimed g c =
+    let state = c.self.inside.state in
+    let inv = c.self.invariant in
+    let t = c.transfer-transfer.result in
+    let n = c.number.result in
+    let pair_is = apart_pair c.args.lease _ _ c.take_apart-used.ensures.used n t c.number.ensures c.transfer-transfer.ensures _ c.take_apart-used.ensures.pair in
+    unclaimed_spent state.log c.self.inside.seats _ n t pair_is inv.seated c.take_back.ensures.leased c.take_back.new.self c.clear.new.self c.take_back.ensures.back c.clear.ensures c.self.inside.grants.items c.spend.new.grants.items inv.grants inv.unclaimed c.spend.ensures.others
+
 pub hand_on-requires-clause-room : goal.hand_on-requires-clause-room
 hand_on-requires-clause-room g c =
     let state = c.self.inside.state in
     let inv = c.self.invariant in
-    let held = c.in-Some.held in
-    let it = known state.log c.transfer-transfer.result held c.in-Some.ensures.some in
+    let held = c.unwrap-held.result in
+    let it = known state.log c.transfer-transfer.result held (held_told state.log c.transfer-transfer.result _ _ c.unwrap-held.ensures c.held.ensures.some) in
     room_closed state.settings state.log c.self.inside.grants.items inv.settled inv.grants state.streams c.transfer-transfer.result held.number it.number c.args.now Dropped c.close_held.new.self.settings c.close_held.ensures.same.settings c.moment-moment.result c.close_held.new.self.log c.close_held.ensures.log
 
 pub hand_on-requires-clause-part : goal.hand_on-requires-clause-part
@@ -32,8 +61,8 @@ pub invariant_of-self : goal.invariant_of-self
 invariant_of-self g c =
     let state = c.self.inside.state in
     let inv = c.self.invariant in
-    let held = c.in-Some.held in
-    let it = known state.log c.transfer-transfer.result held c.in-Some.ensures.some in
+    let held = c.unwrap-held.result in
+    let it = known state.log c.transfer-transfer.result held (held_told state.log c.transfer-transfer.result _ _ c.unwrap-held.ensures c.held.ensures.some) in
     let settled = settled_closed state.settings state.log c.self.inside.grants.items inv.settled inv.grants state.streams c.transfer-transfer.result held.number it.number c.args.now Dropped refl c.close_held.new.self.settings c.close_held.ensures.same.settings c.moment-moment.result c.moment-moment.ensures c.close_held.new.self.log c.close_held.ensures.log c.spend.new.grants.items c.spend.ensures.others c.hand_on.new.state.log c.hand_on.ensures.log c.hand_on.new.grants.items c.hand_on.ensures.grants c.hand_on.new.state.streams (c.hand_on.ensures.streams ∙ c.close_held.ensures.streams) in
     record {
       count = c.hand_on.ensures.booked ∙ c.close_held.ensures.booked ∙ inv.count;
@@ -41,41 +70,43 @@ invariant_of-self g c =
       settled = subst (λ settings. IsSoundAndQuiet settings c.hand_on.new.state.log) (sym (c.hand_on.ensures.same.settings ∙ c.close_held.ensures.same.settings)) settled.settled;
       grants = settled.freed.kept;
       spare = c.hand_on.ensures.spare;
+      seated = c.hand_on.ensures.seated;
+      unclaimed = c.hand_on.ensures.unclaimed;
     }
 
 pub returns-clause-streams : goal.returns-clause-streams
 returns-clause-streams g c d other still =
     let state = c.self.inside.state in
     let inv = c.self.invariant in
-    let held = c.in-Some.held in
-    let it = known state.log c.transfer-transfer.result held c.in-Some.ensures.some in
+    let held = c.unwrap-held.result in
+    let it = known state.log c.transfer-transfer.result held (held_told state.log c.transfer-transfer.result _ _ c.unwrap-held.ensures c.held.ensures.some) in
     let settled = settled_closed state.settings state.log c.self.inside.grants.items inv.settled inv.grants state.streams c.transfer-transfer.result held.number it.number c.args.now Dropped refl c.close_held.new.self.settings c.close_held.ensures.same.settings c.moment-moment.result c.moment-moment.ensures c.close_held.new.self.log c.close_held.ensures.log c.spend.new.grants.items c.spend.ensures.others c.hand_on.new.state.log c.hand_on.ensures.log c.hand_on.new.grants.items c.hand_on.ensures.grants c.hand_on.new.state.streams (c.hand_on.ensures.streams ∙ c.close_held.ensures.streams) in
-    let apart : (held.number == d) ≡ false = ap (λ (n : ℕ). n == d) (c.in-Some.ensures.number ∙ c.number.ensures) ∙ other in
+    let apart : (held.number == d) ≡ false = ap (λ (n : ℕ). n == d) (number_told _ _ _ c.unwrap-held.ensures c.held.ensures.number ∙ apart_number c.args.lease _ _ c.take_apart-used.ensures.used _ _ c.number.ensures c.transfer-transfer.ensures) ∙ other in
     settled.others d apart still ∙ ap (λ (v : HostShown g.row.S.Denot). stream_of v.streams d) c.self.view_is
 
 pub returns-clause-spends : goal.returns-clause-spends
 returns-clause-spends g c =
     let state = c.self.inside.state in
     let inv = c.self.invariant in
-    let held = c.in-Some.held in
-    let it = known state.log c.transfer-transfer.result held c.in-Some.ensures.some in
+    let held = c.unwrap-held.result in
+    let it = known state.log c.transfer-transfer.result held (held_told state.log c.transfer-transfer.result _ _ c.unwrap-held.ensures c.held.ensures.some) in
     let settled = settled_closed state.settings state.log c.self.inside.grants.items inv.settled inv.grants state.streams c.transfer-transfer.result held.number it.number c.args.now Dropped refl c.close_held.new.self.settings c.close_held.ensures.same.settings c.moment-moment.result c.moment-moment.ensures c.close_held.new.self.log c.close_held.ensures.log c.spend.new.grants.items c.spend.ensures.others c.hand_on.new.state.log c.hand_on.ensures.log c.hand_on.new.grants.items c.hand_on.ensures.grants c.hand_on.new.state.streams (c.hand_on.ensures.streams ∙ c.close_held.ensures.streams) in
-    spends_at _ _ _ _ _ c.self.view_is c.transfer-transfer.ensures (freed_spends _ _ _ _ _ _ _ _ _ _ _ _ _ settled.freed)
+    spends_at _ _ _ _ _ c.self.view_is (apart_transfer c.args.lease _ _ c.take_apart-used.ensures.used _ _ c.number.ensures c.transfer-transfer.ensures) (freed_spends _ _ _ _ _ _ _ _ _ _ _ _ _ _ _ settled.freed)
 
 pub returns-clause-grew : goal.returns-clause-grew
 returns-clause-grew g c =
     let state = c.self.inside.state in
     let inv = c.self.invariant in
-    let held = c.in-Some.held in
-    let it = known state.log c.transfer-transfer.result held c.in-Some.ensures.some in
+    let held = c.unwrap-held.result in
+    let it = known state.log c.transfer-transfer.result held (held_told state.log c.transfer-transfer.result _ _ c.unwrap-held.ensures c.held.ensures.some) in
     let settled = settled_closed state.settings state.log c.self.inside.grants.items inv.settled inv.grants state.streams c.transfer-transfer.result held.number it.number c.args.now Dropped refl c.close_held.new.self.settings c.close_held.ensures.same.settings c.moment-moment.result c.moment-moment.ensures c.close_held.new.self.log c.close_held.ensures.log c.spend.new.grants.items c.spend.ensures.others c.hand_on.new.state.log c.hand_on.ensures.log c.hand_on.new.grants.items c.hand_on.ensures.grants c.hand_on.new.state.streams (c.hand_on.ensures.streams ∙ c.close_held.ensures.streams) in
     grows_from _ _ _ (ap (λ (v : HostShown g.row.S.Denot). v.log) c.self.view_is) settled.grew
 
 pub returns-clause-freed : goal.returns-clause-freed
 returns-clause-freed g c =
     let state = c.self.inside.state in
-    let held = c.in-Some.held in
-    let it = known state.log c.transfer-transfer.result held c.in-Some.ensures.some in
+    let held = c.unwrap-held.result in
+    let it = known state.log c.transfer-transfer.result held (held_told state.log c.transfer-transfer.result _ _ c.unwrap-held.ensures c.held.ensures.some) in
     freed_close state.settings state.log c.self.invariant.settled c.transfer-transfer.result held.number it.number c.args.now c.close_held.new.self.settings c.close_held.ensures.same.settings c.moment-moment.result c.moment-moment.ensures c.close_held.new.self.log c.hand_on.new.state.log c.hand_on.ensures.log c.anyone_waits-freed.result c.anyone_waits-freed.ensures.yes c.anyone_waits-freed.ensures.no Dropped refl c.close_held.ensures.log
     ∙ ap (λ (v : HostShown g.row.S.Denot). is_freed v.log c.hand_on.new.state.log) c.self.view_is
 
@@ -83,7 +114,7 @@ pub returns-clause-mark : goal.returns-clause-mark
 returns-clause-mark g c =
     let state = c.self.inside.state in
     let inv = c.self.invariant in
-    let held = c.in-Some.held in
-    let it = known state.log c.transfer-transfer.result held c.in-Some.ensures.some in
+    let held = c.unwrap-held.result in
+    let it = known state.log c.transfer-transfer.result held (held_told state.log c.transfer-transfer.result _ _ c.unwrap-held.ensures c.held.ensures.some) in
     let settled = settled_closed state.settings state.log c.self.inside.grants.items inv.settled inv.grants state.streams c.transfer-transfer.result held.number it.number c.args.now Dropped refl c.close_held.new.self.settings c.close_held.ensures.same.settings c.moment-moment.result c.moment-moment.ensures c.close_held.new.self.log c.close_held.ensures.log c.spend.new.grants.items c.spend.ensures.others c.hand_on.new.state.log c.hand_on.ensures.log c.hand_on.new.grants.items c.hand_on.ensures.grants c.hand_on.new.state.streams (c.hand_on.ensures.streams ∙ c.close_held.ensures.streams) in
     unmarked_from state.settings c.args.self.now.settings c.hand_on.new.state.settings state.log c.args.self.now.log c.hand_on.new.state.log (c.hand_on.ensures.same.settings ∙ c.close_held.ensures.same.settings) (ap (λ (v : HostShown g.row.S.Denot). v.settings) c.self.view_is) (ap (λ (v : HostShown g.row.S.Denot). v.log) c.self.view_is) settled.mark

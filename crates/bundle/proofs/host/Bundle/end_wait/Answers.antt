@@ -1,11 +1,14 @@
 use Rattle.std.proofs.Common.{◌≡◌, ℕ, length, true, refl, sym, ap, subst, ◌∙◌, arith}
+use Rattle.budget.specs.Pairs.{LeaseOf}
 use Rattle.conn_log.specs.declared.entry.Want.{Want}
 use Rattle.conn_log.specs.declared.entry.Cause.TheVariants.{Withdrawn}
 use Rattle.conn_log.specs.Waiting.{waiting}
 use Rattle.bundle.specs.Calls.{after_withdraw, is_queued, is_freed}
 use Rattle.host_state.specs.Idle.{stream_of}
 use Rattle.bundle.specs.Laws.{IsSoundAndQuiet}
+use Rattle.bundle.specs.Grants.{grant_starts}
 use Rattle.bundle.specs.Lease.{HostShown, held_by, is_valid_ticket}
+use Rattle.bundle.specs.Seats.{AreUnclaimed}
 use Rattle.bundle.proofs.Growth.{grows_withdraw}
 use Rattle.bundle.proofs.KeptSound.{kept_withdraw}
 use Rattle.bundle.proofs.Marks.{mark_withdraw}
@@ -15,6 +18,8 @@ use Rattle.bundle.proofs.Answering.{known, there_where, held_told, stood_waits, 
 use Rattle.bundle.proofs.Settling.{settled_closed, room_closed, left_log, withdrawn_log, gone_open, left_moved, grows_from, unmarked_from}
 use Rattle.bundle.proofs.Halfway.{booked_freed}
 use Rattle.bundle.proofs.Freeing.{part_fewer, freed_close}
+use Rattle.bundle.proofs.Seating.{granted_once, seated_claimed, unclaimed_claimed, unclaimed_same}
+use Rattle.bundle.proofs.LeaseEnds.{ends_closed, seated_left, seated_spent, granted_spent}
 use Rattle.bundle.proofs.host.Bundle.end_wait.Goals as goal
 
 pub leave-requires-clause-waits : goal.leave-requires-clause-waits
@@ -46,6 +51,8 @@ invariant_of-self g c =
       settled = subst (λ settings. IsSoundAndQuiet settings c.leave.new.self.log) (sym c.leave.ensures.same.settings) (subst (λ log. IsSoundAndQuiet state.settings log) (sym is) (kept_withdraw state.settings state.log t c.args.now inv.settled));
       grants = freed.kept;
       spare = omega (arith, inv.spare, fewer, ap (λ log. length (waiting log)) c.leave.ensures.log, c.leave.ensures.booked, c.take_grant.ensures.len, c.take_grant.ensures.capacity);
+      seated = seated_left state.log c.leave.new.self.log c.self.inside.seats _ t inv.seated c.leave.ensures.log c.leave.ensures.as_many_open c.leave.ensures.as_many_idle;
+      unclaimed = subst (λ gs. AreUnclaimed (grant_starts gs) c.self.inside.seats) (sym c.in_default.ensures.unchanged) inv.unclaimed;
     }
 
 pub returns-in_default-clause-log : goal.returns-in_default-clause-log
@@ -73,7 +80,7 @@ returns-in_default-clause-spends g c =
     let waits_here = stood_waits state.log grants c.want-want.result (sym c.in_default.ensures.grant) stood in
     let who : t ≡ c.args.ticket.wait.want.transfer = ap (λ (w : Want). w.transfer) c.want-want.ensures in
     let freed = left_moved state.settings state.log inv.settled.sound.orderly grants inv.grants c.moment-moment.result t waits_here c.leave.new.self.log c.leave.ensures.log c.take_grant.new.grants.items c.in_default.ensures.unchanged in
-    spends_at _ _ _ _ _ c.self.view_is who (freed_spends _ _ _ _ _ _ _ _ _ _ _ _ _ freed)
+    spends_at _ _ _ _ _ c.self.view_is who (freed_spends _ _ _ _ _ _ _ _ _ _ _ _ _ _ _ freed)
 
 pub returns-in_default-clause-grew : goal.returns-in_default-clause-grew
 returns-in_default-clause-grew g c =
@@ -96,6 +103,40 @@ unwrap-held-requires g c =
     let t = c.want-want.result.transfer in
     let number = claimed_number state.settings state.log inv.settled.sound.orderly grants inv.grants t c.in-Some.grant (sym c.in-Some.ensures.grant) in
     there_where _ _ c.held.ensures.none (held_here state.settings state.log inv.settled.sound.orderly t c.in-Some.grant.number number)
+
+pub claim-seat-requires-clause-granted : goal.claim-seat-requires-clause-granted
+claim-seat-requires-clause-granted g c =
+    let inv = c.self.invariant in
+    granted_once c.self.inside.state.log c.self.inside.grants.items c.self.inside.seats inv.grants inv.unclaimed c.want-want.result.transfer c.in-Some.grant (sym c.in-Some.ensures.grant)
+
+pub hand_on-requires-clause-seated : goal.hand_on-requires-clause-seated
+hand_on-requires-clause-seated g c =
+    let state = c.self.inside.state in
+    let held = c.self.inside.seats in
+    let inv = c.self.invariant in
+    let t = c.want-want.result.transfer in
+    let n = c.in-Some.grant.number in
+    let once = granted_once state.log c.self.inside.grants.items held inv.grants inv.unclaimed t c.in-Some.grant (sym c.in-Some.ensures.grant) in
+    let claimed = seated_claimed state.log held c.claim-seat.new.self n t inv.seated once c.claim-seat.ensures.seats in
+    let pair_is = ap (λ (seat : LeaseOf). seat.pair) c.claim-seat.ensures.seat in
+    let ends = ends_closed state.log c.close_held.new.self.log t c.close_held.ensures.holders c.close_held.ensures.fewer_open c.close_held.ensures.as_many_idle in
+    seated_spent state.log c.claim-seat.new.self _ n t pair_is claimed c.take_back.ensures.leased c.take_back.new.self c.clear.new.self c.take_back.ensures.back c.clear.ensures _ ends
+
+pub hand_on-requires-clause-unclaimed : goal.hand_on-requires-clause-unclaimed
+hand_on-requires-clause-unclaimed g c =
+    let state = c.self.inside.state in
+    let grants = c.self.inside.grants.items in
+    let held = c.self.inside.seats in
+    let inv = c.self.invariant in
+    let t = c.want-want.result.transfer in
+    let n = c.in-Some.grant.number in
+    let is = sym c.in-Some.ensures.grant in
+    let once = granted_once state.log grants held inv.grants inv.unclaimed t c.in-Some.grant is in
+    let claimed = seated_claimed state.log held c.claim-seat.new.self n t inv.seated once c.claim-seat.ensures.seats in
+    let pair_is = ap (λ (seat : LeaseOf). seat.pair) c.claim-seat.ensures.seat in
+    let as_claimed = unclaimed_claimed state.log grants held c.claim-seat.new.self inv.grants inv.unclaimed t c.in-Some.grant is c.claim-seat.ensures.seats in
+    let others = subst (λ gs. AreUnclaimed (grant_starts gs) c.claim-seat.new.self) (sym c.take_grant.ensures.others) as_claimed in
+    unclaimed_same (grant_starts c.take_grant.new.grants.items) c.claim-seat.new.self c.clear.new.self others (granted_spent state.log c.claim-seat.new.self _ n t pair_is claimed c.take_back.ensures.leased c.take_back.new.self c.clear.new.self c.take_back.ensures.back c.clear.ensures)
 
 pub hand_on-requires-clause-room : goal.hand_on-requires-clause-room
 hand_on-requires-clause-room g c =
@@ -130,6 +171,8 @@ invariant_of-self-2 g c =
       settled = subst (λ settings. IsSoundAndQuiet settings c.hand_on.new.state.log) (sym (c.hand_on.ensures.same.settings ∙ c.close_held.ensures.same.settings)) settled.settled;
       grants = settled.freed.kept;
       spare = c.hand_on.ensures.spare;
+      seated = c.hand_on.ensures.seated;
+      unclaimed = c.hand_on.ensures.unclaimed;
     }
 
 pub returns-clause-log : goal.returns-clause-log
@@ -167,7 +210,7 @@ returns-clause-spends g c =
     let it = known state.log t held (held_told state.log t _ _ c.unwrap-held.ensures c.held.ensures.some) in
     let settled = settled_closed state.settings state.log grants inv.settled inv.grants state.streams t held.number it.number c.args.now Withdrawn refl c.close_held.new.self.settings c.close_held.ensures.same.settings c.moment-moment.result c.moment-moment.ensures c.close_held.new.self.log c.close_held.ensures.log c.take_grant.new.grants.items c.take_grant.ensures.others c.hand_on.new.state.log c.hand_on.ensures.log c.hand_on.new.grants.items c.hand_on.ensures.grants c.hand_on.new.state.streams (c.hand_on.ensures.streams ∙ c.close_held.ensures.streams) in
     let who : t ≡ c.args.ticket.wait.want.transfer = ap (λ (w : Want). w.transfer) c.want-want.ensures in
-    spends_at _ _ _ _ _ c.self.view_is who (freed_spends _ _ _ _ _ _ _ _ _ _ _ _ _ settled.freed)
+    spends_at _ _ _ _ _ c.self.view_is who (freed_spends _ _ _ _ _ _ _ _ _ _ _ _ _ _ _ settled.freed)
 
 pub returns-clause-grew : goal.returns-clause-grew
 returns-clause-grew g c =

@@ -5,6 +5,7 @@ use Rattle.host_state.specs.Idle.{stream_of}
 use Rattle.bundle.specs.Lease.{HostShown}
 use Rattle.bundle.proofs.Answering.{behind_same}
 use Rattle.bundle.proofs.TurnLogs.{evict_keeps, of_idle_for_others, grants_keep, keeps_at, grows_at}
+use Rattle.bundle.proofs.Seating.{seated_same}
 use Rattle.bundle.proofs.host.Bundle.evict_oldest.Goals as goal
 
 pub invariant_of-self : goal.invariant_of-self
@@ -19,6 +20,8 @@ invariant_of-self g c =
       settled = after.settled;
       grants = after.same.kept;
       spare = omega (arith, inv.spare, closes.booked, ap (λ (wants : List Want). length wants) closes.waiting);
+      seated = seated_same _ _ _ inv.seated (record { same = closes.holders; lengths = omega (arith, closed.fewer_open, closed.fewer_idle) });
+      unclaimed = inv.unclaimed;
     }
 
 pub returns-clause-streams : goal.returns-clause-streams
@@ -32,7 +35,7 @@ returns-clause-keeps g c =
     let closed = c.close_oldest.ensures in
     let closes = closed.closes in
     let after = evict_keeps _ _ _ _ _ _ c.args.now _ inv.settled inv.grants inv.bookings closes.same.settings c.moment-moment.ensures closes.holders closes.waiting closed.number c.args.cause closed.oldest (of_idle_for_others c.args.cause c.requires.cause) closed.log in
-    keeps_at _ _ _ c.self.view_is (grants_keep _ _ _ _ _ _ _ _ _ _ _ _ after.same)
+    keeps_at _ _ _ c.self.view_is (grants_keep _ _ _ _ _ _ _ _ _ _ _ _ _ _ after.same)
 
 pub returns-clause-grew : goal.returns-clause-grew
 returns-clause-grew g c =

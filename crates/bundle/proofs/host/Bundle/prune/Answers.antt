@@ -1,8 +1,9 @@
-use Rattle.std.proofs.Common.{ap, length, ◌∙◌, arith}
+use Rattle.std.proofs.Common.{sym, ap, length, ◌∙◌, arith}
 use Rattle.conn_log.specs.declared.entry.Want.{Want}
 use Rattle.std.specs.Prelude.{List}
 use Rattle.host_state.specs.Idle.{stream_of}
 use Rattle.bundle.specs.Lease.{HostShown}
+use Rattle.bundle.proofs.Seating.{seated_same}
 use Rattle.bundle.proofs.Answering.{behind_same}
 use Rattle.bundle.proofs.TurnLogs.{prune_keeps, grants_keep, keeps_at, grows_at}
 use Rattle.bundle.proofs.host.Bundle.prune.Goals as goal
@@ -18,6 +19,8 @@ invariant_of-self g c =
       settled = after.settled;
       grants = after.same.kept;
       spare = omega (arith, inv.spare, closes.booked, ap (λ (wants : List Want). length wants) closes.waiting);
+      seated = seated_same _ _ _ inv.seated (record { same = closes.holders; lengths = sym c.close_idle.ensures.as_many_held });
+      unclaimed = inv.unclaimed;
     }
 
 pub returns-clause-streams : goal.returns-clause-streams
@@ -30,7 +33,7 @@ returns-clause-keeps g c =
     let inv = c.self.invariant in
     let closes = c.close_idle.ensures.closes in
     let after = prune_keeps _ _ _ _ _ _ c.args.now _ inv.settled inv.grants inv.bookings closes.same.settings c.moment-moment.ensures closes.holders closes.waiting c.args.max_age c.args.max_life c.close_idle.ensures.log in
-    keeps_at _ _ _ c.self.view_is (grants_keep _ _ _ _ _ _ _ _ _ _ _ _ after.same)
+    keeps_at _ _ _ c.self.view_is (grants_keep _ _ _ _ _ _ _ _ _ _ _ _ _ _ after.same)
 
 pub returns-clause-grew : goal.returns-clause-grew
 returns-clause-grew g c =

@@ -37,6 +37,8 @@ invariant_of-self-2 g c =
       settled = after.settled;
       grants = after.same.kept;
       spare = changed.spare;
+      seated = changed.seated;
+      unclaimed = changed.unclaimed;
     }
 
 pub returns-clause-log : goal.returns-clause-log
@@ -94,7 +96,7 @@ returns-clause-keeps g c =
     let log_is = changed.log ∙ ap (λ (v : HostState g.row.S.Denot). after_limit c.kept_limit-most.result given v.settings v.log c.args.now) reserved in
     let grants_are = changed.grants ∙ ap (λ (v : HostState g.row.S.Denot). with_limit c.kept_limit-most.result given v.settings v.log c.args.now c.self.inside.grants.items) reserved in
     let after = limit_keeps _ _ _ _ c.args.limit given c.args.now inv.settled inv.grants inv.bookings allowed within _ _ _ c.kept_limit-most.result same_settings c.kept_limit-most.ensures log_is grants_are in
-    keeps_at _ _ _ c.self.view_is (grants_keep _ _ _ _ _ _ _ _ _ _ _ _ after.same)
+    keeps_at _ _ _ c.self.view_is (grants_keep _ _ _ _ _ _ _ _ _ _ _ _ _ _ after.same)
 
 pub returns-clause-grew : goal.returns-clause-grew
 returns-clause-grew g c =

@@ -1,23 +1,29 @@
 use Rattle.std.proofs.Common.{◌≡◌, ℕ, true, false, not, length, Some, sym, ap, subst, ◌∙◌, arith}
 use Rattle.std.specs.Prelude.{◌==◌}
+use mathlib.Core.Bool.{false≢true}
 use Rattle.persistence.specs.Persistent.{is_persistent}
+use Rattle.budget.specs.Pairs.{HeldPairs}
 use Rattle.budget.specs.declared.permits.Try.TheVariants.{Got, Full, Contended}
 use Rattle.conn_log.specs.declared.entry.Cause.TheVariants.{CacheFull}
 use Rattle.conn_log.specs.declared.entry.Event.TheVariants.{Returned, Closed}
-use Rattle.conn_log.specs.Connections.{is_open, open_connections}
+use Rattle.conn_log.specs.Connections.{is_open, open_connections, idle_connections}
 use Rattle.conn_log.specs.Waiting.{waiting}
 use Rattle.conn_log.proofs.Soundness.{and_left}
-use Rattle.host_state.specs.State.{HostState}
+use Rattle.host_state.specs.State.{HostState, IsFreeOf}
 use Rattle.host_state.specs.Steps.{add, moment_at}
 use Rattle.bundle.specs.Calls.{after_give_back, returned, becomes_idle, is_freed}
 use Rattle.host_state.specs.Idle.{stream_of}
 use Rattle.bundle.specs.Laws.{IsSoundAndQuiet}
-use Rattle.bundle.specs.Lease.{HostShown, held_by}
+use Rattle.bundle.specs.Lease.{HostShown, Leasing, AreBooked, held_by}
+use Rattle.bundle.specs.Grants.{grant_starts, GrantsKept}
+use Rattle.bundle.specs.Seats.{IsSeated, AreUnclaimed}
+use Rattle.bundle.proofs.Told.{held_here}
 use Rattle.bundle.proofs.Answering.{known, freed_spends, spends_at}
 use Rattle.bundle.proofs.Settling.{settled_passed, settled_ended, alone_passed, room_ended, settled_unkept, passed_kept, ended_gone, grows_from, unmarked_from}
 use Rattle.bundle.proofs.Halfway.{booked_freed}
 use Rattle.bundle.proofs.Freeing.{part_fewer, freed_end}
 use Rattle.bundle.proofs.Resting.{back_spent, passed_given_back, ended_given_back, would_rest, back_again, back_not_kept, back_closed, shown, same_lease, full_told, freed_one, if_none, if_some, if_there, passed_open, not_freed, passed_part, released_part}
+use Rattle.bundle.proofs.LeaseEnds.{lease_held, ends_closed, ends_idle, handed_back, seated_spent, unclaimed_spent, table_here, apart_number, apart_transfer, apart_pair}
 use Rattle.bundle.proofs.host.Bundle.take_back.Goals as goal
 
 pub grant_to_head-requires-clause-alone : goal.grant_to_head-requires-clause-alone
@@ -25,6 +31,25 @@ grant_to_head-requires-clause-alone g c anyone =
     let state = c.self.inside.state in
     let back = c.in-Idle.ensures.idle in
     alone_passed state.settings state.log c.self.invariant.settled c.transfer-transfer.result c.in-Idle.held back.was_held c.moment-moment.result c.args.facts c.give_back-back.new.self.log back.log back.settled anyone
+
+pub grant_to_head-requires-clause-seated : goal.grant_to_head-requires-clause-seated
+grant_to_head-requires-clause-seated g c =
+    let state = c.self.inside.state in
+    let t = c.transfer-transfer.result in
+    let n = c.number-number.result in
+    let pair_is = apart_pair c.args.lease _ _ c.take_apart-used.ensures.used _ _ c.number-number.ensures c.transfer-transfer.ensures _ c.take_apart-used.ensures.pair in
+    let back = c.in-Idle.ensures.idle in
+    let ends = ends_idle state.log c.give_back-back.new.self.log t back.holders back.as_many_open back.more_idle in
+    seated_spent state.log c.self.inside.seats _ n t pair_is c.self.invariant.seated c.take_back.ensures.leased c.take_back.new.self c.clear.new.self c.take_back.ensures.back c.clear.ensures _ ends
+
+pub grant_to_head-requires-clause-unclaimed : goal.grant_to_head-requires-clause-unclaimed
+grant_to_head-requires-clause-unclaimed g c =
+    let state = c.self.inside.state in
+    let inv = c.self.invariant in
+    let t = c.transfer-transfer.result in
+    let n = c.number-number.result in
+    let pair_is = apart_pair c.args.lease _ _ c.take_apart-used.ensures.used _ _ c.number-number.ensures c.transfer-transfer.ensures _ c.take_apart-used.ensures.pair in
+    unclaimed_spent state.log c.self.inside.seats _ n t pair_is inv.seated c.take_back.ensures.leased c.take_back.new.self c.clear.new.self c.take_back.ensures.back c.clear.ensures c.self.inside.grants.items c.spend.new.grants.items inv.grants inv.unclaimed c.spend.ensures.others
 
 pub invariant_of-self : goal.invariant_of-self
 invariant_of-self g c =
@@ -40,39 +65,44 @@ invariant_of-self g c =
       settled = subst (λ settings. IsSoundAndQuiet settings c.grant_to_head.new.state.log) (sym (c.grant_to_head.ensures.same.settings ∙ back.same.settings)) settled.settled;
       grants = settled.freed.kept;
       spare = c.grant_to_head.ensures.spare;
+      seated = c.grant_to_head.ensures.seated;
+      unclaimed = c.grant_to_head.ensures.unclaimed;
     }
 
 pub returns-in-Idle-clause-stream : goal.returns-in-Idle-clause-stream
 returns-in-Idle-clause-stream g c still =
+    let number_is = apart_number c.args.lease _ _ c.take_apart-used.ensures.used _ _ c.number-number.ensures c.transfer-transfer.ensures in
     let state = c.self.inside.state in
     let back = c.in-Idle.ensures.idle in
     let inv = c.self.invariant in
     let held = c.in-Idle.held in
     let it = known state.log c.transfer-transfer.result held back.was_held in
-    let number = c.in-Idle.ensures.number ∙ c.number-number.ensures in
+    let number = c.in-Idle.ensures.number ∙ number_is in
     let kept = passed_kept state.settings state.log c.self.inside.grants.items inv.settled inv.grants state.streams c.transfer-transfer.result held.number it.number c.args.now c.detach-stream.result c.give_back-back.new.self.settings c.moment-moment.result c.give_back-back.new.self.log c.give_back-back.new.self.streams back.kept c.spend.new.grants.items c.spend.ensures.others c.grant_to_head.new.state.log c.grant_to_head.ensures.log c.grant_to_head.new.grants.items c.grant_to_head.ensures.grants c.grant_to_head.new.state.streams (λ none. ap (λ (s : HostState g.row.S.Denot). s.streams) (c.grant_to_head.ensures.nobody none)) (ap (is_open c.grant_to_head.new.state.log) number ∙ still) in
-    ap (stream_of _) (sym number) ∙ kept ∙ sym c.detach-stream.ensures.stream
+    ap (stream_of _) (sym number) ∙ kept ∙ sym c.detach-stream.ensures.stream ∙ ap (λ (l : Leasing g.row.S.Denot). l.stream) (sym c.take_apart-used.ensures.used)
 
 pub returns-in-Idle-clause-streams : goal.returns-in-Idle-clause-streams
 returns-in-Idle-clause-streams g c d other still =
+    let number_is = apart_number c.args.lease _ _ c.take_apart-used.ensures.used _ _ c.number-number.ensures c.transfer-transfer.ensures in
     let state = c.self.inside.state in
     let back = c.in-Idle.ensures.idle in
     let inv = c.self.invariant in
     let held = c.in-Idle.held in
     let it = known state.log c.transfer-transfer.result held back.was_held in
     let settled = settled_passed state.settings state.log c.self.inside.grants.items inv.settled inv.grants state.streams c.transfer-transfer.result held.number it.number c.args.now c.args.facts c.detach-stream.result c.give_back-back.new.self.settings back.same.settings c.moment-moment.result c.moment-moment.ensures c.give_back-back.new.self.log back.log back.settled c.give_back-back.new.self.streams back.kept c.spend.new.grants.items c.spend.ensures.others c.grant_to_head.new.state.log c.grant_to_head.ensures.log c.grant_to_head.new.grants.items c.grant_to_head.ensures.grants c.grant_to_head.new.state.streams (λ d other still. c.grant_to_head.ensures.others d other still ∙ back.others d other) in
-    let apart : (held.number == d) ≡ false = ap (λ (n : ℕ). n == d) (c.in-Idle.ensures.number ∙ c.number-number.ensures) ∙ other in
+    let apart : (held.number == d) ≡ false = ap (λ (n : ℕ). n == d) (c.in-Idle.ensures.number ∙ number_is) ∙ other in
     settled.others d apart still ∙ ap (λ (v : HostShown g.row.S.Denot). stream_of v.streams d) c.self.view_is
 
 pub returns-in-Idle-clause-spends : goal.returns-in-Idle-clause-spends
 returns-in-Idle-clause-spends g c =
+    let transfer_is = apart_transfer c.args.lease _ _ c.take_apart-used.ensures.used _ _ c.number-number.ensures c.transfer-transfer.ensures in
     let state = c.self.inside.state in
     let back = c.in-Idle.ensures.idle in
     let inv = c.self.invariant in
     let held = c.in-Idle.held in
     let it = known state.log c.transfer-transfer.result held back.was_held in
     let settled = settled_passed state.settings state.log c.self.inside.grants.items inv.settled inv.grants state.streams c.transfer-transfer.result held.number it.number c.args.now c.args.facts c.detach-stream.result c.give_back-back.new.self.settings back.same.settings c.moment-moment.result c.moment-moment.ensures c.give_back-back.new.self.log back.log back.settled c.give_back-back.new.self.streams back.kept c.spend.new.grants.items c.spend.ensures.others c.grant_to_head.new.state.log c.grant_to_head.ensures.log c.grant_to_head.new.grants.items c.grant_to_head.ensures.grants c.grant_to_head.new.state.streams (λ d other still. c.grant_to_head.ensures.others d other still ∙ back.others d other) in
-    spends_at _ _ _ _ _ c.self.view_is c.transfer-transfer.ensures (freed_spends _ _ _ _ _ _ _ _ _ _ _ _ _ settled.freed)
+    spends_at _ _ _ _ _ c.self.view_is transfer_is (freed_spends _ _ _ _ _ _ _ _ _ _ _ _ _ _ _ settled.freed)
 
 pub returns-in-Idle-clause-grew : goal.returns-in-Idle-clause-grew
 returns-in-Idle-clause-grew g c =
@@ -84,6 +114,25 @@ returns-in-Idle-clause-grew g c =
     let settled = settled_passed state.settings state.log c.self.inside.grants.items inv.settled inv.grants state.streams c.transfer-transfer.result held.number it.number c.args.now c.args.facts c.detach-stream.result c.give_back-back.new.self.settings back.same.settings c.moment-moment.result c.moment-moment.ensures c.give_back-back.new.self.log back.log back.settled c.give_back-back.new.self.streams back.kept c.spend.new.grants.items c.spend.ensures.others c.grant_to_head.new.state.log c.grant_to_head.ensures.log c.grant_to_head.new.grants.items c.grant_to_head.ensures.grants c.grant_to_head.new.state.streams (λ d other still. c.grant_to_head.ensures.others d other still ∙ back.others d other) in
     grows_from _ _ _ (ap (λ (v : HostShown g.row.S.Denot). v.log) c.self.view_is) settled.grew
 
+pub hand_on-requires-clause-seated : goal.hand_on-requires-clause-seated
+hand_on-requires-clause-seated g c =
+    let state = c.self.inside.state in
+    let t = c.transfer-transfer.result in
+    let n = c.number-number.result in
+    let pair_is = apart_pair c.args.lease _ _ c.take_apart-used.ensures.used _ _ c.number-number.ensures c.transfer-transfer.ensures _ c.take_apart-used.ensures.pair in
+    let ended = c.in-Ended.ensures.closed in
+    let ends = ends_closed state.log c.give_back-back.new.self.log t ended.holders ended.fewer_open ended.as_many_idle in
+    seated_spent state.log c.self.inside.seats _ n t pair_is c.self.invariant.seated c.take_back.ensures.leased c.take_back.new.self c.clear-in-Ended.new.self c.take_back.ensures.back c.clear-in-Ended.ensures _ ends
+
+pub hand_on-requires-clause-unclaimed : goal.hand_on-requires-clause-unclaimed
+hand_on-requires-clause-unclaimed g c =
+    let state = c.self.inside.state in
+    let inv = c.self.invariant in
+    let t = c.transfer-transfer.result in
+    let n = c.number-number.result in
+    let pair_is = apart_pair c.args.lease _ _ c.take_apart-used.ensures.used _ _ c.number-number.ensures c.transfer-transfer.ensures _ c.take_apart-used.ensures.pair in
+    unclaimed_spent state.log c.self.inside.seats _ n t pair_is inv.seated c.take_back.ensures.leased c.take_back.new.self c.clear-in-Ended.new.self c.take_back.ensures.back c.clear-in-Ended.ensures c.self.inside.grants.items c.spend-in-Ended.new.grants.items inv.grants inv.unclaimed c.spend-in-Ended.ensures.others
+
 pub hand_on-requires-clause-room : goal.hand_on-requires-clause-room
 hand_on-requires-clause-room g c =
     let state = c.self.inside.state in
@@ -93,26 +142,29 @@ hand_on-requires-clause-room g c =
 
 pub returns-in-Ended-clause-stream : goal.returns-in-Ended-clause-stream
 returns-in-Ended-clause-stream g c still =
-    let number = c.number-number.ensures in
+    let number_is = apart_number c.args.lease _ _ c.take_apart-used.ensures.used _ _ c.number-number.ensures c.transfer-transfer.ensures in
+    let number = number_is in
     let ended = c.in-Ended.ensures.closed in
     absurd (ended_gone c.number-number.result ended.ends.cause c.give_back-back.new.self.settings c.moment-moment.result _ c.give_back-back.new.self.log ended.ends.log c.hand_on.new.state.log c.hand_on.ensures.log (ap (is_open c.hand_on.new.state.log) number ∙ still))
 
 pub returns-in-Ended-clause-streams : goal.returns-in-Ended-clause-streams
 returns-in-Ended-clause-streams g c d other still =
+    let number_is = apart_number c.args.lease _ _ c.take_apart-used.ensures.used _ _ c.number-number.ensures c.transfer-transfer.ensures in
     let state = c.self.inside.state in
     let inv = c.self.invariant in
     let ended = c.in-Ended.ensures.closed in
     let settled = settled_ended state.settings state.log c.self.inside.grants.items inv.settled inv.grants state.streams c.transfer-transfer.result c.number-number.result ended.was_held c.args.now c.args.facts ended.ends.cause c.give_back-back.new.self.settings ended.same.settings c.moment-moment.result c.moment-moment.ensures ended.ends.owes c.give_back-back.new.self.log ended.ends.log c.spend-in-Ended.new.grants.items c.spend-in-Ended.ensures.others c.hand_on.new.state.log c.hand_on.ensures.log c.hand_on.new.grants.items c.hand_on.ensures.grants c.hand_on.new.state.streams (c.hand_on.ensures.streams ∙ ended.streams) in
-    let apart : (c.number-number.result == d) ≡ false = ap (λ (n : ℕ). n == d) c.number-number.ensures ∙ other in
+    let apart : (c.number-number.result == d) ≡ false = ap (λ (n : ℕ). n == d) number_is ∙ other in
     settled.others d apart still ∙ ap (λ (v : HostShown g.row.S.Denot). stream_of v.streams d) c.self.view_is
 
 pub returns-in-Ended-clause-spends : goal.returns-in-Ended-clause-spends
 returns-in-Ended-clause-spends g c =
+    let transfer_is = apart_transfer c.args.lease _ _ c.take_apart-used.ensures.used _ _ c.number-number.ensures c.transfer-transfer.ensures in
     let state = c.self.inside.state in
     let inv = c.self.invariant in
     let ended = c.in-Ended.ensures.closed in
     let settled = settled_ended state.settings state.log c.self.inside.grants.items inv.settled inv.grants state.streams c.transfer-transfer.result c.number-number.result ended.was_held c.args.now c.args.facts ended.ends.cause c.give_back-back.new.self.settings ended.same.settings c.moment-moment.result c.moment-moment.ensures ended.ends.owes c.give_back-back.new.self.log ended.ends.log c.spend-in-Ended.new.grants.items c.spend-in-Ended.ensures.others c.hand_on.new.state.log c.hand_on.ensures.log c.hand_on.new.grants.items c.hand_on.ensures.grants c.hand_on.new.state.streams (c.hand_on.ensures.streams ∙ ended.streams) in
-    spends_at _ _ _ _ _ c.self.view_is c.transfer-transfer.ensures (freed_spends _ _ _ _ _ _ _ _ _ _ _ _ _ settled.freed)
+    spends_at _ _ _ _ _ c.self.view_is transfer_is (freed_spends _ _ _ _ _ _ _ _ _ _ _ _ _ _ _ settled.freed)
 
 pub returns-in-Ended-clause-grew : goal.returns-in-Ended-clause-grew
 returns-in-Ended-clause-grew g c =
@@ -134,18 +186,21 @@ invariant_of-self-in-Ended g c =
       settled = subst (λ settings. IsSoundAndQuiet settings c.hand_on.new.state.log) (sym (c.hand_on.ensures.same.settings ∙ ended.same.settings)) settled.settled;
       grants = settled.freed.kept;
       spare = c.hand_on.ensures.spare;
+      seated = c.hand_on.ensures.seated;
+      unclaimed = c.hand_on.ensures.unclaimed;
     }
 
 pub returns-in-Idle-clause-told : goal.returns-in-Idle-clause-told
 returns-in-Idle-clause-told g c =
+    let number_is = apart_number c.args.lease _ _ c.take_apart-used.ensures.used _ _ c.number-number.ensures c.transfer-transfer.ensures in
     let state = c.self.inside.state in
     let back = c.in-Idle.ensures.idle in
     let held = c.in-Idle.held in
     let log_is = passed_given_back state.settings state.log held.number c.args.facts c.args.now c.give_back-back.new.self.settings back.same.settings c.moment-moment.result c.moment-moment.ensures c.give_back-back.new.self.log back.log back.settled c.grant_to_head.new.state.log c.grant_to_head.ensures.log
-    ∙ ap (λ (n : ℕ). after_give_back state.settings state.log n c.args.facts c.args.now) (c.in-Idle.ensures.number ∙ c.number-number.ensures)
+    ∙ ap (λ (n : ℕ). after_give_back state.settings state.log n c.args.facts c.args.now) (c.in-Idle.ensures.number ∙ number_is)
     ∙ ap (λ (v : HostShown g.row.S.Denot). after_give_back v.settings v.log c.args.lease.start.number c.args.facts c.args.now) c.self.view_is in
     let opens = passed_open c.give_back-back.new.self.log c.grant_to_head.new.state.log c.grant_to_head.ensures.taken (λ none. ap (λ (s : HostState g.row.S.Denot). s.log) (c.grant_to_head.ensures.nobody none)) ∙ back.as_many_open ∙ ap (λ (v : HostShown g.row.S.Denot). length (open_connections v.log)) c.self.view_is in
-    (Got, g.met.P.Permits.not_asked_to_keep _ _ c.ask_to_keep-asked.ensures.stays, back_spent c.args.self.now (shown c.grant_to_head.new.state c.grant_to_head.new.grants.items c.self.inside.bookings.items) c.args.lease c.args.facts c.args.now c.args.close_if_full false log_is (not_freed c.args.self.now.log c.grant_to_head.new.state.log opens))
+    (Got, g.met.P.Permits.not_asked_to_keep _ _ c.ask_to_keep-asked.ensures.stays, back_spent c.args.self.now (shown c.grant_to_head.new.state c.grant_to_head.new.grants.items c.self.inside.bookings.items c.grant_to_head.new.seats.table) c.args.lease c.args.facts c.args.now c.args.close_if_full false log_is (not_freed c.args.self.now.log c.grant_to_head.new.state.log opens))
 
 pub returns-in-Idle-clause-part : goal.returns-in-Idle-clause-part
 returns-in-Idle-clause-part g c =
@@ -176,15 +231,16 @@ returns-in-Ended-clause-stays g c = g.met.P.Permits.stays_on _ _ _ c.ask_to_keep
 
 pub returns-in-Ended-clause-told : goal.returns-in-Ended-clause-told
 returns-in-Ended-clause-told g c =
+    let number_is = apart_number c.args.lease _ _ c.take_apart-used.ensures.used _ _ c.number-number.ensures c.transfer-transfer.ensures in
     let state = c.self.inside.state in
     let ended = c.in-Ended.ensures.closed in
     let log_is = ended_given_back state.settings state.log c.number-number.result c.args.facts c.args.now c.give_back-back.new.self.settings ended.same.settings c.moment-moment.result c.moment-moment.ensures ended.ends.cause ended.ends.owes c.give_back-back.new.self.log ended.ends.log c.hand_on.new.state.log c.hand_on.ensures.log
-    ∙ ap (λ (n : ℕ). after_give_back state.settings state.log n c.args.facts c.args.now) c.number-number.ensures
+    ∙ ap (λ (n : ℕ). after_give_back state.settings state.log n c.args.facts c.args.now) number_is
     ∙ ap (λ (v : HostShown g.row.S.Denot). after_give_back v.settings v.log c.args.lease.start.number c.args.facts c.args.now) c.self.view_is in
     let freed_is = freed_end state.settings state.log c.self.invariant.settled c.transfer-transfer.result c.number-number.result ended.was_held c.args.now c.give_back-back.new.self.settings ended.same.settings c.moment-moment.result c.moment-moment.ensures c.give_back-back.new.self.log c.hand_on.new.state.log c.hand_on.ensures.log c.anyone_waits-freed.result c.anyone_waits-freed.ensures.yes c.anyone_waits-freed.ensures.no c.args.facts ended.ends.cause ended.ends.owes ended.ends.log
     ∙ ap (λ (v : HostShown g.row.S.Denot). is_freed v.log c.hand_on.new.state.log) c.self.view_is in
     let stays = g.met.P.Permits.stays_on _ _ _ c.ask_to_keep-asked.ensures.stays (g.met.P.Permits.stays_on _ _ _ c.release_unused.ensures.stays c.hand_on.ensures.stays) in
-    (Got, g.met.P.Permits.not_asked_to_keep _ _ stays, back_spent c.args.self.now (shown c.hand_on.new.state c.hand_on.new.grants.items c.self.inside.bookings.items) c.args.lease c.args.facts c.args.now c.args.close_if_full (not c.anyone_waits-freed.result) log_is freed_is)
+    (Got, g.met.P.Permits.not_asked_to_keep _ _ stays, back_spent c.args.self.now (shown c.hand_on.new.state c.hand_on.new.grants.items c.self.inside.bookings.items c.hand_on.new.seats.table) c.args.lease c.args.facts c.args.now c.args.close_if_full (not c.anyone_waits-freed.result) log_is freed_is)
 
 pub returns-in-Ended-clause-mark : goal.returns-in-Ended-clause-mark
 returns-in-Ended-clause-mark g c =
@@ -196,6 +252,7 @@ returns-in-Ended-clause-mark g c =
 
 pub returns-then-must_ask_again-clause-told : goal.returns-then-must_ask_again-clause-told
 returns-then-must_ask_again-clause-told g c =
+    let number_is = apart_number c.args.lease _ _ c.take_apart-used.ensures.used _ _ c.number-number.ensures c.transfer-transfer.ensures in
     let state = c.self.inside.state in
     let inv = c.self.invariant in
     let asked = c.ask_to_keep-asked in
@@ -203,13 +260,17 @@ returns-then-must_ask_again-clause-told g c =
     let not_given = c.may_keep.ensures.no c.in-Unkept.ensures.unkept.0 in
     let same = c.in-Unkept.ensures.unkept_same.1 in
     let idle = would_rest state.settings state inv.settled.sound c.transfer-transfer.result number c.args.facts c.args.now c.in-Unkept.ensures.unkept.1 (if_there asked.result not_given.0 asked.ensures.nobody) in
-    let idle_here = ap (λ (v : HostShown g.row.S.Denot). becomes_idle v.log c.args.lease.start.number c.args.facts c.args.now) (sym c.self.view_is) ∙ ap (λ (n : ℕ). becomes_idle state.log n c.args.facts c.args.now) (sym c.number-number.ensures) ∙ idle in
-    let unchanged = ap (λ (s : HostState g.row.S.Denot). shown s c.self.inside.grants.items c.self.inside.bookings.items) same ∙ c.self.view_is in
+    let idle_here = ap (λ (v : HostShown g.row.S.Denot). becomes_idle v.log c.args.lease.start.number c.args.facts c.args.now) (sym c.self.view_is) ∙ ap (λ (n : ℕ). becomes_idle state.log n c.args.facts c.args.now) (sym number_is) ∙ idle in
+    let handed = handed_back c.self.inside.seats c.take_back.new.self _ c.take_back.ensures.back inv.seated.none_back c.again.new.seats c.again.ensures.seats in
+    let unchanged = ap (λ (s : HostState g.row.S.Denot). shown s c.self.inside.grants.items c.self.inside.bookings.items c.again.new.seats.table) same ∙ ap (λ (h : HeldPairs). shown state c.self.inside.grants.items c.self.inside.bookings.items h.table) handed ∙ c.self.view_is in
+    let now_here = table_here c.args.lease _ _ c.take_apart-used.ensures.used c.self.inside.seats c.take_back.new.self _ _ c.requires.here (ap (λ (v : HostShown g.row.S.Denot). v.table) c.self.view_is) c.take_back.ensures.back in
+    let as_it_was = same_lease c.args.lease c.again.result _ _ _ _ _ _ c.take_apart-used.ensures.used c.detach-stream.ensures.stream c.detach-stream.ensures.rest c.again.ensures.lease now_here c.in-Unkept.ensures.unkept_same.0 in
     let missed = c.must_ask_again.ensures.yes c.if-must_ask_again.true in
-    (Contended, if_some asked.result Contended (λ told. g.P.Permits.keeping c.args.permits.now asked.new.permits told) missed asked.ensures.told, back_again c.args.self.now (shown c.give_back-back.new.self c.self.inside.grants.items c.self.inside.bookings.items) c.args.lease c.args.facts c.args.now idle_here c.args.close_if_full _ (same_lease _ _ _ _ _ c.detach-stream.ensures.stream c.detach-stream.ensures.rest c.with_stream.ensures c.in-Unkept.ensures.unkept_same.0) unchanged)
+    (Contended, if_some asked.result Contended (λ told. g.P.Permits.keeping c.args.permits.now asked.new.permits told) missed asked.ensures.told, back_again c.args.self.now (shown c.give_back-back.new.self c.self.inside.grants.items c.self.inside.bookings.items c.again.new.seats.table) c.args.lease c.args.facts c.args.now idle_here c.args.close_if_full _ as_it_was unchanged)
 
 pub returns-then-not-close_if_full-clause-told : goal.returns-then-not-close_if_full-clause-told
 returns-then-not-close_if_full-clause-told g c =
+    let number_is = apart_number c.args.lease _ _ c.take_apart-used.ensures.used _ _ c.number-number.ensures c.transfer-transfer.ensures in
     let state = c.self.inside.state in
     let inv = c.self.invariant in
     let asked = c.ask_to_keep-asked in
@@ -217,10 +278,73 @@ returns-then-not-close_if_full-clause-told g c =
     let not_given = c.may_keep.ensures.no c.in-Unkept.ensures.unkept.0 in
     let same = c.in-Unkept.ensures.unkept_same.1 in
     let idle = would_rest state.settings state inv.settled.sound c.transfer-transfer.result number c.args.facts c.args.now c.in-Unkept.ensures.unkept.1 (if_there asked.result not_given.0 asked.ensures.nobody) in
-    let idle_here = ap (λ (v : HostShown g.row.S.Denot). becomes_idle v.log c.args.lease.start.number c.args.facts c.args.now) (sym c.self.view_is) ∙ ap (λ (n : ℕ). becomes_idle state.log n c.args.facts c.args.now) (sym c.number-number.ensures) ∙ idle in
-    let unchanged = ap (λ (s : HostState g.row.S.Denot). shown s c.self.inside.grants.items c.self.inside.bookings.items) same ∙ c.self.view_is in
+    let idle_here = ap (λ (v : HostShown g.row.S.Denot). becomes_idle v.log c.args.lease.start.number c.args.facts c.args.now) (sym c.self.view_is) ∙ ap (λ (n : ℕ). becomes_idle state.log n c.args.facts c.args.now) (sym number_is) ∙ idle in
+    let handed = handed_back c.self.inside.seats c.take_back.new.self _ c.take_back.ensures.back inv.seated.none_back c.again-then-not-close_if_full.new.seats c.again-then-not-close_if_full.ensures.seats in
+    let unchanged = ap (λ (s : HostState g.row.S.Denot). shown s c.self.inside.grants.items c.self.inside.bookings.items c.again-then-not-close_if_full.new.seats.table) same ∙ ap (λ (h : HeldPairs). shown state c.self.inside.grants.items c.self.inside.bookings.items h.table) handed ∙ c.self.view_is in
+    let now_here = table_here c.args.lease _ _ c.take_apart-used.ensures.used c.self.inside.seats c.take_back.new.self _ _ c.requires.here (ap (λ (v : HostShown g.row.S.Denot). v.table) c.self.view_is) c.take_back.ensures.back in
+    let as_it_was = same_lease c.args.lease c.again-then-not-close_if_full.result _ _ _ _ _ _ c.take_apart-used.ensures.used c.detach-stream.ensures.stream c.detach-stream.ensures.rest c.again-then-not-close_if_full.ensures.lease now_here c.in-Unkept.ensures.unkept_same.0 in
     let full = full_told asked.result not_given.0 not_given.1 (c.must_ask_again.ensures.no c.if-must_ask_again.false) in
-    (Full, if_some asked.result Full (λ told. g.P.Permits.keeping c.args.permits.now asked.new.permits told) full asked.ensures.told, back_not_kept c.args.self.now (shown c.give_back-back.new.self c.self.inside.grants.items c.self.inside.bookings.items) c.args.lease c.args.facts c.args.now idle_here c.args.close_if_full c.if-not-close_if_full.true _ (same_lease _ _ _ _ _ c.detach-stream.ensures.stream c.detach-stream.ensures.rest c.with_stream-then-not-close_if_full.ensures c.in-Unkept.ensures.unkept_same.0) unchanged)
+    (Full, if_some asked.result Full (λ told. g.P.Permits.keeping c.args.permits.now asked.new.permits told) full asked.ensures.told, back_not_kept c.args.self.now (shown c.give_back-back.new.self c.self.inside.grants.items c.self.inside.bookings.items c.again-then-not-close_if_full.new.seats.table) c.args.lease c.args.facts c.args.now idle_here c.args.close_if_full c.if-not-close_if_full.true _ as_it_was unchanged)
+
+pub invariant_of-self-then-must_ask_again : goal.invariant_of-self-then-must_ask_again
+invariant_of-self-then-must_ask_again g c =
+    let state = c.self.inside.state in
+    let grants = c.self.inside.grants.items in
+    let inv = c.self.invariant in
+    let same = c.in-Unkept.ensures.unkept_same.1 in
+    let handed = handed_back c.self.inside.seats c.take_back.new.self _ c.take_back.ensures.back inv.seated.none_back c.again.new.seats c.again.ensures.seats in
+    let old = sym same in
+    record {
+      count = ap (λ (s : HostState g.row.S.Denot). s.booked) same ∙ inv.count;
+      bookings = subst (λ (s : HostState g.row.S.Denot). AreBooked s.log c.self.inside.bookings.items) old inv.bookings;
+      settled = subst (λ (s : HostState g.row.S.Denot). IsSoundAndQuiet s.settings s.log) old inv.settled;
+      grants = subst (λ (s : HostState g.row.S.Denot). GrantsKept s.log grants) old inv.grants;
+      spare = omega (arith, inv.spare, ap (λ (s : HostState g.row.S.Denot). s.booked) same, ap (λ (s : HostState g.row.S.Denot). length (waiting s.log)) same);
+      seated = subst (λ (h : HeldPairs). IsSeated c.give_back-back.new.self.log h) (sym handed) (subst (λ (s : HostState g.row.S.Denot). IsSeated s.log c.self.inside.seats) old inv.seated);
+      unclaimed = subst (λ (h : HeldPairs). AreUnclaimed (grant_starts grants) h) (sym handed) inv.unclaimed;
+    }
+
+pub invariant_of-self-then-not-close_if_full : goal.invariant_of-self-then-not-close_if_full
+invariant_of-self-then-not-close_if_full g c =
+    let state = c.self.inside.state in
+    let grants = c.self.inside.grants.items in
+    let inv = c.self.invariant in
+    let same = c.in-Unkept.ensures.unkept_same.1 in
+    let handed = handed_back c.self.inside.seats c.take_back.new.self _ c.take_back.ensures.back inv.seated.none_back c.again-then-not-close_if_full.new.seats c.again-then-not-close_if_full.ensures.seats in
+    let old = sym same in
+    record {
+      count = ap (λ (s : HostState g.row.S.Denot). s.booked) same ∙ inv.count;
+      bookings = subst (λ (s : HostState g.row.S.Denot). AreBooked s.log c.self.inside.bookings.items) old inv.bookings;
+      settled = subst (λ (s : HostState g.row.S.Denot). IsSoundAndQuiet s.settings s.log) old inv.settled;
+      grants = subst (λ (s : HostState g.row.S.Denot). GrantsKept s.log grants) old inv.grants;
+      spare = omega (arith, inv.spare, ap (λ (s : HostState g.row.S.Denot). s.booked) same, ap (λ (s : HostState g.row.S.Denot). length (waiting s.log)) same);
+      seated = subst (λ (h : HeldPairs). IsSeated c.give_back-back.new.self.log h) (sym handed) (subst (λ (s : HostState g.row.S.Denot). IsSeated s.log c.self.inside.seats) old inv.seated);
+      unclaimed = subst (λ (h : HeldPairs). AreUnclaimed (grant_starts grants) h) (sym handed) inv.unclaimed;
+    }
+
+pub returns-then-must_ask_again-clause-unchanged : goal.returns-then-must_ask_again-clause-unchanged
+returns-then-must_ask_again-clause-unchanged g c =
+    let state = c.self.inside.state in
+    let same = c.in-Unkept.ensures.unkept_same.1 in
+    let handed = handed_back c.self.inside.seats c.take_back.new.self _ c.take_back.ensures.back c.self.invariant.seated.none_back c.again.new.seats c.again.ensures.seats in
+    ap (λ (s : HostState g.row.S.Denot). shown s c.self.inside.grants.items c.self.inside.bookings.items c.again.new.seats.table) same ∙ ap (λ (h : HeldPairs). shown state c.self.inside.grants.items c.self.inside.bookings.items h.table) handed ∙ c.self.view_is
+
+pub returns-then-not-close_if_full-clause-unchanged : goal.returns-then-not-close_if_full-clause-unchanged
+returns-then-not-close_if_full-clause-unchanged g c =
+    let state = c.self.inside.state in
+    let same = c.in-Unkept.ensures.unkept_same.1 in
+    let handed = handed_back c.self.inside.seats c.take_back.new.self _ c.take_back.ensures.back c.self.invariant.seated.none_back c.again-then-not-close_if_full.new.seats c.again-then-not-close_if_full.ensures.seats in
+    ap (λ (s : HostState g.row.S.Denot). shown s c.self.inside.grants.items c.self.inside.bookings.items c.again-then-not-close_if_full.new.seats.table) same ∙ ap (λ (h : HeldPairs). shown state c.self.inside.grants.items c.self.inside.bookings.items h.table) handed ∙ c.self.view_is
+
+pub unreachable-requires : goal.unreachable-requires
+unreachable-requires g c =
+    let state = c.self.inside.state in
+    let inv = c.self.invariant in
+    let t = c.transfer-transfer.result in
+    let n = c.number-number.result in
+    let pair_is = apart_pair c.args.lease _ _ c.take_apart-used.ensures.used _ _ c.number-number.ensures c.transfer-transfer.ensures _ c.take_apart-used.ensures.pair in
+    let held = lease_held state.log c.self.inside.seats _ n t pair_is inv.seated c.take_back.ensures.leased in
+    false≢true (sym c.in-Strange.ensures.strange ∙ held_here state.settings state.log inv.settled.sound.orderly t n held)
 
 pub invariant_of-self-in-Unkept : goal.invariant_of-self-in-Unkept
 invariant_of-self-in-Unkept g c =
@@ -238,16 +362,22 @@ invariant_of-self-in-Unkept g c =
     let streams_are = c.give_back_to_close.ensures.streams ∙ ap (λ (s : HostState g.row.S.Denot). s.streams) same in
     let settled = settled_unkept state.settings state.log c.self.inside.grants.items inv.settled inv.grants state.streams c.transfer-transfer.result number mine c.args.now c.args.facts idle c.moment-moment.result c.moment-moment.ensures c.spend-in-Unkept.new.grants.items c.spend-in-Unkept.ensures.others c.give_back_to_close.new.self.log log_is c.give_back_to_close.new.self.streams streams_are in
     let booked = c.give_back_to_close.ensures.booked ∙ ap (λ (s : HostState g.row.S.Denot). s.booked) same in
+    let back = c.give_back_to_close.ensures in
+    let ends = ends_closed state.log c.give_back_to_close.new.self.log c.transfer-transfer.result (subst (λ (s : HostState g.row.S.Denot). IsFreeOf s.log c.give_back_to_close.new.self.log c.transfer-transfer.result) same back.holders) (ap (λ (s : HostState g.row.S.Denot). length (open_connections s.log)) (sym same) ∙ back.fewer_open) (back.as_many_idle ∙ ap (λ (s : HostState g.row.S.Denot). length (idle_connections s.log)) same) in
+    let pair_is = apart_pair c.args.lease _ _ c.take_apart-used.ensures.used _ _ c.number-number.ensures c.transfer-transfer.ensures _ c.take_apart-used.ensures.pair in
     record {
       count = booked ∙ inv.count;
       bookings = booked_freed _ _ _ _ _ inv.grants settled.freed c.self.inside.bookings.items inv.bookings;
       settled = subst (λ settings. IsSoundAndQuiet settings c.give_back_to_close.new.self.log) (sym (c.give_back_to_close.ensures.same.settings ∙ ap (λ (s : HostState g.row.S.Denot). s.settings) same)) settled.settled;
       grants = settled.freed.kept;
       spare = omega (arith, inv.spare, ap (λ log. length (waiting log)) log_is, booked, c.spend-in-Unkept.ensures.len, c.spend-in-Unkept.ensures.capacity);
+      seated = seated_spent state.log c.self.inside.seats _ number c.transfer-transfer.result pair_is inv.seated c.take_back.ensures.leased c.take_back.new.self c.clear-in-Unkept.new.self c.take_back.ensures.back c.clear-in-Unkept.ensures _ ends;
+      unclaimed = unclaimed_spent state.log c.self.inside.seats _ number c.transfer-transfer.result pair_is inv.seated c.take_back.ensures.leased c.take_back.new.self c.clear-in-Unkept.new.self c.take_back.ensures.back c.clear-in-Unkept.ensures c.self.inside.grants.items c.spend-in-Unkept.new.grants.items inv.grants inv.unclaimed c.spend-in-Unkept.ensures.others;
     }
 
 pub returns-else-not-close_if_full-clause-told : goal.returns-else-not-close_if_full-clause-told
 returns-else-not-close_if_full-clause-told g c =
+    let number_is = apart_number c.args.lease _ _ c.take_apart-used.ensures.used _ _ c.number-number.ensures c.transfer-transfer.ensures in
     let state = c.self.inside.state in
     let inv = c.self.invariant in
     let asked = c.ask_to_keep-asked in
@@ -255,18 +385,19 @@ returns-else-not-close_if_full-clause-told g c =
     let not_given = c.may_keep.ensures.no c.in-Unkept.ensures.unkept.0 in
     let same = c.in-Unkept.ensures.unkept_same.1 in
     let idle = would_rest state.settings state inv.settled.sound c.transfer-transfer.result number c.args.facts c.args.now c.in-Unkept.ensures.unkept.1 (if_there asked.result not_given.0 asked.ensures.nobody) in
-    let idle_here = ap (λ (v : HostShown g.row.S.Denot). becomes_idle v.log c.args.lease.start.number c.args.facts c.args.now) (sym c.self.view_is) ∙ ap (λ (n : ℕ). becomes_idle state.log n c.args.facts c.args.now) (sym c.number-number.ensures) ∙ idle in
+    let idle_here = ap (λ (v : HostShown g.row.S.Denot). becomes_idle v.log c.args.lease.start.number c.args.facts c.args.now) (sym c.self.view_is) ∙ ap (λ (n : ℕ). becomes_idle state.log n c.args.facts c.args.now) (sym number_is) ∙ idle in
     let full = full_told asked.result not_given.0 not_given.1 (c.must_ask_again.ensures.no c.if-must_ask_again.false) in
     let keeps = if_some asked.result Full (λ told. g.P.Permits.keeping c.args.permits.now asked.new.permits told) full asked.ensures.told in
     let log_is = c.give_back_to_close.ensures.log ∙ ap (λ (s : HostState g.row.S.Denot). add c.moment-moment.result (Closed number CacheFull) (add c.moment-moment.result (Returned number c.args.facts) s.log)) same
     ∙ ap (λ (k : ℕ). add k (Closed number CacheFull) (add k (Returned number c.args.facts) state.log)) c.moment-moment.ensures
-    ∙ ap (λ (n : ℕ). add (moment_at state.log c.args.now) (Closed n CacheFull) (returned state.log n c.args.facts c.args.now)) c.number-number.ensures
+    ∙ ap (λ (n : ℕ). add (moment_at state.log c.args.now) (Closed n CacheFull) (returned state.log n c.args.facts c.args.now)) number_is
     ∙ ap (λ (v : HostShown g.row.S.Denot). add (moment_at v.log c.args.now) (Closed c.args.lease.start.number CacheFull) (returned v.log c.args.lease.start.number c.args.facts c.args.now)) c.self.view_is in
     let fewer = ap (λ (v : HostShown g.row.S.Denot). length (open_connections v.log)) (sym c.self.view_is) ∙ ap (λ (s : HostState g.row.S.Denot). length (open_connections s.log)) (sym same) ∙ c.give_back_to_close.ensures.fewer_open in
-    (Full, g.met.P.Permits.keeping_still _ _ _ Full keeps c.release_open.ensures.stays c.release_open.ensures.same_kept, back_closed c.args.self.now (shown c.give_back_to_close.new.self c.spend-in-Unkept.new.grants.items c.self.inside.bookings.items) c.args.lease c.args.facts c.args.now idle_here c.args.close_if_full c.if-not-close_if_full.false true log_is (freed_one c.args.self.now.log c.give_back_to_close.new.self.log fewer))
+    (Full, g.met.P.Permits.keeping_still _ _ _ Full keeps c.release_open.ensures.stays c.release_open.ensures.same_kept, back_closed c.args.self.now (shown c.give_back_to_close.new.self c.spend-in-Unkept.new.grants.items c.self.inside.bookings.items c.clear-in-Unkept.new.self.table) c.args.lease c.args.facts c.args.now idle_here c.args.close_if_full c.if-not-close_if_full.false true log_is (freed_one c.args.self.now.log c.give_back_to_close.new.self.log fewer))
 
 pub returns-else-not-close_if_full-clause-streams : goal.returns-else-not-close_if_full-clause-streams
 returns-else-not-close_if_full-clause-streams g c d other still =
+    let number_is = apart_number c.args.lease _ _ c.take_apart-used.ensures.used _ _ c.number-number.ensures c.transfer-transfer.ensures in
     let state = c.self.inside.state in
     let inv = c.self.invariant in
     let asked = c.ask_to_keep-asked in
@@ -280,10 +411,11 @@ returns-else-not-close_if_full-clause-streams g c d other still =
     let log_is = c.give_back_to_close.ensures.log ∙ ap (λ (s : HostState g.row.S.Denot). add c.moment-moment.result (Closed number CacheFull) (add c.moment-moment.result (Returned number c.args.facts) s.log)) same in
     let streams_are = c.give_back_to_close.ensures.streams ∙ ap (λ (s : HostState g.row.S.Denot). s.streams) same in
     let settled = settled_unkept state.settings state.log c.self.inside.grants.items inv.settled inv.grants state.streams c.transfer-transfer.result number mine c.args.now c.args.facts idle c.moment-moment.result c.moment-moment.ensures c.spend-in-Unkept.new.grants.items c.spend-in-Unkept.ensures.others c.give_back_to_close.new.self.log log_is c.give_back_to_close.new.self.streams streams_are in
-    settled.others d (ap (λ (n : ℕ). n == d) c.number-number.ensures ∙ other) still ∙ ap (λ (v : HostShown g.row.S.Denot). stream_of v.streams d) c.self.view_is
+    settled.others d (ap (λ (n : ℕ). n == d) number_is ∙ other) still ∙ ap (λ (v : HostShown g.row.S.Denot). stream_of v.streams d) c.self.view_is
 
 pub returns-else-not-close_if_full-clause-spends : goal.returns-else-not-close_if_full-clause-spends
 returns-else-not-close_if_full-clause-spends g c =
+    let transfer_is = apart_transfer c.args.lease _ _ c.take_apart-used.ensures.used _ _ c.number-number.ensures c.transfer-transfer.ensures in
     let state = c.self.inside.state in
     let inv = c.self.invariant in
     let asked = c.ask_to_keep-asked in
@@ -297,7 +429,7 @@ returns-else-not-close_if_full-clause-spends g c =
     let log_is = c.give_back_to_close.ensures.log ∙ ap (λ (s : HostState g.row.S.Denot). add c.moment-moment.result (Closed number CacheFull) (add c.moment-moment.result (Returned number c.args.facts) s.log)) same in
     let streams_are = c.give_back_to_close.ensures.streams ∙ ap (λ (s : HostState g.row.S.Denot). s.streams) same in
     let settled = settled_unkept state.settings state.log c.self.inside.grants.items inv.settled inv.grants state.streams c.transfer-transfer.result number mine c.args.now c.args.facts idle c.moment-moment.result c.moment-moment.ensures c.spend-in-Unkept.new.grants.items c.spend-in-Unkept.ensures.others c.give_back_to_close.new.self.log log_is c.give_back_to_close.new.self.streams streams_are in
-    spends_at _ _ _ _ _ c.self.view_is c.transfer-transfer.ensures (freed_spends _ _ _ _ _ _ _ _ _ _ _ _ _ settled.freed)
+    spends_at _ _ _ _ _ c.self.view_is transfer_is (freed_spends _ _ _ _ _ _ _ _ _ _ _ _ _ _ _ settled.freed)
 
 pub returns-else-not-close_if_full-clause-grew : goal.returns-else-not-close_if_full-clause-grew
 returns-else-not-close_if_full-clause-grew g c =

@@ -2,12 +2,13 @@ use Rattle.std.proofs.Common.{◌≡◌, true, refl, sym, ap, subst, ◌∙◌, 
 use Rattle.conn_log.specs.declared.entry.Want.{Want}
 use Rattle.conn_log.specs.Connections.{is_among}
 use Rattle.bundle.specs.Calls.{is_queued, GrowsBy}
-use Rattle.bundle.specs.Grants.{grant_streams}
+use Rattle.bundle.specs.Grants.{grant_starts, grant_streams}
 use Rattle.bundle.specs.Laws.{IsSoundAndQuiet}
 use Rattle.bundle.specs.Lease.{HostShown, HasItsStream}
 use Rattle.bundle.specs.Replies.{GivesLease}
 use Rattle.bundle.proofs.Bookings.{out_by}
 use Rattle.bundle.proofs.Outcomes.{count_left, spare_after, bookings_left}
+use Rattle.bundle.proofs.Seating.{unclaimed_same}
 use Rattle.bundle.proofs.AcquiredHosts.{Leaves, leaves, grants_after, stream_got, lease_got, ticket_got, booking_got, others_kept, all_kept, halfway_kept}
 use Rattle.bundle.proofs.host.Bundle.try_again.Given.{Over}
 use Rattle.bundle.proofs.host.Bundle.try_again.Goals as goal
@@ -49,6 +50,8 @@ invariant_of-self g c =
       settled = subst (λ settings. IsSoundAndQuiet settings tried.new.state.log) (sym tried.ensures.same.settings) it.settled;
       grants = grants_after inside.state.settings inside.state.log tried.new.state.log inside.grants.items inv.grants want it.out.free tried.result it.outcome;
       spare = spare_after want inside.state.log tried.new.state.log tried.result it.outcome inside.state.booked tried.new.state.booked _ _ tried.ensures.booked tried.ensures.still_booked inv.spare;
+      seated = tried.ensures.seated;
+      unclaimed = unclaimed_same (grant_starts inside.grants.items) inside.seats tried.new.seats inv.unclaimed tried.ensures.granted.granted;
     }
 
 pub returns-clause-stream : goal.returns-clause-stream
@@ -83,21 +86,21 @@ returns-clause-gets_lease g c =
     let inside = c.self.inside in
     let tried = c.start_or_wait-got in
     let it = left g c in
-    lease_got inside.state.settings inside.state.log tried.new.state.log inside.grants.items c.self.invariant.grants c.spend-want.result it.out.free tried.new.state.settings inside.state.host tried.new.state.host (grant_streams inside.grants.items ++ inside.state.streams) (grant_streams inside.grants.items ++ tried.new.state.streams) inside.bookings.items c.take_booking.new.bookings.items inside.grants.items refl c.args.self.now c.self.view_is c.args.booking.want c.spend-want.ensures tried.result it.outcome
+    lease_got inside.state.settings inside.state.log tried.new.state.log inside.grants.items c.self.invariant.grants c.spend-want.result it.out.free tried.new.state.settings inside.state.host tried.new.state.host (grant_streams inside.grants.items ++ inside.state.streams) (grant_streams inside.grants.items ++ tried.new.state.streams) inside.bookings.items c.take_booking.new.bookings.items inside.seats.table tried.new.seats.table inside.grants.items refl c.args.self.now c.self.view_is c.args.booking.want c.spend-want.ensures tried.result it.outcome
 
 pub returns-clause-gets_ticket : goal.returns-clause-gets_ticket
 returns-clause-gets_ticket g c =
     let inside = c.self.inside in
     let tried = c.start_or_wait-got in
     let it = left g c in
-    ticket_got inside.state.settings inside.state.log tried.new.state.log inside.grants.items c.self.invariant.grants c.spend-want.result it.out.free tried.new.state.settings inside.state.host tried.new.state.host (grant_streams inside.grants.items ++ inside.state.streams) (grant_streams inside.grants.items ++ tried.new.state.streams) inside.bookings.items c.take_booking.new.bookings.items inside.grants.items refl c.args.self.now c.self.view_is c.args.booking.want c.spend-want.ensures tried.result it.outcome
+    ticket_got inside.state.settings inside.state.log tried.new.state.log inside.grants.items c.self.invariant.grants c.spend-want.result it.out.free tried.new.state.settings inside.state.host tried.new.state.host (grant_streams inside.grants.items ++ inside.state.streams) (grant_streams inside.grants.items ++ tried.new.state.streams) inside.bookings.items c.take_booking.new.bookings.items inside.seats.table tried.new.seats.table inside.grants.items refl c.args.self.now c.self.view_is c.args.booking.want c.spend-want.ensures tried.result it.outcome
 
 pub returns-clause-gets_booking : goal.returns-clause-gets_booking
 returns-clause-gets_booking g c =
     let inside = c.self.inside in
     let tried = c.start_or_wait-got in
     let it = left g c in
-    booking_got inside.state.settings inside.state.log tried.new.state.log inside.grants.items c.self.invariant.grants c.spend-want.result it.out.free tried.new.state.settings inside.state.host tried.new.state.host (grant_streams inside.grants.items ++ inside.state.streams) (grant_streams inside.grants.items ++ tried.new.state.streams) inside.bookings.items c.take_booking.new.bookings.items inside.grants.items refl c.args.self.now c.self.view_is c.args.booking.want c.spend-want.ensures tried.result it.outcome
+    booking_got inside.state.settings inside.state.log tried.new.state.log inside.grants.items c.self.invariant.grants c.spend-want.result it.out.free tried.new.state.settings inside.state.host tried.new.state.host (grant_streams inside.grants.items ++ inside.state.streams) (grant_streams inside.grants.items ++ tried.new.state.streams) inside.bookings.items c.take_booking.new.bookings.items inside.seats.table tried.new.seats.table inside.grants.items refl c.args.self.now c.self.view_is c.args.booking.want c.spend-want.ensures tried.result it.outcome
 
 pub returns-clause-grew : goal.returns-clause-grew
 returns-clause-grew g c =

@@ -1,9 +1,8 @@
-use Rattle.std.proofs.Common.{◌≡◌, true, List, sym, ◌∙◌, ap, subst, length, string_bytes, None}
+use Rattle.std.proofs.Common.{◌≡◌, List, sym, ◌∙◌, ap, subst, length, string_bytes, None}
 use Rattle.std.specs.Option.{option_map}
 use Rattle.std.specs.Ordering.{nat_cmp}
 use Rattle.std.specs.BTreeMap.{get, keys}
 use Rattle.conn_log.specs.declared.entry.Entry.{Entry}
-use Rattle.conn_log.specs.Connections.{is_held_by}
 use Rattle.bundle.specs.Lease.{lease_number, Spends}
 use Rattle.bundle.specs.Calls.{after_abandon}
 use Rattle.script_engine.specs.Hosted.{Hosted, Gives, kept_host, lease_facts}
@@ -11,41 +10,45 @@ use Rattle.script_engine.specs.Meaning.{grown}
 use Rattle.script_text.specs.declared.command.Action.TheVariants as actions
 use Rattle.script_engine.proofs.Growth.{Grows, abandoned-grows, grows-length}
 use Rattle.script_engine.proofs.Answering.{gives-answer, gives-grown, kept-lease, kept-none, drop-taken, drop-stranger}
-use Rattle.script_engine.proofs.Spending.{kept-held, leased-by-keys, lease-spent}
+use Rattle.script_engine.proofs.Spending.{leased-by-keys, lease-spent}
 use Rattle.script_engine.proofs.host.OneHost.abandon.Goals as goal
+
+pub abandon-requires : goal.abandon-requires
+abandon-requires c =
+    let host = c.self.inside.bundle in
+    let lease = c.in-Some.lease in
+    let kept = kept-lease host c.args.transfer lease (ap (option_map lease_facts) (sym c.in-Some.is ∙ c.remove.ensures.value) ∙ c.self.invariant.1.leases c.args.transfer) in
+    record { here = kept.here }
 
 pub lines_since-requires : goal.lines_since-requires
 lines_since-requires c =
     let host = c.self.inside.bundle in
-    let new = c.abandon.new.bundle in
+    let new = c.abandon.new.self in
     let lease = c.in-Some.lease in
     let kept = kept-lease host c.args.transfer lease (ap (option_map lease_facts) (sym c.in-Some.is ∙ c.remove.ensures.value) ∙ c.self.invariant.1.leases c.args.transfer) in
-    let held : is_held_by host.log lease.start.want.transfer lease.start.number ≡ true = kept-held host c.log.ensures.sound c.args.transfer lease kept in
-    let same : new.log ≡ after_abandon host.settings host.log lease.start.number c.args.moment = c.abandon.ensures.log held in
+    let same : new.log ≡ after_abandon host.settings host.log lease.start.number c.args.moment = c.abandon.ensures.log in
     let grows : Grows c.args.transfer host.log new.log = subst (λ (log : List Entry). Grows c.args.transfer host.log log) (sym same) (abandoned-grows c.args.transfer host.settings host.log lease.start.number c.args.moment) in
     rw (c.len-place.ensures ∙ ap length c.log.ensures.entries, c.log-in-Some.ensures.entries) (grows-length c.args.transfer host.log new.log grows)
 
 pub invariant_of-self : goal.invariant_of-self
 invariant_of-self c =
     let host = c.self.inside.bundle in
-    let new = c.abandon.new.bundle in
+    let new = c.abandon.new.self in
     let lease = c.in-Some.lease in
-    let kept = kept-lease host c.args.transfer lease (ap (option_map lease_facts) (sym c.in-Some.is ∙ c.remove.ensures.value) ∙ c.self.invariant.1.leases c.args.transfer) in
-    let spends = c.abandon.ensures.spends (kept-held host c.log.ensures.sound c.args.transfer lease kept) in (
-      ap (λ t. t.first) c.abandon.ensures.settings ∙ c.self.invariant.0,
-      lease-spent host new c.log.ensures.sound c.args.transfer (get nat_cmp c.self.inside.leases) (get nat_cmp c.remove.new.self) (get nat_cmp c.self.inside.tickets) lease.start.number
-          c.self.invariant.1 kept.leased c.remove.ensures.updates.0 (subst (Spends host new) kept.own spends),
+    let kept = kept-lease host c.args.transfer lease (ap (option_map lease_facts) (sym c.in-Some.is ∙ c.remove.ensures.value) ∙ c.self.invariant.1.leases c.args.transfer) in (
+      ap (λ t. t.first) c.abandon.ensures.same.settings ∙ c.self.invariant.0,
+      lease-spent host new c.abandon.ensures.same.table c.log.ensures.sound c.args.transfer (get nat_cmp c.self.inside.leases) (get nat_cmp c.remove.new.self) (get nat_cmp c.self.inside.tickets) lease.start.number
+          c.self.invariant.1 kept.leased c.remove.ensures.updates.0 (subst (Spends host new) kept.own c.abandon.ensures.spends),
       c.self.invariant.2,
     )
 
 pub returns-in-Some-clause-answer : goal.returns-in-Some-clause-answer
 returns-in-Some-clause-answer c =
     let host = c.self.inside.bundle in
-    let new = c.abandon.new.bundle in
+    let new = c.abandon.new.self in
     let lease = c.in-Some.lease in
     let kept = kept-lease host c.args.transfer lease (ap (option_map lease_facts) (sym c.in-Some.is ∙ c.remove.ensures.value) ∙ c.self.invariant.1.leases c.args.transfer) in
-    let held : is_held_by host.log lease.start.want.transfer lease.start.number ≡ true = kept-held host c.log.ensures.sound c.args.transfer lease kept in
-    let same : new.log ≡ after_abandon host.settings host.log lease.start.number c.args.moment = c.abandon.ensures.log held in
+    let same : new.log ≡ after_abandon host.settings host.log lease.start.number c.args.moment = c.abandon.ensures.log in
     let grows : Grows c.args.transfer host.log new.log = subst (λ (log : List Entry). Grows c.args.transfer host.log log) (sym same) (abandoned-grows c.args.transfer host.settings host.log lease.start.number c.args.moment) in
     let shown = kept_host host (keys c.self.inside.tickets) in
     let leased = leased-by-keys host c.log.ensures.sound c.self.inside.tickets.entries c.self.invariant.1.tickets c.args.transfer ∙ kept.leased in

@@ -2,6 +2,7 @@ use Rattle.std.proofs.Common.{◌≡◌, true, List, sym, ◌∙◌, ap, subst, 
 use Rattle.std.specs.Option.{option_map}
 use Rattle.std.specs.Ordering.{nat_cmp}
 use Rattle.std.specs.BTreeMap.{get, keys}
+use Rattle.persistence.specs.declared.facts.Facts.{Facts}
 use Rattle.conn_log.specs.declared.entry.Entry.{Entry}
 use Rattle.conn_log.specs.Connections.{is_held_by}
 use Rattle.bundle.specs.Lease.{lease_number, Spends}
@@ -14,8 +15,15 @@ use Rattle.script_engine.proofs.Answering.{gives-answer, gives-grown, kept-lease
 use Rattle.script_engine.proofs.Spending.{kept-held, leased-by-keys, lease-spent}
 use Rattle.script_engine.proofs.host.OneHost.back.Goals as goal
 
-pub give_back-requires : goal.give_back-requires
-give_back-requires c =
+pub give_back-requires-clause-here : goal.give_back-requires-clause-here
+give_back-requires-clause-here c =
+    let host = c.self.inside.bundle in
+    let lease = c.in-Some.lease in
+    let kept = kept-lease host c.args.transfer lease (ap (option_map lease_facts) (sym c.in-Some.is ∙ c.remove.ensures.value) ∙ c.self.invariant.1.leases c.args.transfer) in
+    kept.here
+
+pub give_back-requires-clause-stream : goal.give_back-requires-clause-stream
+give_back-requires-clause-stream c =
     let host = c.self.inside.bundle in
     let lease = c.in-Some.lease in
     let kept = kept-lease host c.args.transfer lease (ap (option_map lease_facts) (sym c.in-Some.is ∙ c.remove.ensures.value) ∙ c.self.invariant.1.leases c.args.transfer) in
@@ -24,35 +32,34 @@ give_back-requires c =
 pub lines_since-requires : goal.lines_since-requires
 lines_since-requires c =
     let host = c.self.inside.bundle in
-    let new = c.give_back.new.bundle in
+    let new = c.give_back.new.self in
     let lease = c.in-Some.lease in
     let kept = kept-lease host c.args.transfer lease (ap (option_map lease_facts) (sym c.in-Some.is ∙ c.remove.ensures.value) ∙ c.self.invariant.1.leases c.args.transfer) in
     let held : is_held_by host.log lease.start.want.transfer lease.start.number ≡ true = kept-held host c.log.ensures.sound c.args.transfer lease kept in
-    let same : new.log ≡ after_give_back host.settings host.log lease.start.number (facts_of_ending c.args.ending) c.args.moment = c.give_back.ensures.log held in
+    let same : new.log ≡ after_give_back host.settings host.log lease.start.number (facts_of_ending c.args.ending) c.args.moment = c.give_back.ensures.log ∙ ap (λ (f : Facts). after_give_back host.settings host.log lease.start.number f c.args.moment) c.facts_of_ending.ensures in
     let grows : Grows c.args.transfer host.log new.log = subst (λ (log : List Entry). Grows c.args.transfer host.log log) (sym same) (given_back-grows c.args.transfer host.settings host.log lease.start.number (facts_of_ending c.args.ending) c.args.moment (rw kept.own at held)) in
     rw (c.len-place.ensures ∙ ap length c.log.ensures.entries, c.log-in-Some.ensures.entries) (grows-length c.args.transfer host.log new.log grows)
 
 pub invariant_of-self : goal.invariant_of-self
 invariant_of-self c =
     let host = c.self.inside.bundle in
-    let new = c.give_back.new.bundle in
+    let new = c.give_back.new.self in
     let lease = c.in-Some.lease in
-    let kept = kept-lease host c.args.transfer lease (ap (option_map lease_facts) (sym c.in-Some.is ∙ c.remove.ensures.value) ∙ c.self.invariant.1.leases c.args.transfer) in
-    let spends = c.give_back.ensures.spends (kept-held host c.log.ensures.sound c.args.transfer lease kept) in (
-      ap (λ t. t.first) c.give_back.ensures.settings ∙ c.self.invariant.0,
-      lease-spent host new c.log.ensures.sound c.args.transfer (get nat_cmp c.self.inside.leases) (get nat_cmp c.remove.new.self) (get nat_cmp c.self.inside.tickets) lease.start.number
-          c.self.invariant.1 kept.leased c.remove.ensures.updates.0 (subst (Spends host new) kept.own spends),
+    let kept = kept-lease host c.args.transfer lease (ap (option_map lease_facts) (sym c.in-Some.is ∙ c.remove.ensures.value) ∙ c.self.invariant.1.leases c.args.transfer) in (
+      ap (λ t. t.first) c.give_back.ensures.same.settings ∙ c.self.invariant.0,
+      lease-spent host new c.give_back.ensures.same.table c.log.ensures.sound c.args.transfer (get nat_cmp c.self.inside.leases) (get nat_cmp c.remove.new.self) (get nat_cmp c.self.inside.tickets) lease.start.number
+          c.self.invariant.1 kept.leased c.remove.ensures.updates.0 (subst (Spends host new) kept.own c.give_back.ensures.spends),
       c.self.invariant.2,
     )
 
 pub returns-in-Some-clause-answer : goal.returns-in-Some-clause-answer
 returns-in-Some-clause-answer c =
     let host = c.self.inside.bundle in
-    let new = c.give_back.new.bundle in
+    let new = c.give_back.new.self in
     let lease = c.in-Some.lease in
     let kept = kept-lease host c.args.transfer lease (ap (option_map lease_facts) (sym c.in-Some.is ∙ c.remove.ensures.value) ∙ c.self.invariant.1.leases c.args.transfer) in
     let held : is_held_by host.log lease.start.want.transfer lease.start.number ≡ true = kept-held host c.log.ensures.sound c.args.transfer lease kept in
-    let same : new.log ≡ after_give_back host.settings host.log lease.start.number (facts_of_ending c.args.ending) c.args.moment = c.give_back.ensures.log held in
+    let same : new.log ≡ after_give_back host.settings host.log lease.start.number (facts_of_ending c.args.ending) c.args.moment = c.give_back.ensures.log ∙ ap (λ (f : Facts). after_give_back host.settings host.log lease.start.number f c.args.moment) c.facts_of_ending.ensures in
     let grows : Grows c.args.transfer host.log new.log = subst (λ (log : List Entry). Grows c.args.transfer host.log log) (sym same) (given_back-grows c.args.transfer host.settings host.log lease.start.number (facts_of_ending c.args.ending) c.args.moment (rw kept.own at held)) in
     let shown = kept_host host (keys c.self.inside.tickets) in
     let leased = leased-by-keys host c.log.ensures.sound c.self.inside.tickets.entries c.self.invariant.1.tickets c.args.transfer ∙ kept.leased in

@@ -29,6 +29,9 @@ returns-in_default-clause-answer c =
     subst (λ (h : Hosted). Gives string_bytes h (actions.Claim c.args.transfer) c.reply.result (kept_host host (keys c.remove.new.self))) c.self.view_is
     (rw same (gives-answer string_bytes (record { settings = host.settings; host = shown }) (actions.Claim c.args.transfer) shown _ c.reply.result (claim-stranger c.args.transfer shown among) c.reply.ensures))
 
+pub keep_lease-requires-clause-here : goal.keep_lease-requires-clause-here
+keep_lease-requires-clause-here c = (rw c.in-Ok-Lease.field-0-is at c.in-Ok-Lease.ensures.made_here) ∙ sym c.claim.ensures.same.table
+
 pub keep_lease-requires-clause-own : goal.keep_lease-requires-clause-own
 keep_lease-requires-clause-own c =
     let host = c.self.inside.bundle in
@@ -60,7 +63,7 @@ keep_lease-requires-clause-others c =
     let gets : GetsLease host new want.transfer lease.start.number = rw c.in-Ok-Lease.field-0-is at c.in-Ok-Lease.ensures.gets_lease in
     let own : lease.start.want.transfer ≡ want.transfer = ap (λ (w : Want). w.transfer) (rw c.in-Ok-Lease.field-0-is at c.in-Ok-Lease.ensures.want) in
     subst (λ (t : ℕ). KeepsLeases (due_others t (leases_of new)) (get nat_cmp c.self.inside.leases)) (sym own)
-    (lease-awaits host new want.transfer lease.start.number (get nat_cmp c.self.inside.leases) c.self.invariant.1.leases none gets)
+    (lease-awaits host new c.claim.ensures.same.table want.transfer lease.start.number (get nat_cmp c.self.inside.leases) c.self.invariant.1.leases none gets)
 
 pub invariant_of-self-in_err-keep_lease-in-Ok-Lease : goal.invariant_of-self-in_err-keep_lease-in-Ok-Lease
 invariant_of-self-in_err-keep_lease-in-Ok-Lease c =
@@ -69,7 +72,7 @@ invariant_of-self-in_err-keep_lease-in-Ok-Lease c =
     let kept = kept-ticket host c.log-log.ensures.sound c.self.inside.tickets.entries c.args.transfer c.in-Some.ticket c.self.invariant.1.tickets (sym c.in-Some.is ∙ c.remove.ensures.value) in
     let number = c.in-Ok-Lease.lease.start.number in
     let gets : GetsLease host new c.args.transfer number = subst (λ (t : ℕ). GetsLease host new t number) kept.1 (rw c.in-Ok-Lease.field-0-is at c.in-Ok-Lease.ensures.gets_lease) in (
-      ap (λ t. t.first) (c.keep_lease.ensures.settings ∙ c.claim.ensures.same.settings) ∙ c.self.invariant.0,
+      ap (λ t. t.first) (c.keep_lease.ensures.same.settings ∙ c.claim.ensures.same.settings) ∙ c.self.invariant.0,
       claimed-kept host new c.keep_lease.new.bundle c.args.transfer number (get nat_cmp c.self.inside.leases) (get nat_cmp c.keep_lease.new.leases) (get nat_cmp c.self.inside.tickets) (get nat_cmp c.remove.new.self)
           c.self.invariant.1 c.remove.ensures.updates.0 gets c.keep_lease.ensures.leases c.keep_lease.ensures.tickets,
       c.remove.ensures.ordered,
@@ -82,7 +85,7 @@ invariant_of-self-in-Ok-Lease c =
     let kept = kept-ticket host c.log-log.ensures.sound c.self.inside.tickets.entries c.args.transfer c.in-Some.ticket c.self.invariant.1.tickets (sym c.in-Some.is ∙ c.remove.ensures.value) in
     let number = c.in-Ok-Lease.lease.start.number in
     let gets : GetsLease host new c.args.transfer number = subst (λ (t : ℕ). GetsLease host new t number) kept.1 (rw c.in-Ok-Lease.field-0-is at c.in-Ok-Lease.ensures.gets_lease) in (
-      ap (λ t. t.first) (c.keep_lease.ensures.settings ∙ c.claim.ensures.same.settings) ∙ c.self.invariant.0,
+      ap (λ t. t.first) (c.keep_lease.ensures.same.settings ∙ c.claim.ensures.same.settings) ∙ c.self.invariant.0,
       claimed-kept host new c.keep_lease.new.bundle c.args.transfer number (get nat_cmp c.self.inside.leases) (get nat_cmp c.keep_lease.new.leases) (get nat_cmp c.self.inside.tickets) (get nat_cmp c.remove.new.self)
           c.self.invariant.1 c.remove.ensures.updates.0 gets c.keep_lease.ensures.leases c.keep_lease.ensures.tickets,
       c.remove.ensures.ordered,

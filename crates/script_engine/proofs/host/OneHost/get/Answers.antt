@@ -20,6 +20,9 @@ use Rattle.script_engine.proofs.GivingUp.{gives-memory, get-unleased, get-untick
 use Rattle.script_engine.proofs.Spending.{ticketed, lease-awaits, lease-own, lease-no-ticket, ticket-awaits, ticket-own, started-kept}
 use Rattle.script_engine.proofs.host.OneHost.get.Goals as goal
 
+pub keep_lease-requires-clause-here : goal.keep_lease-requires-clause-here
+keep_lease-requires-clause-here c = (rw c.in-Ok-Lease.field-0-is at c.in-Ok-Lease.ensures.made_here) ∙ sym c.acquire.ensures.same.table
+
 pub keep_lease-requires-clause-own : goal.keep_lease-requires-clause-own
 keep_lease-requires-clause-own c =
     let host = c.self.inside.bundle in
@@ -55,7 +58,7 @@ keep_lease-requires-clause-others c =
     let free = accepted-free host.settings host.log c.log.ensures.sound want only in
     let none = free-none host c.log.ensures.sound want.transfer free.0 free.1 in
     subst (λ (w : Want). KeepsLeases (due_others w.transfer (leases_of new)) (get nat_cmp c.self.inside.leases)) (sym own)
-    (lease-awaits host new want.transfer lease.start.number (get nat_cmp c.self.inside.leases) c.self.invariant.1.leases none.0 gets)
+    (lease-awaits host new c.acquire.ensures.same.table want.transfer lease.start.number (get nat_cmp c.self.inside.leases) c.self.invariant.1.leases none.0 gets)
 
 pub invariant_of-self : goal.invariant_of-self
 invariant_of-self c =
@@ -66,7 +69,7 @@ invariant_of-self c =
     let only : refusal host.settings host.log [] want ≡ None = accepted c.in-Ok-Lease.field-0 (refusal host.settings host.log [] want) c.in-Ok-Lease.ensures.refused in
     let free = accepted-free host.settings host.log c.log.ensures.sound want only in
     let none = free-none host c.log.ensures.sound want.transfer free.0 free.1 in (
-      ap (λ t. t.first) (c.keep_lease.ensures.settings ∙ c.acquire.ensures.same.settings) ∙ c.self.invariant.0,
+      ap (λ t. t.first) (c.keep_lease.ensures.same.settings ∙ c.acquire.ensures.same.settings) ∙ c.self.invariant.0,
       started-kept host new c.keep_lease.new.bundle want.transfer c.in-Ok-Lease.lease.start.number (get nat_cmp c.self.inside.leases) (get nat_cmp c.keep_lease.new.leases) (get nat_cmp c.self.inside.tickets)
           c.self.invariant.1 none.1 gets c.keep_lease.ensures.leases c.keep_lease.ensures.tickets,
       c.self.invariant.2,
@@ -81,7 +84,7 @@ invariant_of-self-in-Ok-Lease c =
     let only : refusal host.settings host.log [] want ≡ None = accepted c.in-Ok-Lease.field-0 (refusal host.settings host.log [] want) c.in-Ok-Lease.ensures.refused in
     let free = accepted-free host.settings host.log c.log.ensures.sound want only in
     let none = free-none host c.log.ensures.sound want.transfer free.0 free.1 in (
-      ap (λ t. t.first) (c.keep_lease.ensures.settings ∙ c.acquire.ensures.same.settings) ∙ c.self.invariant.0,
+      ap (λ t. t.first) (c.keep_lease.ensures.same.settings ∙ c.acquire.ensures.same.settings) ∙ c.self.invariant.0,
       started-kept host new c.keep_lease.new.bundle want.transfer c.in-Ok-Lease.lease.start.number (get nat_cmp c.self.inside.leases) (get nat_cmp c.keep_lease.new.leases) (get nat_cmp c.self.inside.tickets)
           c.self.invariant.1 none.1 gets c.keep_lease.ensures.leases c.keep_lease.ensures.tickets,
       c.self.invariant.2,

@@ -1,0 +1,80 @@
+-- Who holds what once a transfer started, or idle connections were closed.
+use Rattle.std.proofs.Common.{◌≡◌, ℕ, ◌+◌, ◌-◌, ◌<◌, List, [], ◌∷◌, ◌++◌, length, None, sym, ap, subst, ◌∙◌, arith}
+use Rattle.budget.specs.Pairs.{HeldPairs, granted_too, HasRoomForPair}
+use Rattle.budget.specs.Permits.{held, one_less_open, one_less_kept}
+use Rattle.conn_log.specs.declared.entry.Want.{Want}
+use Rattle.conn_log.specs.declared.entry.Event.TheVariants.{Opened, Leased, Closed}
+use Rattle.conn_log.specs.declared.entry.Entry.{Entry}
+use Rattle.conn_log.specs.Connections.{held_number, open_connections}
+use Rattle.conn_log.specs.Waiting.{waiting}
+use Rattle.conn_log.specs.Legal.{LimitAndFirst}
+use Rattle.conn_log.specs.Sound.{IsSound}
+use Rattle.conn_log.proofs.Soundness.{next_free}
+use Rattle.host_state.specs.declared.closing.Closing.{Closing}
+use Rattle.host_state.specs.Steps.{add, cause_of, picked, close_each, without_picked}
+use Rattle.host_state.specs.State.{HostState, ClosesIdle, open_len, idle_len}
+use Rattle.bundle.specs.declared.grant.Grant.{Grant}
+use Rattle.bundle.specs.Grants.{grant_starts}
+use Rattle.bundle.specs.Seats.{IsSeated, AreUnclaimed}
+use Rattle.bundle.proofs.KeptSound.{head_is_next}
+use Rattle.bundle.proofs.Seating.{Begins, SameHolders, pair_fits, unclaimed_granted}
+
+-- the first one that waits holds nothing
+pub head_free : (settings : LimitAndFirst) (log : List Entry) (head : Want) (others : List Want) → IsSound settings log → waiting log ≡ head ∷ others → held_number log head.transfer ≡ None
+head_free settings log head others sound is = next_free settings log sound.orderly head (head_is_next log head others is)
+
+-- a connection was opened for it
+pub begins_open : {S : Type 0} (old new : HostState S) (c moment : ℕ) (want : Want) → new.log ≡ add moment (Opened c want) old.log → open_len new ≡ open_len old + 1 → idle_len new ≡ idle_len old → Begins c want.transfer old.log new.log
+begins_open old new c moment want is more_open as_many_idle = record {
+  taken = λ u. ap (λ log. held_number log u) is;
+  lengths = omega (arith, more_open, as_many_idle);
+}
+
+-- or an idle one leased
+pub begins_lease : {S : Type 0} (old new : HostState S) (c moment : ℕ) (want : Want) → new.log ≡ add moment (Leased c want) old.log → open_len new ≡ open_len old → idle_len old ≡ idle_len new + 1 → Begins c want.transfer old.log new.log
+begins_lease old new c moment want is as_many_open fewer_idle = record {
+  taken = λ u. ap (λ log. held_number log u) is;
+  lengths = omega (arith, as_many_open, fewer_idle);
+}
+
+-- only idle ones were closed
+pub same_closed : {S : Type 0} (moment : ℕ) (old new : HostState S) → ClosesIdle moment old new → open_len new + idle_len old ≡ open_len old + idle_len new → SameHolders old.log new.log
+same_closed moment old new closes as_many = record { same = closes.holders; lengths = omega (arith, as_many) }
+
+-- so many of them
+pub same_closed_many : {S : Type 0} (moment closed : ℕ) (old new : HostState S) → ClosesIdle moment old new → open_len old ≡ open_len new + closed → idle_len old ≡ idle_len new + closed → SameHolders old.log new.log
+same_closed_many moment closed old new closes fewer_open fewer_idle = record { same = closes.holders; lengths = omega (arith, fewer_open, fewer_idle) }
+
+-- one pair more can be counted where the number of those that are open is one of the code
+pub few_fit : (log : List Entry) (held : HeldPairs) → IsSeated log held → (n : ℕ) → n ≡ length (open_connections log) → n < 4294967296 → HasRoomForPair held.granted held.leased
+few_fit log held seated n is few = pair_fits log held seated (omega (arith, is, few))
+
+-- one grant more was written down
+pub unclaimed_pushed : {S : Type 0} (grants granted : List (Grant S)) (grant : Grant S) (held now : HeldPairs) → AreUnclaimed (grant_starts grants) held → now ≡ granted_too (grant.number, grant.want.transfer) held → granted ≡ grants ++ grant ∷ [] → AreUnclaimed (grant_starts granted) now
+unclaimed_pushed grants granted grant held now unclaimed is pushed = subst (λ items. AreUnclaimed (grant_starts items) now) (sym pushed) (unclaimed_granted grants grant held now unclaimed is)
+
+-- the first one that a closing picks was closed
+pub left_picked : (closing : Closing) (moment : ℕ) (log after : List Entry) (number : ℕ) → picked closing moment log ≡ number ∷ picked closing moment after → after ≡ add moment (Closed number (cause_of closing)) log → without_picked closing moment after ≡ without_picked closing moment log
+left_picked closing moment log after number first is =
+    let others = picked closing moment after in
+    sym (ap (λ numbers. close_each (cause_of closing) moment numbers log) first ∙ ap (close_each (cause_of closing) moment others) (sym is))
+
+-- idle ones were closed, and then others
+pub closes_on : {S : Type 0} (moment : ℕ) (old between new : HostState S) → ClosesIdle moment old between → ClosesIdle moment between new → ClosesIdle moment old new
+closes_on moment old between new sooner later = record {
+  opened = later.opened ∙ sooner.opened;
+  still = λ d is. sooner.still d (later.still d is);
+  streams = λ d is. later.streams d is ∙ sooner.streams d (later.still d is);
+  holders = λ t. later.holders t ∙ sooner.holders t;
+  waiting = later.waiting ∙ sooner.waiting;
+  later = later.later;
+  booked = later.booked ∙ sooner.booked;
+  same = record { settings = later.same.settings ∙ sooner.same.settings; host = later.same.host ∙ sooner.same.host };
+}
+
+-- both permits of a closed one were freed
+pub both_freed : (alive kept alive_left kept_left : ℕ) → alive ≡ alive_left + 1 → kept ≡ kept_left + 1 → one_less_open (one_less_kept (held alive kept)) ≡ held alive_left kept_left
+both_freed alive kept alive_left kept_left fewer_open fewer_idle =
+    let open_is : alive - 1 ≡ alive_left = omega (arith, fewer_open) in
+    let idle_is : kept - 1 ≡ kept_left = omega (arith, fewer_idle) in
+    ap (λ n. held n (kept - 1)) open_is ∙ ap (held alive_left) idle_is

@@ -1,0 +1,18 @@
+use Rattle.bundle.proofs.Seating.{apart, seated_leased, leased_granted}
+use Rattle.bundle.proofs.Starting.{begins_open}
+use Rattle.bundle.proofs.serving.start_as_told.Goals as goal
+
+pub lease-seat-requires-clause-apart : goal.lease-seat-requires-clause-apart
+lease-seat-requires-clause-apart g c = apart c.args.state.now.log c.args.seats.now c.requires.seated c.open-number.result c.args.want.transfer c.requires.free
+
+pub returns-in-Got-clause-seated : goal.returns-in-Got-clause-seated
+returns-in-Got-clause-seated g c =
+    let before = c.args.state.now in
+    let after = c.open-number.new.self in
+    let opened = c.open-number.ensures in
+    let want = c.args.want in
+    let begins = begins_open before after c.open-number.result c.args.moment want opened.log opened.more_open opened.as_many_idle in
+    seated_leased before.log after.log c.args.seats.now c.lease-seat.new.self c.open-number.result want.transfer c.requires.seated c.requires.free begins c.lease-seat.ensures.leased
+
+pub returns-in-Got-clause-granted : goal.returns-in-Got-clause-granted
+returns-in-Got-clause-granted g c = leased_granted c.args.state.now.log c.args.seats.now c.lease-seat.new.self c.open-number.result c.args.want.transfer c.requires.seated c.requires.free c.lease-seat.ensures.leased
