@@ -9,3 +9,4 @@ pub mod Steps
 pub mod Soundness
 pub mod Firsts
 pub mod Order
+pub mod StartCounts

@@ -6,3 +6,4 @@ pub mod Legal
 pub mod Worked
 pub mod Log
 pub mod Sound
+pub mod Starts
