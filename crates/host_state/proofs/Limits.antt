@@ -23,6 +23,7 @@ one_at_most false = omega arith
 pub closes_then : {S : Type 0} (moment : ℕ) (old middle new : HostState S) → ClosesIdle moment old middle → ClosesIdle moment middle new → ClosesIdle moment old new
 closes_then moment old middle new first then = record {
   opened = then.opened ∙ first.opened;
+  starts = then.starts ∙ first.starts;
   still = λ d now. first.still d (then.still d now);
   streams = λ d now. then.streams d now ∙ first.streams d (then.still d now);
   holders = λ t. then.holders t ∙ first.holders t;
@@ -55,6 +56,7 @@ has_closed settings log greatest_used idle held held_len r moment zero host book
   replays = r;
   closes = record {
     opened = refl;
+    starts = refl;
     still = λ d now. now;
     streams = λ d now. refl;
     holders = λ t. refl;
@@ -92,6 +94,7 @@ sets_limit settings log greatest_used idle held held_len r moment n host booked 
       limit = refl;
       closes = record {
         opened = closed.closes.opened;
+        starts = closed.closes.starts;
         still = closed.closes.still;
         streams = closed.closes.streams;
         holders = closed.closes.holders;

@@ -375,6 +375,7 @@ module _ {S : Type 0} (settings : LimitAndFirst) (log : List Entry) (greatest_us
   pub closes_one : (moment : ℕ) (cause : Cause) (place : ℕ) (x : Idle S) (host booked : ℕ) (has_limit_room : Bool) → place < length idle → x ≡ get_or idle place x → ClosesIdle moment (record { log = log; settings = settings; host = host; streams = streams_of idle; booked = booked; has_limit_room = has_limit_room }) (record { log = record { moment = moment; event = Closed x.number cause } ∷ log; settings = settings; host = host; streams = streams_of (remove idle place); booked = booked; has_limit_room = has_limit_room })
   closes_one moment cause place x host booked has_limit_room within is = record {
     opened = refl;
+    starts = refl;
     still = λ d now. and_right (not (x.number == d)) (is_open log d) (sym (gone d) ∙ now);
     streams = λ d now. stream_of-remove idle place x d r.idle_distinct within is (other d (and_left (not (x.number == d)) (is_open log d) (sym (gone d) ∙ now)));
     holders = λ t. gone_taken settings log r.sound.orderly x.number _ (gone_closed moment x.number cause log) t ∙ taken_same settings log r.sound.orderly x.number (idle_nobodys r x (at_place r place x within is)) t;

@@ -13,6 +13,7 @@ use Rattle.conn_log.specs.Waiting.{waiting}
 use Rattle.conn_log.specs.Fit.{newest_fit, oldest}
 use Rattle.conn_log.specs.Legal.{LimitAndFirst, limit_in_force, owed}
 use Rattle.conn_log.specs.Sound.{IsSound, AreDistinct, HeldFacts, idle_facts, held_facts}
+use Rattle.conn_log.specs.Starts.{start_count}
 use Rattle.host_state.specs.declared.idle.Idle.{Idle}
 use Rattle.host_state.specs.declared.held.Held.{Held}
 use Rattle.host_state.specs.declared.closing.Closing.{Closing}
@@ -94,6 +95,7 @@ KeepsOpenBut c old new = (d : ℕ) → (c == d) ≡ false → is_open new.log d 
 -- that are open have their streams, and who holds what and who waits stay
 pub record ClosesIdle {S : Type 0} (moment : ℕ) (old new : HostState S) : Type 0 where
   pub opened : opened new.log ≡ opened old.log
+  pub starts : start_count new.log ≡ start_count old.log
   pub still : (d : ℕ) → is_open new.log d ≡ true → is_open old.log d ≡ true
   pub streams : KeepsOpen old new
   pub holders : (t : ℕ) → held_number new.log t ≡ held_number old.log t
