@@ -1,4 +1,5 @@
 pub mod Keeps
+pub mod Enrolling
 pub mod TallySteps
 pub mod LinkSteps
 pub mod HoldersSteps

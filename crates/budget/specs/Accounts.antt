@@ -48,3 +48,7 @@ module _ {D : Type 0} where
   -- how many leases were spent with the pass at a host, over its seat there
   abbrev pub spent_at : List (Account D) → ℕ → ℕ
   spent_at accounts host = spent_by (account_at accounts host).seat
+
+  -- the pass has each seat that it had
+  abbrev pub KeepsSeats : List (Account D) → List (Account D) → Type 0
+  KeepsSeats before after = (host : ℕ) (table : TableId) → IsEnrolledAt before host table → IsEnrolledAt after host table

@@ -1,7 +1,7 @@
 //! What a thread was told at each host, and how many leases it spent there.
 ghost use Rattle.std.specs.Prelude.{◌≡◌, ◌<◌, length, replicate, IfOk, IfErr, IsTrue, ◌↔◌, IsSome};
 ghost use Rattle.budget.specs.Accounts.{vacant, account_at, change_at, spent_at, IsEnrolledAt};
-ghost use Rattle.budget.specs.Accounts.{enrolled, told, spent_once};
+ghost use Rattle.budget.specs.Accounts.{enrolled, told, spent_once, KeepsSeats};
 
 use crate::refusal::Refusal;
 use crate::tally::{PassSeat, StartSeat, Tally};
@@ -19,7 +19,7 @@ pub struct Account<D> {
     pub calls: u64,
 }
 
-/// The account of whoever calls: a account for each host, by its index. It must be given up.
+/// The account of whoever calls: an account for each host, by its index. It must be given up.
 /// `D` is what a call answers.
 pub struct Pass<D> {
     accounts: Vec<Account<D>>,
@@ -35,7 +35,7 @@ impl<D> Model for Pass<D> {
 }
 
 impl<D: Copy + Drop> Pass<D> {
-    /// A pass without a seat, and with a account for each host.
+    /// A pass without a seat, and with an account for each host.
     ///
     /// The only refusal is [`Refusal::Memory`].
     pub fn new(alloc: Global, hosts: usize) -> Result<Pass<D>, Refusal>
@@ -53,7 +53,7 @@ impl<D: Copy + Drop> Pass<D> {
         Ok(Pass { accounts })
     }
 
-    /// How many hosts it has a account for.
+    /// How many hosts it has an account for.
     pub fn hosts(&self) -> usize
         ensures { result ≡ length self.now }
     {
@@ -73,7 +73,8 @@ impl<D: Copy + Drop> Pass<D> {
         requires host { host < length self.old }
         requires apart { (account_at self.old host).seat ≡ None }
         requires new { seat.spent ≡ 0 }
-        ensures { self.new ≡ change_at self.old host (enrolled seat) }
+        ensures account { self.new ≡ change_at self.old host (enrolled seat) }
+        ensures seats { KeepsSeats self.old self.new }
     {
         self.accounts[host].seat = Some(seat);
     }
@@ -89,7 +90,7 @@ impl<D: Copy + Drop> Pass<D> {
         }
     }
 
-    /// What the last call at this host answered that was lent the pass.
+    /// What the pass was told last at this host.
     pub fn last(&self, host: usize) -> Option<D>
         requires { host < length self.now }
         ensures { result ≡ (account_at self.now host).last }
@@ -97,7 +98,7 @@ impl<D: Copy + Drop> Pass<D> {
         self.accounts[host].last
     }
 
-    /// How many calls at this host were answered; it stays at its greatest value.
+    /// How often it was told something at this host; this stays at its greatest value.
     pub fn calls(&self, host: usize) -> u64
         requires { host < length self.now }
         ensures { result ≡ (account_at self.now host).calls }
@@ -108,7 +109,8 @@ impl<D: Copy + Drop> Pass<D> {
     /// Remembers what a call at this host answers.
     pub fn tell(&mut self, host: usize, did: D)
         requires { host < length self.old }
-        ensures { self.new ≡ change_at self.old host (told did) }
+        ensures account { self.new ≡ change_at self.old host (told did) }
+        ensures seats { KeepsSeats self.old self.new }
     {
         let account = &mut self.accounts[host];
         account.last = Some(did);
@@ -120,7 +122,8 @@ impl<D: Copy + Drop> Pass<D> {
         requires host { host < length self.old }
         requires enrolled { IsEnrolledAt self.old host tally.now.table }
         requires start { start ≡ tally.now.table }
-        ensures { self.new ≡ change_at self.old host (spent_once did) }
+        ensures account { self.new ≡ change_at self.old host (spent_once did) }
+        ensures seats { KeepsSeats self.old self.new }
     {
         let enrolled = &mut self.accounts[host];
         match &mut enrolled.seat {

@@ -106,7 +106,7 @@ impl Model for Tally {
     ghost invariant = { λ tally. IsTallySeat tally.table.shared.table_id tally.seat };
 }
 
-/// The seat of a lease, or of a grant: one start. It must be spent. Contracts see the table.
+/// The seat of a lease: one start. It must be spent. Contracts see the table.
 pub struct StartSeat {
     seat: Seat<(), Standing>,
 }
@@ -122,6 +122,14 @@ impl Model for StartSeat {
     ghost view = { λ start. start.seat.table_id };
 
     ghost invariant = { λ start. IsLeaseSeat start.seat.me };
+}
+
+impl StartSeat {
+    /// Gives it up. Its start is spent with no pass.
+    pub fn discard(self) {
+        let StartSeat { seat } = self;
+        drop(seat);
+    }
 }
 
 /// The seat of a pass at one tally, with the number of leases that were spent with it.
