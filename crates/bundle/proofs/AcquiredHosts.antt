@@ -2,7 +2,7 @@
 use Rattle.std.proofs.Common.{◌≡◌, ℕ, Bool, true, false, List, [], ◌++◌, None, is_some, refl, sym, ap, subst, ◌∙◌}
 use Rattle.std.specs.Prelude.{◌==◌, if◌then◌else◌}
 use Rattle.budget.specs.declared.permits.Try.{Try}
-use Rattle.atomic_table.specs.Seated.{TableId}
+use Rattle.bundle.specs.Seats.{Tables}
 use Rattle.conn_log.specs.declared.entry.Want.{Want}
 use Rattle.conn_log.specs.declared.entry.Entry.{Entry}
 use Rattle.conn_log.specs.Connections.{held_number, holds, is_open}
@@ -68,22 +68,22 @@ module _ {S : Type 0} (settings : LimitAndFirst) (log after : List Entry) (grant
   stream_got orderly streams (Again booking) out told = tt
 
   -- who has a lease and who a ticket
-  module _ (settings' : LimitAndFirst) (host host' : ℕ) (streams streams' : List (ℕ × S)) (booked booked' : List ℕ) (table table' : TableId) where
+  module _ (settings' : LimitAndFirst) (host host' : ℕ) (streams streams' : List (ℕ × S)) (booked booked' : List ℕ) (tables tables' : Tables) where
     abbrev before : HostShown S
-    before = record { log = log; settings = settings; host = host; streams = streams; unclaimed = grant_starts grants; booked = booked; table = table }
+    before = record { log = log; settings = settings; host = host; streams = streams; unclaimed = grant_starts grants; booked = booked; tables = tables }
 
     abbrev shown : List (Grant S) → HostShown S
-    shown left = record { log = after; settings = settings'; host = host'; streams = streams'; unclaimed = grant_starts left; booked = booked'; table = table' }
+    shown left = record { log = after; settings = settings'; host = host'; streams = streams'; unclaimed = grant_starts left; booked = booked'; tables = tables' }
 
     lease_there : (got : Got S) → Outcome want log after got → GivesLease got (λ lease. GetsLease before (shown grants) want.transfer lease.start.number)
-    lease_there (Lease lease) out = begun_lease settings log after grants kept want free out.others settings' host host' streams streams' booked booked' table table' lease.start.number out.number out.awaited
+    lease_there (Lease lease) out = begun_lease settings log after grants kept want free out.others settings' host host' streams streams' booked booked' tables tables' lease.start.number out.number out.awaited
     lease_there (Wait ticket) out = tt
     lease_there (NoRoom booking) out = tt
     lease_there (Again booking) out = tt
 
     ticket_there : (got : Got S) → Outcome want log after got → GivesTicket got (λ ticket. GetsTicket before (shown grants) want)
     ticket_there (Lease lease) out = tt
-    ticket_there (Wait ticket) out = begun_ticket settings log after grants kept want free out.others settings' host host' streams streams' booked booked' table table' out.held out.awaited
+    ticket_there (Wait ticket) out = begun_ticket settings log after grants kept want free out.others settings' host host' streams streams' booked booked' tables tables' out.held out.awaited
     ticket_there (NoRoom booking) out = tt
     ticket_there (Again booking) out = tt
 
@@ -133,9 +133,9 @@ module _ {S : Type 0} (old new : HostState S) (front streams : List (ℕ × S)) 
   halfway_kept (Again booking) keeps = λ d still. kept_at d (keeps d still)
 
 -- the answer and the log of it, in the words of the host before the call
-pub acquires : {S : Type 0} (is_last : Bool) (answer : Try) (settings : LimitAndFirst) (log : List Entry) (host : ℕ) (streams : List (ℕ × S)) (grants : List (Grant S)) (booked : List ℕ) (table : TableId) (old new : HostShown S) (want : Want) (now m : ℕ) (got : Got S) → (let inside : HostShown S = record { log = log; settings = settings; host = host; streams = streams; unclaimed = grant_starts grants; booked = booked; table = table } in inside ≡ old) → m ≡ moment_at log now → (let due = start_behind (waiting log) is_last answer settings want m log in new.log ≡ due.log → IsGot host want due.reply got → Acquires is_last answer old new want now got)
-acquires {S} is_last answer settings log host streams grants booked table old new want now m got view moment_is log_is is =
-    let inside : HostShown S = record { log = log; settings = settings; host = host; streams = streams; unclaimed = grant_starts grants; booked = booked; table = table } in
+pub acquires : {S : Type 0} (is_last : Bool) (answer : Try) (settings : LimitAndFirst) (log : List Entry) (host : ℕ) (streams : List (ℕ × S)) (grants : List (Grant S)) (booked : List ℕ) (tables : Tables) (old new : HostShown S) (want : Want) (now m : ℕ) (got : Got S) → (let inside : HostShown S = record { log = log; settings = settings; host = host; streams = streams; unclaimed = grant_starts grants; booked = booked; tables = tables } in inside ≡ old) → m ≡ moment_at log now → (let due = start_behind (waiting log) is_last answer settings want m log in new.log ≡ due.log → IsGot host want due.reply got → Acquires is_last answer old new want now got)
+acquires {S} is_last answer settings log host streams grants booked tables old new want now m got view moment_is log_is is =
+    let inside : HostShown S = record { log = log; settings = settings; host = host; streams = streams; unclaimed = grant_starts grants; booked = booked; tables = tables } in
     subst (λ (v : HostShown S). Acquires is_last answer v new want now got) view (record {
       log = log_is ∙ ap (λ k. (start_behind (waiting log) is_last answer settings want k log).log) moment_is;
       got_is = subst (λ (k : ℕ). IsGot host want (start_behind (waiting log) is_last answer settings want k log).reply got) moment_is is;

@@ -56,11 +56,11 @@ module _ (settings : LimitAndFirst) (moment : ℕ) (old : List Entry) where
       by_room true = grows_in_place HostRoom want log grew (oldest log)
       by_room false = grows_as_told want log grew is_last told
 
-  grows_for : (log : List Entry) → GrowsBy old log → (wants : List Want) → GrowsBy old (open_for settings moment log wants)
+  pub grows_for : (log : List Entry) → GrowsBy old log → (wants : List Want) → GrowsBy old (open_for settings moment log wants)
   grows_for log grew [] = grew
   grows_for log grew (head ∷ others) = grows_by_one moment _ old log grew
 
-  grows_for_first : (given : ℕ) (log : List Entry) → GrowsBy old log → GrowsBy old (open_for_first given settings moment log)
+  pub grows_for_first : (given : ℕ) (log : List Entry) → GrowsBy old log → GrowsBy old (open_for_first given settings moment log)
   grows_for_first zero log grew = grew
   grows_for_first (suc n) log grew = grows_for_first n (open_for_head settings moment log) (grows_for log grew (waiting log))
 
@@ -70,7 +70,7 @@ module _ (settings : LimitAndFirst) (moment : ℕ) (old : List Entry) where
       let closed = add moment (Closed c (unfit_cause settings log head moment c)) log in
       grows_either old (add moment (Leased c head) log) (start_new settings head moment closed) (is_fit log head moment c) (grows_by_one moment _ old log grew) (grows_by_one moment _ old closed (grows_by_one moment _ old log grew))
 
-  grows_settled : (c : ℕ) (log : List Entry) → GrowsBy old log → (owes : Option (ℕ × Cause)) → GrowsBy old (settle settings c moment log owes)
+  pub grows_settled : (c : ℕ) (log : List Entry) → GrowsBy old log → (owes : Option (ℕ × Cause)) → GrowsBy old (settle settings c moment log owes)
   grows_settled c log grew None = grows_passed c log grew (waiting log)
   grows_settled c log grew (Some close) = let closed = add moment (Closed close.0 close.1) log in grows_for closed (grows_by_one moment _ old log grew) (waiting closed)
 

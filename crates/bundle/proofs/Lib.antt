@@ -1,9 +1,13 @@
 pub mod StartLogs
 pub mod Growth
+pub mod Written
+pub mod SpentSums
 pub mod KeptSound
 pub mod Marks
 pub mod Seating
+pub mod Telling
 pub mod LeaseEnds
+pub mod Accounting
 pub mod Starting
 pub mod Unfit
 pub mod NoneLeft

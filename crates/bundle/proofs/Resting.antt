@@ -4,7 +4,7 @@ use Rattle.std.specs.Prelude.{nat_lt, if◌then◌else◌}
 use Rattle.std.specs.Option.{option_map, option_map_or, option_and_then, IsSome, IfSome, IfNone}
 use mathlib.Core.Bool.{false≢true}
 use Rattle.std.proofs.lemmas.Bool.Decides.{nat_tests}
-use Rattle.atomic_table.specs.Seated.{TableId}
+use Rattle.bundle.specs.Seats.{Tables}
 use Rattle.persistence.specs.declared.facts.Facts.{Facts}
 use Rattle.persistence.specs.Persistent.{is_persistent}
 use Rattle.budget.specs.declared.permits.Held.{Held as Part}
@@ -117,16 +117,16 @@ full_told (Some Full) there not_got not_missed = refl
 full_told (Some Contended) there not_got not_missed = absurd (not_missed refl)
 
 -- a host, from its state, what it granted, and who is halfway
-abbrev pub shown : {S : Type 0} → HostState S → List (Grant S) → List ℕ → TableId → HostShown S
-shown state grants booked table = record { log = state.log; settings = state.settings; host = state.host; streams = grant_streams grants ++ state.streams; unclaimed = grant_starts grants; booked = booked; table = table }
+abbrev pub shown : {S : Type 0} → HostState S → List (Grant S) → List ℕ → Tables → HostShown S
+shown state grants booked tables = record { log = state.log; settings = state.settings; host = state.host; streams = grant_streams grants ++ state.streams; unclaimed = grant_starts grants; booked = booked; tables = tables }
 
 -- a lease that was taken apart, and has its stream and its seat again, is as it was
-pub same_lease : {S : Type 0} (lease after : Leasing S) (used between : Using S) (table now : TableId) (stream back : S) → lease ≡ lease_at table used → used.stream ≡ Some stream → (let taken : Using S = record { site = used.site; start = used.start; stream = None } in between ≡ taken) → (let given : Using S = record { site = between.site; start = between.start; stream = Some back } in after ≡ lease_at now given) → now ≡ table → back ≡ stream → after ≡ lease
-same_lease {S} lease after used between table now stream back apart had taken given same_table same =
-    given ∙ ap (λ (u : Using S). put now u.site u.start (Some back)) taken ∙ ap (λ (k : TableId). put k used.site used.start (Some back)) same_table ∙ ap (λ (s : S). put table used.site used.start (Some s)) same ∙ ap (put table used.site used.start) (sym had) ∙ sym apart
+pub same_lease : {S : Type 0} (lease after : Leasing S) (used between : Using S) (tables now : Tables) (stream back : S) → lease ≡ lease_at tables used → used.stream ≡ Some stream → (let taken : Using S = record { site = used.site; start = used.start; stream = None } in between ≡ taken) → (let given : Using S = record { site = between.site; start = between.start; stream = Some back } in after ≡ lease_at now given) → now ≡ tables → back ≡ stream → after ≡ lease
+same_lease {S} lease after used between tables now stream back apart had taken given same_tables same =
+    given ∙ ap (λ (u : Using S). put now u.site u.start (Some back)) taken ∙ ap (λ (k : Tables). put k used.site used.start (Some back)) same_tables ∙ ap (λ (s : S). put tables used.site used.start (Some s)) same ∙ ap (put tables used.site used.start) (sym had) ∙ sym apart
   where
-    put : TableId → ℕ → Start → Option S → Leasing S
-    put at site start held_stream = record { site = site; start = start; stream = held_stream; table = at }
+    put : Tables → ℕ → Start → Option S → Leasing S
+    put at site start held_stream = record { site = site; start = start; stream = held_stream; tables = at }
 
 -- as many are open where what came back goes to the first that waits
 pub passed_open : (back after : List Entry) → (IsAnyone (waiting back) → one_more_kept (held_by after) ≡ held_by back) → (waiting back ≡ [] → after ≡ back) → length (open_connections after) ≡ length (open_connections back)

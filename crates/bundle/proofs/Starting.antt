@@ -1,6 +1,6 @@
 -- Who holds what once a transfer started, or idle connections were closed.
 use Rattle.std.proofs.Common.{◌≡◌, ℕ, ◌+◌, ◌-◌, ◌<◌, List, [], ◌∷◌, ◌++◌, length, None, sym, ap, subst, ◌∙◌, arith}
-use Rattle.budget.specs.Pairs.{HeldPairs, granted_too, HasRoomForPair}
+use Rattle.budget.specs.Pairs.{HasRoomForPair}
 use Rattle.budget.specs.Permits.{held, one_less_open, one_less_kept}
 use Rattle.conn_log.specs.declared.entry.Want.{Want}
 use Rattle.conn_log.specs.declared.entry.Event.TheVariants.{Opened, Leased, Closed}
@@ -15,7 +15,8 @@ use Rattle.host_state.specs.Steps.{add, cause_of, picked, close_each, without_pi
 use Rattle.host_state.specs.State.{HostState, ClosesIdle, open_len, idle_len}
 use Rattle.bundle.specs.declared.grant.Grant.{Grant}
 use Rattle.bundle.specs.Grants.{grant_starts}
-use Rattle.bundle.specs.Seats.{IsSeated, AreUnclaimed}
+use Rattle.bundle.specs.Seats.{SeatsShown, pair_granted, IsSeated, AreUnclaimed}
+use Rattle.conn_log.specs.Starts.{start_count}
 use Rattle.bundle.proofs.KeptSound.{head_is_next}
 use Rattle.bundle.proofs.Seating.{Begins, SameHolders, pair_fits, unclaimed_granted}
 
@@ -28,6 +29,7 @@ pub begins_open : {S : Type 0} (old new : HostState S) (c moment : ℕ) (want : 
 begins_open old new c moment want is more_open as_many_idle = record {
   taken = λ u. ap (λ log. held_number log u) is;
   lengths = omega (arith, more_open, as_many_idle);
+  starts = ap start_count is;
 }
 
 -- or an idle one leased
@@ -35,22 +37,23 @@ pub begins_lease : {S : Type 0} (old new : HostState S) (c moment : ℕ) (want :
 begins_lease old new c moment want is as_many_open fewer_idle = record {
   taken = λ u. ap (λ log. held_number log u) is;
   lengths = omega (arith, as_many_open, fewer_idle);
+  starts = ap start_count is;
 }
 
 -- only idle ones were closed
 pub same_closed : {S : Type 0} (moment : ℕ) (old new : HostState S) → ClosesIdle moment old new → open_len new + idle_len old ≡ open_len old + idle_len new → SameHolders old.log new.log
-same_closed moment old new closes as_many = record { same = closes.holders; lengths = omega (arith, as_many) }
+same_closed moment old new closes as_many = record { same = closes.holders; lengths = omega (arith, as_many); starts = closes.starts }
 
 -- so many of them
 pub same_closed_many : {S : Type 0} (moment closed : ℕ) (old new : HostState S) → ClosesIdle moment old new → open_len old ≡ open_len new + closed → idle_len old ≡ idle_len new + closed → SameHolders old.log new.log
-same_closed_many moment closed old new closes fewer_open fewer_idle = record { same = closes.holders; lengths = omega (arith, fewer_open, fewer_idle) }
+same_closed_many moment closed old new closes fewer_open fewer_idle = record { same = closes.holders; lengths = omega (arith, fewer_open, fewer_idle); starts = closes.starts }
 
 -- one pair more can be counted where the number of those that are open is one of the code
-pub few_fit : (log : List Entry) (held : HeldPairs) → IsSeated log held → (n : ℕ) → n ≡ length (open_connections log) → n < 4294967296 → HasRoomForPair held.granted held.leased
+pub few_fit : (log : List Entry) (held : SeatsShown) → IsSeated log held → (n : ℕ) → n ≡ length (open_connections log) → n < 4294967296 → HasRoomForPair held.granted held.leased
 few_fit log held seated n is few = pair_fits log held seated (omega (arith, is, few))
 
 -- one grant more was written down
-pub unclaimed_pushed : {S : Type 0} (grants granted : List (Grant S)) (grant : Grant S) (held now : HeldPairs) → AreUnclaimed (grant_starts grants) held → now ≡ granted_too (grant.number, grant.want.transfer) held → granted ≡ grants ++ grant ∷ [] → AreUnclaimed (grant_starts granted) now
+pub unclaimed_pushed : {S : Type 0} (grants granted : List (Grant S)) (grant : Grant S) (held now : SeatsShown) → AreUnclaimed (grant_starts grants) held → now ≡ pair_granted (grant.number, grant.want.transfer) held → granted ≡ grants ++ grant ∷ [] → AreUnclaimed (grant_starts granted) now
 unclaimed_pushed grants granted grant held now unclaimed is pushed = subst (λ items. AreUnclaimed (grant_starts items) now) (sym pushed) (unclaimed_granted grants grant held now unclaimed is)
 
 -- the first one that a closing picks was closed
@@ -63,6 +66,7 @@ left_picked closing moment log after number first is =
 pub closes_on : {S : Type 0} (moment : ℕ) (old between new : HostState S) → ClosesIdle moment old between → ClosesIdle moment between new → ClosesIdle moment old new
 closes_on moment old between new sooner later = record {
   opened = later.opened ∙ sooner.opened;
+  starts = later.starts ∙ sooner.starts;
   still = λ d is. sooner.still d (later.still d is);
   streams = λ d is. later.streams d is ∙ sooner.streams d (later.still d is);
   holders = λ t. later.holders t ∙ sooner.holders t;

@@ -5,7 +5,7 @@ use Rattle.std.proofs.Common.{◌≡◌, ℕ, zero, suc, ◌<◌, Bool, true, fa
 use Rattle.std.specs.Prelude.{◌==◌, if◌then◌else◌}
 use Rattle.std.specs.List.{list_any}
 use Rattle.budget.specs.declared.permits.Try.TheVariants.{Got}
-use Rattle.atomic_table.specs.Seated.{TableId}
+use Rattle.bundle.specs.Seats.{Tables}
 use Rattle.conn_log.specs.declared.entry.Want.{Want}
 use Rattle.conn_log.specs.declared.entry.Cause.{Cause}
 use Rattle.conn_log.specs.declared.entry.Cause.TheVariants.{NotPersistent, Cut, Forbidden, TooOld, HostRoom, TotalRoom, CacheFull, Dropped, Withdrawn, Pruned as ForPrune}
@@ -186,5 +186,5 @@ pub grows_at : (log outer after : List Entry) → log ≡ outer → GrowsBy log 
 grows_at log outer after same grew = subst (λ l. GrowsBy l after) same grew
 
 -- who has a lease or a ticket is who had it
-pub grants_keep : {S : Type 0} (log : List Entry) (grants : List (Grant S)) (after : List Entry) (granted : List (Grant S)) (settings settings' : LimitAndFirst) (host host' : ℕ) (streams streams' : List (ℕ × S)) (booked booked' : List ℕ) (table table' : TableId) → Grants log grants after granted → KeepsAll (record { log = log; settings = settings; host = host; streams = streams; unclaimed = grant_starts grants; booked = booked; table = table }) (record { log = after; settings = settings'; host = host'; streams = streams'; unclaimed = grant_starts granted; booked = booked'; table = table' })
-grants_keep log grants after granted settings settings' host host' streams streams' booked booked' table table' same = record { leases = same.leases; tickets = same.tickets }
+pub grants_keep : {S : Type 0} (log : List Entry) (grants : List (Grant S)) (after : List Entry) (granted : List (Grant S)) (settings settings' : LimitAndFirst) (host host' : ℕ) (streams streams' : List (ℕ × S)) (booked booked' : List ℕ) (tables tables' : Tables) → Grants log grants after granted → KeepsAll (record { log = log; settings = settings; host = host; streams = streams; unclaimed = grant_starts grants; booked = booked; tables = tables }) (record { log = after; settings = settings'; host = host'; streams = streams'; unclaimed = grant_starts granted; booked = booked'; tables = tables' })
+grants_keep log grants after granted settings settings' host host' streams streams' booked booked' tables tables' same = record { leases = same.leases; tickets = same.tickets }

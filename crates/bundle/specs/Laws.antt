@@ -1,18 +1,21 @@
 -- What the calls' answers keep of a log, whatever the log.
-use Rattle.std.specs.Prelude.{◌≡◌, ℕ, ◌≤◌, Bool, true, false, List, [], Some, None}
+use Rattle.std.specs.Prelude.{◌≡◌, ℕ, ◌≤◌, Bool, true, false, List, [], ◌∷◌, Some, None}
 use Rattle.persistence.specs.declared.facts.Facts.{Facts}
 use Rattle.budget.specs.declared.permits.Try.{Try}
 use Rattle.conn_log.specs.declared.entry.Want.{Want}
 use Rattle.conn_log.specs.declared.entry.Cause.{Cause}
 use Rattle.conn_log.specs.declared.entry.Entry.{Entry}
-use Rattle.conn_log.specs.declared.entry.Event.TheVariants.{Closed}
+use Rattle.conn_log.specs.declared.entry.Cause.TheVariants.{Dropped, Withdrawn}
+use Rattle.conn_log.specs.declared.entry.Event.TheVariants.{Returned, Closed, Left, Limit}
 use Rattle.conn_log.specs.Connections.{held_number}
+use Rattle.conn_log.specs.Waiting.{waits}
 use Rattle.conn_log.specs.Fit.{oldest}
 use Rattle.conn_log.specs.Legal.{LimitAndFirst, IsQuiet}
 use Rattle.conn_log.specs.Sound.{IsSound, is_of_idle}
 use Rattle.host_state.specs.Steps.{moment_at, add, without_picked}
-use Rattle.host_state.specs.declared.closing.Closing.TheVariants.{Pruned}
-use Rattle.bundle.specs.Calls.{spent, acquired, given_back, after_abandon, after_withdraw, after_turn, after_limit, kept_limit, limit_refusal, starts_due, is_queued, is_busy}
+use Rattle.host_state.specs.declared.closing.Closing.TheVariants.{Pruned, Above}
+use Rattle.bundle.specs.Passes.{start_entry, wait_entry}
+use Rattle.bundle.specs.Calls.{Start, Wait, GrowsBy, starts, waits_on, spent, acquired, given_back, after_abandon, after_withdraw, after_turn, after_limit, kept_limit, limit_refusal, starts_due, is_queued, is_busy}
 
 -- what holds between two calls: the log is sound, and quiet with its mark
 pub record IsSoundAndQuiet (settings : LimitAndFirst) (log : List Entry) : Type 0 where
@@ -82,3 +85,48 @@ LimitKeepsSoundAndQuiet =
     → limit_refusal n log ≡ None
     → given ≤ starts_due (is_queued settings log) (kept_limit n) log
     → IsSoundAndQuiet settings (after_limit (kept_limit n) given settings log now)
+
+-- the entry of the start or the wait that an acquire gives is the newest of its log
+abbrev pub AcquireWritesItsStart : Type 0
+AcquireWritesItsStart =
+    (is_last : Bool) (told : Try) (settings : LimitAndFirst) (log : List Entry) (want : Want) (now : ℕ) (start : Start)
+    → (acquired is_last told settings log want now).reply ≡ starts start
+    → (before : List Entry) × ((acquired is_last told settings log want now).log ≡ start_entry start ∷ before)
+
+abbrev pub AcquireWritesItsWait : Type 0
+AcquireWritesItsWait =
+    (is_last : Bool) (told : Try) (settings : LimitAndFirst) (log : List Entry) (want : Want) (now : ℕ) (wait : Wait)
+    → (acquired is_last told settings log want now).reply ≡ waits_on wait
+    → (before : List Entry) × ((acquired is_last told settings log want now).log ≡ wait_entry wait ∷ before)
+
+-- the entry with which a lease or a ticket ends is the first that the call writes
+abbrev pub GiveBackWritesItsReturn : Type 0
+GiveBackWritesItsReturn =
+    (close_if_full : Bool) (told : Try) (settings : LimitAndFirst) (log after : List Entry) (c : ℕ) (facts : Facts) (now : ℕ)
+    → given_back close_if_full told settings log c facts now ≡ spent after
+    → GrowsBy (record { moment = moment_at log now; event = Returned c facts } ∷ log) after
+
+abbrev pub AbandonWritesItsClosing : Type 0
+AbandonWritesItsClosing =
+    (settings : LimitAndFirst) (log : List Entry) (c now : ℕ)
+    → GrowsBy (record { moment = moment_at log now; event = Closed c Dropped } ∷ log) (after_abandon settings log c now)
+
+abbrev pub WithdrawWritesItsClosing : Type 0
+WithdrawWritesItsClosing =
+    (settings : LimitAndFirst) (log : List Entry) (transfer c now : ℕ)
+    → waits log transfer ≡ false
+    → held_number log transfer ≡ Some c
+    → GrowsBy (record { moment = moment_at log now; event = Closed c Withdrawn } ∷ log) (after_withdraw settings log transfer now)
+
+-- a transfer that leaves writes nothing else
+abbrev pub WithdrawWritesItsLeaving : Type 0
+WithdrawWritesItsLeaving =
+    (settings : LimitAndFirst) (log : List Entry) (transfer now : ℕ)
+    → waits log transfer ≡ true
+    → after_withdraw settings log transfer now ≡ record { moment = moment_at log now; event = Left transfer } ∷ log
+
+-- a new limit is written once what is idle above it is closed
+abbrev pub LimitIsWritten : Type 0
+LimitIsWritten =
+    (settings : LimitAndFirst) (log : List Entry) (most given now : ℕ)
+    → GrowsBy (record { moment = moment_at log now; event = Limit most } ∷ without_picked (Above most) (moment_at log now) log) (after_limit most given settings log now)

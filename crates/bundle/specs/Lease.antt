@@ -3,7 +3,7 @@ use Rattle.std.specs.Prelude.{◌≡◌, ℕ, ◌-◌, Bool, true, false, ◌==�
 use Rattle.std.specs.List.{list_any}
 use Rattle.std.specs.Option.{option_map_or, option_and_then}
 use Rattle.std.specs.Bool.{beq}
-use Rattle.atomic_table.specs.Seated.{TableId}
+use Rattle.bundle.specs.Seats.{Tables}
 use Rattle.conn_log.specs.declared.entry.Want.{Want}
 use Rattle.conn_log.specs.declared.entry.Entry.{Entry}
 use Rattle.conn_log.specs.Connections.{is_among, is_open, is_idle, is_held_by, open_connections, idle_connections, held_number, holder_want}
@@ -22,18 +22,18 @@ pub record Using (S : Type 0) : Type 0 where
   pub start : Start
   pub stream : Option S
 
--- a lease tells that, and was made at its host's table of leases
+-- a lease tells that, and was made at its host's tables
 pub record Leasing (S : Type 0) : Type 0 where
   pub site : ℕ
   pub start : Start
   pub stream : Option S
-  pub table : TableId
+  pub tables : Tables
 
-abbrev pub lease_at : {S : Type 0} → TableId → Using S → Leasing S
-lease_at table used = record { site = used.site; start = used.start; stream = used.stream; table = table }
+abbrev pub lease_at : {S : Type 0} → Tables → Using S → Leasing S
+lease_at tables used = record { site = used.site; start = used.start; stream = used.stream; tables = tables }
 
-abbrev pub IsMadeAt : {S : Type 0} → TableId → Leasing S → Type 0
-IsMadeAt table lease = lease.table ≡ table
+abbrev pub IsMadeAt : {S : Type 0} → Tables → Leasing S → Type 0
+IsMadeAt tables lease = lease.tables ≡ tables
 
 -- on a new connection, which has no stream yet; and on one that was idle, with its stream
 abbrev pub new_use : {S : Type 0} → ℕ → ℕ → Want → ℕ → Using S
@@ -54,7 +54,7 @@ pub record Booked : Type 0 where
 
 -- a host: its log, its first limit and first number, its index, the streams by number (of its idle
 -- connections, and of those granted ones that came back and are not claimed), the starts that it granted and
--- that are not claimed, the transfers whose acquire is halfway, and the table of its leases
+-- that are not claimed, the transfers whose acquire is halfway, and its tables
 pub record HostShown (S : Type 0) : Type 0 where
   pub log : List Entry
   pub settings : LimitAndFirst
@@ -62,7 +62,7 @@ pub record HostShown (S : Type 0) : Type 0 where
   pub streams : List (ℕ × S)
   pub unclaimed : List Start
   pub booked : List ℕ
-  pub table : TableId
+  pub tables : Tables
 
 -- who starts
 abbrev pub starters : List Start → List ℕ
@@ -120,7 +120,7 @@ is_valid_ticket host want = option_map_or (is_same_want want) (ticket_want host 
 
 -- a host without connections
 abbrev pub IsNewHost : {S : Type 0} → ℕ → ℕ → ℕ → HostShown S → Type 0
-IsNewHost limit index first bundle = bundle ≡ record { log = []; settings = record { limit = limit; first = first }; host = index; streams = []; unclaimed = []; booked = []; table = bundle.table }
+IsNewHost limit index first bundle = bundle ≡ record { log = []; settings = record { limit = limit; first = first }; host = index; streams = []; unclaimed = []; booked = []; tables = bundle.tables }
 
 -- the transfer holds the lease's connection, as the log shows
 abbrev pub is_held_lease : {S : Type 0} → HostShown S → Leasing S → Bool
@@ -185,7 +185,7 @@ held_by log = held (length (open_connections log)) (length (idle_connections log
 pub record StaysThere {S : Type 0} (old new : HostShown S) : Type 0 where
   pub settings : new.settings ≡ old.settings
   pub host : new.host ≡ old.host
-  pub table : new.table ≡ old.table
+  pub tables : new.tables ≡ old.tables
 
 -- what a look tells: the counts of the log, and the mark
 abbrev pub snapshot_of : List Entry → Bool → Snapshot

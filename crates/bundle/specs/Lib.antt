@@ -1,6 +1,7 @@
 pub mod Calls
 pub mod Lease
 pub mod Seats
+pub mod Passes
 pub mod Grants
 pub mod Replies
 pub mod Lobbies

@@ -17,14 +17,17 @@ ghost use Rattle.bundle.specs.Lobbies.{IfLent, IfLeft, Lists, IsMarked, is_lent}
 ghost use Rattle.bundle.specs.Seats.{IsSeated, KeepsGranted};
 ghost use Rattle.bundle.specs.Replies.{Acquires, GivesLease, GivesTicket, GivesBooking};
 ghost use Rattle.bundle.specs.Replies.{UnlessBooking, IfGot, IsGot};
+ghost use Rattle.budget.specs.Accounts.{IsEnrolledAt, KeepsSeats};
+ghost use Rattle.bundle.specs.Passes.{tells, got_did, acquire_did, AccountsForStarts};
 
 use crate::answers::Got;
 use crate::booking::Booking;
+use crate::did::{Did, start_entry, tell_got, tell_refused};
 use crate::host::Bundle;
 use crate::lease::{Lease, Use};
 use crate::seats::Seats;
 use crate::serving::start_or_wait;
-use budget::{Lobby, Permits, Refusal};
+use budget::{Lobby, Pass, Permits, Refusal};
 use conn_log::Want;
 use host_state::State;
 
@@ -41,13 +44,20 @@ impl<S: Drop> Bundle<S> {
     /// here or has a booking out, with [`Refusal::Exhausted`] where the connection numbers that are
     /// left are those that the waiting and booked transfers may need, and with [`Refusal::Memory`]
     /// where memory runs out.
+    ///
+    /// The pass is told the entry of the start or the wait, or that the transfer is busy or no
+    /// number is left; nothing where the acquire is halfway or memory runs out.
+    ///
+    /// Asked of the caller: the pass is enrolled here.
     #[inline(always)]
     pub fn acquire<P: Permits>(
         &mut self,
         want: Want,
         now: u64,
         permits: &mut P,
+        pass: &mut Pass<Did>,
     ) -> Result<Got<S>, Refusal>
+        requires enrolled { IsEnrolledAt pass.old self.old.host self.old.tables.starts }
         requires stands { P.stands permits.old }
         requires part { P.held permits.old ≡ held_by self.old.log }
         ensures told { IfGot result (λ got. (told : Try) × P.opening permits.old permits.new told
@@ -81,7 +91,7 @@ impl<S: Drop> Bundle<S> {
             ≡ is_queued self.old.settings self.old.log }
 
         ensures made_here { IfGot result (λ got. GivesLease got
-            (λ lease. lease.table ≡ self.old.table)) }
+            (λ lease. lease.tables ≡ self.old.tables)) }
 
         // For those above: who has a lease or a ticket after the call, that the log only grew, and
         // that the host stays.
@@ -93,6 +103,11 @@ impl<S: Drop> Bundle<S> {
             (λ booking. KeepsAll self.old self.new)) }
         ensures grew { OnOk result (GrowsBy self.old.log self.new.log) }
         ensures same { StaysThere self.old self.new }
+
+        ensures tells { pass.new
+            ≡ tells self.old.host (acquire_did want.transfer result) pass.old }
+        ensures seats { KeepsSeats pass.old pass.new }
+        ensures account { AccountsForStarts self.old self.new pass.old pass.new }
     {
         let moment = self.state.moment(now);
         let seats = &mut self.seats;
@@ -104,9 +119,12 @@ impl<S: Drop> Bundle<S> {
             moment,
             permits,
         ) {
+            let start = Did::Wrote(start_entry(&lease));
+            pass.tell(self.state.host() as usize, start);
             return Ok(Got::Lease(lease));
         }
         if let Some(reason) = reason_against(&self.state, &self.bookings, &want) {
+            tell_refused(pass, self.state.host(), want.transfer, reason);
             return Err(reason);
         }
         let waiting = self.state.waiting_len() as usize;
@@ -122,6 +140,7 @@ impl<S: Drop> Bundle<S> {
         let seats = &mut self.seats;
         let got = start_or_wait(&mut self.state, seats, want, moment, permits, false);
         add_booking(&mut self.bookings, &got, want.transfer);
+        tell_got(pass, self.state.host(), &got);
         Ok(got)
     }
 
@@ -129,15 +148,19 @@ impl<S: Drop> Bundle<S> {
     /// where the budget has no room, the host's own oldest idle connection makes room, or the
     /// transfer waits, and the host is queued. `now` is in seconds. It takes no memory.
     ///
-    /// Asked of the caller: the booking is this host's; the lobby lists this host exactly where it
-    /// is queued.
+    /// The pass is told as by [`Bundle::acquire`].
+    ///
+    /// Asked of the caller: the booking is this host's, and the pass is enrolled here; the lobby
+    /// lists this host exactly where it is queued.
     pub fn retry<P: Permits>(
         &mut self,
         booking: Booking,
         now: u64,
         permits: &mut P,
         lobby: Option<&mut Lobby>,
+        pass: &mut Pass<Did>,
     ) -> Got<S>
+        requires enrolled { IsEnrolledAt pass.old self.old.host self.old.tables.starts }
         requires here { IsBookedHere self.old booking }
         requires lists { let mark = is_queued self.old.settings self.old.log in
             IfLent lobby (Lists self.old.host mark) }
@@ -163,7 +186,7 @@ impl<S: Drop> Bundle<S> {
             IfLeft lobby.entry lobby.exit (IsMarked self.old.host was is) }
         ensures mark { let was = is_queued self.old.settings self.old.log in
             is_lent lobby.entry ≡ false → is_queued self.new.settings self.new.log ≡ was }
-        ensures made_here { GivesLease result (λ lease. lease.table ≡ self.old.table) }
+        ensures made_here { GivesLease result (λ lease. lease.tables ≡ self.old.tables) }
         ensures gets_lease { let transfer = booking.want.transfer in
             GivesLease result
             (λ lease. GetsLease self.old self.new transfer lease.start.number) }
@@ -172,15 +195,18 @@ impl<S: Drop> Bundle<S> {
         ensures gets_booking { GivesBooking result (λ again. KeepsAll self.old self.new) }
         ensures grew { GrowsBy self.old.log self.new.log }
         ensures same { StaysThere self.old self.new }
+        ensures tells { pass.new ≡ tells self.old.host (got_did result) pass.old }
+        ensures seats { KeepsSeats pass.old pass.new }
+        ensures account { AccountsForStarts self.old self.new pass.old pass.new }
     {
         let was_queued = self.queued();
         match lobby {
             Some(lobby) => {
-                let got = self.try_again(booking, now, permits, true);
+                let got = self.try_again(booking, now, permits, true, pass);
                 self.mark(was_queued, lobby);
                 got
             }
-            None => self.try_again(booking, now, permits, false),
+            None => self.try_again(booking, now, permits, false, pass),
         }
     }
 
@@ -191,7 +217,9 @@ impl<S: Drop> Bundle<S> {
         now: u64,
         permits: &mut P,
         is_last: bool,
+        pass: &mut Pass<Did>,
     ) -> Got<S>
+        requires enrolled { IsEnrolledAt pass.old self.old.host self.old.tables.starts }
         requires here { IsBookedHere self.old booking }
         requires stands { P.stands permits.old }
         requires part { P.held permits.old ≡ held_by self.old.log }
@@ -212,7 +240,7 @@ impl<S: Drop> Bundle<S> {
         ensures part { P.held permits.new ≡ held_by self.new.log }
         ensures mark { let was = is_queued self.old.settings self.old.log in
             is_last ≡ false → is_queued self.new.settings self.new.log ≡ was }
-        ensures made_here { GivesLease result (λ lease. lease.table ≡ self.old.table) }
+        ensures made_here { GivesLease result (λ lease. lease.tables ≡ self.old.tables) }
         ensures gets_lease { let transfer = booking.want.transfer in
             GivesLease result
             (λ lease. GetsLease self.old self.new transfer lease.start.number) }
@@ -221,12 +249,16 @@ impl<S: Drop> Bundle<S> {
         ensures gets_booking { GivesBooking result (λ again. KeepsAll self.old self.new) }
         ensures grew { GrowsBy self.old.log self.new.log }
         ensures same { StaysThere self.old self.new }
+        ensures tells { pass.new ≡ tells self.old.host (got_did result) pass.old }
+        ensures seats { KeepsSeats pass.old pass.new }
+        ensures account { AccountsForStarts self.old self.new pass.old pass.new }
     {
         let want = booking.spend();
         let moment = self.state.moment(now);
         let seats = &mut self.seats;
         let got = start_or_wait(&mut self.state, seats, want, moment, permits, is_last);
         take_booking(&mut self.bookings, &got, want.transfer);
+        tell_got(pass, self.state.host(), &got);
         got
     }
 
@@ -268,7 +300,7 @@ fn lease_at_once<S: Drop, P: Permits>(
     ensures none_seats { IfNone result (seats.new ≡ seats.old) }
     ensures seated { IsSeated state.new.log seats.new }
     ensures granted { KeepsGranted seats.old seats.new }
-    ensures made_here { IfSome result (λ lease. lease.table ≡ seats.old.table) }
+    ensures made_here { IfSome result (λ lease. lease.tables ≡ seats.old.tables) }
     ensures due { let wants = waiting state.old.log in
         let due = start_behind wants false TryGot state.old.settings want moment state.old.log in
         IfSome result (λ lease. (state.new.log ≡ due.log)
@@ -294,7 +326,7 @@ fn lease_at_once<S: Drop, P: Permits>(
     };
     permits.release_kept();
     // One more can be counted.
-    let _open = state.open_len();
+    let (_open, _entries) = (state.open_len(), state.log().len());
     let seat = seats.lease(number, want.transfer);
     let used = Use::reusing(state.host(), number, want, moment, stream);
     Some(Lease::new(used, seat))

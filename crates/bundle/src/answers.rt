@@ -48,7 +48,8 @@ pub enum Back<S> {
     NoKeep(Lease<S>),
     /// The budget has to be asked again.
     Again(Lease<S>),
-    /// The host's log does not show the lease.
+    /// The host's log does not show the lease. No bundle answers this: a lease that was made there
+    /// is always known.
     Strange(Stray<Lease<S>>),
 }
 

@@ -7,11 +7,16 @@ ghost use Rattle.host_state.specs.State.{HasRoomToSpend};
 ghost use Rattle.bundle.specs.Calls.{is_queued};
 ghost use Rattle.bundle.specs.Lease.{IsNewHost, snapshot_of, HasItsStreams, UnclaimedAreStarts};
 ghost use Rattle.bundle.specs.Lease.{AreBooked};
+ghost use Rattle.bundle.specs.Seats.{gone};
+ghost use Rattle.budget.specs.Accounts.{account_at, change_at, enrolled, IsEnrolledAt, KeepsSeats};
+ghost use Rattle.budget.specs.Starts.{Spendings};
+ghost use Rattle.conn_log.specs.Starts.{start_count};
 
+use crate::did::Did;
 use crate::grant::Grant;
 use crate::seats::Seats;
 use crate::snapshot::Snapshot;
-use budget::Refusal;
+use budget::{Pass, Refusal};
 use conn_log::{Log, Stamp};
 use host_state::State;
 use std::alloc::Global;
@@ -43,7 +48,7 @@ impl<S: Drop> Model for Bundle<S> {
       streams = grant_streams bundle.grants.items ++ bundle.state.streams;
       unclaimed = grant_starts bundle.grants.items;
       booked = bundle.bookings.items;
-      table = bundle.seats.table;
+      tables = bundle.seats.tables;
     } };
 
     ghost invariant = { λ bundle. record {
@@ -121,6 +126,42 @@ impl<S: Drop> Bundle<S> {
             waiting: self.state.waiting_len(),
             queued: self.queued(),
         }
+    }
+
+    /// Gives the pass a seat in the host's tally, with which it can spend leases here. It takes no
+    /// memory.
+    ///
+    /// Asked of the caller: the pass has an account for this host, and no seat there.
+    pub fn enrol(&mut self, pass: &mut Pass<Did>)
+        requires there { self.old.host < length pass.old }
+        requires apart { (account_at pass.old self.old.host).seat ≡ None }
+        ensures same { self.new ≡ self.old }
+        ensures account { let table = self.old.tables.starts in
+            let seat : Spendings = record { table = table; spent = 0 } in
+            pass.new ≡ change_at pass.old self.old.host (enrolled seat) }
+        ensures enrolled { IsEnrolledAt pass.new self.old.host self.old.tables.starts }
+        ensures seats { KeepsSeats pass.old pass.new }
+    {
+        pass.enrol(self.state.host() as usize, self.seats.seat_pass());
+    }
+
+    /// How many starts there were: connections opened for a transfer, or leased to one again. Read
+    /// off the tally's word.
+    pub fn starts(&mut self) -> u64
+        ensures same { self.new ≡ self.old }
+        ensures starts { result ≡ start_count self.old.log }
+    {
+        self.seats.starts()
+    }
+
+    /// How many starts are over: all, but for one for each connection that is held. Read off the
+    /// words of the two tables.
+    pub fn gone(&mut self) -> u64
+        ensures same { self.new ≡ self.old }
+        ensures gone { result ≡ gone self.old.log }
+    {
+        let starts = self.seats.starts();
+        starts - self.seats.held()
     }
 
     /// How many connections transfers hold, read off the lease word.

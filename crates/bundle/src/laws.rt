@@ -8,6 +8,12 @@ ghost use Rattle.bundle.specs.Laws.{AcquireKeepsSoundAndQuiet, GiveBackKeepsSoun
 ghost use Rattle.bundle.specs.Laws.{AbandonKeepsSoundAndQuiet, WithdrawKeepsSoundAndQuiet};
 ghost use Rattle.bundle.specs.Laws.{TurnKeepsSoundAndQuiet, EvictingKeepsSoundAndQuiet};
 ghost use Rattle.bundle.specs.Laws.{PruneKeepsSoundAndQuiet, LimitKeepsSoundAndQuiet};
+ghost use Rattle.bundle.specs.Laws.{AcquireWritesItsStart, AcquireWritesItsWait};
+ghost use Rattle.bundle.specs.Laws.{GiveBackWritesItsReturn, AbandonWritesItsClosing};
+ghost use Rattle.bundle.specs.Laws.{WithdrawWritesItsClosing, WithdrawWritesItsLeaving};
+ghost use Rattle.bundle.specs.Laws.{LimitIsWritten};
+ghost use Rattle.bundle.specs.Passes.{PassesSpendWhatIsGone, NothingIsGoneAtFirst};
+ghost use Rattle.bundle.specs.Passes.{EachSpendsSomeStarts};
 
 /// A sound and quiet log stays so, and so legal, by each call that is not refused, whatever the
 /// log.
@@ -37,4 +43,26 @@ pub fn calls_have_their_effects()
     ensures limit { LimitChanges }
     ensures none_too_old { NoneTooOldIsLeft }
     ensures none_to_prune { NoneToPruneIsLeft }
+{}
+
+/// What a call tells its pass that it wrote stands in the log that it leaves, whatever the log: the
+/// start or the wait of an acquire is the newest entry, and that with which a lease or a ticket
+/// ends is the first one that the call writes.
+pub fn calls_write_what_they_tell()
+    ensures start { AcquireWritesItsStart }
+    ensures wait { AcquireWritesItsWait }
+    ensures give_back { GiveBackWritesItsReturn }
+    ensures abandon { AbandonWritesItsClosing }
+    ensures withdraw_granted { WithdrawWritesItsClosing }
+    ensures withdraw_waiting { WithdrawWritesItsLeaving }
+    ensures limit { LimitIsWritten }
+{}
+
+/// What the passes have spent at a host is the starts whose leases are gone: nothing at first, and
+/// each call keeps it so, by its clause `account`. So what one pass has spent is part of the
+/// starts.
+pub fn passes_have_spent_what_is_gone()
+    ensures at_first { NothingIsGoneAtFirst }
+    ensures each_call { PassesSpendWhatIsGone }
+    ensures part { EachSpendsSomeStarts }
 {}

@@ -22,7 +22,7 @@ impl<S> Model for Lease<S> {
 
     ghost Value = { Leasing S };
 
-    ghost view = { λ lease. lease_at lease.seat.table lease.used };
+    ghost view = { λ lease. lease_at lease.seat.tables lease.used };
 
     ghost invariant = { λ lease.
         lease.seat.pair ≡ (lease.used.start.number, lease.used.start.want.transfer) };
@@ -158,7 +158,7 @@ impl<S> Lease<S> {
     #[inline(always)]
     pub(crate) fn new(used: Use<S>, seat: LeaseSeat) -> Self
         requires { seat.pair ≡ (used.start.number, used.start.want.transfer) }
-        ensures { result ≡ lease_at seat.table used }
+        ensures { result ≡ lease_at seat.tables used }
     {
         Lease { used, seat }
     }
@@ -166,7 +166,7 @@ impl<S> Lease<S> {
     // Takes it apart, so that its host can take its seat back.
     #[inline(always)]
     pub(crate) fn take_apart(self) -> (Use<S>, LeaseSeat)
-        ensures used { self ≡ lease_at result.1.table result.0 }
+        ensures used { self ≡ lease_at result.1.tables result.0 }
         ensures pair { result.1.pair ≡ (self.start.number, self.start.want.transfer) }
     {
         let Lease { used, seat } = self;

@@ -10,6 +10,7 @@ mod budget_tests;
 mod contended_tests;
 #[cfg(test)]
 mod desk;
+mod did;
 #[cfg(test)]
 mod drop_tests;
 #[cfg(test)]
@@ -23,6 +24,8 @@ mod limit;
 mod limit_tests;
 #[cfg(test)]
 mod memory_tests;
+#[cfg(test)]
+mod pass_tests;
 mod room;
 mod seats;
 mod serving;
@@ -35,6 +38,7 @@ pub mod worked;
 
 pub use answers::{Back, Changed, Claimed, Got, Served};
 pub use booking::Booking;
+pub use did::Did;
 pub use host::Bundle;
 pub use lease::{Lease, Stray};
 pub use snapshot::Snapshot;

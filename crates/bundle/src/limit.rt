@@ -11,17 +11,22 @@ ghost use Rattle.host_state.specs.State.{IsSameHost, KeepsOpen};
 ghost use Rattle.bundle.specs.Calls.{after_limit, kept_limit, limit_refusal, starts_due};
 ghost use Rattle.bundle.specs.Calls.{leased_len, is_queued, is_freed, GrowsBy};
 ghost use Rattle.bundle.specs.Grants.{HasSpare, grant_starts, with_limit};
-ghost use Rattle.bundle.specs.Seats.{IsSeated, AreUnclaimed};
+ghost use Rattle.bundle.specs.Passes.{tells, limit_did, AccountsForStarts};
+ghost use Rattle.budget.specs.Accounts.{IsEnrolledAt, KeepsSeats};
+ghost use Rattle.host_state.specs.Steps.{moment_at};
+ghost use Rattle.bundle.specs.Seats.{IsSeated, AreUnclaimed, OnlyStarts};
 ghost use Rattle.bundle.specs.Lease.{KeepsStreams, KeepsAll, StaysThere, held_by};
 ghost use Rattle.bundle.specs.Lobbies.{Lists, IsMarked};
 ghost use Rattle.bundle.specs.Replies.{IfChanged, OnChangeAgain};
 
 use crate::answers::Changed;
+use crate::did::{Did, tell_held};
 use crate::grant::Grant;
 use crate::host::Bundle;
 use crate::seats::Seats;
 use crate::serving::open_for_first;
-use budget::{GREATEST_LIMIT, Lobby, Permits, Refusal, Try};
+use budget::{GREATEST_LIMIT, Lobby, Pass, Permits, Refusal, Try};
+use conn_log::{Entry, Event};
 use host_state::State;
 
 impl<S: Drop> Bundle<S> {
@@ -35,14 +40,20 @@ impl<S: Drop> Bundle<S> {
     /// where more connections than that are held, and with [`Refusal::Memory`] where memory runs
     /// out. [`Changed::Again`] comes where the budget has to be asked again; nothing changed then.
     ///
-    /// Asked of the caller: the lobby lists this host exactly where it is queued.
+    /// The pass is told the entry of the new limit, or how many connections are held where that is
+    /// why it is refused; else nothing.
+    ///
+    /// Asked of the caller: the pass is enrolled here; the lobby lists this host exactly where it
+    /// is queued.
     pub fn set_host_limit<P: Permits>(
         &mut self,
         limit: u32,
         now: u64,
         permits: &mut P,
         lobby: &mut Lobby,
+        pass: &mut Pass<Did>,
     ) -> Result<Changed, Refusal>
+        requires enrolled { IsEnrolledAt pass.old self.old.host self.old.tables.starts }
         requires lists { let mark = is_queued self.old.settings self.old.log in
             Lists self.old.host mark lobby.old }
         requires stands { P.stands permits.old }
@@ -76,8 +87,13 @@ impl<S: Drop> Bundle<S> {
         ensures keeps { KeepsAll self.old self.new }
         ensures grew { GrowsBy self.old.log self.new.log }
         ensures same { StaysThere self.old self.new }
+        ensures tells { let did = limit_did (kept_limit limit) (moment_at self.old.log now) result
+            in pass.new ≡ tells self.old.host did pass.old }
+        ensures seats { KeepsSeats pass.old pass.new }
+        ensures account { AccountsForStarts self.old self.new pass.old pass.new }
     {
         if let Some(reason) = reason_against(&self.state, limit) {
+            tell_held(pass, self.state.host(), reason);
             return Err(reason);
         }
         let most = kept_limit(limit);
@@ -89,9 +105,15 @@ impl<S: Drop> Bundle<S> {
         let Some(given) = reserve_up_to(count, permits) else {
             return Ok(Changed::Again);
         };
+        let moment = self.state.moment(now);
         let (state, seats) = (&mut self.state, &mut self.seats);
         let freed = change_limit(state, seats, &mut self.grants, most, given, now, permits);
         self.mark(was_queued, lobby);
+        let limited = Entry {
+            moment,
+            event: Event::Limit { limit: most },
+        };
+        pass.tell(self.state.host() as usize, Did::Wrote(limited));
         Ok(Changed::Done { freed })
     }
 }
@@ -158,7 +180,7 @@ fn change_limit<S: Drop, P: Permits>(
         (vec_capacity grants.new) }
     ensures seated { IsSeated state.new.log seats.new }
     ensures unclaimed { AreUnclaimed (grant_starts grants.new.items) seats.new }
-    ensures table { seats.new.table ≡ seats.old.table }
+    ensures starts { OnlyStarts seats.old seats.new }
     ensures freed { result ≡ is_freed state.old.log state.new.log }
     ensures none_closed { length (open_connections state.old.log) < most →
         permits.new ≡ permits.old }

@@ -10,12 +10,17 @@ ghost use Rattle.host_state.specs.declared.closing.Closing.TheVariants.{Pruned};
 ghost use Rattle.bundle.specs.Calls.{after_turn, is_queued, makes_room_for_others, GrowsBy};
 ghost use Rattle.bundle.specs.Lease.{KeepsStreams, KeepsAll, StaysThere, held_by};
 ghost use Rattle.bundle.specs.Lobbies.{Lists, IsServed, HadTurn};
+ghost use Rattle.bundle.specs.Passes.{tells, AccountsForStarts};
 ghost use Rattle.bundle.specs.Replies.{answer_of};
+ghost use Rattle.bundle.specs.Seats.{gone};
+ghost use Rattle.budget.specs.Accounts.{IsEnrolledAt, KeepsSeats};
+ghost use Rattle.bundle.specs.declared.did.Did.TheVariants.{Pruned as WasPruned};
 
 use crate::answers::Served;
+use crate::did::Did;
 use crate::host::Bundle;
 use crate::serving::{close_idle, open_for_head};
-use budget::{Lobby, Permits, Try};
+use budget::{Lobby, Pass, Permits, Try};
 use conn_log::{Cause, Stamp};
 use host_state::Closing;
 
@@ -50,6 +55,7 @@ impl<S: Drop> Bundle<S> {
         ensures keeps { KeepsAll self.old self.new }
         ensures grew { GrowsBy self.old.log self.new.log }
         ensures same { StaysThere self.old self.new }
+        ensures gone { gone self.new.log ≡ gone self.old.log }
     {
         match permits.reserve_open() {
             Try::Got => {}
@@ -107,6 +113,7 @@ impl<S: Drop> Bundle<S> {
         ensures keeps { KeepsAll self.old self.new }
         ensures grew { GrowsBy self.old.log self.new.log }
         ensures same { StaysThere self.old self.new }
+        ensures gone { gone self.new.log ≡ gone self.old.log }
     {
         let Some(oldest) = self.oldest() else {
             return false;
@@ -123,14 +130,18 @@ impl<S: Drop> Bundle<S> {
 
     /// Closes every idle connection that has been idle for longer than `max_age`, or open for
     /// longer than `max_life` where that is not 0, in seconds, and frees their permits; it answers
-    /// how many it closed. `now` is in seconds. It takes no memory.
+    /// how many it closed, and tells the pass. `now` is in seconds. It takes no memory.
+    ///
+    /// Asked of the caller: the pass is enrolled here.
     pub fn prune<P: Permits>(
         &mut self,
         now: u64,
         max_age: u64,
         max_life: u64,
         permits: &mut P,
+        pass: &mut Pass<Did>,
     ) -> u32
+        requires enrolled { IsEnrolledAt pass.old self.old.host self.old.tables.starts }
         requires stands { P.stands permits.old }
         requires part { P.held permits.old ≡ held_by self.old.log }
         ensures log { let moment = moment_at self.old.log now in
@@ -147,9 +158,21 @@ impl<S: Drop> Bundle<S> {
         ensures keeps { KeepsAll self.old self.new }
         ensures grew { GrowsBy self.old.log self.new.log }
         ensures same { StaysThere self.old self.new }
+        ensures tells { let did = WasPruned now max_age max_life result in
+            pass.new ≡ tells self.old.host (Some did) pass.old }
+        ensures seats { KeepsSeats pass.old pass.new }
+        ensures account { AccountsForStarts self.old self.new pass.old pass.new }
     {
         let moment = self.state.moment(now);
         let closing = Closing::Pruned { max_age, max_life };
-        close_idle(&mut self.state, &closing, moment, permits)
+        let closed = close_idle(&mut self.state, &closing, moment, permits);
+        let pruned = Did::Pruned {
+            now,
+            max_age,
+            max_life,
+            closed,
+        };
+        pass.tell(self.state.host() as usize, pruned);
+        closed
     }
 }

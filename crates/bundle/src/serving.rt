@@ -19,7 +19,7 @@ ghost use Rattle.bundle.specs.Calls.{open_for_head, open_for_first};
 ghost use Rattle.bundle.specs.Grants.{with_new, with_granted, with_first, IsAlone, HasSpare};
 ghost use Rattle.bundle.specs.Grants.{grant_starts};
 ghost use Rattle.bundle.specs.Lease.{HasItsStream, held_by};
-ghost use Rattle.bundle.specs.Seats.{IsSeated, AreUnclaimed, KeepsGranted};
+ghost use Rattle.bundle.specs.Seats.{IsSeated, AreUnclaimed, KeepsGranted, OnlyStarts};
 ghost use Rattle.host_state.specs.Idle.{stream_of};
 ghost use Rattle.bundle.specs.Replies.{GivesLease, GivesTicket, GivesBooking, UnlessBooking};
 ghost use Rattle.bundle.specs.Replies.{IsGot};
@@ -94,7 +94,7 @@ pub(crate) fn start_or_wait<S: Drop, P: Permits>(
         (state.new.log ≡ due.log) × IsGot state.old.host want due.reply result) }
     ensures seated { IsSeated state.new.log seats.new }
     ensures granted { KeepsGranted seats.old seats.new }
-    ensures made_here { GivesLease result (λ lease. lease.table ≡ seats.old.table) }
+    ensures made_here { GivesLease result (λ lease. lease.tables ≡ seats.old.tables) }
     ensures has_stream { GivesLease result (λ lease. is_some lease.stream ≡ lease.start.reused) }
     ensures stream { GivesLease result (HasItsStream state.old.streams) }
     ensures others { GivesLease result
@@ -116,6 +116,7 @@ pub(crate) fn start_or_wait<S: Drop, P: Permits>(
     let _open = state.open_len();
     if let Some((number, stream)) = state.lease_newest_fit(&want, moment) {
         permits.release_kept();
+        let _entries = state.log().len();
         let seat = seats.lease(number, want.transfer);
         let used = Use::reusing(state.host(), number, want, moment, stream);
         return Got::Lease(Lease::new(used, seat));
@@ -149,7 +150,7 @@ fn start_as_told<S: Drop, P: Permits>(
         (state.new.log ≡ due.log) × IsGot state.old.host want due.reply result) }
     ensures seated { IsSeated state.new.log seats.new }
     ensures granted { KeepsGranted seats.old seats.new }
-    ensures made_here { GivesLease result (λ lease. lease.table ≡ seats.old.table) }
+    ensures made_here { GivesLease result (λ lease. lease.tables ≡ seats.old.tables) }
     ensures no_stream { GivesLease result (λ lease. lease.stream ≡ None) }
     ensures not_reused { GivesLease result (λ lease. lease.start.reused ≡ false) }
     ensures streams { KeepsOpen state.old state.new }
@@ -170,6 +171,7 @@ fn start_as_told<S: Drop, P: Permits>(
             // One more can be counted.
             let _open = state.open_len();
             let number = state.open(&want, moment);
+            let _entries = state.log().len();
             let seat = seats.lease(number, want.transfer);
             let used = Use::opened(state.host(), number, want, moment);
             Got::Lease(Lease::new(used, seat))
@@ -207,7 +209,7 @@ fn start_in_place<S: Drop, P: Permits>(
         (state.new.log ≡ due.log) × IsGot state.old.host want due.reply result }
     ensures seated { IsSeated state.new.log seats.new }
     ensures granted { KeepsGranted seats.old seats.new }
-    ensures made_here { GivesLease result (λ lease. lease.table ≡ seats.old.table) }
+    ensures made_here { GivesLease result (λ lease. lease.tables ≡ seats.old.tables) }
     ensures no_stream { GivesLease result (λ lease. lease.stream ≡ None) }
     ensures not_reused { GivesLease result (λ lease. lease.start.reused ≡ false) }
     ensures streams { KeepsOpen state.old state.new }
@@ -231,6 +233,7 @@ fn start_in_place<S: Drop, P: Permits>(
     // One more can be counted.
     let _open = state.open_len();
     let number = state.open(&want, moment);
+    let _entries = state.log().len();
     let seat = seats.lease(number, want.transfer);
     let used = Use::opened(state.host(), number, want, moment);
     Got::Lease(Lease::new(used, seat))
@@ -260,7 +263,7 @@ fn wait_last<S: Drop>(state: &mut State<S>, want: Want, moment: u64) -> Ticket
 
 /// Opens a connection for the first transfer that waits, if one does, and grants it. The permit of
 /// the connection is had already.
-#[inline(always)]
+#[inline(never)]
 pub(crate) fn open_for_head<S: Drop>(
     state: &mut State<S>,
     seats: &mut Seats,
@@ -280,7 +283,7 @@ pub(crate) fn open_for_head<S: Drop>(
         grants.new.items ≡ with_new state.old.settings moment log wants grants.old.items }
     ensures seated { IsSeated state.new.log seats.new }
     ensures unclaimed { AreUnclaimed (grant_starts grants.new.items) seats.new }
-    ensures table { seats.new.table ≡ seats.old.table }
+    ensures starts { OnlyStarts seats.old seats.new }
     ensures spare { HasSpare state.new.log state.new.booked (vec_len grants.new)
         (vec_capacity grants.new) }
     ensures more_open { IsAnyone (waiting state.old.log) →
@@ -297,6 +300,7 @@ pub(crate) fn open_for_head<S: Drop>(
     let _log = state.log();
     let _open = state.open_len();
     let number = state.open(&head, moment);
+    let _entries = state.log().len();
     seats.grant(number, head.transfer);
     grants.push_reserved(Grant {
         want: head,
@@ -308,7 +312,7 @@ pub(crate) fn open_for_head<S: Drop>(
 
 /// Hands on the permit of a connection that its holder closed: one is opened with it for the first
 /// transfer that waits; where nobody waits it is freed.
-#[inline(always)]
+#[inline(never)]
 pub(crate) fn hand_on<S: Drop, P: Permits>(
     state: &mut State<S>,
     seats: &mut Seats,
@@ -330,7 +334,7 @@ pub(crate) fn hand_on<S: Drop, P: Permits>(
         grants.new.items ≡ with_new state.old.settings moment log wants grants.old.items }
     ensures seated { IsSeated state.new.log seats.new }
     ensures unclaimed { AreUnclaimed (grant_starts grants.new.items) seats.new }
-    ensures table { seats.new.table ≡ seats.old.table }
+    ensures starts { OnlyStarts seats.old seats.new }
     ensures spare { HasSpare state.new.log state.new.booked (vec_len grants.new)
         (vec_capacity grants.new) }
     ensures streams { state.new.streams ≡ state.old.streams }
@@ -374,7 +378,7 @@ pub(crate) fn grant_to_head<S: Drop>(
         grants.new.items ≡ passed grants.old.items }
     ensures seated { IsSeated state.new.log seats.new }
     ensures unclaimed { AreUnclaimed (grant_starts grants.new.items) seats.new }
-    ensures table { seats.new.table ≡ seats.old.table }
+    ensures starts { OnlyStarts seats.old seats.new }
     ensures spare { HasSpare state.new.log state.new.booked (vec_len grants.new)
         (vec_capacity grants.new) }
     ensures others { KeepsOpenBut held.now.number state.old state.new }
@@ -391,7 +395,7 @@ pub(crate) fn grant_to_head<S: Drop>(
     let _log = state.log();
     if let Some((number, stream)) = state.lease_newest_fit(&head, moment) {
         // One more can be counted.
-        let _open = state.open_len();
+        let (_open, _entries) = (state.open_len(), state.log().len());
         seats.grant(number, head.transfer);
         grants.push_reserved(Grant {
             want: head,
@@ -428,7 +432,7 @@ pub(crate) fn open_for_first<S: Drop>(
         grants.new.items ≡ with_first count state.old.settings moment state.old.log granted }
     ensures seated { IsSeated state.new.log seats.new }
     ensures unclaimed { AreUnclaimed (grant_starts grants.new.items) seats.new }
-    ensures table { seats.new.table ≡ seats.old.table }
+    ensures starts { OnlyStarts seats.old seats.new }
     ensures spare { HasSpare state.new.log state.new.booked (vec_len grants.new)
         (vec_capacity grants.new) }
     ensures more_open { let open_before = length (open_connections state.old.log) in

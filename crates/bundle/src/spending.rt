@@ -17,16 +17,25 @@ ghost use Rattle.bundle.specs.Lease.{lease_at};
 ghost use Rattle.bundle.specs.Lobbies.{IfLent, IfLeft, Lists, IsMarked, is_lent};
 ghost use Rattle.bundle.specs.Replies.{IfClaimed, IfStill, GivesBack};
 ghost use Rattle.bundle.specs.Replies.{OnSpent, UnlessSpent};
+ghost use Rattle.bundle.specs.declared.did.Did.TheVariants.{Stranger};
+ghost use Rattle.bundle.specs.Lease.{start_for};
+ghost use Rattle.bundle.specs.Passes.{tells, spends, withdraws, claim_did, AccountsForStarts};
+ghost use Rattle.conn_log.specs.declared.entry.Cause.TheVariants.{Dropped};
+ghost use Rattle.conn_log.specs.declared.entry.Event.TheVariants.{Returned as CameBack, Closed};
+ghost use Rattle.host_state.specs.Steps.{moment_at};
+ghost use Rattle.budget.specs.Accounts.{IsEnrolledAt, KeepsSeats};
+ghost use Rattle.budget.specs.Pairs.{pair_count, without_pair};
 
 use crate::answers::{Back, Claimed};
-use crate::grant::{Grant, granted_want, take_grant};
+use crate::did::Did;
+use crate::grant::{granted_want, take_grant};
 use crate::host::Bundle;
 use crate::lease::{Lease, Stray, Use};
 use crate::seats::Seats;
 use crate::serving::{grant_to_head, hand_on};
 use crate::ticket::Ticket;
-use budget::{Lobby, Permits, Try};
-use conn_log::{Cause, Want};
+use budget::{Lobby, Pass, Permits, StartSeat, Try};
+use conn_log::{Cause, Entry, Event, Want};
 use host_state::{Returned, State};
 use persistence::{Facts, persists};
 
@@ -49,8 +58,15 @@ impl<S: Drop> Bundle<S> {
     /// logged, and no memory is taken.
     ///
     /// A ticket comes back in a [`Stray`] where its transfer neither waits with its want nor has
-    /// yet to claim what it was granted for that want.
-    pub fn claim(&mut self, ticket: Ticket) -> Result<Claimed<S>, Stray<Ticket>>
+    /// yet to claim what it was granted for that want. The pass is told which of the three it is.
+    ///
+    /// Asked of the caller: the pass is enrolled here.
+    pub fn claim(
+        &mut self,
+        ticket: Ticket,
+        pass: &mut Pass<Did>,
+    ) -> Result<Claimed<S>, Stray<Ticket>>
+        requires enrolled { IsEnrolledAt pass.old self.old.host self.old.tables.starts }
         ensures ok { OnOk result (is_valid_ticket self.old ticket.wait.want ≡ true) }
         ensures strange { IfErr result (λ stray.
             (is_valid_ticket self.old ticket.wait.want ≡ false) × (stray ≡ ticket)) }
@@ -65,21 +81,29 @@ impl<S: Drop> Bundle<S> {
             (is_unclaimed self.old ticket.wait.want.transfer ≡ false)
             × (same ≡ ticket) × (self.new ≡ self.old)) }
         ensures err { OnErr result (self.new ≡ self.old) }
-        ensures made_here { IfClaimed result (λ lease. lease.table ≡ self.old.table) }
+        ensures made_here { IfClaimed result (λ lease. lease.tables ≡ self.old.tables) }
         ensures gets_lease { IfClaimed result (λ lease.
             GetsLease self.old self.new ticket.wait.want.transfer lease.start.number) }
         ensures booked { self.new.booked ≡ self.old.booked }
         ensures same { StaysThere self.old self.new }
+        ensures tells { let did = claim_did ticket.wait.want.transfer result in
+            pass.new ≡ tells self.old.host did pass.old }
+        ensures seats { KeepsSeats pass.old pass.new }
+        ensures account { AccountsForStarts self.old self.new pass.old pass.new }
     {
         let want = ticket.want();
+        let (host, transfer) = (self.state.host() as usize, want.transfer);
         if !self.is_valid_ticket(&want) {
+            pass.tell(host, Did::Stranger(transfer));
             return Err(Stray::new(ticket));
         }
-        let Some(grant) = take_grant(&mut self.grants, want.transfer) else {
+        let Some(grant) = take_grant(&mut self.grants, transfer) else {
+            pass.tell(host, Did::Still(transfer));
             return Ok(Claimed::Still(ticket));
         };
+        pass.tell(host, Did::Claimed(transfer));
         ticket.spend();
-        let seat = self.seats.claim(grant.number, want.transfer);
+        let seat = self.seats.claim(grant.number, transfer);
         let used = Use::granted(self.state.host(), grant);
         Ok(Claimed::Lease(Lease::new(used, seat)))
     }
@@ -92,21 +116,24 @@ impl<S: Drop> Bundle<S> {
     /// Where its use ends it is closed, and one is opened for the first transfer that waits. `now`
     /// is in seconds. Spending takes no memory.
     ///
-    /// All but [`Back::Spent`] leave the host as it was.
+    /// The lease is spent with the pass, which is told the entry of its return. All but
+    /// [`Back::Spent`] leave the host and the pass as they were.
     ///
-    /// Asked of the caller: the lease was made here, so that it is no stranger; a queued host is
-    /// lent the lobby, which lists it exactly where it is queued.
+    /// Asked of the caller: the lease was made here, so that it is no stranger, and the pass is
+    /// enrolled here; a queued host is lent the lobby, which lists it exactly where it is queued.
     #[inline(always)]
     pub fn give_back<P: Permits>(
         &mut self,
         lease: Lease<S>,
         facts: Facts,
         now: u64,
+        pass: &mut Pass<Did>,
         permits: &mut P,
         lobby: Option<&mut Lobby>,
         close_if_full: bool,
     ) -> Back<S>
-        requires here { lease.table ≡ self.old.table }
+        requires enrolled { IsEnrolledAt pass.old self.old.host self.old.tables.starts }
+        requires here { lease.tables ≡ self.old.tables }
         requires stream { IsSome lease.stream }
         requires lent { is_queued self.old.settings self.old.log ≡ true → is_lent lobby ≡ true }
         requires lists { let mark = is_queued self.old.settings self.old.log in
@@ -131,9 +158,15 @@ impl<S: Drop> Bundle<S> {
             is_queued self.new.settings self.new.log ≡ false }
         ensures grew { GrowsBy self.old.log self.new.log }
         ensures same { StaysThere self.old self.new }
+        ensures spent { let moment = moment_at self.old.log now in
+            let returned = CameBack lease.start.number facts in
+            OnSpent result (pass.new ≡ spends self.old.host moment returned pass.old) }
+        ensures unspent { UnlessSpent result (pass.new ≡ pass.old) }
+        ensures seats { KeepsSeats pass.old pass.new }
+        ensures account { AccountsForStarts self.old self.new pass.old pass.new }
     {
         let was_queued = self.queued();
-        let back = self.take_back(lease, facts, now, permits, close_if_full);
+        let back = self.take_back(lease, facts, now, pass, permits, close_if_full);
         if let Some(lobby) = lobby {
             self.mark(was_queued, lobby);
         }
@@ -147,10 +180,12 @@ impl<S: Drop> Bundle<S> {
         lease: Lease<S>,
         facts: Facts,
         now: u64,
+        pass: &mut Pass<Did>,
         permits: &mut P,
         close_if_full: bool,
     ) -> Back<S>
-        requires here { lease.table ≡ self.old.table }
+        requires enrolled { IsEnrolledAt pass.old self.old.host self.old.tables.starts }
+        requires here { lease.tables ≡ self.old.tables }
         requires stream { IsSome lease.stream }
         requires stands { P.stands permits.old }
         requires part { P.held permits.old ≡ held_by self.old.log }
@@ -169,27 +204,33 @@ impl<S: Drop> Bundle<S> {
             is_queued self.new.settings self.new.log ≡ false }
         ensures grew { GrowsBy self.old.log self.new.log }
         ensures same { StaysThere self.old self.new }
+        ensures spent { let moment = moment_at self.old.log now in
+            let returned = CameBack lease.start.number facts in
+            OnSpent result (pass.new ≡ spends self.old.host moment returned pass.old) }
+        ensures unspent { UnlessSpent result (pass.new ≡ pass.old) }
+        ensures seats { KeepsSeats pass.old pass.new }
+        ensures account { AccountsForStarts self.old self.new pass.old pass.new }
     {
         let (mut used, seat) = lease.take_apart();
-        self.seats.take_back(seat);
+        let start = self.seats.take_back(seat);
         let (transfer, number) = (used.transfer(), used.number());
         let moment = self.state.moment(now);
         let asked = ask_to_keep(&self.state, &facts, permits);
         let stream = used.detach();
+        let (host, connection) = (self.state.host(), number);
+        let event = Event::Returned { connection, facts };
         let back = self
             .state
             .give_back(transfer, number, facts, stream, moment, may_keep(asked));
         match back {
             Returned::Idle(held) => {
-                self.seats.clear();
-                spend(used, &mut self.grants, transfer);
+                spend(used, start, &mut self.seats, host, pass, moment, event);
                 let seats = &mut self.seats;
                 grant_to_head(&mut self.state, seats, &mut self.grants, &held, moment);
                 Back::Spent { freed: false }
             }
             Returned::Ended => {
-                self.seats.clear();
-                spend(used, &mut self.grants, transfer);
+                spend(used, start, &mut self.seats, host, pass, moment, event);
                 release_unused(asked, permits);
                 let freed = !self.state.anyone_waits();
                 let seats = &mut self.seats;
@@ -198,13 +239,12 @@ impl<S: Drop> Bundle<S> {
             }
             Returned::Unkept(stream) => {
                 if must_ask_again(asked) {
-                    return Back::Again(again(used, stream, &mut self.seats));
+                    return Back::Again(again(used, stream, start, &mut self.seats));
                 }
                 if !close_if_full {
-                    return Back::NoKeep(again(used, stream, &mut self.seats));
+                    return Back::NoKeep(again(used, stream, start, &mut self.seats));
                 }
-                self.seats.clear();
-                spend(used, &mut self.grants, transfer);
+                spend(used, start, &mut self.seats, host, pass, moment, event);
                 self.state
                     .give_back_to_close(transfer, number, facts, stream, moment);
                 permits.release_open();
@@ -216,19 +256,21 @@ impl<S: Drop> Bundle<S> {
     }
 
     /// Closes a leased connection without a response, and opens one for the first transfer that
-    /// waits; it answers whether a permit was freed instead. `now` is in seconds. It takes no
-    /// memory.
+    /// waits; it answers whether a permit was freed instead. The lease is spent with the pass,
+    /// which is told the entry of the closing. `now` is in seconds. It takes no memory.
     ///
-    /// Asked of the caller: the lease was made here, so that it is no stranger; a queued host is
-    /// lent the lobby, which lists it exactly where it is queued.
+    /// Asked of the caller: the lease was made here, so that it is no stranger, and the pass is
+    /// enrolled here; a queued host is lent the lobby, which lists it exactly where it is queued.
     pub fn abandon<P: Permits>(
         &mut self,
         lease: Lease<S>,
         now: u64,
+        pass: &mut Pass<Did>,
         permits: &mut P,
         lobby: Option<&mut Lobby>,
     ) -> Result<bool, Stray<Lease<S>>>
-        requires here { lease.table ≡ self.old.table }
+        requires enrolled { IsEnrolledAt pass.old self.old.host self.old.tables.starts }
+        requires here { lease.tables ≡ self.old.tables }
         requires lent { is_queued self.old.settings self.old.log ≡ true → is_lent lobby ≡ true }
         requires lists { let mark = is_queued self.old.settings self.old.log in
             IfLent lobby (Lists self.old.host mark) }
@@ -251,21 +293,33 @@ impl<S: Drop> Bundle<S> {
             is_queued self.new.settings self.new.log ≡ false }
         ensures grew { GrowsBy self.old.log self.new.log }
         ensures same { StaysThere self.old self.new }
+        ensures spent { let moment = moment_at self.old.log now in
+            let closed = Closed lease.start.number Dropped in
+            pass.new ≡ spends self.old.host moment closed pass.old }
+        ensures seats { KeepsSeats pass.old pass.new }
+        ensures account { AccountsForStarts self.old self.new pass.old pass.new }
     {
         let was_queued = self.queued();
         match lobby {
             Some(lobby) => {
-                let freed = self.close_leased(lease, now, permits);
+                let freed = self.close_leased(lease, now, pass, permits);
                 self.mark(was_queued, lobby);
                 Ok(freed)
             }
-            None => Ok(self.close_leased(lease, now, permits)),
+            None => Ok(self.close_leased(lease, now, pass, permits)),
         }
     }
 
     // The same, whatever becomes of the host's mark.
-    fn close_leased<P: Permits>(&mut self, lease: Lease<S>, now: u64, permits: &mut P) -> bool
-        requires here { lease.table ≡ self.old.table }
+    fn close_leased<P: Permits>(
+        &mut self,
+        lease: Lease<S>,
+        now: u64,
+        pass: &mut Pass<Did>,
+        permits: &mut P,
+    ) -> bool
+        requires enrolled { IsEnrolledAt pass.old self.old.host self.old.tables.starts }
+        requires here { lease.tables ≡ self.old.tables }
         requires stands { P.stands permits.old }
         requires part { P.held permits.old ≡ held_by self.old.log }
         ensures known { is_held_lease self.old lease ≡ true }
@@ -282,15 +336,21 @@ impl<S: Drop> Bundle<S> {
             is_queued self.new.settings self.new.log ≡ false }
         ensures grew { GrowsBy self.old.log self.new.log }
         ensures same { StaysThere self.old self.new }
+        ensures spent { let moment = moment_at self.old.log now in
+            let closed = Closed lease.start.number Dropped in
+            pass.new ≡ spends self.old.host moment closed pass.old }
+        ensures seats { KeepsSeats pass.old pass.new }
+        ensures account { AccountsForStarts self.old self.new pass.old pass.new }
     {
         let (used, seat) = lease.take_apart();
-        self.seats.take_back(seat);
-        let transfer = used.transfer();
+        let start = self.seats.take_back(seat);
+        let (transfer, connection) = (used.transfer(), used.number());
         // Its pair stood in the table, so the log shows it.
-        let held = self.state.held(transfer, used.number()).unwrap();
+        let held = self.state.held(transfer, connection).unwrap();
         let moment = self.state.moment(now);
-        self.seats.clear();
-        spend(used, &mut self.grants, transfer);
+        let (host, cause) = (self.state.host(), Cause::Dropped);
+        let event = Event::Closed { connection, cause };
+        spend(used, start, &mut self.seats, host, pass, moment, event);
         self.state
             .close_held(transfer, held, Cause::Dropped, moment);
         let freed = !self.state.anyone_waits();
@@ -306,15 +366,20 @@ impl<S: Drop> Bundle<S> {
     /// A ticket comes back in a [`Stray`] where its transfer neither waits with its want nor has
     /// yet to claim what it was granted for that want; nothing changed then.
     ///
-    /// Asked of the caller: a queued host is lent the lobby, which lists it exactly where it is
-    /// queued.
+    /// The pass is told the entry with which the transfer leaves; or what was granted is spent with
+    /// it, and it is told the entry of the closing; or that the ticket is a stranger.
+    ///
+    /// Asked of the caller: the pass is enrolled here; a queued host is lent the lobby, which lists
+    /// it exactly where it is queued.
     pub fn withdraw<P: Permits>(
         &mut self,
         ticket: Ticket,
         now: u64,
+        pass: &mut Pass<Did>,
         permits: &mut P,
         lobby: Option<&mut Lobby>,
     ) -> Result<bool, Stray<Ticket>>
+        requires enrolled { IsEnrolledAt pass.old self.old.host self.old.tables.starts }
         requires lent { is_queued self.old.settings self.old.log ≡ true → is_lent lobby ≡ true }
         requires lists { let mark = is_queued self.old.settings self.old.log in
             IfLent lobby (Lists self.old.host mark) }
@@ -342,15 +407,23 @@ impl<S: Drop> Bundle<S> {
             is_queued self.new.settings self.new.log ≡ false }
         ensures grew { GrowsBy self.old.log self.new.log }
         ensures same { StaysThere self.old self.new }
+        ensures withdrawn { let transfer = ticket.wait.want.transfer in
+            let granted = start_for self.old.unclaimed transfer in
+            let moment = moment_at self.old.log now in
+            OnOk result (pass.new ≡ withdraws self.old.host moment transfer granted pass.old) }
+        ensures stranger { let stranger = Stranger ticket.wait.want.transfer in
+            OnErr result (pass.new ≡ tells self.old.host (Some stranger) pass.old) }
+        ensures seats { KeepsSeats pass.old pass.new }
+        ensures account { AccountsForStarts self.old self.new pass.old pass.new }
     {
         let was_queued = self.queued();
         match lobby {
             Some(lobby) => {
-                let withdrawn = self.end_wait(ticket, now, permits);
+                let withdrawn = self.end_wait(ticket, now, pass, permits);
                 self.mark(was_queued, lobby);
                 withdrawn
             }
-            None => self.end_wait(ticket, now, permits),
+            None => self.end_wait(ticket, now, pass, permits),
         }
     }
 
@@ -359,8 +432,10 @@ impl<S: Drop> Bundle<S> {
         &mut self,
         ticket: Ticket,
         now: u64,
+        pass: &mut Pass<Did>,
         permits: &mut P,
     ) -> Result<bool, Stray<Ticket>>
+        requires enrolled { IsEnrolledAt pass.old self.old.host self.old.tables.starts }
         requires stands { P.stands permits.old }
         requires part { P.held permits.old ≡ held_by self.old.log }
         ensures ok { OnOk result (is_valid_ticket self.old ticket.wait.want ≡ true) }
@@ -382,22 +457,37 @@ impl<S: Drop> Bundle<S> {
             is_queued self.new.settings self.new.log ≡ false }
         ensures grew { GrowsBy self.old.log self.new.log }
         ensures same { StaysThere self.old self.new }
+        ensures withdrawn { let transfer = ticket.wait.want.transfer in
+            let granted = start_for self.old.unclaimed transfer in
+            let moment = moment_at self.old.log now in
+            OnOk result (pass.new ≡ withdraws self.old.host moment transfer granted pass.old) }
+        ensures stranger { let stranger = Stranger ticket.wait.want.transfer in
+            OnErr result (pass.new ≡ tells self.old.host (Some stranger) pass.old) }
+        ensures seats { KeepsSeats pass.old pass.new }
+        ensures account { AccountsForStarts self.old self.new pass.old pass.new }
     {
         let want = ticket.want();
+        let (host, transfer) = (self.state.host() as usize, want.transfer);
         if !self.is_valid_ticket(&want) {
+            pass.tell(host, Did::Stranger(transfer));
             return Err(Stray::new(ticket));
         }
         ticket.spend();
-        let transfer = want.transfer;
         let moment = self.state.moment(now);
         let Some(grant) = take_grant(&mut self.grants, transfer) else {
             self.state.leave(transfer, moment);
+            let event = Event::Left { transfer };
+            pass.tell(host, Did::Wrote(Entry { moment, event }));
             return Ok(false);
         };
         let held = self.state.held(transfer, grant.number).unwrap();
         let seat = self.seats.claim(grant.number, transfer);
-        self.seats.take_back(seat);
+        let start = self.seats.take_back(seat);
         self.seats.clear();
+        let (connection, cause) = (grant.number, Cause::Withdrawn);
+        let event = Event::Closed { connection, cause };
+        let did = Did::Wrote(Entry { moment, event });
+        pass.spend(host, self.seats.tally(), start, did);
         self.state
             .close_held(transfer, held, Cause::Withdrawn, moment);
         let freed = !self.state.anyone_waits();
@@ -427,28 +517,45 @@ fn ask_to_keep<S: Drop, P: Permits>(state: &State<S>, facts: &Facts, permits: &m
     Some(permits.reserve_kept())
 }
 
-// Drops the stream of a lease that is spent, and what its transfer was granted.
+// Drops the stream of a lease that is spent: its pair is held no longer, and its start is spent
+// with the pass, which is told the entry that says so.
 #[inline(always)]
-fn spend<S: Drop>(used: Use<S>, grants: &mut Vec<Grant<S>>, transfer: u64)
-    ensures others { grants.new.items ≡ without_grant transfer grants.old.items }
-    ensures len { vec_len grants.new ≤ vec_len grants.old }
-    ensures capacity { vec_capacity grants.new ≡ vec_capacity grants.old }
+fn spend<S: Drop>(
+    used: Use<S>,
+    start: StartSeat,
+    seats: &mut Seats,
+    host: u32,
+    pass: &mut Pass<Did>,
+    moment: u64,
+    event: Event,
+)
+    requires enrolled { IsEnrolledAt pass.old host seats.old.tables.starts }
+    requires start { start ≡ seats.old.tables.starts }
+    requires back { IsSome seats.old.back }
+    requires leased { IfSome seats.old.back (λ pair. pair_count pair seats.old.leased ≡ 1) }
+    ensures cleared { IfSome seats.old.back (λ pair. seats.new
+        ≡ record seats.old { leased = without_pair pair seats.old.leased; back = None }) }
+    ensures spent { pass.new ≡ spends host moment event pass.old }
+    ensures seats { KeepsSeats pass.old pass.new }
 {
     let _ = used.into_stream();
-    let _ = take_grant(grants, transfer);
+    seats.clear();
+    let did = Did::Wrote(Entry { moment, event });
+    pass.spend(host as usize, seats.tally(), start, did);
 }
 
-// The lease that was taken apart, with its stream and its seat again.
+// The lease that was taken apart, with its stream and its seats again.
 #[inline(always)]
-fn again<S: Drop>(used: Use<S>, stream: S, seats: &mut Seats) -> Lease<S>
+fn again<S: Drop>(used: Use<S>, stream: S, start: StartSeat, seats: &mut Seats) -> Lease<S>
     requires none { used.stream ≡ None }
+    requires start { start ≡ seats.old.tables.starts }
     requires back { seats.old.back ≡ Some (used.start.number, used.start.want.transfer) }
-    ensures lease { result ≡ lease_at seats.old.table (record used { stream = Some stream }) }
+    ensures lease { result ≡ lease_at seats.old.tables (record used { stream = Some stream }) }
     ensures seats { seats.new ≡ record seats.old { back = None } }
 {
     let mut used = used;
     used.attach(stream);
-    Lease::new(used, seats.hand_out())
+    Lease::new(used, seats.hand_out(start))
 }
 
 // Whether the budget keeps it, or was not asked.

@@ -7,8 +7,8 @@ ghost use Rattle.bundle.specs.Calls.{is_queued};
 ghost use Rattle.bundle.specs.Lease.{IsBookedHere, IsMadeAt};
 ghost use Rattle.bundle.specs.Replies.{GivesBooking, GivesLease, IfBack, IfGot, is_halfway};
 
-use budget::{GREATEST_LIMIT, Limits, Lobby, PlainBudget, Refusal};
-use bundle::{Back, Booking, Bundle, Got, Lease, Ticket};
+use budget::{GREATEST_LIMIT, Limits, Lobby, Pass, PlainBudget, Refusal};
+use bundle::{Back, Booking, Bundle, Did, Got, Lease, Ticket};
 use conn_log::Want;
 use persistence::{Facts, Framing, Version};
 use std::alloc::Global;
@@ -27,17 +27,18 @@ const KEEP: Facts = Facts {
     surplus: false,
 };
 
-/// Host 0 with a plain budget, of which it holds what its log tells, and a lobby that lists it
-/// where it is queued.
-#[derive(Drop)]
+/// Host 0 with a plain budget, of which it holds what its log tells, a lobby that lists it where it
+/// is queued, and a pass that is enrolled there.
 struct Host {
     bundle: Bundle<()>,
     budget: PlainBudget,
     lobby: Lobby,
+    pass: Pass<Did>,
 }
 
 impl Model for Host {
     ghost use Rattle.std.specs.Prelude.{◌≡◌, ◌<◌, length};
+    ghost use Rattle.budget.specs.Accounts.{IsEnrolledAt};
     ghost use Rattle.budget.specs.Plain.{held_at_host};
     ghost use Rattle.bundle.specs.Calls.{is_queued};
     ghost use Rattle.bundle.specs.Lease.{HostShown, held_by};
@@ -52,7 +53,20 @@ impl Model for Host {
       there : 0 < length host.budget.hosts;
       part : held_at_host host.budget.hosts 0 ≡ held_by host.bundle.log;
       lists : Lists 0 (is_queued host.bundle.settings host.bundle.log) host.lobby;
+      enrolled : IsEnrolledAt host.pass host.bundle.host host.bundle.tables.starts;
     } };
+}
+
+impl Drop for Host {
+    fn drop(self) {
+        let Host {
+            bundle: _,
+            budget: _,
+            lobby: _,
+            pass,
+        } = self;
+        pass.discard();
+    }
 }
 
 impl Host {
@@ -61,10 +75,16 @@ impl Host {
         let Ok(limits) = Limits::new(0, 0, GREATEST_LIMIT) else {
             return Err(Refusal::BadLimit);
         };
+        let mut bundle = Bundle::new(alloc, limit, 0, 1)?;
+        let budget = PlainBudget::new(alloc, limits, 1)?;
+        let lobby = Lobby::new(alloc, 1)?;
+        let mut pass = Pass::new(alloc, 1)?;
+        bundle.enrol(&mut pass);
         Ok(Host {
-            bundle: Bundle::new(alloc, limit, 0, 1)?,
-            budget: PlainBudget::new(alloc, limits, 1)?,
-            lobby: Lobby::new(alloc, 1)?,
+            bundle,
+            budget,
+            lobby,
+            pass,
         })
     }
 }
@@ -109,8 +129,8 @@ pub extern "C" fn closing_rounds(alloc: Global, idle: u32, rounds: u32, is_new_w
 
 /// Opens so many connections, each for a transfer of its own.
 fn open_all(host: &mut Host, leases: &mut Vec<Lease<()>>, count: u32, max_age: u64)
-    requires made_here { All (IsMadeAt host.old.table) leases.old.items }
-    ensures made_here { All (IsMadeAt host.new.table) leases.new.items }
+    requires made_here { All (IsMadeAt host.old.tables) leases.old.items }
+    ensures made_here { All (IsMadeAt host.new.tables) leases.new.items }
 {
     for transfer in 0..count {
         open_one(host, leases, want_of(u64::from(transfer), max_age));
@@ -119,7 +139,7 @@ fn open_all(host: &mut Host, leases: &mut Vec<Lease<()>>, count: u32, max_age: u
 
 /// Gives each of them back.
 fn give_back_all(host: &mut Host, leases: Vec<Lease<()>>)
-    requires made_here { All (IsMadeAt host.old.table) leases.items }
+    requires made_here { All (IsMadeAt host.old.tables) leases.items }
 {
     let mut leases = leases;
     while let Some(lease) = leases.pop() {
@@ -172,8 +192,8 @@ fn open_often(host: &mut Host, rounds: u32, fresh: bool) -> u64
 
 /// Opens a connection for the transfer of that want.
 fn open_one(host: &mut Host, leases: &mut Vec<Lease<()>>, want: Want)
-    requires made_here { All (IsMadeAt host.old.table) leases.old.items }
-    ensures made_here { All (IsMadeAt host.new.table) leases.new.items }
+    requires made_here { All (IsMadeAt host.old.tables) leases.old.items }
+    ensures made_here { All (IsMadeAt host.new.tables) leases.new.items }
 {
     let Ok(got) = acquire(host, want, 0) else {
         return;
@@ -211,22 +231,23 @@ fn use_once(host: &mut Host, want: Want, moment: u64) -> Option<bool>
 #[inline(always)]
 fn acquire(host: &mut Host, want: Want, moment: u64) -> Result<Got<()>, Refusal>
     ensures booked { IfGot result (λ got. GivesBooking got (IsBookedHere host.new)) }
-    ensures made_here { IfGot result (λ got. GivesLease got (IsMadeAt host.new.table)) }
-    ensures table { host.new.table ≡ host.old.table }
+    ensures made_here { IfGot result (λ got. GivesLease got (IsMadeAt host.new.tables)) }
+    ensures tables { host.new.tables ≡ host.old.tables }
     ensures mark { is_queued host.new.settings host.new.log
         ≡ is_queued host.old.settings host.old.log }
 {
     let mut permits = host.budget.at(0);
-    host.bundle.acquire(want, moment, &mut permits)
+    host.bundle
+        .acquire(want, moment, &mut permits, &mut host.pass)
 }
 
 /// The lease that an acquire gave. One that is halfway has its last try; a transfer that waits
 /// gives up.
 fn lease_of(host: &mut Host, got: Got<()>, moment: u64) -> Option<Lease<()>>
     requires booked { GivesBooking got (IsBookedHere host.old) }
-    requires made_here { GivesLease got (IsMadeAt host.old.table) }
-    ensures made_here { IfSome result (IsMadeAt host.new.table) }
-    ensures table { host.new.table ≡ host.old.table }
+    requires made_here { GivesLease got (IsMadeAt host.old.tables) }
+    ensures made_here { IfSome result (IsMadeAt host.new.tables) }
+    ensures tables { host.new.tables ≡ host.old.tables }
 {
     let got = match got {
         Got::NoRoom(booking) | Got::Again(booking) => retry(host, booking, moment),
@@ -246,50 +267,52 @@ fn lease_of(host: &mut Host, got: Got<()>, moment: u64) -> Option<Lease<()>>
 fn retry(host: &mut Host, booking: Booking, moment: u64) -> Got<()>
     requires { IsBookedHere host.old booking }
     ensures done { is_halfway result ≡ false }
-    ensures made_here { GivesLease result (IsMadeAt host.new.table) }
-    ensures table { host.new.table ≡ host.old.table }
+    ensures made_here { GivesLease result (IsMadeAt host.new.tables) }
+    ensures tables { host.new.tables ≡ host.old.tables }
 {
     let mut permits = host.budget.at(0);
-    let lobby = Some(&mut host.lobby);
-    host.bundle.retry(booking, moment, &mut permits, lobby)
+    let (lobby, pass) = (Some(&mut host.lobby), &mut host.pass);
+    host.bundle
+        .retry(booking, moment, &mut permits, lobby, pass)
 }
 
 /// Gives a lease back at a host that may be queued.
 fn give_back(host: &mut Host, lease: Lease<()>, moment: u64)
-    requires here { lease.table ≡ host.old.table }
-    ensures table { host.new.table ≡ host.old.table }
+    requires here { lease.tables ≡ host.old.tables }
+    ensures tables { host.new.tables ≡ host.old.tables }
 {
     let lease = with_stream(lease);
     let mut permits = host.budget.at(0);
-    let lobby = Some(&mut host.lobby);
+    let (lobby, pass) = (Some(&mut host.lobby), &mut host.pass);
     let back = host
         .bundle
-        .give_back(lease, KEEP, moment, &mut permits, lobby, true);
+        .give_back(lease, KEEP, moment, pass, &mut permits, lobby, true);
     spend_rest(host, back, moment);
 }
 
 /// The same at a host that is not queued, and so needs no lobby.
 #[inline(always)]
 fn give_back_unqueued(host: &mut Host, lease: Lease<()>, moment: u64)
-    requires here { lease.table ≡ host.old.table }
+    requires here { lease.tables ≡ host.old.tables }
     requires mark { is_queued host.old.settings host.old.log ≡ false }
     ensures { is_queued host.new.settings host.new.log ≡ false }
 {
     let lease = with_stream(lease);
     let mut permits = host.budget.at(0);
+    let pass = &mut host.pass;
     let back = host
         .bundle
-        .give_back(lease, KEEP, moment, &mut permits, None, true);
+        .give_back(lease, KEEP, moment, pass, &mut permits, None, true);
     spend_rest(host, back, moment);
 }
 
 /// Spends the lease that a give back may leave.
 #[inline(always)]
 fn spend_rest(host: &mut Host, back: Back<()>, moment: u64)
-    requires made_here { IfBack back (IsMadeAt host.old.table) }
+    requires made_here { IfBack back (IsMadeAt host.old.tables) }
     ensures mark { is_queued host.old.settings host.old.log ≡ false →
         is_queued host.new.settings host.new.log ≡ false }
-    ensures table { host.new.table ≡ host.old.table }
+    ensures tables { host.new.tables ≡ host.old.tables }
 {
     match back {
         Back::Spent { freed: _ } => {}
@@ -299,24 +322,30 @@ fn spend_rest(host: &mut Host, back: Back<()>, moment: u64)
 }
 
 fn abandon(host: &mut Host, lease: Lease<()>, moment: u64)
-    requires here { lease.table ≡ host.old.table }
+    requires here { lease.tables ≡ host.old.tables }
     ensures mark { is_queued host.old.settings host.old.log ≡ false →
         is_queued host.new.settings host.new.log ≡ false }
-    ensures table { host.new.table ≡ host.old.table }
+    ensures tables { host.new.tables ≡ host.old.tables }
 {
     let mut permits = host.budget.at(0);
-    let lobby = Some(&mut host.lobby);
-    if let Err(stray) = host.bundle.abandon(lease, moment, &mut permits, lobby) {
+    let (lobby, pass) = (Some(&mut host.lobby), &mut host.pass);
+    let abandoned = host
+        .bundle
+        .abandon(lease, moment, pass, &mut permits, lobby);
+    if let Err(stray) = abandoned {
         stray.scrap();
     }
 }
 
 fn leave(host: &mut Host, ticket: Ticket, moment: u64)
-    ensures table { host.new.table ≡ host.old.table }
+    ensures tables { host.new.tables ≡ host.old.tables }
 {
     let mut permits = host.budget.at(0);
-    let lobby = Some(&mut host.lobby);
-    if let Err(stray) = host.bundle.withdraw(ticket, moment, &mut permits, lobby) {
+    let (lobby, pass) = (Some(&mut host.lobby), &mut host.pass);
+    let withdrawn = host
+        .bundle
+        .withdraw(ticket, moment, pass, &mut permits, lobby);
+    if let Err(stray) = withdrawn {
         stray.scrap();
     }
 }
@@ -324,7 +353,7 @@ fn leave(host: &mut Host, ticket: Ticket, moment: u64)
 /// The lease with a stream; where it has none, an empty one.
 fn with_stream(lease: Lease<()>) -> Lease<()>
     ensures stream { is_some result.stream ≡ true }
-    ensures table { result.table ≡ lease.table }
+    ensures tables { result.tables ≡ lease.tables }
 {
     let mut lease = lease;
     if !lease.has_stream() {

@@ -1,7 +1,7 @@
 -- What a host answers, from what its bundle did.
 use Rattle.std.proofs.Common.{◌≡◌, ℕ, Bool, true, false, cond, List, [], ◌∷◌, length, drop, reverse, flat_map, refl, ap, sym, ◌∙◌, Option, Some, None, inl, inr, IfSome, Result, Ok, Err, is_some}
 use Rattle.std.specs.Option.{option_map}
-use Rattle.atomic_table.specs.Seated.{TableId}
+use Rattle.bundle.specs.Seats.{Tables}
 use Rattle.conn_log.specs.declared.entry.Entry.{Entry}
 use Rattle.conn_log.specs.declared.entry.Want.{Want}
 use Rattle.conn_log.specs.Connections.{is_among, held_number}
@@ -162,26 +162,26 @@ pub record IsKeptFor {S : Type 0} (host : HostShown S) (transfer : ℕ) (lease :
   pub leased : lease_number host transfer ≡ Some lease.start.number
   pub own : lease.start.want.transfer ≡ transfer
   pub stream : is_some lease.stream ≡ true
-  pub here : lease.table ≡ host.table
+  pub here : lease.tables ≡ host.tables
 
 pub kept-lease : {S : Type 0} (host : HostShown S) (transfer : ℕ) (lease : Leasing S) → Some (lease_facts lease) ≡ leases_of host transfer → IsKeptFor host transfer lease
 kept-lease host transfer lease e = by_leased (lease_number host transfer) refl e
   where
-    by_leased : (leased : Option ℕ) → lease_number host transfer ≡ leased → Some (lease_facts lease) ≡ option_map (kept_facts host.table transfer) leased → IsKeptFor host transfer lease
+    by_leased : (leased : Option ℕ) → lease_number host transfer ≡ leased → Some (lease_facts lease) ≡ option_map (kept_facts host.tables transfer) leased → IsKeptFor host transfer lease
     by_leased None is h = cc
     by_leased (Some n) is h =
-        let same : lease_facts lease ≡ kept_facts host.table transfer n = cc in
+        let same : lease_facts lease ≡ kept_facts host.tables transfer n = cc in
         record {
-          leased = is ∙ ap (λ (f : ℕ × ℕ × Bool × TableId). Some f.0) (sym same);
-          own = ap (λ (f : ℕ × ℕ × Bool × TableId). f.1) same;
-          stream = ap (λ (f : ℕ × ℕ × Bool × TableId). f.2) same;
-          here = ap (λ (f : ℕ × ℕ × Bool × TableId). f.3) same;
+          leased = is ∙ ap (λ (f : ℕ × ℕ × Bool × Tables). Some f.0) (sym same);
+          own = ap (λ (f : ℕ × ℕ × Bool × Tables). f.1) same;
+          stream = ap (λ (f : ℕ × ℕ × Bool × Tables). f.2) same;
+          here = ap (λ (f : ℕ × ℕ × Bool × Tables). f.3) same;
         }
 
 pub kept-none : {S : Type 0} (host : HostShown S) (transfer : ℕ) → None ≡ leases_of host transfer → lease_number host transfer ≡ None
 kept-none host transfer e = by_leased (lease_number host transfer) e
   where
-    by_leased : (leased : Option ℕ) → None ≡ option_map (kept_facts host.table transfer) leased → leased ≡ None
+    by_leased : (leased : Option ℕ) → None ≡ option_map (kept_facts host.tables transfer) leased → leased ≡ None
     by_leased None h = refl
     by_leased (Some n) h = cc
 

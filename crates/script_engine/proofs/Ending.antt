@@ -134,7 +134,7 @@ module _ {S : Type 0} (host : HostShown S) (sound : IsSound host.settings host.l
   each-left leases tickets keeps_leases keeps_tickets =
       among-merged t (keys_of leases) (keys_of tickets) ∙ ap (λ b. is_among t (keys_of tickets) || b) leased ∙ by_ticket (is_among t (keys_of tickets))
     where
-      any-kept : (lease : Option (Leasing S)) (number : Option ℕ) → option_map lease_facts lease ≡ option_map (kept_facts host.table t) number → is_some lease ≡ is_some number
+      any-kept : (lease : Option (Leasing S)) (number : Option ℕ) → option_map lease_facts lease ≡ option_map (kept_facts host.tables t) number → is_some lease ≡ is_some number
       any-kept None None e = refl
       any-kept (Some lease) (Some c) e = refl
       any-kept None (Some c) e = absurd (cc)

@@ -218,23 +218,23 @@ none-stays t due other none left q = by_key (t == q) refl (left q)
     by_key false is e = e
 
 -- the leases that are due, by the numbers that are leased
-module _ {S : Type 0} (old new : HostShown S) (here : new.table ≡ old.table) (t : ℕ) where
-  there : (q : ℕ) → leases_of new q ≡ option_map (kept_facts old.table q) (lease_number new q)
-  there q = ap (λ table. option_map (kept_facts table q) (lease_number new q)) here
+module _ {S : Type 0} (old new : HostShown S) (here : new.tables ≡ old.tables) (t : ℕ) where
+  there : (q : ℕ) → leases_of new q ≡ option_map (kept_facts old.tables q) (lease_number new q)
+  there q = ap (λ tables. option_map (kept_facts tables q) (lease_number new q)) here
 
   pub leases-left : ((q : ℕ) → lease_number new q ≡ cond (t == q) None (lease_number old q)) → (q : ℕ) → leases_of new q ≡ due_others t (leases_of old) q
-  leases-left left q = there q ∙ ap (option_map (kept_facts old.table q)) (left q) ∙ by_key (t == q)
+  leases-left left q = there q ∙ ap (option_map (kept_facts old.tables q)) (left q) ∙ by_key (t == q)
     where
-      by_key : (at : Bool) → option_map (kept_facts old.table q) (cond at None (lease_number old q)) ≡ cond at None (leases_of old q)
+      by_key : (at : Bool) → option_map (kept_facts old.tables q) (cond at None (lease_number old q)) ≡ cond at None (leases_of old q)
       by_key true = refl
       by_key false = refl
 
-  pub leases-started : (c : ℕ) → ((q : ℕ) → lease_number new q ≡ cond (t == q) (Some c) (lease_number old q)) → (q : ℕ) → leases_of new q ≡ cond (t == q) (Some (kept_facts old.table t c)) (leases_of old q)
-  leases-started c started q = there q ∙ ap (option_map (kept_facts old.table q)) (started q) ∙ by_key (t == q) refl
+  pub leases-started : (c : ℕ) → ((q : ℕ) → lease_number new q ≡ cond (t == q) (Some c) (lease_number old q)) → (q : ℕ) → leases_of new q ≡ cond (t == q) (Some (kept_facts old.tables t c)) (leases_of old q)
+  leases-started c started q = there q ∙ ap (option_map (kept_facts old.tables q)) (started q) ∙ by_key (t == q) refl
     where
-      by_key : (at : Bool) → (t == q) ≡ at → option_map (kept_facts old.table q) (cond at (Some c) (lease_number old q)) ≡ cond at (Some (kept_facts old.table t c)) (leases_of old q)
-      by_key true is = ap (λ k. Some (kept_facts old.table k c)) (sym (eqb-true t q is))
+      by_key : (at : Bool) → (t == q) ≡ at → option_map (kept_facts old.tables q) (cond at (Some c) (lease_number old q)) ≡ cond at (Some (kept_facts old.tables t c)) (leases_of old q)
+      by_key true is = ap (λ k. Some (kept_facts old.tables k c)) (sym (eqb-true t q is))
       by_key false is = refl
 
   pub leases-same : ((q : ℕ) → lease_number new q ≡ lease_number old q) → (q : ℕ) → leases_of new q ≡ leases_of old q
-  leases-same same q = there q ∙ ap (option_map (kept_facts old.table q)) (same q)
+  leases-same same q = there q ∙ ap (option_map (kept_facts old.tables q)) (same q)

@@ -1,6 +1,6 @@
 -- What a budget of one thread may answer a host that has it for itself, and what follows from it.
 use Rattle.std.proofs.Common.{◌≡◌, ℕ, ◌<◌, ◌≤◌, Bool, true, false, cond, not, ◌&&◌, ◌||◌, List, [], ◌∷◌, length, filter, Option, Some, None, Result, Ok, Err, refl, ap, sym, subst, ◌∙◌, arith}
-use Rattle.std.specs.Prelude.{◌==◌, is_none, is_some}
+use Rattle.std.specs.Prelude.{◌==◌, is_none, is_some, OnOk, OnErr}
 use Rattle.std.specs.Option.{option_map_or}
 use Rattle.std.specs.List.{sum_by}
 use Rattle.std.proofs.lemmas.List.Sums.{sum_by-cons}
@@ -11,6 +11,7 @@ use Rattle.budget.specs.declared.permits.Held.{Held}
 use Rattle.budget.specs.declared.permits.Try.{Try}
 use Rattle.budget.specs.declared.permits.Try.TheVariants.{Got as Given, Full, Contended}
 use Rattle.budget.specs.declared.refusal.Refusal.{Refusal}
+use Rattle.budget.specs.Accounts.{IsEnrolledAt, KeepsSeats, spent_at}
 use Rattle.budget.specs.Limits.{Bounds}
 use Rattle.budget.specs.Plain.{Plain, IsWithin, TellsOfOpen, TellsOfKept, KeepsOtherHosts, alive_in, kept_in, held_at_host}
 use Rattle.conn_log.specs.declared.entry.Want.{Want}
@@ -28,12 +29,14 @@ use Rattle.bundle.specs.declared.answers.Got.{Got}
 use Rattle.bundle.specs.declared.answers.Got.TheVariants.{Lease, Wait, NoRoom, Again}
 use Rattle.bundle.specs.declared.answers.Back.{Back}
 use Rattle.bundle.specs.declared.answers.Back.TheVariants.{Spent, NoKeep, Again as KeepAgain, Strange}
-use Rattle.bundle.specs.Calls.{Start, Wait as Waiting, Reply, starts, waits_on, no_room, again, Acquired, acquired, start_on, start_behind, start_in_place_of, start_as_told, spent, keep_as_told, given_back, becomes_idle, is_anyone, returned, settle, grant_to, after_give_back, is_queued}
-use Rattle.bundle.specs.Lease.{HostShown, Leasing, Ticketed, Booked, held_by, is_held_lease}
+use Rattle.bundle.specs.Calls.{Start, Wait as Waiting, Reply, starts, waits_on, no_room, again, Acquired, acquired, start_on, start_behind, start_in_place_of, start_as_told, spent, keep_as_told, given_back, becomes_idle, is_anyone, returned, settle, grant_to, after_give_back, after_withdraw, is_queued}
+use Rattle.bundle.specs.Lease.{HostShown, Leasing, Ticketed, Booked, StaysThere, held_by, is_held_lease}
+use Rattle.bundle.specs.Passes.{Accounts, AccountsForStarts}
 use Rattle.bundle.specs.Replies.{IsGot, IsBack, Acquires, GivesBack, IfGot, GivesLease, GivesTicket, UnlessBooking}
+use Rattle.bundle.specs.Seats.{Tables, gone}
 use Rattle.script_engine.specs.Meaning.{begun}
 use Rattle.script_engine.specs.Sole.{IsSole, TellsOfRoom}
-use Rattle.script_engine.proofs.Growth.{limit-acquired, limit-give_back}
+use Rattle.script_engine.proofs.Growth.{limit-acquired, limit-give_back, limit-withdraw}
 
 -- what an acquire comes to, by what the budget answered: a start or a wait is the same as where it has room; the
 -- acquire is halfway where the host has room and the budget none, or has to be asked again
@@ -250,6 +253,14 @@ module _ {S : Type 0} (old new : HostShown S) (budget : Plain) (lease : Leasing 
       by_rest true Contended back = back
       by_rest false told back = back
 
+-- a wait that ends leaves the limit, and so does a ticket that is a stranger
+module _ {S : Type 0} (old new : HostShown S) {A E : Type 0} where
+  pub limit-withdrawn : (r : Result A E) (transfer now : ℕ) → OnOk r (new.log ≡ after_withdraw old.settings old.log transfer now) → OnErr r (new ≡ old) → new.settings ≡ old.settings
+      → limit_in_force new.settings new.log ≡ limit_in_force old.settings old.log
+  limit-withdrawn (Ok freed) transfer now left same stays =
+      ap (λ (s : LimitAndFirst). limit_in_force s new.log) stays ∙ ap (limit_in_force old.settings) left ∙ limit-withdraw old.settings old.log transfer now
+  limit-withdrawn (Err stray) transfer now left same stays = ap (λ (h : HostShown S). limit_in_force h.settings h.log) same
+
 -- where a transfer holds a connection, fewer are idle than are open
 no_more : (p : ℕ → Bool) (numbers : List ℕ) → length (filter p numbers) ≤ length numbers
 no_more p [] = omega arith
@@ -294,7 +305,19 @@ one_host f [] one = absurd (omega (arith, one))
 one_host f (h ∷ []) one = omega (arith, sum_by-cons f h [])
 one_host f (h ∷ x ∷ hosts) one = absurd (omega (arith, one))
 
-module _ {S : Type 0} (old new : HostShown S) (before after : Plain) (sole : IsSole old before) (part : held_at_host after.hosts 0 ≡ held_by new.log) (others : KeepsOtherHosts 0 before after) (within : IsWithin after) where
+-- a call is lent a pass with which as many leases were spent as starts are gone
+module _ {S : Type 0} (old new : HostShown S) (was is : Accounts) (same : StaysThere old new) where
+  -- it has its seat as before
+  pub still-enrolled : KeepsSeats was is → IsEnrolledAt was old.host old.tables.starts → IsEnrolledAt is new.host new.tables.starts
+  still-enrolled seats enrolled =
+      let there : IsEnrolledAt is old.host old.tables.starts = seats old.host old.tables.starts enrolled in
+      subst (λ (h : ℕ). IsEnrolledAt is h new.tables.starts) (sym same.host) (subst (λ (t : Tables). IsEnrolledAt is old.host t.starts) (sym same.tables) there)
+
+  -- and as many were spent with it as are gone now
+  pub still-spent : AccountsForStarts old new was is → spent_at was old.host ≡ gone old.log → spent_at is new.host ≡ gone new.log
+  still-spent account counted = ap (spent_at is) same.host ∙ omega (arith, account, counted)
+
+module _ {S : Type 0} (old new : HostShown S) (before after : Plain) {was : Accounts} (sole : IsSole old before was) (part : held_at_host after.hosts 0 ≡ held_by new.log) (others : KeepsOtherHosts 0 before after) (within : IsWithin after) where
   -- there is always room
   pub always-room : (booking : Booked) → limit_in_force new.settings new.log ≡ limit_in_force old.settings old.log → TellsOfRoom new after (NoRoom booking) → ⊥
   always-room booking limit tells =
@@ -313,8 +336,9 @@ module _ {S : Type 0} (old new : HostShown S) (before after : Plain) (sole : IsS
       omega (arith, kept, idle, connects, full.0, sole.kept, sound.orderly.within, fewer_idle old.settings old.log sound lease.start.want.transfer lease.start.number held)
 
   -- and the host has the budget for itself as before
-  pub still-sole : limit_in_force new.settings new.log ≡ limit_in_force old.settings old.log → new.booked ≡ old.booked → (is_queued old.settings old.log ≡ false → is_queued new.settings new.log ≡ false) → IsSole new after
-  still-sole limit booked mark =
+  pub still-sole : (is : Accounts) → StaysThere old new → KeepsSeats was is → AccountsForStarts old new was is
+      → limit_in_force new.settings new.log ≡ limit_in_force old.settings old.log → new.booked ≡ old.booked → (is_queued old.settings old.log ≡ false → is_queued new.settings new.log ≡ false) → IsSole new after is
+  still-sole is same seats account limit booked mark =
       let connects : after.limits.connects ≡ before.limits.connects = ap (λ (b : Bounds). b.connects) others.limits in
       record {
         hosts = others.count ∙ sole.hosts;
@@ -323,4 +347,6 @@ module _ {S : Type 0} (old new : HostShown S) (before after : Plain) (sole : IsS
         kept = omega (arith, limit, connects, sole.kept);
         none_booked = booked ∙ sole.none_booked;
         unqueued = mark sole.unqueued;
+        enrolled = still-enrolled old new was is same seats sole.enrolled;
+        spent = still-spent old new was is same account sole.spent;
       }

@@ -38,7 +38,7 @@ module _ {S : Type 0} (host : HostShown S) (sound : IsSound host.settings host.l
       let wants : ticket_want host transfer ≡ Some (wanted ticket) = sym (keeps transfer) ∙ ap (option_map wanted) (sym there) in
       (wants, own-ticket host sound transfer (wanted ticket) wants)
 
-module _ {S : Type 0} (old new : HostShown S) (here : new.table ≡ old.table) (sound : IsSound old.settings old.log) (transfer : ℕ) where
+module _ {S : Type 0} (old new : HostShown S) (here : new.tables ≡ old.tables) (sound : IsSound old.settings old.log) (transfer : ℕ) where
   -- the lease of the transfer was spent
   pub lease-spent : (leases after : ℕ → Option (Leasing S)) (tickets : ℕ → Option Ticketed) (c : ℕ) → Keeps old leases tickets → lease_number old transfer ≡ Some c
       → ((q : ℕ) → after q ≡ cond (is_at (nat_cmp transfer) q) None (leases q)) → Spends old new transfer → Keeps new after tickets
@@ -61,10 +61,10 @@ module _ {S : Type 0} (old new : HostShown S) (here : new.table ≡ old.table) (
 
 module _ {S : Type 0} (old new : HostShown S) where
   -- a transfer that had none got a lease, which is not kept yet
-  pub lease-awaits : new.table ≡ old.table → (transfer c : ℕ) (leases : ℕ → Option (Leasing S)) → KeepsLeases (leases_of old) leases → lease_number old transfer ≡ None → GetsLease old new transfer c
+  pub lease-awaits : new.tables ≡ old.tables → (transfer c : ℕ) (leases : ℕ → Option (Leasing S)) → KeepsLeases (leases_of old) leases → lease_number old transfer ≡ None → GetsLease old new transfer c
       → KeepsLeases (due_others transfer (leases_of new)) leases
   lease-awaits here transfer c leases keeps none gets =
-      kept-awaits lease_facts transfer (Some (kept_facts old.table transfer c)) (leases_of old) (leases_of new) leases keeps (ap (option_map (kept_facts old.table transfer)) none) (leases-started old new here transfer c gets.leases)
+      kept-awaits lease_facts transfer (Some (kept_facts old.tables transfer c)) (leases_of old) (leases_of new) leases keeps (ap (option_map (kept_facts old.tables transfer)) none) (leases-started old new here transfer c gets.leases)
 
   pub lease-own : (transfer c : ℕ) → GetsLease old new transfer c → lease_number new transfer ≡ Some c
   lease-own transfer c gets = gets.leases transfer ∙ ap (λ b. cond b (Some c) (lease_number old transfer)) (itself transfer)

@@ -1,7 +1,7 @@
 -- The one host of a script with its terms, as its callers see it, and the leases and tickets that it keeps.
 use Rattle.std.specs.Prelude.{◌≡◌, ℕ, Bool, true, false, ◌==◌, nat_lt, if◌then◌else◌, List, [], ◌∷◌, Option, None, is_some, Result, Ok, Err, ◌⊎◌}
 use Rattle.std.specs.Option.{option_map}
-use Rattle.atomic_table.specs.Seated.{TableId}
+use Rattle.bundle.specs.Seats.{Tables}
 use Rattle.conn_log.specs.declared.entry.Want.{Want}
 use Rattle.conn_log.specs.Legal.{LimitAndFirst}
 use Rattle.bundle.specs.Lease.{HostShown, Leasing, Ticketed, lease_number, ticket_want}
@@ -37,23 +37,23 @@ abbrev pub kept_host : {S : Type 0} → HostShown S → List ℕ → ScriptHost
 kept_host bundle tickets = record { log = bundle.log; tickets = tickets }
 
 -- a lease's connection and transfer, whether it has its stream, and at which table it was made
-abbrev pub lease_facts : {S : Type 0} → Leasing S → ℕ × ℕ × Bool × TableId
-lease_facts lease = (lease.start.number, lease.start.want.transfer, is_some lease.stream, lease.table)
+abbrev pub lease_facts : {S : Type 0} → Leasing S → ℕ × ℕ × Bool × Tables
+lease_facts lease = (lease.start.number, lease.start.want.transfer, is_some lease.stream, lease.tables)
 
 -- the lease of that table that is kept for a transfer that has one of that connection
-abbrev pub kept_facts : TableId → ℕ → ℕ → ℕ × ℕ × Bool × TableId
-kept_facts table transfer c = (c, transfer, true, table)
+abbrev pub kept_facts : Tables → ℕ → ℕ → ℕ × ℕ × Bool × Tables
+kept_facts tables transfer c = (c, transfer, true, tables)
 
 -- of each transfer that has a lease, the lease that is due
-abbrev pub leases_of : {S : Type 0} → HostShown S → ℕ → Option (ℕ × ℕ × Bool × TableId)
-leases_of host transfer = option_map (kept_facts host.table transfer) (lease_number host transfer)
+abbrev pub leases_of : {S : Type 0} → HostShown S → ℕ → Option (ℕ × ℕ × Bool × Tables)
+leases_of host transfer = option_map (kept_facts host.tables transfer) (lease_number host transfer)
 
 -- what a ticket was given for
 abbrev pub wanted : Ticketed → Want
 wanted ticket = ticket.wait.want
 
 -- each transfer that has a lease has it kept, which was made at the host, and no other is; and so with tickets
-abbrev pub KeepsLeases : {S : Type 0} → (ℕ → Option (ℕ × ℕ × Bool × TableId)) → (ℕ → Option (Leasing S)) → Type 0
+abbrev pub KeepsLeases : {S : Type 0} → (ℕ → Option (ℕ × ℕ × Bool × Tables)) → (ℕ → Option (Leasing S)) → Type 0
 KeepsLeases due lease_of = (t : ℕ) → option_map lease_facts (lease_of t) ≡ due t
 
 abbrev pub KeepsTickets : (ℕ → Option Want) → (ℕ → Option Ticketed) → Type 0

@@ -36,7 +36,7 @@ pub fn withdraw(bundle: &mut SoleHost, ticket: Ticket, moment: u64)
 /// The lease with a stream; where it has none, an empty one.
 fn with_stream(lease: Lease<()>) -> Lease<()>
     ensures same { lease_facts result
-        ≡ (lease.start.number, lease.start.want.transfer, true, lease.table) }
+        ≡ (lease.start.number, lease.start.want.transfer, true, lease.tables) }
 {
     let mut lease = lease;
     if !lease.has_stream() {
@@ -52,7 +52,7 @@ pub fn keep_lease(
     leases: &mut BTreeMap<u64, Lease<()>>,
     lease: Lease<()>,
 ) -> Result<(), FaultKind>
-    requires here { lease.table ≡ bundle.old.table }
+    requires here { lease.tables ≡ bundle.old.tables }
     requires own { lease_number bundle.old lease.start.want.transfer ≡ Some lease.start.number }
     requires spent { ticket_want bundle.old lease.start.want.transfer ≡ None }
     requires others { KeepsLeases (due_others lease.start.want.transfer (leases_of bundle.old))

@@ -2,6 +2,7 @@
 
 ghost use Rattle.std.specs.Prelude.{◌≡◌, ◌<◌, ◌≤◌, ◌⊎◌, length, Some, None, true, false, IsSome};
 ghost use Rattle.std.specs.Prelude.{[], IfOk, IfErr, IfSome, OnOk, OnErr};
+ghost use Rattle.budget.specs.Accounts.{IsEnrolledAt, KeepsSeats};
 ghost use Rattle.budget.specs.Plain.{IsWithin, KeepsOtherHosts, held_at_host};
 ghost use Rattle.conn_log.specs.Connections.{open_connections};
 ghost use Rattle.conn_log.specs.Legal.{IsLegal, IsQuiet, limit_in_force};
@@ -13,11 +14,13 @@ ghost use Rattle.bundle.specs.Lease.{is_valid_ticket, is_unclaimed, WasGranted, 
 ghost use Rattle.bundle.specs.Lease.{GetsTicket, Spends, StaysThere};
 ghost use Rattle.bundle.specs.Replies.{IfGot, UnlessBooking, IfClaimed, IfStill, GivesLease};
 ghost use Rattle.bundle.specs.Replies.{GivesTicket};
+ghost use Rattle.bundle.specs.Passes.{AccountsForStarts};
+ghost use Rattle.bundle.specs.Seats.{gone};
 ghost use Rattle.script_engine.specs.Meaning.{begun};
 ghost use Rattle.script_engine.specs.Sole.{TellsOfRoom, IfLeased, IfWaits};
 
-use budget::{Limits, PlainBudget, Refusal};
-use bundle::{Back, Bundle, Claimed, Got, Lease, Snapshot, Stray, Ticket};
+use budget::{Limits, Pass, PlainBudget, Refusal};
+use bundle::{Back, Bundle, Claimed, Did, Got, Lease, Snapshot, Stray, Ticket};
 use conn_log::{Log, Want};
 use persistence::Facts;
 use std::alloc::Global;
@@ -37,11 +40,12 @@ pub enum Begun {
     Wait(Ticket),
 }
 
-/// The bundle of the one host, and the budget that it has for itself. Contracts see the bundle.
-#[derive(Drop)]
+/// The bundle of the one host, the budget that it has for itself, and the pass that its calls are
+/// lent. Contracts see the bundle. It must be taken apart.
 pub struct SoleHost {
     bundle: Bundle<()>,
     budget: PlainBudget,
+    pass: Pass<Did>,
 }
 
 impl Model for SoleHost {
@@ -52,7 +56,7 @@ impl Model for SoleHost {
 
     ghost view = { λ sole. sole.bundle };
 
-    ghost invariant = { λ sole. IsSole sole.bundle sole.budget };
+    ghost invariant = { λ sole. IsSole sole.bundle sole.budget sole.pass };
 }
 
 impl SoleHost {
@@ -72,10 +76,18 @@ impl SoleHost {
         let Ok(budget) = PlainBudget::new(alloc, limits, 1) else {
             return Err(Refusal::Memory);
         };
-        let Ok(bundle) = Bundle::new(alloc, host_limit, HOST, FIRST) else {
+        let Ok(mut bundle) = Bundle::new(alloc, host_limit, HOST, FIRST) else {
             return Err(Refusal::Memory);
         };
-        Ok(SoleHost { bundle, budget })
+        let Ok(mut pass) = Pass::new(alloc, 1) else {
+            return Err(Refusal::Memory);
+        };
+        bundle.enrol(&mut pass);
+        Ok(SoleHost {
+            bundle,
+            budget,
+            pass,
+        })
     }
 
     /// The host's log: legal, and quiet without a mark.
@@ -97,6 +109,13 @@ impl SoleHost {
         self.bundle.look()
     }
 
+    /// How many leases were spent here: as many as starts are gone.
+    pub fn spent(&self) -> u64
+        ensures { result ≡ gone self.now.log }
+    {
+        self.pass.spent(self.bundle.host() as usize)
+    }
+
     /// Leases a connection to the transfer, or gives it a ticket: there is always room among all
     /// hosts. `now` is in seconds. Refused as [`Bundle::acquire`] is.
     pub fn acquire(&mut self, want: Want, now: u64) -> Result<Begun, Refusal>
@@ -106,7 +125,7 @@ impl SoleHost {
             (begun self.old.settings self.old.log want now).reply ≡ starts lease.start) }
         ensures ticket { IfWaits result (λ ticket.
             (begun self.old.settings self.old.log want now).reply ≡ waits_on ticket.wait) }
-        ensures made_here { IfLeased result (λ lease. lease.table ≡ self.old.table) }
+        ensures made_here { IfLeased result (λ lease. lease.tables ≡ self.old.tables) }
         ensures gets_lease { IfLeased result
             (λ lease. GetsLease self.old self.new want.transfer lease.start.number) }
         ensures gets_ticket { IfWaits result (λ ticket. GetsTicket self.old self.new want) }
@@ -117,7 +136,8 @@ impl SoleHost {
         ensures err { OnErr result (self.new ≡ self.old) }
         ensures same { StaysThere self.old self.new }
     {
-        match acquire_under(&mut self.bundle, want, now, &mut self.budget, HOST) {
+        let (bundle, budget, pass) = (&mut self.bundle, &mut self.budget, &mut self.pass);
+        match acquire_under(bundle, want, now, budget, pass, HOST) {
             Ok(Got::Lease(lease)) => Ok(Begun::Lease(lease)),
             Ok(Got::Wait(ticket)) => Ok(Begun::Wait(ticket)),
             // The host's own limit is no greater than the total.
@@ -142,18 +162,18 @@ impl SoleHost {
             (is_unclaimed self.old ticket.wait.want.transfer ≡ false)
             × (same ≡ ticket) × (self.new ≡ self.old)) }
         ensures err { OnErr result (self.new ≡ self.old) }
-        ensures made_here { IfClaimed result (λ lease. lease.table ≡ self.old.table) }
+        ensures made_here { IfClaimed result (λ lease. lease.tables ≡ self.old.tables) }
         ensures gets_lease { IfClaimed result (λ lease.
             GetsLease self.old self.new ticket.wait.want.transfer lease.start.number) }
         ensures same { StaysThere self.old self.new }
     {
-        self.bundle.claim(ticket)
+        self.bundle.claim(ticket, &mut self.pass)
     }
 
     /// Takes a connection back with the facts of its response; where it is to be idle, it is kept.
     /// `now` is in seconds. It takes no memory. Asked of the caller: the lease was made here.
     pub fn give_back(&mut self, lease: Lease<()>, facts: Facts, now: u64)
-        requires here { lease.table ≡ self.old.table }
+        requires here { lease.tables ≡ self.old.tables }
         requires stream { IsSome lease.stream }
         ensures log { let number = lease.start.number in
             self.new.log ≡ after_give_back self.old.settings self.old.log number facts now }
@@ -163,9 +183,10 @@ impl SoleHost {
         // The log is sound, and no more are open than may be kept.
         let _log = self.bundle.log();
         let mut permits = self.budget.at(HOST);
+        let pass = &mut self.pass;
         match self
             .bundle
-            .give_back(lease, facts, now, &mut permits, None, false)
+            .give_back(lease, facts, now, pass, &mut permits, None, false)
         {
             Back::Spent { freed: _ } => {}
             // The lease's connection is open and not idle: one fewer is kept than may be.
@@ -178,14 +199,15 @@ impl SoleHost {
     /// Closes a leased connection without a response. `now` is in seconds. It takes no memory.
     /// Asked of the caller: the lease was made here.
     pub fn abandon(&mut self, lease: Lease<()>, now: u64)
-        requires here { lease.table ≡ self.old.table }
+        requires here { lease.tables ≡ self.old.tables }
         ensures log { let number = lease.start.number in
             self.new.log ≡ after_abandon self.old.settings self.old.log number now }
         ensures spends { Spends self.old self.new lease.start.want.transfer }
         ensures same { StaysThere self.old self.new }
     {
         let mut permits = self.budget.at(HOST);
-        match self.bundle.abandon(lease, now, &mut permits, None) {
+        let pass = &mut self.pass;
+        match self.bundle.abandon(lease, now, pass, &mut permits, None) {
             Ok(_) => {}
             Err(_stray) => unreachable!(),
         }
@@ -206,17 +228,23 @@ impl SoleHost {
         ensures same { StaysThere self.old self.new }
     {
         let mut permits = self.budget.at(HOST);
-        match self.bundle.withdraw(ticket, now, &mut permits, None) {
+        let pass = &mut self.pass;
+        match self.bundle.withdraw(ticket, now, pass, &mut permits, None) {
             Ok(_) => Ok(()),
             Err(stray) => Err(stray),
         }
     }
 
-    /// The bundle that is left.
+    /// The bundle that is left; the pass is given up.
     pub fn into_bundle(self) -> Bundle<()>
         ensures { result ≡ self }
     {
-        let SoleHost { bundle, budget: _ } = self;
+        let SoleHost {
+            bundle,
+            budget: _,
+            pass,
+        } = self;
+        pass.discard();
         bundle
     }
 }
@@ -228,8 +256,10 @@ fn acquire_under(
     want: Want,
     now: u64,
     budget: &mut PlainBudget,
+    pass: &mut Pass<Did>,
     host: u32,
 ) -> Result<Got<()>, Refusal>
+    requires enrolled { IsEnrolledAt pass.old bundle.old.host bundle.old.tables.starts }
     requires there { host < length budget.old.hosts }
     requires part { held_at_host budget.old.hosts host ≡ held_by bundle.old.log }
     ensures no_room { IfGot result (TellsOfRoom bundle.new budget.new) }
@@ -240,7 +270,7 @@ fn acquire_under(
     ensures ticket { IfGot result (λ got. GivesTicket got (λ ticket.
         (begun bundle.old.settings bundle.old.log want now).reply ≡ waits_on ticket.wait)) }
     ensures made_here { IfGot result (λ got. GivesLease got
-        (λ lease. lease.table ≡ bundle.old.table)) }
+        (λ lease. lease.tables ≡ bundle.old.tables)) }
     ensures gets_lease { IfGot result (λ got. GivesLease got
         (λ lease. GetsLease bundle.old bundle.new want.transfer lease.start.number)) }
     ensures gets_ticket { IfGot result (λ got. GivesTicket got
@@ -261,9 +291,11 @@ fn acquire_under(
     ensures mark { is_queued bundle.new.settings bundle.new.log
         ≡ is_queued bundle.old.settings bundle.old.log }
     ensures same { StaysThere bundle.old bundle.new }
+    ensures seats { KeepsSeats pass.old pass.new }
+    ensures account { AccountsForStarts bundle.old bundle.new pass.old pass.new }
 {
     let mut permits = budget.at(host);
-    let got = bundle.acquire(want, now, &mut permits);
+    let got = bundle.acquire(want, now, &mut permits, pass);
     // The log is sound: no more are open than the host may have.
     let _log = bundle.log();
     got

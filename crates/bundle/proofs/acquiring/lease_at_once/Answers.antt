@@ -1,10 +1,10 @@
-use Rattle.std.proofs.Common.{◌≡◌, sym, ap, subst, ◌∙◌}
+use Rattle.std.proofs.Common.{◌≡◌, length, sym, ap, subst, ◌∙◌}
 use Rattle.bundle.specs.declared.answers.Got.TheVariants.{Lease}
 use Rattle.bundle.specs.Calls.{Acquired}
 use Rattle.bundle.specs.Lease.{Leasing, Using}
 use Rattle.bundle.specs.Replies.{IsGot}
 use Rattle.bundle.proofs.AtOnce.{reused_at_once}
-use Rattle.bundle.proofs.Seating.{apart, seated_leased, leased_granted}
+use Rattle.bundle.proofs.Seating.{apart, start_fits, seated_leased, leased_granted}
 use Rattle.bundle.proofs.Starting.{begins_lease}
 use Rattle.bundle.proofs.acquiring.lease_at_once.Goals as goal
 
@@ -34,3 +34,11 @@ returns-clause-due g c =
     let site = ap (λ (l : Leasing g.row.S.Denot). l.site) c.new.ensures ∙ ap (λ (u : Using g.row.S.Denot). u.site) use_of ∙ c.host.ensures ∙ leased.same.host in
     let start_is = ap (λ (l : Leasing g.row.S.Denot). l.start) c.new.ensures ∙ ap (λ (u : Using g.row.S.Denot). u.start) use_of in
     subst (λ (due : Acquired). (c.lease_last.new.self.log ≡ due.log) × IsGot state.host c.args.want due.reply (Lease c.new.result)) (sym reused) (leased.log, (site, start_is))
+
+pub lease-seat-requires-clause-few : goal.lease-seat-requires-clause-few
+lease-seat-requires-clause-few g c =
+    let before = c.args.state.now in
+    let after = c.lease_last.new.self in
+    let leased = c.in-Some.ensures.some in
+    let begins = begins_lease before after c.in-Some.number c.args.moment c.args.want leased.log leased.as_many_open leased.fewer_idle in
+    start_fits before.log after.log c.args.seats.now c.requires.seated begins.starts c.len-entries.result (c.len-entries.ensures ∙ ap length c.log.ensures.entries) c.len-entries.type_inv

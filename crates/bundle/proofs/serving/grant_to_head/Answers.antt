@@ -8,7 +8,9 @@ use Rattle.host_state.specs.State.{HostState, booked_after_start}
 use Rattle.bundle.specs.Calls.{open_for_head}
 use Rattle.bundle.specs.Grants.{with_new}
 use Rattle.bundle.proofs.StartLogs.{fewer_after_head}
-use Rattle.bundle.proofs.Seating.{apart, seated_granted}
+use Rattle.conn_log.specs.Starts.{start_count}
+use Rattle.bundle.specs.Seats.{SeatsShown}
+use Rattle.bundle.proofs.Seating.{apart, seated_granted, start_fits, granted_ended}
 use Rattle.bundle.proofs.Starting.{head_free, begins_lease, unclaimed_pushed}
 use Rattle.bundle.proofs.Unfit.{unfit_closed, unfit_granted}
 use Rattle.bundle.proofs.serving.grant_to_head.Goals as goal
@@ -19,6 +21,18 @@ grant-requires-clause-apart g c =
     let before = c.args.state.now in
     let free = head_free before.settings before.log c.in-Some.head first.others c.log-log.ensures.sound first.first in
     apart before.log c.args.seats.now c.requires.seated c.in-Some-lease_newest_fit.number c.in-Some.head.transfer free
+
+pub grant-requires-clause-few : goal.grant-requires-clause-few
+grant-requires-clause-few g c =
+    let more = ap start_count c.in-Some-lease_newest_fit.ensures.some.log in
+    let entries = c.len-entries.ensures ∙ ap length c.log.ensures.entries in
+    start_fits c.args.state.now.log c.lease_newest_fit.new.self.log c.args.seats.now c.requires.seated more c.len-entries.result entries c.len-entries.type_inv
+
+pub returns-in-Some-lease_newest_fit-clause-starts : goal.returns-in-Some-lease_newest_fit-clause-starts
+returns-in-Some-lease_newest_fit-clause-starts g c = record {
+  tables = ap (λ (h : SeatsShown). h.tables) c.grant.ensures;
+  ended = granted_ended c.args.seats.now c.grant.new.self c.in-Some-lease_newest_fit.number c.in-Some.head.transfer c.grant.ensures;
+}
 
 pub returns-in-Some-lease_newest_fit-clause-seated : goal.returns-in-Some-lease_newest_fit-clause-seated
 returns-in-Some-lease_newest_fit-clause-seated g c =

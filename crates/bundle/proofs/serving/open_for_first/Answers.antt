@@ -36,7 +36,7 @@ loop-opened-preserved g c =
       limit = ap (λ s. limit_in_force s after) same ∙ starts.limit ∙ sym (ap (λ s. limit_in_force s before) kept.same.settings) ∙ kept.limit;
       seated = head.seated;
       unclaimed = head.unclaimed;
-      table = head.table ∙ kept.table;
+      starts = record { tables = head.starts.tables ∙ kept.starts.tables; ended = head.starts.ended ∙ kept.starts.ended };
       spare = head.spare;
       streams = head.streams ∙ kept.streams;
       booked = head.booked ∙ kept.booked;

@@ -5,7 +5,7 @@ use Rattle.conn_log.specs.Sound.{WaitOnce}
 use Rattle.host_state.specs.State.{IsSameHost, limit_of}
 use Rattle.bundle.specs.Calls.{open_for_first}
 use Rattle.bundle.specs.Grants.{with_first, HasSpare, grant_starts}
-use Rattle.bundle.specs.Seats.{IsSeated, AreUnclaimed}
+use Rattle.bundle.specs.Seats.{IsSeated, AreUnclaimed, OnlyStarts}
 use Rattle.bundle.proofs.serving.open_for_first.Given as goal
 
 abbrev pub decreases-loop-opened : goal.decreases-loop-opened
@@ -24,7 +24,7 @@ invariant-loop-opened g l = record {
   limit : limit_of l.state ≡ limit_of l.fn.state;
   seated : IsSeated l.state.log l.seats;
   unclaimed : AreUnclaimed (grant_starts l.grants.items) l.seats;
-  table : l.seats.table ≡ l.fn.seats.table;
+  starts : OnlyStarts l.fn.seats l.seats;
   spare : HasSpare l.state.log l.state.booked (vec_len l.grants) (vec_capacity l.grants);
   streams : l.state.streams ≡ l.fn.state.streams;
   booked : l.state.booked ≡ l.fn.state.booked;

@@ -1,8 +1,10 @@
 use Rattle.std.proofs.Common.{length, ap, ◌∙◌, arith}
 use Rattle.conn_log.specs.Waiting.{waiting}
 use Rattle.host_state.specs.State.{booked_after_start}
+use Rattle.bundle.specs.Seats.{SeatsShown}
 use Rattle.bundle.proofs.StartLogs.{fewer_after_head}
-use Rattle.bundle.proofs.Seating.{apart, seated_granted}
+use Rattle.conn_log.specs.Starts.{start_count}
+use Rattle.bundle.proofs.Seating.{apart, seated_granted, start_fits, granted_ended}
 use Rattle.bundle.proofs.Starting.{head_free, few_fit, begins_open, unclaimed_pushed}
 use Rattle.bundle.proofs.serving.open_for_head.Goals as goal
 
@@ -15,6 +17,18 @@ grant-requires-clause-apart g c =
 
 pub grant-requires-clause-room : goal.grant-requires-clause-room
 grant-requires-clause-room g c = few_fit c.args.state.now.log c.args.seats.now c.requires.seated c.open_len-open.result c.open_len-open.ensures c.open_len-open.type_inv
+
+pub grant-requires-clause-few : goal.grant-requires-clause-few
+grant-requires-clause-few g c =
+    let more = ap start_count c.open-number.ensures.log in
+    let entries = c.len-entries.ensures ∙ ap length c.log.ensures.entries in
+    start_fits c.args.state.now.log c.open-number.new.self.log c.args.seats.now c.requires.seated more c.len-entries.result entries c.len-entries.type_inv
+
+pub returns-clause-starts : goal.returns-clause-starts
+returns-clause-starts g c = record {
+  tables = ap (λ (h : SeatsShown). h.tables) c.grant.ensures;
+  ended = granted_ended c.args.seats.now c.grant.new.self c.open-number.result c.in-Some.head.transfer c.grant.ensures;
+}
 
 pub returns-clause-seated : goal.returns-clause-seated
 returns-clause-seated g c =

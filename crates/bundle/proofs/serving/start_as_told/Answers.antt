@@ -1,4 +1,5 @@
-use Rattle.bundle.proofs.Seating.{apart, seated_leased, leased_granted}
+use Rattle.std.proofs.Common.{length, ap, ◌∙◌}
+use Rattle.bundle.proofs.Seating.{apart, start_fits, seated_leased, leased_granted}
 use Rattle.bundle.proofs.Starting.{begins_open}
 use Rattle.bundle.proofs.serving.start_as_told.Goals as goal
 
@@ -16,3 +17,11 @@ returns-in-Got-clause-seated g c =
 
 pub returns-in-Got-clause-granted : goal.returns-in-Got-clause-granted
 returns-in-Got-clause-granted g c = leased_granted c.args.state.now.log c.args.seats.now c.lease-seat.new.self c.open-number.result c.args.want.transfer c.requires.seated c.requires.free c.lease-seat.ensures.leased
+
+pub lease-seat-requires-clause-few : goal.lease-seat-requires-clause-few
+lease-seat-requires-clause-few g c =
+    let before = c.args.state.now in
+    let after = c.open-number.new.self in
+    let opened = c.open-number.ensures in
+    let begins = begins_open before after c.open-number.result c.args.moment c.args.want opened.log opened.more_open opened.as_many_idle in
+    start_fits before.log after.log c.args.seats.now c.requires.seated begins.starts c.len-entries.result (c.len-entries.ensures ∙ ap length c.log.ensures.entries) c.len-entries.type_inv

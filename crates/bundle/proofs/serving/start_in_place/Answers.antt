@@ -1,6 +1,6 @@
-use Rattle.std.proofs.Common.{◌∙◌}
+use Rattle.std.proofs.Common.{length, ap, ◌∙◌, arith}
 use Rattle.bundle.proofs.StartLogs.{oldest_not_next, keeps_all_but_closed}
-use Rattle.bundle.proofs.Seating.{apart, seated_same, seated_leased, leased_granted}
+use Rattle.bundle.proofs.Seating.{apart, start_fits, seated_same, seated_leased, leased_granted}
 use Rattle.bundle.proofs.Starting.{begins_open, same_closed_many}
 use Rattle.bundle.proofs.serving.start_in_place.Goals as goal
 
@@ -30,3 +30,13 @@ returns-clause-streams g c =
     let between = c.close_oldest.new.self in
     let apart = oldest_not_next between.settings c.args.state.now.log between.log closed.number c.open-number.result closed.oldest closed.closes.opened opened.number in
     keeps_all_but_closed c.args.state.now between c.open-number.new.self closed.number c.open-number.result apart closed.others closed.closes.streams opened.opened opened.streams
+
+pub lease-seat-requires-clause-few : goal.lease-seat-requires-clause-few
+lease-seat-requires-clause-few g c =
+    let before = c.args.state.now in
+    let between = c.close_oldest.new.self in
+    let after = c.open-number.new.self in
+    let closed = c.close_oldest.ensures in
+    let opened = c.open-number.ensures in
+    let begins = begins_open between after c.open-number.result c.args.moment c.args.want opened.log opened.more_open opened.as_many_idle in
+    start_fits before.log after.log c.args.seats.now c.requires.seated (omega (arith, begins.starts, closed.closes.starts)) c.len-entries.result (c.len-entries.ensures ∙ ap length c.log.ensures.entries) c.len-entries.type_inv

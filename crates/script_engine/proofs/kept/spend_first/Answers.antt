@@ -42,7 +42,7 @@ returns-in_ok-transfer-clause-keeps c =
     let t = c.in_ok-transfer.transfer in
     let want = c.in_ok-transfer.first.wait.want in
     let kept = kept-ticket host c.log-log.ensures.sound c.args.tickets.now.entries t c.in_ok-transfer.first c.requires.keeps.tickets (sym c.in_ok-transfer.ensures.value) in
-    ticket-spent host new c.withdraw.ensures.same.table c.log-log.ensures.sound t (get nat_cmp c.args.leases.now) (get nat_cmp c.args.tickets.now) (get nat_cmp c.pop_first.new.self) want c.requires.keeps kept.0 c.in_ok-transfer.ensures.updates.0
+    ticket-spent host new c.withdraw.ensures.same.tables c.log-log.ensures.sound t (get nat_cmp c.args.leases.now) (get nat_cmp c.args.tickets.now) (get nat_cmp c.pop_first.new.self) want c.requires.keeps kept.0 c.in_ok-transfer.ensures.updates.0
     (subst (Spends host new) kept.1 (c.withdraw.ensures.spends (kept-valid host t want kept.0 kept.1)))
 
 pub abandon-requires : goal.abandon-requires
@@ -81,5 +81,5 @@ returns-in_ok-transfer-2-clause-keeps c =
     let t = c.in_ok-transfer-2.transfer in
     let lease = c.in_ok-transfer-2.first in
     let kept = kept-lease host t lease (ap (option_map lease_facts) (sym c.in_ok-transfer-2.ensures.value) ∙ c.requires.keeps.leases t) in
-    lease-spent host new c.abandon.ensures.same.table c.log-log.ensures.sound t (get nat_cmp c.args.leases.now) (get nat_cmp c.pop_first-else-is_ticket_first.new.self) (get nat_cmp c.args.tickets.now) lease.start.number c.requires.keeps kept.leased
+    lease-spent host new c.abandon.ensures.same.tables c.log-log.ensures.sound t (get nat_cmp c.args.leases.now) (get nat_cmp c.pop_first-else-is_ticket_first.new.self) (get nat_cmp c.args.tickets.now) lease.start.number c.requires.keeps kept.leased
     c.in_ok-transfer-2.ensures.updates.0 (subst (Spends host new) kept.own c.abandon.ensures.spends)

@@ -1,26 +1,29 @@
-use Rattle.std.proofs.Common.{◌≡◌, ℕ, ◌+◌, ◌++◌, ◌∷◌, [], List, length, false, None, refl, sym, ap, subst, ◌∙◌, arith}
+use Rattle.std.proofs.Common.{◌≡◌, ℕ, ◌+◌, ◌++◌, ◌∷◌, [], List, length, false, Some, None, refl, sym, ap, subst, ◌∙◌, arith}
 use Rattle.budget.specs.declared.permits.Try.TheVariants.{Got as Given}
-use Rattle.budget.specs.Pairs.{HeldPairs}
+use Rattle.conn_log.specs.declared.entry.Entry.{Entry}
 use Rattle.conn_log.specs.Connections.{is_among}
 use Rattle.conn_log.specs.Waiting.{waiting}
 use Rattle.host_state.specs.State.{HostState}
 use Rattle.bundle.specs.declared.answers.Got.TheVariants.{Lease}
+use Rattle.bundle.specs.declared.did.Did.TheVariants.{Wrote}
 use Rattle.bundle.specs.Calls.{start_behind, refusal, is_queued, GrowsBy}
 use Rattle.bundle.specs.Grants.{grant_starts, grant_streams, GrantsKept}
 use Rattle.bundle.specs.Laws.{IsSoundAndQuiet}
 use Rattle.bundle.specs.Lease.{HostShown, AreBooked, HasItsStream}
-use Rattle.bundle.specs.Seats.{IsSeated, AreUnclaimed}
+use Rattle.bundle.specs.Seats.{SeatsShown, IsSeated, AreUnclaimed, ended_starts, gone}
+use Rattle.bundle.specs.Passes.{start_entry, tells, got_did, refusal_did}
 use Rattle.bundle.specs.Replies.{IsGot, GivesLease, GivesBooking, UnlessBooking}
 use Rattle.bundle.proofs.Bookings.{IsOut}
 use Rattle.bundle.proofs.KeptSound.{none_waits}
 use Rattle.bundle.proofs.Outcomes.{count_added, spare_after, bookings_added}
-use Rattle.bundle.proofs.Seating.{unclaimed_same}
+use Rattle.bundle.proofs.Seating.{unclaimed_same, same_gone}
+use Rattle.bundle.proofs.Telling.{account_there, accounts_told}
 use Rattle.bundle.proofs.AcquiredHosts.{Leaves, leaves, acquires, not_refused_at_once, grants_after, stream_got, lease_got, ticket_got, booking_got, others_kept, all_kept, halfway_kept}
 use Rattle.bundle.proofs.host.Bundle.acquire.Given.{Over}
 use Rattle.bundle.proofs.host.Bundle.acquire.Goals as goal
 
 -- a lease at once
-at_once : (g : Over) (c : goal.In-Some g) → Leaves false c.self.inside.state.settings c.self.inside.state.log c.lease_at_once.new.state.log c.args.want (Lease c.in-Some.lease)
+at_once : (g : Over) (c : goal.After-tell g) → Leaves false c.self.inside.state.settings c.self.inside.state.log c.lease_at_once.new.state.log c.args.want (Lease c.in-Some.lease)
 at_once g c =
     let state = c.self.inside.state in
     let leased = c.in-Some.ensures in
@@ -48,7 +51,7 @@ returns-in-Some-clause-told g c =
     let inside = c.self.inside in
     let leased = c.in-Some.ensures in
     let new = c.lease_at_once.new in
-    (Given, g.met.P.Permits.not_asked_to_open c.args.permits.now new.permits leased.stays, acquires false Given inside.state.settings inside.state.log inside.state.host (grant_streams inside.grants.items ++ inside.state.streams) inside.grants.items inside.bookings.items inside.seats.table c.args.self.now _ c.args.want c.args.now c.moment-moment.result (Lease c.in-Some.lease) c.self.view_is c.moment-moment.ensures leased.due.0 leased.due.1)
+    (Given, g.met.P.Permits.not_asked_to_open c.args.permits.now new.permits leased.stays, acquires false Given inside.state.settings inside.state.log inside.state.host (grant_streams inside.grants.items ++ inside.state.streams) inside.grants.items inside.bookings.items inside.seats.tables c.args.self.now _ c.args.want c.args.now c.moment-moment.result (Lease c.in-Some.lease) c.self.view_is c.moment-moment.ensures leased.due.0 leased.due.1)
 
 pub returns-in-Some-clause-stream : goal.returns-in-Some-clause-stream
 returns-in-Some-clause-stream g c =
@@ -73,7 +76,7 @@ returns-in-Some-clause-gets_lease g c =
     let inside = c.self.inside in
     let new = c.lease_at_once.new.state in
     let it = at_once g c in
-    lease_got inside.state.settings inside.state.log new.log inside.grants.items c.self.invariant.grants c.args.want it.out.free new.settings inside.state.host new.host (grant_streams inside.grants.items ++ inside.state.streams) (grant_streams inside.grants.items ++ new.streams) inside.bookings.items inside.bookings.items inside.seats.table c.lease_at_once.new.seats.table inside.grants.items refl c.args.self.now c.self.view_is c.args.want refl (Lease c.in-Some.lease) it.outcome
+    lease_got inside.state.settings inside.state.log new.log inside.grants.items c.self.invariant.grants c.args.want it.out.free new.settings inside.state.host new.host (grant_streams inside.grants.items ++ inside.state.streams) (grant_streams inside.grants.items ++ new.streams) inside.bookings.items inside.bookings.items inside.seats.tables c.lease_at_once.new.seats.tables inside.grants.items refl c.args.self.now c.self.view_is c.args.want refl (Lease c.in-Some.lease) it.outcome
 
 pub returns-in-Some-clause-grew : goal.returns-in-Some-clause-grew
 returns-in-Some-clause-grew g c =
@@ -146,24 +149,24 @@ invariant_of-self-in_default-book g c =
     }
 
 -- a start, a wait, or a booking
-booked : (g : Over) (c : goal.After-add_booking g) → c.book.new.self ≡ record c.self.inside.state { booked = c.self.inside.state.booked + 1 }
+booked : (g : Over) (c : goal.After-tell_got g) → c.book.new.self ≡ record c.self.inside.state { booked = c.self.inside.state.booked + 1 }
 booked g c = c.in-Ok-book.ensures.ok ∙ ap (λ (v : HostState g.row.S.Denot). record v { booked = v.booked + 1 }) c.in_default.ensures.none
 
-out : (g : Over) (c : goal.After-add_booking g) → IsOut c.self.inside.state.log c.args.want.transfer
+out : (g : Over) (c : goal.After-tell_got g) → IsOut c.self.inside.state.log c.args.want.transfer
 out g c = subst (λ (v : HostState g.row.S.Denot). IsOut v.log c.args.want.transfer) c.in_default.ensures.none (record { free = c.in_default-reason_against.ensures.free; waits_not = c.in_default-reason_against.ensures.once })
 
-due_log : (g : Over) (c : goal.After-add_booking g) → (let state = c.self.inside.state in c.start_or_wait-got.new.state.log ≡ (start_behind (waiting state.log) false c.start_or_wait-got.ensures.told.0 state.settings c.args.want c.moment-moment.result state.log).log)
+due_log : (g : Over) (c : goal.After-tell_got g) → (let state = c.self.inside.state in c.start_or_wait-got.new.state.log ≡ (start_behind (waiting state.log) false c.start_or_wait-got.ensures.told.0 state.settings c.args.want c.moment-moment.result state.log).log)
 due_log g c = subst (λ (v : HostState g.row.S.Denot). c.start_or_wait-got.new.state.log ≡ (start_behind (waiting v.log) false c.start_or_wait-got.ensures.told.0 v.settings c.args.want c.moment-moment.result v.log).log) (booked g c) c.start_or_wait-got.ensures.told.2.0
 
-due_got : (g : Over) (c : goal.After-add_booking g) → (let state = c.self.inside.state in IsGot state.host c.args.want (start_behind (waiting state.log) false c.start_or_wait-got.ensures.told.0 state.settings c.args.want c.moment-moment.result state.log).reply c.start_or_wait-got.result)
+due_got : (g : Over) (c : goal.After-tell_got g) → (let state = c.self.inside.state in IsGot state.host c.args.want (start_behind (waiting state.log) false c.start_or_wait-got.ensures.told.0 state.settings c.args.want c.moment-moment.result state.log).reply c.start_or_wait-got.result)
 due_got g c = subst (λ (v : HostState g.row.S.Denot). IsGot v.host c.args.want (start_behind (waiting v.log) false c.start_or_wait-got.ensures.told.0 v.settings c.args.want c.moment-moment.result v.log).reply c.start_or_wait-got.result) (booked g c) c.start_or_wait-got.ensures.told.2.1
 
-left : (g : Over) (c : goal.After-add_booking g) → Leaves false c.self.inside.state.settings c.self.inside.state.log c.start_or_wait-got.new.state.log c.args.want c.start_or_wait-got.result
+left : (g : Over) (c : goal.After-tell_got g) → Leaves false c.self.inside.state.settings c.self.inside.state.log c.start_or_wait-got.new.state.log c.args.want c.start_or_wait-got.result
 left g c =
     let state = c.self.inside.state in
     leaves false c.start_or_wait-got.ensures.told.0 state.settings state.log c.start_or_wait-got.new.state.log c.args.want c.args.now c.moment-moment.result state.host c.start_or_wait-got.result c.self.invariant.settled (out g c) c.moment-moment.ensures (due_log g c) (due_got g c)
 
-settings_same : (g : Over) (c : goal.After-add_booking g) → c.start_or_wait-got.new.state.settings ≡ c.self.inside.state.settings
+settings_same : (g : Over) (c : goal.After-tell_got g) → c.start_or_wait-got.new.state.settings ≡ c.self.inside.state.settings
 settings_same g c = c.start_or_wait-got.ensures.same.settings ∙ ap (λ (v : HostState g.row.S.Denot). v.settings) (booked g c)
 
 pub invariant_of-self-2 : goal.invariant_of-self-2
@@ -188,7 +191,7 @@ invariant_of-self-2 g c =
       grants = subst (λ gs. GrantsKept new.log gs) (sym c.reserve.ensures.items) (grants_after inside.state.settings inside.state.log new.log inside.grants.items inv.grants c.args.want it.out.free got it.outcome);
       spare = spare_after c.args.want inside.state.log new.log got it.outcome (inside.state.booked + 1) new.booked _ _ fewer same (omega (arith, c.in-Ok.ensures.ok, c.reserve.ensures.len, waiting_len, c.len.ensures, inv.count, inside.bookings.ok));
       seated = told.seated;
-      unclaimed = subst (λ gs. AreUnclaimed (grant_starts gs) c.start_or_wait-got.new.seats) (sym c.reserve.ensures.items) (unclaimed_same (grant_starts inside.grants.items) inside.seats c.start_or_wait-got.new.seats inv.unclaimed (told.granted.granted ∙ ap (λ (held : HeldPairs). held.granted) c.in_default.ensures.none_seats));
+      unclaimed = subst (λ gs. AreUnclaimed (grant_starts gs) c.start_or_wait-got.new.seats) (sym c.reserve.ensures.items) (unclaimed_same (grant_starts inside.grants.items) inside.seats c.start_or_wait-got.new.seats inv.unclaimed (told.granted.granted ∙ ap (λ (held : SeatsShown). held.granted) c.in_default.ensures.none_seats));
     }
 
 pub returns-clause-told : goal.returns-clause-told
@@ -196,7 +199,7 @@ returns-clause-told g c =
     let inside = c.self.inside in
     let told = c.start_or_wait-got.ensures.told in
     let new = c.start_or_wait-got.new in
-    (told.0, subst (λ p. g.P.Permits.opening p new.permits told.0) c.in_default.ensures.none_permits told.1, acquires false told.0 inside.state.settings inside.state.log inside.state.host (grant_streams inside.grants.items ++ inside.state.streams) inside.grants.items inside.bookings.items inside.seats.table c.args.self.now _ c.args.want c.args.now c.moment-moment.result c.start_or_wait-got.result c.self.view_is c.moment-moment.ensures (due_log g c) (due_got g c))
+    (told.0, subst (λ p. g.P.Permits.opening p new.permits told.0) c.in_default.ensures.none_permits told.1, acquires false told.0 inside.state.settings inside.state.log inside.state.host (grant_streams inside.grants.items ++ inside.state.streams) inside.grants.items inside.bookings.items inside.seats.tables c.args.self.now _ c.args.want c.args.now c.moment-moment.result c.start_or_wait-got.result c.self.view_is c.moment-moment.ensures (due_log g c) (due_got g c))
 
 pub returns-clause-stream : goal.returns-clause-stream
 returns-clause-stream g c =
@@ -206,7 +209,7 @@ returns-clause-stream g c =
     let told : GivesLease got (HasItsStream state.streams) = subst (λ (v : HostState g.row.S.Denot). GivesLease got (HasItsStream v.streams)) (booked g c) c.start_or_wait-got.ensures.stream in
     subst (λ (v : HostShown g.row.S.Denot). GivesLease got (HasItsStream v.streams)) c.self.view_is (stream_got state.settings state.log c.start_or_wait-got.new.state.log c.self.inside.grants.items c.self.invariant.grants c.args.want it.out.free it.settled.sound.orderly state.streams got it.outcome told)
 
-front : (g : Over) (c : goal.After-add_booking g) → grant_streams c.reserve.new.self.items ++ c.book.new.self.streams ≡ c.args.self.now.streams
+front : (g : Over) (c : goal.After-tell_got g) → grant_streams c.reserve.new.self.items ++ c.book.new.self.streams ≡ c.args.self.now.streams
 front g c =
     ap (λ gs. grant_streams gs ++ c.book.new.self.streams) c.reserve.ensures.items
     ∙ ap (λ (v : HostState g.row.S.Denot). grant_streams c.self.inside.grants.items ++ v.streams) (booked g c)
@@ -237,18 +240,95 @@ returns-clause-gets_lease g c =
     let inside = c.self.inside in
     let new = c.start_or_wait-got.new.state in
     let it = left g c in
-    lease_got inside.state.settings inside.state.log new.log inside.grants.items c.self.invariant.grants c.args.want it.out.free new.settings inside.state.host new.host (grant_streams inside.grants.items ++ inside.state.streams) (grant_streams c.reserve.new.self.items ++ new.streams) inside.bookings.items c.add_booking.new.bookings.items inside.seats.table c.start_or_wait-got.new.seats.table c.reserve.new.self.items c.reserve.ensures.items c.args.self.now c.self.view_is c.args.want refl c.start_or_wait-got.result it.outcome
+    lease_got inside.state.settings inside.state.log new.log inside.grants.items c.self.invariant.grants c.args.want it.out.free new.settings inside.state.host new.host (grant_streams inside.grants.items ++ inside.state.streams) (grant_streams c.reserve.new.self.items ++ new.streams) inside.bookings.items c.add_booking.new.bookings.items inside.seats.tables c.start_or_wait-got.new.seats.tables c.reserve.new.self.items c.reserve.ensures.items c.args.self.now c.self.view_is c.args.want refl c.start_or_wait-got.result it.outcome
 
 pub returns-clause-gets_ticket : goal.returns-clause-gets_ticket
 returns-clause-gets_ticket g c =
     let inside = c.self.inside in
     let new = c.start_or_wait-got.new.state in
     let it = left g c in
-    ticket_got inside.state.settings inside.state.log new.log inside.grants.items c.self.invariant.grants c.args.want it.out.free new.settings inside.state.host new.host (grant_streams inside.grants.items ++ inside.state.streams) (grant_streams c.reserve.new.self.items ++ new.streams) inside.bookings.items c.add_booking.new.bookings.items inside.seats.table c.start_or_wait-got.new.seats.table c.reserve.new.self.items c.reserve.ensures.items c.args.self.now c.self.view_is c.args.want refl c.start_or_wait-got.result it.outcome
+    ticket_got inside.state.settings inside.state.log new.log inside.grants.items c.self.invariant.grants c.args.want it.out.free new.settings inside.state.host new.host (grant_streams inside.grants.items ++ inside.state.streams) (grant_streams c.reserve.new.self.items ++ new.streams) inside.bookings.items c.add_booking.new.bookings.items inside.seats.tables c.start_or_wait-got.new.seats.tables c.reserve.new.self.items c.reserve.ensures.items c.args.self.now c.self.view_is c.args.want refl c.start_or_wait-got.result it.outcome
 
 pub returns-clause-gets_booking : goal.returns-clause-gets_booking
 returns-clause-gets_booking g c =
     let inside = c.self.inside in
     let new = c.start_or_wait-got.new.state in
     let it = left g c in
-    booking_got inside.state.settings inside.state.log new.log inside.grants.items c.self.invariant.grants c.args.want it.out.free new.settings inside.state.host new.host (grant_streams inside.grants.items ++ inside.state.streams) (grant_streams c.reserve.new.self.items ++ new.streams) inside.bookings.items c.add_booking.new.bookings.items inside.seats.table c.start_or_wait-got.new.seats.table c.reserve.new.self.items c.reserve.ensures.items c.args.self.now c.self.view_is c.args.want refl c.start_or_wait-got.result it.outcome
+    booking_got inside.state.settings inside.state.log new.log inside.grants.items c.self.invariant.grants c.args.want it.out.free new.settings inside.state.host new.host (grant_streams inside.grants.items ++ inside.state.streams) (grant_streams c.reserve.new.self.items ++ new.streams) inside.bookings.items c.add_booking.new.bookings.items inside.seats.tables c.start_or_wait-got.new.seats.tables c.reserve.new.self.items c.reserve.ensures.items c.args.self.now c.self.view_is c.args.want refl c.start_or_wait-got.result it.outcome
+
+-- the pass that it is lent
+pub tell-requires : goal.tell-requires
+tell-requires g c =
+    let host_is = c.host.ensures ∙ c.in-Some.ensures.same.host ∙ ap (λ (v : HostShown g.row.S.Denot). v.host) c.self.view_is in
+    account_there c.args.pass.now c.args.self.now c.host.result host_is c.requires.enrolled
+
+pub tell_refused-requires : goal.tell_refused-requires
+tell_refused-requires g c =
+    let host_is = c.host-in-Some-reason_against.ensures ∙ c.lease_at_once.ensures.same.host ∙ ap (λ (v : HostShown g.row.S.Denot). v.host) c.self.view_is in
+    record { there = account_there c.args.pass.now c.args.self.now c.host-in-Some-reason_against.result host_is c.requires.enrolled }
+
+pub tell_got-requires : goal.tell_got-requires
+tell_got-requires g c =
+    let host_is = c.host-2.ensures ∙ c.start_or_wait-got.ensures.same.host ∙ ap (λ (v : HostState g.row.S.Denot). v.host) c.in-Ok-book.ensures.ok ∙ c.lease_at_once.ensures.same.host ∙ ap (λ (v : HostShown g.row.S.Denot). v.host) c.self.view_is in
+    record { there = account_there c.args.pass.now c.args.self.now c.host-2.result host_is c.requires.enrolled }
+
+tells_lease : (g : Over) (c : goal.After-tell g) → c.tell.new.self ≡ tells c.args.self.now.host (Some (Wrote (start_entry c.in-Some.lease.start))) c.args.pass.now
+tells_lease g c =
+    let host_is = c.host.ensures ∙ c.in-Some.ensures.same.host ∙ ap (λ (v : HostShown g.row.S.Denot). v.host) c.self.view_is in
+    c.tell.ensures.account
+    ∙ ap (λ (host : ℕ). tells host (Some (Wrote c.start_entry.result)) c.args.pass.now) host_is
+    ∙ ap (λ (entry : Entry). tells c.args.self.now.host (Some (Wrote entry)) c.args.pass.now) c.start_entry.ensures
+
+tells_refusal : (g : Over) (c : goal.After-tell_refused g) → c.tell_refused.new.pass ≡ tells c.args.self.now.host (refusal_did c.args.want.transfer c.in-Some-reason_against.reason) c.args.pass.now
+tells_refusal g c =
+    let host_is = c.host-in-Some-reason_against.ensures ∙ c.lease_at_once.ensures.same.host ∙ ap (λ (v : HostShown g.row.S.Denot). v.host) c.self.view_is in
+    c.tell_refused.ensures.told
+    ∙ ap (λ (host : ℕ). tells host (refusal_did c.args.want.transfer c.in-Some-reason_against.reason) c.args.pass.now) host_is
+
+tells_got : (g : Over) (c : goal.After-tell_got g) → c.tell_got.new.pass ≡ tells c.args.self.now.host (got_did c.start_or_wait-got.result) c.args.pass.now
+tells_got g c =
+    let host_is = c.host-2.ensures ∙ c.start_or_wait-got.ensures.same.host ∙ ap (λ (v : HostState g.row.S.Denot). v.host) (booked g c) ∙ ap (λ (v : HostShown g.row.S.Denot). v.host) c.self.view_is in
+    c.tell_got.ensures.told
+    ∙ ap (λ (host : ℕ). tells host (got_did c.start_or_wait-got.result) c.args.pass.now) host_is
+
+pub returns-in-Some-clause-tells : goal.returns-in-Some-clause-tells
+returns-in-Some-clause-tells g c = tells_lease g c
+
+pub returns-in-Some-reason_against-clause-tells : goal.returns-in-Some-reason_against-clause-tells
+returns-in-Some-reason_against-clause-tells g c = tells_refusal g c
+
+pub returns-clause-tells : goal.returns-clause-tells
+returns-clause-tells g c = tells_got g c
+
+-- and the starts that it accounts for
+pub returns-in-Some-clause-account : goal.returns-in-Some-clause-account
+returns-in-Some-clause-account g c =
+    let inside = c.self.inside in
+    let new = c.lease_at_once.new in
+    let leased = c.in-Some.ensures in
+    let same = same_gone inside.state.log new.state.log inside.seats new.seats c.self.invariant.seated leased.seated leased.granted.ended in
+    accounts_told c.args.self.now new.state.log c.args.pass.now c.tell.new.self (Some (Wrote (start_entry c.in-Some.lease.start))) c.requires.enrolled (tells_lease g c) (same ∙ ap (λ (v : HostShown g.row.S.Denot). gone v.log) c.self.view_is)
+
+pub returns-in-Some-reason_against-clause-account : goal.returns-in-Some-reason_against-clause-account
+returns-in-Some-reason_against-clause-account g c =
+    accounts_told c.args.self.now c.lease_at_once.new.state.log c.args.pass.now c.tell_refused.new.pass (refusal_did c.args.want.transfer c.in-Some-reason_against.reason) c.requires.enrolled (tells_refusal g c) (ap (λ (v : HostState g.row.S.Denot). gone v.log) c.in_default.ensures.none ∙ ap (λ (v : HostShown g.row.S.Denot). gone v.log) c.self.view_is)
+
+pub returns-in_default-reserve-clause-account : goal.returns-in_default-reserve-clause-account
+returns-in_default-reserve-clause-account g c =
+    accounts_told c.args.self.now c.lease_at_once.new.state.log c.args.pass.now c.args.pass.now None c.requires.enrolled refl (ap (λ (v : HostState g.row.S.Denot). gone v.log) c.in_default.ensures.none ∙ ap (λ (v : HostShown g.row.S.Denot). gone v.log) c.self.view_is)
+
+pub returns-in_default-reserve-2-clause-account : goal.returns-in_default-reserve-2-clause-account
+returns-in_default-reserve-2-clause-account g c =
+    accounts_told c.args.self.now c.lease_at_once.new.state.log c.args.pass.now c.args.pass.now None c.requires.enrolled refl (ap (λ (v : HostState g.row.S.Denot). gone v.log) c.in_default.ensures.none ∙ ap (λ (v : HostShown g.row.S.Denot). gone v.log) c.self.view_is)
+
+pub returns-in_default-book-clause-account : goal.returns-in_default-book-clause-account
+returns-in_default-book-clause-account g c =
+    accounts_told c.args.self.now c.book.new.self.log c.args.pass.now c.args.pass.now None c.requires.enrolled refl (ap (λ (v : HostState g.row.S.Denot). gone v.log) (c.in_default-book.ensures.err ∙ c.in_default.ensures.none) ∙ ap (λ (v : HostShown g.row.S.Denot). gone v.log) c.self.view_is)
+
+pub returns-clause-account : goal.returns-clause-account
+returns-clause-account g c =
+    let inside = c.self.inside in
+    let new = c.start_or_wait-got.new in
+    let told = c.start_or_wait-got.ensures in
+    let same = same_gone inside.state.log new.state.log inside.seats new.seats c.self.invariant.seated told.seated (told.granted.ended ∙ ap ended_starts c.in_default.ensures.none_seats) in
+    accounts_told c.args.self.now new.state.log c.args.pass.now c.tell_got.new.pass (got_did c.start_or_wait-got.result) c.requires.enrolled (tells_got g c) (same ∙ ap (λ (v : HostShown g.row.S.Denot). gone v.log) c.self.view_is)

@@ -1,12 +1,15 @@
 use Rattle.std.proofs.Common.{◌≡◌, ℕ, true, false, None, Some, is_some, refl, sym, ap, subst, ◌∙◌, ◌++◌, arith}
 use Rattle.std.specs.Prelude.{◌==◌, if◌then◌else◌}
-use Rattle.budget.specs.Pairs.{LeaseOf}
 use Rattle.conn_log.specs.declared.entry.Want.{Want}
 use Rattle.conn_log.specs.Connections.{is_among}
 use Rattle.bundle.specs.Grants.{GrantsKept, grant_starts, grant_streams, grant_transfers}
 use Rattle.host_state.specs.Idle.{stream_of}
 use Rattle.bundle.specs.Lease.{HostShown, Using, Leasing, lease_at, start_for, is_unclaimed, is_valid_ticket}
-use Rattle.bundle.specs.Seats.{AreUnclaimed}
+use Rattle.budget.specs.Accounts.{change_at, told}
+use Rattle.budget.proofs.HoldersSteps.{length_without}
+use Rattle.bundle.specs.declared.did.Did.TheVariants.{Claimed}
+use Rattle.bundle.specs.Seats.{LeaseSeats, AreUnclaimed, gone}
+use Rattle.bundle.proofs.Telling.{accounts_told}
 use Rattle.bundle.proofs.Granting.{is_some-grant_of, start_granted, kept_at, kept_without}
 use Rattle.bundle.proofs.Answering.{stood_granted, claimed_left, claimed_stream, claimed_streams, gets_at}
 use Rattle.bundle.proofs.Seating.{granted_once, seated_claimed, unclaimed_claimed}
@@ -41,6 +44,22 @@ claim-seat-requires-clause-granted g c =
     let inv = c.self.invariant in
     granted_once c.self.inside.state.log c.self.inside.grants.items c.self.inside.seats inv.grants inv.unclaimed c.want-want.result.transfer c.in-Some.grant (sym c.in-Some.ensures.grant)
 
+pub claim-seat-requires-clause-unsplit : goal.claim-seat-requires-clause-unsplit
+claim-seat-requires-clause-unsplit g c =
+    let inv = c.self.invariant in
+    let held = c.self.inside.seats in
+    let grant = c.in-Some.grant in
+    let t = c.want-want.result.transfer in
+    let once = granted_once c.self.inside.state.log c.self.inside.grants.items held inv.grants inv.unclaimed t grant (sym c.in-Some.ensures.grant) in
+    omega (arith, inv.seated.unsplit, length_without (grant.number, t) held.granted, once)
+
+pub returns-clause-account : goal.returns-clause-account
+returns-clause-account g c =
+    let host_is = c.host.ensures ∙ ap (λ (v : HostShown g.row.S.Denot). v.host) c.self.view_is in
+    let did = Claimed c.want-want.result.transfer in
+    let tells_so = c.tell-2.ensures.account ∙ ap (λ (n : ℕ). change_at c.args.pass.now n (told did)) host_is in
+    accounts_told c.args.self.now c.self.inside.state.log c.args.pass.now c.tell-2.new.self (Some did) c.requires.enrolled tells_so (ap (λ (v : HostShown g.row.S.Denot). gone v.log) c.self.view_is)
+
 pub new-requires-2 : goal.new-requires-2
 new-requires-2 g c =
     let grants = c.self.inside.grants.items in
@@ -48,7 +67,7 @@ new-requires-2 g c =
     let grant = c.in-Some.grant in
     let there = kept_at c.self.inside.state.log grants t grant c.self.invariant.grants (sym c.in-Some.ensures.grant) in
     let used = c.granted-used.ensures in
-    ap (λ (seat : LeaseOf). seat.pair) c.claim-seat.ensures.seat ∙ same_pair grant.number t _ _ (ap (λ (u : Using g.row.S.Denot). u.start.number) (sym used)) (sym there.1 ∙ ap (λ (u : Using g.row.S.Denot). u.start.want.transfer) (sym used))
+    ap (λ (seat : LeaseSeats). seat.pair) c.claim-seat.ensures.seat ∙ same_pair grant.number t _ _ (ap (λ (u : Using g.row.S.Denot). u.start.number) (sym used)) (sym there.1 ∙ ap (λ (u : Using g.row.S.Denot). u.start.want.transfer) (sym used))
 
 pub invariant_of-self-2 : goal.invariant_of-self-2
 invariant_of-self-2 g c =
@@ -74,8 +93,8 @@ returns-clause-lease g c =
     let grants = c.self.inside.grants.items in
     let t = c.want-want.result.transfer in
     let who : t ≡ c.args.ticket.wait.want.transfer = ap (λ (w : Want). w.transfer) c.want-want.ensures in
-    let lease_is = c.new-2.ensures ∙ ap (lease_at c.claim-seat.result.table) c.granted-used.ensures in
-    (ap (λ (v : HostShown g.row.S.Denot). start_for v.unclaimed c.args.ticket.wait.want.transfer) (sym c.self.view_is) ∙ ap (start_for (grant_starts grants)) (sym who) ∙ start_granted grants t c.in-Some.grant (sym c.in-Some.ensures.grant) ∙ ap (λ (l : Leasing g.row.S.Denot). Some l.start) (sym lease_is), ap (λ (l : Leasing g.row.S.Denot). l.site) lease_is ∙ c.host.ensures ∙ ap (λ (v : HostShown g.row.S.Denot). v.host) c.self.view_is)
+    let lease_is = c.new-2.ensures ∙ ap (lease_at c.claim-seat.result.tables) c.granted-used.ensures in
+    (ap (λ (v : HostShown g.row.S.Denot). start_for v.unclaimed c.args.ticket.wait.want.transfer) (sym c.self.view_is) ∙ ap (start_for (grant_starts grants)) (sym who) ∙ start_granted grants t c.in-Some.grant (sym c.in-Some.ensures.grant) ∙ ap (λ (l : Leasing g.row.S.Denot). Some l.start) (sym lease_is), ap (λ (l : Leasing g.row.S.Denot). l.site) lease_is ∙ c.host-2.ensures ∙ ap (λ (v : HostShown g.row.S.Denot). v.host) c.self.view_is)
 
 pub returns-clause-want : goal.returns-clause-want
 returns-clause-want g c =
@@ -84,7 +103,7 @@ returns-clause-want g c =
     let test : c.is_valid_ticket.result ≡ true = grind (arith, c.if-not-is_valid_ticket.false) in
     let stood = ap (λ (v : HostShown g.row.S.Denot). is_valid_ticket v c.want-want.result) c.self.view_is ∙ sym c.is_valid_ticket.ensures ∙ test in
     let granted_for = stood_granted state.log grants c.self.invariant.grants c.want-want.result c.in-Some.grant (sym c.in-Some.ensures.grant) stood in
-    ap (λ (l : Leasing g.row.S.Denot). l.start.want) (c.new-2.ensures ∙ ap (lease_at c.claim-seat.result.table) c.granted-used.ensures) ∙ granted_for ∙ c.want-want.ensures
+    ap (λ (l : Leasing g.row.S.Denot). l.start.want) (c.new-2.ensures ∙ ap (lease_at c.claim-seat.result.tables) c.granted-used.ensures) ∙ granted_for ∙ c.want-want.ensures
 
 pub returns-clause-stream : goal.returns-clause-stream
 returns-clause-stream g c =
@@ -96,7 +115,7 @@ returns-clause-stream g c =
     let is = sym c.in-Some.ensures.grant in
     let kept = claimed_stream state.settings state.log inv.settled.sound.orderly grants inv.grants t grant is state.streams in
     let streams = grant_streams grants ++ state.streams in
-    let told = subst (λ (l : Leasing g.row.S.Denot). l.stream ≡ (if l.start.reused then stream_of streams l.start.number else None)) (sym (c.new-2.ensures ∙ ap (lease_at c.claim-seat.result.table) c.granted-used.ensures)) kept in
+    let told = subst (λ (l : Leasing g.row.S.Denot). l.stream ≡ (if l.start.reused then stream_of streams l.start.number else None)) (sym (c.new-2.ensures ∙ ap (lease_at c.claim-seat.result.tables) c.granted-used.ensures)) kept in
     subst (λ (v : HostShown g.row.S.Denot). c.new-2.result.stream ≡ (if c.new-2.result.start.reused then stream_of v.streams c.new-2.result.start.number else None)) c.self.view_is told
 
 pub returns-clause-streams : goal.returns-clause-streams
@@ -107,7 +126,7 @@ returns-clause-streams g c d other still =
     let t = c.want-want.result.transfer in
     let grant = c.in-Some.grant in
     let is = sym c.in-Some.ensures.grant in
-    let number : c.new-2.result.start.number ≡ grant.number = ap (λ (l : Leasing g.row.S.Denot). l.start.number) (c.new-2.ensures ∙ ap (lease_at c.claim-seat.result.table) c.granted-used.ensures) in
+    let number : c.new-2.result.start.number ≡ grant.number = ap (λ (l : Leasing g.row.S.Denot). l.start.number) (c.new-2.ensures ∙ ap (lease_at c.claim-seat.result.tables) c.granted-used.ensures) in
     let apart : (grant.number == d) ≡ false = ap (λ (n : ℕ). n == d) (sym number) ∙ other in
     ap (λ gs. stream_of (grant_streams gs ++ state.streams) d) c.take_grant.ensures.others
     ∙ claimed_streams state.settings state.log inv.settled.sound.orderly grants inv.grants t grant is state.streams d apart
@@ -122,5 +141,5 @@ returns-clause-gets_lease g c =
     let grant = c.in-Some.grant in
     let is = sym c.in-Some.ensures.grant in
     let who : t ≡ c.args.ticket.wait.want.transfer = ap (λ (w : Want). w.transfer) c.want-want.ensures in
-    let number : grant.number ≡ c.new-2.result.start.number = ap (λ (l : Leasing g.row.S.Denot). l.start.number) (sym (c.new-2.ensures ∙ ap (lease_at c.claim-seat.result.table) c.granted-used.ensures)) in
+    let number : grant.number ≡ c.new-2.result.start.number = ap (λ (l : Leasing g.row.S.Denot). l.start.number) (sym (c.new-2.ensures ∙ ap (lease_at c.claim-seat.result.tables) c.granted-used.ensures)) in
     gets_at _ _ _ _ _ _ _ c.self.view_is who number (claimed_left state.settings state.log inv.settled.sound.orderly grants inv.grants t grant is c.take_grant.new.grants.items c.take_grant.ensures.others _ _ _ _ _ _ _ _ _)

@@ -2,16 +2,19 @@ use Rattle.std.proofs.Common.{◌≡◌, ℕ, false, length, refl, sym, ap, subs
 use Rattle.std.specs.Prelude.{◌==◌}
 use Rattle.conn_log.specs.declared.entry.Cause.TheVariants.{Dropped}
 use Rattle.conn_log.specs.Waiting.{waiting}
+use Rattle.conn_log.specs.Starts.{start_count}
 use Rattle.host_state.specs.Idle.{stream_of}
 use Rattle.bundle.specs.Calls.{is_freed}
 use Rattle.bundle.specs.Laws.{IsSoundAndQuiet}
 use Rattle.bundle.specs.Lease.{HostShown, held_by}
 use Rattle.bundle.proofs.Answering.{known, there_where, held_told, number_told, freed_spends, spends_at}
 use Rattle.bundle.proofs.Told.{held_here}
-use Rattle.bundle.proofs.LeaseEnds.{ends_closed, lease_held, seated_spent, unclaimed_spent, apart_number, apart_transfer, apart_pair}
-use Rattle.bundle.proofs.Settling.{settled_closed, room_closed, grows_from, unmarked_from}
+use Rattle.bundle.proofs.LeaseEnds.{ends_closed, lease_held, seated_spent, unclaimed_spent, grants_kept, gone_spent, apart_number, apart_transfer, apart_pair}
+use Rattle.bundle.proofs.Settling.{Settled, settled_closed, room_closed, grows_from, unmarked_from}
 use Rattle.bundle.proofs.Halfway.{booked_freed}
 use Rattle.bundle.proofs.Freeing.{part_fewer, freed_close}
+use Rattle.bundle.proofs.Accounting.{accounts_spent}
+use Rattle.bundle.proofs.host.Bundle.close_leased.Given.{Over}
 use Rattle.bundle.proofs.host.Bundle.close_leased.Goals as goal
 
 pub unwrap-held-requires : goal.unwrap-held-requires
@@ -19,27 +22,27 @@ unwrap-held-requires g c =
     let state = c.self.inside.state in
     let inv = c.self.invariant in
     let t = c.transfer-transfer.result in
-    let n = c.number.result in
-    let pair_is = apart_pair c.args.lease _ _ c.take_apart-used.ensures.used n t c.number.ensures c.transfer-transfer.ensures _ c.take_apart-used.ensures.pair in
-    there_where _ _ c.held.ensures.none (held_here state.settings state.log inv.settled.sound.orderly t n (lease_held state.log c.self.inside.seats _ n t pair_is inv.seated c.take_back.ensures.leased))
+    let n = c.number-connection.result in
+    let pair_is = apart_pair c.args.lease _ _ c.take_apart-used.ensures.used n t c.number-connection.ensures c.transfer-transfer.ensures _ c.take_apart-used.ensures.pair in
+    there_where _ _ c.held.ensures.none (held_here state.settings state.log inv.settled.sound.orderly t n (lease_held state.log c.self.inside.seats _ n t pair_is inv.seated c.take_back-start.ensures.leased))
 
 pub hand_on-requires-clause-seated : goal.hand_on-requires-clause-seated
 hand_on-requires-clause-seated g c =
     let state = c.self.inside.state in
     let t = c.transfer-transfer.result in
-    let n = c.number.result in
-    let pair_is = apart_pair c.args.lease _ _ c.take_apart-used.ensures.used n t c.number.ensures c.transfer-transfer.ensures _ c.take_apart-used.ensures.pair in
-    let ends = ends_closed state.log c.close_held.new.self.log t c.close_held.ensures.holders c.close_held.ensures.fewer_open c.close_held.ensures.as_many_idle in
-    seated_spent state.log c.self.inside.seats _ n t pair_is c.self.invariant.seated c.take_back.ensures.leased c.take_back.new.self c.clear.new.self c.take_back.ensures.back c.clear.ensures _ ends
+    let n = c.number-connection.result in
+    let pair_is = apart_pair c.args.lease _ _ c.take_apart-used.ensures.used n t c.number-connection.ensures c.transfer-transfer.ensures _ c.take_apart-used.ensures.pair in
+    let ends = ends_closed state.log c.close_held.new.self.log t c.close_held.ensures.holders (ap start_count c.close_held.ensures.log) c.close_held.ensures.fewer_open c.close_held.ensures.as_many_idle in
+    seated_spent state.log c.self.inside.seats _ n t pair_is c.self.invariant.seated c.take_back-start.ensures.leased c.take_back-start.new.self c.spend.new.seats c.take_back-start.ensures.back c.spend.ensures.cleared _ ends
 
 pub hand_on-requires-clause-unclaimed : goal.hand_on-requires-clause-unclaimed
 hand_on-requires-clause-unclaimed g c =
     let state = c.self.inside.state in
     let inv = c.self.invariant in
     let t = c.transfer-transfer.result in
-    let n = c.number.result in
-    let pair_is = apart_pair c.args.lease _ _ c.take_apart-used.ensures.used n t c.number.ensures c.transfer-transfer.ensures _ c.take_apart-used.ensures.pair in
-    unclaimed_spent state.log c.self.inside.seats _ n t pair_is inv.seated c.take_back.ensures.leased c.take_back.new.self c.clear.new.self c.take_back.ensures.back c.clear.ensures c.self.inside.grants.items c.spend.new.grants.items inv.grants inv.unclaimed c.spend.ensures.others
+    let n = c.number-connection.result in
+    let pair_is = apart_pair c.args.lease _ _ c.take_apart-used.ensures.used n t c.number-connection.ensures c.transfer-transfer.ensures _ c.take_apart-used.ensures.pair in
+    unclaimed_spent state.log c.self.inside.seats _ n t pair_is inv.seated c.take_back-start.ensures.leased c.take_back-start.new.self c.spend.new.seats c.take_back-start.ensures.back c.spend.ensures.cleared c.self.inside.grants.items inv.unclaimed
 
 pub hand_on-requires-clause-room : goal.hand_on-requires-clause-room
 hand_on-requires-clause-room g c =
@@ -55,15 +58,24 @@ hand_on-requires-clause-part g c =
 
 pub hand_on-requires-clause-spare : goal.hand_on-requires-clause-spare
 hand_on-requires-clause-spare g c =
-    omega (arith, c.self.invariant.spare, ap (λ log. length (waiting log)) c.close_held.ensures.log, c.close_held.ensures.booked, c.spend.ensures.len, c.spend.ensures.capacity)
+    omega (arith, c.self.invariant.spare, ap (λ log. length (waiting log)) c.close_held.ensures.log, c.close_held.ensures.booked)
 
-pub invariant_of-self : goal.invariant_of-self
-invariant_of-self g c =
+-- the host once the connection is closed, and its permit handed on
+handed_on : (g : Over) (c : goal.After-hand_on g) → Settled c.self.inside.state.settings c.self.inside.state.log c.self.inside.grants.items c.self.inside.state.streams c.transfer-transfer.result c.unwrap-held.result.number c.hand_on.new.state.log c.hand_on.new.grants.items c.hand_on.new.state.streams
+handed_on g c =
     let state = c.self.inside.state in
     let inv = c.self.invariant in
     let held = c.unwrap-held.result in
     let it = known state.log c.transfer-transfer.result held (held_told state.log c.transfer-transfer.result _ _ c.unwrap-held.ensures c.held.ensures.some) in
-    let settled = settled_closed state.settings state.log c.self.inside.grants.items inv.settled inv.grants state.streams c.transfer-transfer.result held.number it.number c.args.now Dropped refl c.close_held.new.self.settings c.close_held.ensures.same.settings c.moment-moment.result c.moment-moment.ensures c.close_held.new.self.log c.close_held.ensures.log c.spend.new.grants.items c.spend.ensures.others c.hand_on.new.state.log c.hand_on.ensures.log c.hand_on.new.grants.items c.hand_on.ensures.grants c.hand_on.new.state.streams (c.hand_on.ensures.streams ∙ c.close_held.ensures.streams) in
+    let n = c.number-connection.result in
+    let pair_is = apart_pair c.args.lease _ _ c.take_apart-used.ensures.used n c.transfer-transfer.result c.number-connection.ensures c.transfer-transfer.ensures _ c.take_apart-used.ensures.pair in
+    let left = grants_kept state.log c.self.inside.seats _ n c.transfer-transfer.result pair_is inv.seated c.take_back-start.ensures.leased c.self.inside.grants.items inv.grants inv.unclaimed in
+    settled_closed state.settings state.log c.self.inside.grants.items inv.settled inv.grants state.streams c.transfer-transfer.result held.number it.number c.args.now Dropped refl c.close_held.new.self.settings c.close_held.ensures.same.settings c.moment-moment.result c.moment-moment.ensures c.close_held.new.self.log c.close_held.ensures.log c.self.inside.grants.items left c.hand_on.new.state.log c.hand_on.ensures.log c.hand_on.new.grants.items c.hand_on.ensures.grants c.hand_on.new.state.streams (c.hand_on.ensures.streams ∙ c.close_held.ensures.streams)
+
+pub invariant_of-self : goal.invariant_of-self
+invariant_of-self g c =
+    let inv = c.self.invariant in
+    let settled = handed_on g c in
     record {
       count = c.hand_on.ensures.booked ∙ c.close_held.ensures.booked ∙ inv.count;
       bookings = booked_freed _ _ _ _ _ inv.grants settled.freed c.self.inside.bookings.items inv.bookings;
@@ -76,30 +88,20 @@ invariant_of-self g c =
 
 pub returns-clause-streams : goal.returns-clause-streams
 returns-clause-streams g c d other still =
-    let state = c.self.inside.state in
-    let inv = c.self.invariant in
     let held = c.unwrap-held.result in
-    let it = known state.log c.transfer-transfer.result held (held_told state.log c.transfer-transfer.result _ _ c.unwrap-held.ensures c.held.ensures.some) in
-    let settled = settled_closed state.settings state.log c.self.inside.grants.items inv.settled inv.grants state.streams c.transfer-transfer.result held.number it.number c.args.now Dropped refl c.close_held.new.self.settings c.close_held.ensures.same.settings c.moment-moment.result c.moment-moment.ensures c.close_held.new.self.log c.close_held.ensures.log c.spend.new.grants.items c.spend.ensures.others c.hand_on.new.state.log c.hand_on.ensures.log c.hand_on.new.grants.items c.hand_on.ensures.grants c.hand_on.new.state.streams (c.hand_on.ensures.streams ∙ c.close_held.ensures.streams) in
-    let apart : (held.number == d) ≡ false = ap (λ (n : ℕ). n == d) (number_told _ _ _ c.unwrap-held.ensures c.held.ensures.number ∙ apart_number c.args.lease _ _ c.take_apart-used.ensures.used _ _ c.number.ensures c.transfer-transfer.ensures) ∙ other in
+    let n = c.number-connection.result in
+    let settled = handed_on g c in
+    let apart : (held.number == d) ≡ false = ap (λ (n : ℕ). n == d) (number_told _ _ _ c.unwrap-held.ensures c.held.ensures.number ∙ apart_number c.args.lease _ _ c.take_apart-used.ensures.used _ _ c.number-connection.ensures c.transfer-transfer.ensures) ∙ other in
     settled.others d apart still ∙ ap (λ (v : HostShown g.row.S.Denot). stream_of v.streams d) c.self.view_is
 
 pub returns-clause-spends : goal.returns-clause-spends
 returns-clause-spends g c =
-    let state = c.self.inside.state in
-    let inv = c.self.invariant in
-    let held = c.unwrap-held.result in
-    let it = known state.log c.transfer-transfer.result held (held_told state.log c.transfer-transfer.result _ _ c.unwrap-held.ensures c.held.ensures.some) in
-    let settled = settled_closed state.settings state.log c.self.inside.grants.items inv.settled inv.grants state.streams c.transfer-transfer.result held.number it.number c.args.now Dropped refl c.close_held.new.self.settings c.close_held.ensures.same.settings c.moment-moment.result c.moment-moment.ensures c.close_held.new.self.log c.close_held.ensures.log c.spend.new.grants.items c.spend.ensures.others c.hand_on.new.state.log c.hand_on.ensures.log c.hand_on.new.grants.items c.hand_on.ensures.grants c.hand_on.new.state.streams (c.hand_on.ensures.streams ∙ c.close_held.ensures.streams) in
-    spends_at _ _ _ _ _ c.self.view_is (apart_transfer c.args.lease _ _ c.take_apart-used.ensures.used _ _ c.number.ensures c.transfer-transfer.ensures) (freed_spends _ _ _ _ _ _ _ _ _ _ _ _ _ _ _ settled.freed)
+    let settled = handed_on g c in
+    spends_at _ _ _ _ _ c.self.view_is (apart_transfer c.args.lease _ _ c.take_apart-used.ensures.used _ _ c.number-connection.ensures c.transfer-transfer.ensures) (freed_spends _ _ _ _ _ _ _ _ _ _ _ _ _ _ _ settled.freed)
 
 pub returns-clause-grew : goal.returns-clause-grew
 returns-clause-grew g c =
-    let state = c.self.inside.state in
-    let inv = c.self.invariant in
-    let held = c.unwrap-held.result in
-    let it = known state.log c.transfer-transfer.result held (held_told state.log c.transfer-transfer.result _ _ c.unwrap-held.ensures c.held.ensures.some) in
-    let settled = settled_closed state.settings state.log c.self.inside.grants.items inv.settled inv.grants state.streams c.transfer-transfer.result held.number it.number c.args.now Dropped refl c.close_held.new.self.settings c.close_held.ensures.same.settings c.moment-moment.result c.moment-moment.ensures c.close_held.new.self.log c.close_held.ensures.log c.spend.new.grants.items c.spend.ensures.others c.hand_on.new.state.log c.hand_on.ensures.log c.hand_on.new.grants.items c.hand_on.ensures.grants c.hand_on.new.state.streams (c.hand_on.ensures.streams ∙ c.close_held.ensures.streams) in
+    let settled = handed_on g c in
     grows_from _ _ _ (ap (λ (v : HostShown g.row.S.Denot). v.log) c.self.view_is) settled.grew
 
 pub returns-clause-freed : goal.returns-clause-freed
@@ -113,8 +115,14 @@ returns-clause-freed g c =
 pub returns-clause-mark : goal.returns-clause-mark
 returns-clause-mark g c =
     let state = c.self.inside.state in
-    let inv = c.self.invariant in
-    let held = c.unwrap-held.result in
-    let it = known state.log c.transfer-transfer.result held (held_told state.log c.transfer-transfer.result _ _ c.unwrap-held.ensures c.held.ensures.some) in
-    let settled = settled_closed state.settings state.log c.self.inside.grants.items inv.settled inv.grants state.streams c.transfer-transfer.result held.number it.number c.args.now Dropped refl c.close_held.new.self.settings c.close_held.ensures.same.settings c.moment-moment.result c.moment-moment.ensures c.close_held.new.self.log c.close_held.ensures.log c.spend.new.grants.items c.spend.ensures.others c.hand_on.new.state.log c.hand_on.ensures.log c.hand_on.new.grants.items c.hand_on.ensures.grants c.hand_on.new.state.streams (c.hand_on.ensures.streams ∙ c.close_held.ensures.streams) in
+    let settled = handed_on g c in
     unmarked_from state.settings c.args.self.now.settings c.hand_on.new.state.settings state.log c.args.self.now.log c.hand_on.new.state.log (c.hand_on.ensures.same.settings ∙ c.close_held.ensures.same.settings) (ap (λ (v : HostShown g.row.S.Denot). v.settings) c.self.view_is) (ap (λ (v : HostShown g.row.S.Denot). v.log) c.self.view_is) settled.mark
+
+pub returns-clause-account : goal.returns-clause-account
+returns-clause-account g c =
+    let state = c.self.inside.state in
+    let t = c.transfer-transfer.result in
+    let n = c.number-connection.result in
+    let pair_is = apart_pair c.args.lease _ _ c.take_apart-used.ensures.used n t c.number-connection.ensures c.transfer-transfer.ensures _ c.take_apart-used.ensures.pair in
+    let more = gone_spent state.log c.self.inside.seats _ n t pair_is c.self.invariant.seated c.take_back-start.ensures.leased c.take_back-start.new.self c.spend.new.seats c.take_back-start.ensures.back c.spend.ensures.cleared c.hand_on.new.state.log c.hand_on.new.seats c.hand_on.ensures.seated c.hand_on.ensures.starts.ended in
+    accounts_spent c.args.self.now state.log c.hand_on.new.state.log (ap (λ (v : HostShown g.row.S.Denot). v.log) c.self.view_is) more c.args.pass.now _ _ (c.host-host.ensures ∙ ap (λ (v : HostShown g.row.S.Denot). v.host) c.self.view_is) _ _ c.requires.enrolled c.spend.ensures.spent

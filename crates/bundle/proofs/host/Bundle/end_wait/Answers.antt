@@ -1,25 +1,33 @@
-use Rattle.std.proofs.Common.{◌≡◌, ℕ, length, true, refl, sym, ap, subst, ◌∙◌, arith}
-use Rattle.budget.specs.Pairs.{LeaseOf}
+use Rattle.std.proofs.Common.{◌≡◌, ℕ, length, Some, None, true, refl, sym, ap, subst, ◌∙◌, arith}
+use Rattle.budget.proofs.HoldersSteps.{length_without}
 use Rattle.conn_log.specs.declared.entry.Want.{Want}
 use Rattle.conn_log.specs.declared.entry.Cause.TheVariants.{Withdrawn}
+use Rattle.conn_log.specs.declared.entry.Event.TheVariants.{Left}
 use Rattle.conn_log.specs.Waiting.{waiting}
+use Rattle.conn_log.specs.Starts.{start_count}
 use Rattle.bundle.specs.Calls.{after_withdraw, is_queued, is_freed}
 use Rattle.host_state.specs.Idle.{stream_of}
+use Rattle.host_state.specs.Steps.{moment_at}
 use Rattle.bundle.specs.Laws.{IsSoundAndQuiet}
 use Rattle.bundle.specs.Grants.{grant_starts}
 use Rattle.bundle.specs.Lease.{HostShown, held_by, is_valid_ticket}
-use Rattle.bundle.specs.Seats.{AreUnclaimed}
+use Rattle.bundle.specs.Seats.{AreUnclaimed, LeaseSeats, gone}
+use Rattle.bundle.specs.declared.did.Did.TheVariants.{Wrote}
+use Rattle.bundle.specs.Passes.{tells}
 use Rattle.bundle.proofs.Growth.{grows_withdraw}
 use Rattle.bundle.proofs.KeptSound.{kept_withdraw}
 use Rattle.bundle.proofs.Marks.{mark_withdraw}
 use Rattle.bundle.proofs.Told.{held_here}
 use Rattle.bundle.proofs.StartLogs.{fewer_without}
 use Rattle.bundle.proofs.Answering.{known, there_where, held_told, stood_waits, claimed_number, freed_spends, spends_at, apart_open}
-use Rattle.bundle.proofs.Settling.{settled_closed, room_closed, left_log, withdrawn_log, gone_open, left_moved, grows_from, unmarked_from}
+use Rattle.bundle.proofs.Settling.{Settled, settled_closed, room_closed, left_log, withdrawn_log, gone_open, left_moved, grows_from, unmarked_from}
 use Rattle.bundle.proofs.Halfway.{booked_freed}
 use Rattle.bundle.proofs.Freeing.{part_fewer, freed_close}
-use Rattle.bundle.proofs.Seating.{granted_once, seated_claimed, unclaimed_claimed, unclaimed_same}
-use Rattle.bundle.proofs.LeaseEnds.{ends_closed, seated_left, seated_spent, granted_spent}
+use Rattle.bundle.proofs.Seating.{granted_once, seated_claimed, unclaimed_claimed, unclaimed_same, same_gone}
+use Rattle.bundle.proofs.LeaseEnds.{ends_closed, seated_left, seated_spent, granted_spent, gone_spent}
+use Rattle.bundle.proofs.Telling.{accounts_told}
+use Rattle.bundle.proofs.Accounting.{accounts_spent, withdraws_as}
+use Rattle.bundle.proofs.host.Bundle.end_wait.Given.{Over}
 use Rattle.bundle.proofs.host.Bundle.end_wait.Goals as goal
 
 pub leave-requires-clause-waits : goal.leave-requires-clause-waits
@@ -109,6 +117,53 @@ claim-seat-requires-clause-granted g c =
     let inv = c.self.invariant in
     granted_once c.self.inside.state.log c.self.inside.grants.items c.self.inside.seats inv.grants inv.unclaimed c.want-want.result.transfer c.in-Some.grant (sym c.in-Some.ensures.grant)
 
+pub claim-seat-requires-clause-unsplit : goal.claim-seat-requires-clause-unsplit
+claim-seat-requires-clause-unsplit g c =
+    let inv = c.self.invariant in
+    let held = c.self.inside.seats in
+    let t = c.want-want.result.transfer in
+    let once = granted_once c.self.inside.state.log c.self.inside.grants.items held inv.grants inv.unclaimed t c.in-Some.grant (sym c.in-Some.ensures.grant) in
+    omega (arith, inv.seated.unsplit, length_without (c.in-Some.grant.number, t) held.granted, once)
+
+pub returns-in_default-clause-withdrawn : goal.returns-in_default-clause-withdrawn
+returns-in_default-clause-withdrawn g c =
+    let who : c.want-want.result.transfer ≡ c.args.ticket.wait.want.transfer = ap (λ (w : Want). w.transfer) c.want-want.ensures in
+    let host_is = c.host.ensures ∙ ap (λ (v : HostShown g.row.S.Denot). v.host) c.self.view_is in
+    let moment_is = c.moment-moment.ensures ∙ ap (λ (v : HostShown g.row.S.Denot). moment_at v.log c.args.now) c.self.view_is in
+    c.tell-in_default.ensures.account ∙ withdraws_as c.args.self.now c.self.inside.grants.items (ap (λ (v : HostShown g.row.S.Denot). v.unclaimed) c.self.view_is) None c.want-want.result.transfer _ c.in_default.ensures.grant who c.host.result host_is c.moment-moment.result c.args.now moment_is c.args.pass.now
+
+pub returns-in_default-clause-account : goal.returns-in_default-clause-account
+returns-in_default-clause-account g c =
+    let state = c.self.inside.state in
+    let held = c.self.inside.seats in
+    let inv = c.self.invariant in
+    let t = c.want-want.result.transfer in
+    let did = Wrote (record { moment = c.moment-moment.result; event = Left t }) in
+    let told = c.tell-in_default.ensures.account ∙ ap (λ (h : ℕ). tells h (Some did) c.args.pass.now) (c.host.ensures ∙ ap (λ (v : HostShown g.row.S.Denot). v.host) c.self.view_is) in
+    let seated = seated_left state.log c.leave.new.self.log held _ t inv.seated c.leave.ensures.log c.leave.ensures.as_many_open c.leave.ensures.as_many_idle in
+    let same = same_gone state.log c.leave.new.self.log held held inv.seated seated refl ∙ ap (λ (v : HostShown g.row.S.Denot). gone v.log) c.self.view_is in
+    accounts_told c.args.self.now c.leave.new.self.log c.args.pass.now c.tell-in_default.new.self (Some did) c.requires.enrolled told same
+
+pub returns-clause-withdrawn : goal.returns-clause-withdrawn
+returns-clause-withdrawn g c =
+    let who : c.want-want.result.transfer ≡ c.args.ticket.wait.want.transfer = ap (λ (w : Want). w.transfer) c.want-want.ensures in
+    let host_is = c.host.ensures ∙ ap (λ (v : HostShown g.row.S.Denot). v.host) c.self.view_is in
+    let moment_is = c.moment-moment.ensures ∙ ap (λ (v : HostShown g.row.S.Denot). moment_at v.log c.args.now) c.self.view_is in
+    c.spend-2.ensures.account ∙ withdraws_as c.args.self.now c.self.inside.grants.items (ap (λ (v : HostShown g.row.S.Denot). v.unclaimed) c.self.view_is) (Some c.in-Some.grant) c.want-want.result.transfer _ c.in-Some.ensures.grant who c.host.result host_is c.moment-moment.result c.args.now moment_is c.args.pass.now
+
+pub returns-clause-account : goal.returns-clause-account
+returns-clause-account g c =
+    let state = c.self.inside.state in
+    let held = c.self.inside.seats in
+    let inv = c.self.invariant in
+    let t = c.want-want.result.transfer in
+    let n = c.in-Some.grant.number in
+    let once = granted_once state.log c.self.inside.grants.items held inv.grants inv.unclaimed t c.in-Some.grant (sym c.in-Some.ensures.grant) in
+    let claimed = seated_claimed state.log held c.claim-seat.new.self n t inv.seated once c.claim-seat.ensures.seats in
+    let pair_is = ap (λ (seat : LeaseSeats). seat.pair) c.claim-seat.ensures.seat in
+    let more = gone_spent state.log c.claim-seat.new.self _ n t pair_is claimed c.take_back-start.ensures.leased c.take_back-start.new.self c.clear.new.self c.take_back-start.ensures.back c.clear.ensures c.hand_on.new.state.log c.hand_on.new.seats c.hand_on.ensures.seated c.hand_on.ensures.starts.ended in
+    accounts_spent c.args.self.now state.log c.hand_on.new.state.log (ap (λ (v : HostShown g.row.S.Denot). v.log) c.self.view_is) more c.args.pass.now _ _ (c.host.ensures ∙ ap (λ (v : HostShown g.row.S.Denot). v.host) c.self.view_is) _ _ c.requires.enrolled c.spend-2.ensures.account
+
 pub hand_on-requires-clause-seated : goal.hand_on-requires-clause-seated
 hand_on-requires-clause-seated g c =
     let state = c.self.inside.state in
@@ -118,9 +173,9 @@ hand_on-requires-clause-seated g c =
     let n = c.in-Some.grant.number in
     let once = granted_once state.log c.self.inside.grants.items held inv.grants inv.unclaimed t c.in-Some.grant (sym c.in-Some.ensures.grant) in
     let claimed = seated_claimed state.log held c.claim-seat.new.self n t inv.seated once c.claim-seat.ensures.seats in
-    let pair_is = ap (λ (seat : LeaseOf). seat.pair) c.claim-seat.ensures.seat in
-    let ends = ends_closed state.log c.close_held.new.self.log t c.close_held.ensures.holders c.close_held.ensures.fewer_open c.close_held.ensures.as_many_idle in
-    seated_spent state.log c.claim-seat.new.self _ n t pair_is claimed c.take_back.ensures.leased c.take_back.new.self c.clear.new.self c.take_back.ensures.back c.clear.ensures _ ends
+    let pair_is = ap (λ (seat : LeaseSeats). seat.pair) c.claim-seat.ensures.seat in
+    let ends = ends_closed state.log c.close_held.new.self.log t c.close_held.ensures.holders (ap start_count c.close_held.ensures.log) c.close_held.ensures.fewer_open c.close_held.ensures.as_many_idle in
+    seated_spent state.log c.claim-seat.new.self _ n t pair_is claimed c.take_back-start.ensures.leased c.take_back-start.new.self c.clear.new.self c.take_back-start.ensures.back c.clear.ensures _ ends
 
 pub hand_on-requires-clause-unclaimed : goal.hand_on-requires-clause-unclaimed
 hand_on-requires-clause-unclaimed g c =
@@ -133,10 +188,10 @@ hand_on-requires-clause-unclaimed g c =
     let is = sym c.in-Some.ensures.grant in
     let once = granted_once state.log grants held inv.grants inv.unclaimed t c.in-Some.grant is in
     let claimed = seated_claimed state.log held c.claim-seat.new.self n t inv.seated once c.claim-seat.ensures.seats in
-    let pair_is = ap (λ (seat : LeaseOf). seat.pair) c.claim-seat.ensures.seat in
+    let pair_is = ap (λ (seat : LeaseSeats). seat.pair) c.claim-seat.ensures.seat in
     let as_claimed = unclaimed_claimed state.log grants held c.claim-seat.new.self inv.grants inv.unclaimed t c.in-Some.grant is c.claim-seat.ensures.seats in
     let others = subst (λ gs. AreUnclaimed (grant_starts gs) c.claim-seat.new.self) (sym c.take_grant.ensures.others) as_claimed in
-    unclaimed_same (grant_starts c.take_grant.new.grants.items) c.claim-seat.new.self c.clear.new.self others (granted_spent state.log c.claim-seat.new.self _ n t pair_is claimed c.take_back.ensures.leased c.take_back.new.self c.clear.new.self c.take_back.ensures.back c.clear.ensures)
+    unclaimed_same (grant_starts c.take_grant.new.grants.items) c.claim-seat.new.self c.clear.new.self others (granted_spent state.log c.claim-seat.new.self _ n t pair_is claimed c.take_back-start.ensures.leased c.take_back-start.new.self c.clear.new.self c.take_back-start.ensures.back c.clear.ensures)
 
 pub hand_on-requires-clause-room : goal.hand_on-requires-clause-room
 hand_on-requires-clause-room g c =
@@ -156,15 +211,22 @@ pub hand_on-requires-clause-spare : goal.hand_on-requires-clause-spare
 hand_on-requires-clause-spare g c =
     omega (arith, c.self.invariant.spare, ap (λ log. length (waiting log)) c.close_held.ensures.log, c.close_held.ensures.booked, c.take_grant.ensures.len, c.take_grant.ensures.capacity)
 
-pub invariant_of-self-2 : goal.invariant_of-self-2
-invariant_of-self-2 g c =
+-- the host once the granted connection is closed, and its permit handed on
+handed_on : (g : Over) (c : goal.Joined-grant g) → Settled c.self.inside.state.settings c.self.inside.state.log c.self.inside.grants.items c.self.inside.state.streams c.want-want.result.transfer c.unwrap-held.result.number c.hand_on.new.state.log c.hand_on.new.grants.items c.hand_on.new.state.streams
+handed_on g c =
     let state = c.self.inside.state in
     let grants = c.self.inside.grants.items in
     let inv = c.self.invariant in
     let t = c.want-want.result.transfer in
     let held = c.unwrap-held.result in
     let it = known state.log t held (held_told state.log t _ _ c.unwrap-held.ensures c.held.ensures.some) in
-    let settled = settled_closed state.settings state.log grants inv.settled inv.grants state.streams t held.number it.number c.args.now Withdrawn refl c.close_held.new.self.settings c.close_held.ensures.same.settings c.moment-moment.result c.moment-moment.ensures c.close_held.new.self.log c.close_held.ensures.log c.take_grant.new.grants.items c.take_grant.ensures.others c.hand_on.new.state.log c.hand_on.ensures.log c.hand_on.new.grants.items c.hand_on.ensures.grants c.hand_on.new.state.streams (c.hand_on.ensures.streams ∙ c.close_held.ensures.streams) in
+    settled_closed state.settings state.log grants inv.settled inv.grants state.streams t held.number it.number c.args.now Withdrawn refl c.close_held.new.self.settings c.close_held.ensures.same.settings c.moment-moment.result c.moment-moment.ensures c.close_held.new.self.log c.close_held.ensures.log c.take_grant.new.grants.items c.take_grant.ensures.others c.hand_on.new.state.log c.hand_on.ensures.log c.hand_on.new.grants.items c.hand_on.ensures.grants c.hand_on.new.state.streams (c.hand_on.ensures.streams ∙ c.close_held.ensures.streams)
+
+pub invariant_of-self-2 : goal.invariant_of-self-2
+invariant_of-self-2 g c =
+    let grants = c.self.inside.grants.items in
+    let inv = c.self.invariant in
+    let settled = handed_on g c in
     record {
       count = c.hand_on.ensures.booked ∙ c.close_held.ensures.booked ∙ inv.count;
       bookings = booked_freed _ _ _ _ _ inv.grants settled.freed c.self.inside.bookings.items inv.bookings;
@@ -191,36 +253,21 @@ returns-clause-log g c =
 pub returns-clause-streams : goal.returns-clause-streams
 returns-clause-streams g c d still =
     let state = c.self.inside.state in
-    let grants = c.self.inside.grants.items in
-    let inv = c.self.invariant in
-    let t = c.want-want.result.transfer in
     let held = c.unwrap-held.result in
-    let it = known state.log t held (held_told state.log t _ _ c.unwrap-held.ensures c.held.ensures.some) in
-    let settled = settled_closed state.settings state.log grants inv.settled inv.grants state.streams t held.number it.number c.args.now Withdrawn refl c.close_held.new.self.settings c.close_held.ensures.same.settings c.moment-moment.result c.moment-moment.ensures c.close_held.new.self.log c.close_held.ensures.log c.take_grant.new.grants.items c.take_grant.ensures.others c.hand_on.new.state.log c.hand_on.ensures.log c.hand_on.new.grants.items c.hand_on.ensures.grants c.hand_on.new.state.streams (c.hand_on.ensures.streams ∙ c.close_held.ensures.streams) in
+    let settled = handed_on g c in
     let closed = gone_open held.number Withdrawn c.close_held.new.self.settings c.moment-moment.result state.log c.close_held.new.self.log c.close_held.ensures.log c.hand_on.new.state.log c.hand_on.ensures.log in
     settled.others d (apart_open c.hand_on.new.state.log held.number d closed still) still ∙ ap (λ (v : HostShown g.row.S.Denot). stream_of v.streams d) c.self.view_is
 
 pub returns-clause-spends : goal.returns-clause-spends
 returns-clause-spends g c =
-    let state = c.self.inside.state in
-    let grants = c.self.inside.grants.items in
-    let inv = c.self.invariant in
     let t = c.want-want.result.transfer in
-    let held = c.unwrap-held.result in
-    let it = known state.log t held (held_told state.log t _ _ c.unwrap-held.ensures c.held.ensures.some) in
-    let settled = settled_closed state.settings state.log grants inv.settled inv.grants state.streams t held.number it.number c.args.now Withdrawn refl c.close_held.new.self.settings c.close_held.ensures.same.settings c.moment-moment.result c.moment-moment.ensures c.close_held.new.self.log c.close_held.ensures.log c.take_grant.new.grants.items c.take_grant.ensures.others c.hand_on.new.state.log c.hand_on.ensures.log c.hand_on.new.grants.items c.hand_on.ensures.grants c.hand_on.new.state.streams (c.hand_on.ensures.streams ∙ c.close_held.ensures.streams) in
+    let settled = handed_on g c in
     let who : t ≡ c.args.ticket.wait.want.transfer = ap (λ (w : Want). w.transfer) c.want-want.ensures in
     spends_at _ _ _ _ _ c.self.view_is who (freed_spends _ _ _ _ _ _ _ _ _ _ _ _ _ _ _ settled.freed)
 
 pub returns-clause-grew : goal.returns-clause-grew
 returns-clause-grew g c =
-    let state = c.self.inside.state in
-    let grants = c.self.inside.grants.items in
-    let inv = c.self.invariant in
-    let t = c.want-want.result.transfer in
-    let held = c.unwrap-held.result in
-    let it = known state.log t held (held_told state.log t _ _ c.unwrap-held.ensures c.held.ensures.some) in
-    let settled = settled_closed state.settings state.log grants inv.settled inv.grants state.streams t held.number it.number c.args.now Withdrawn refl c.close_held.new.self.settings c.close_held.ensures.same.settings c.moment-moment.result c.moment-moment.ensures c.close_held.new.self.log c.close_held.ensures.log c.take_grant.new.grants.items c.take_grant.ensures.others c.hand_on.new.state.log c.hand_on.ensures.log c.hand_on.new.grants.items c.hand_on.ensures.grants c.hand_on.new.state.streams (c.hand_on.ensures.streams ∙ c.close_held.ensures.streams) in
+    let settled = handed_on g c in
     grows_from _ _ _ (ap (λ (v : HostShown g.row.S.Denot). v.log) c.self.view_is) settled.grew
 
 pub returns-clause-freed : goal.returns-clause-freed
@@ -237,12 +284,7 @@ returns-clause-freed g c =
 pub returns-clause-mark : goal.returns-clause-mark
 returns-clause-mark g c =
     let state = c.self.inside.state in
-    let grants = c.self.inside.grants.items in
-    let inv = c.self.invariant in
-    let t = c.want-want.result.transfer in
-    let held = c.unwrap-held.result in
-    let it = known state.log t held (held_told state.log t _ _ c.unwrap-held.ensures c.held.ensures.some) in
-    let settled = settled_closed state.settings state.log grants inv.settled inv.grants state.streams t held.number it.number c.args.now Withdrawn refl c.close_held.new.self.settings c.close_held.ensures.same.settings c.moment-moment.result c.moment-moment.ensures c.close_held.new.self.log c.close_held.ensures.log c.take_grant.new.grants.items c.take_grant.ensures.others c.hand_on.new.state.log c.hand_on.ensures.log c.hand_on.new.grants.items c.hand_on.ensures.grants c.hand_on.new.state.streams (c.hand_on.ensures.streams ∙ c.close_held.ensures.streams) in
+    let settled = handed_on g c in
     unmarked_from state.settings c.args.self.now.settings c.hand_on.new.state.settings state.log c.args.self.now.log c.hand_on.new.state.log (c.hand_on.ensures.same.settings ∙ c.close_held.ensures.same.settings) (ap (λ (v : HostShown g.row.S.Denot). v.settings) c.self.view_is) (ap (λ (v : HostShown g.row.S.Denot). v.log) c.self.view_is) settled.mark
 
 pub returns-in_default-clause-mark : goal.returns-in_default-clause-mark

@@ -1,11 +1,12 @@
-use Rattle.std.proofs.Common.{ap, length, ◌∙◌, arith}
+use Rattle.std.proofs.Common.{refl, ap, length, ◌∙◌, arith}
 use Rattle.conn_log.specs.declared.entry.Want.{Want}
 use Rattle.std.specs.Prelude.{List}
 use Rattle.host_state.specs.Idle.{stream_of}
 use Rattle.bundle.specs.Lease.{HostShown}
 use Rattle.bundle.proofs.Answering.{behind_same}
 use Rattle.bundle.proofs.TurnLogs.{evict_keeps, of_idle_for_others, grants_keep, keeps_at, grows_at}
-use Rattle.bundle.proofs.Seating.{seated_same}
+use Rattle.bundle.specs.Seats.{gone}
+use Rattle.bundle.proofs.Seating.{seated_same, same_gone}
 use Rattle.bundle.proofs.host.Bundle.evict_oldest.Goals as goal
 
 pub invariant_of-self : goal.invariant_of-self
@@ -20,7 +21,7 @@ invariant_of-self g c =
       settled = after.settled;
       grants = after.same.kept;
       spare = omega (arith, inv.spare, closes.booked, ap (λ (wants : List Want). length wants) closes.waiting);
-      seated = seated_same _ _ _ inv.seated (record { same = closes.holders; lengths = omega (arith, closed.fewer_open, closed.fewer_idle) });
+      seated = seated_same _ _ _ inv.seated (record { same = closes.holders; lengths = omega (arith, closed.fewer_open, closed.fewer_idle); starts = closes.starts });
       unclaimed = inv.unclaimed;
     }
 
@@ -47,3 +48,12 @@ returns-clause-grew g c =
 
 pub close_oldest-requires-clause-cause : goal.close_oldest-requires-clause-cause
 close_oldest-requires-clause-cause g c = of_idle_for_others c.args.cause c.requires.cause
+
+pub returns-clause-gone : goal.returns-clause-gone
+returns-clause-gone g c =
+    let inv = c.self.invariant in
+    let closed = c.close_oldest.ensures in
+    let closes = closed.closes in
+    let seated = seated_same c.self.inside.state.log c.close_oldest.new.self.log c.self.inside.seats inv.seated (record { same = closes.holders; lengths = omega (arith, closed.fewer_open, closed.fewer_idle); starts = closes.starts }) in
+    same_gone c.self.inside.state.log c.close_oldest.new.self.log c.self.inside.seats c.self.inside.seats inv.seated seated refl
+    ∙ ap (λ (v : HostShown g.row.S.Denot). gone v.log) c.self.view_is

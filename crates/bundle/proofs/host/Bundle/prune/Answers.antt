@@ -1,9 +1,13 @@
-use Rattle.std.proofs.Common.{sym, ap, length, ◌∙◌, arith}
+use Rattle.std.proofs.Common.{ℕ, Some, refl, sym, ap, length, ◌∙◌, arith}
 use Rattle.conn_log.specs.declared.entry.Want.{Want}
 use Rattle.std.specs.Prelude.{List}
 use Rattle.host_state.specs.Idle.{stream_of}
 use Rattle.bundle.specs.Lease.{HostShown}
-use Rattle.bundle.proofs.Seating.{seated_same}
+use Rattle.budget.specs.Accounts.{change_at, told}
+use Rattle.bundle.specs.declared.did.Did.TheVariants.{Pruned}
+use Rattle.bundle.specs.Seats.{gone}
+use Rattle.bundle.proofs.Seating.{seated_same, same_gone}
+use Rattle.bundle.proofs.Telling.{account_there, accounts_told}
 use Rattle.bundle.proofs.Answering.{behind_same}
 use Rattle.bundle.proofs.TurnLogs.{prune_keeps, grants_keep, keeps_at, grows_at}
 use Rattle.bundle.proofs.host.Bundle.prune.Goals as goal
@@ -11,33 +15,52 @@ use Rattle.bundle.proofs.host.Bundle.prune.Goals as goal
 pub invariant_of-self : goal.invariant_of-self
 invariant_of-self g c =
     let inv = c.self.invariant in
-    let closes = c.close_idle.ensures.closes in
-    let after = prune_keeps _ _ _ _ _ _ c.args.now _ inv.settled inv.grants inv.bookings closes.same.settings c.moment-moment.ensures closes.holders closes.waiting c.args.max_age c.args.max_life c.close_idle.ensures.log in
+    let closes = c.close_idle-closed.ensures.closes in
+    let after = prune_keeps _ _ _ _ _ _ c.args.now _ inv.settled inv.grants inv.bookings closes.same.settings c.moment-moment.ensures closes.holders closes.waiting c.args.max_age c.args.max_life c.close_idle-closed.ensures.log in
     record {
       count = closes.booked ∙ inv.count;
       bookings = after.halfway;
       settled = after.settled;
       grants = after.same.kept;
       spare = omega (arith, inv.spare, closes.booked, ap (λ (wants : List Want). length wants) closes.waiting);
-      seated = seated_same _ _ _ inv.seated (record { same = closes.holders; lengths = sym c.close_idle.ensures.as_many_held });
+      seated = seated_same _ _ _ inv.seated (record { same = closes.holders; lengths = sym c.close_idle-closed.ensures.as_many_held; starts = closes.starts });
       unclaimed = inv.unclaimed;
     }
 
 pub returns-clause-streams : goal.returns-clause-streams
 returns-clause-streams g c d still =
-    behind_same _ _ _ d (c.close_idle.ensures.closes.streams d still)
+    behind_same _ _ _ d (c.close_idle-closed.ensures.closes.streams d still)
     ∙ ap (λ (v : HostShown g.row.S.Denot). stream_of v.streams d) c.self.view_is
 
 pub returns-clause-keeps : goal.returns-clause-keeps
 returns-clause-keeps g c =
     let inv = c.self.invariant in
-    let closes = c.close_idle.ensures.closes in
-    let after = prune_keeps _ _ _ _ _ _ c.args.now _ inv.settled inv.grants inv.bookings closes.same.settings c.moment-moment.ensures closes.holders closes.waiting c.args.max_age c.args.max_life c.close_idle.ensures.log in
+    let closes = c.close_idle-closed.ensures.closes in
+    let after = prune_keeps _ _ _ _ _ _ c.args.now _ inv.settled inv.grants inv.bookings closes.same.settings c.moment-moment.ensures closes.holders closes.waiting c.args.max_age c.args.max_life c.close_idle-closed.ensures.log in
     keeps_at _ _ _ c.self.view_is (grants_keep _ _ _ _ _ _ _ _ _ _ _ _ _ _ after.same)
 
 pub returns-clause-grew : goal.returns-clause-grew
 returns-clause-grew g c =
     let inv = c.self.invariant in
-    let closes = c.close_idle.ensures.closes in
-    let after = prune_keeps _ _ _ _ _ _ c.args.now _ inv.settled inv.grants inv.bookings closes.same.settings c.moment-moment.ensures closes.holders closes.waiting c.args.max_age c.args.max_life c.close_idle.ensures.log in
+    let closes = c.close_idle-closed.ensures.closes in
+    let after = prune_keeps _ _ _ _ _ _ c.args.now _ inv.settled inv.grants inv.bookings closes.same.settings c.moment-moment.ensures closes.holders closes.waiting c.args.max_age c.args.max_life c.close_idle-closed.ensures.log in
     grows_at _ _ _ (ap (λ (v : HostShown g.row.S.Denot). v.log) c.self.view_is) after.grew
+
+pub tell-requires : goal.tell-requires
+tell-requires g c =
+    let host_is = c.host.ensures ∙ c.close_idle-closed.ensures.closes.same.host ∙ ap (λ (v : HostShown g.row.S.Denot). v.host) c.self.view_is in
+    account_there c.args.pass.now c.args.self.now c.host.result host_is c.requires.enrolled
+
+pub returns-clause-account : goal.returns-clause-account
+returns-clause-account g c =
+    let inside = c.self.inside in
+    let inv = c.self.invariant in
+    let closed = c.close_idle-closed.ensures in
+    let closes = closed.closes in
+    let after = c.close_idle-closed.new.state.log in
+    let host_is = c.host.ensures ∙ closes.same.host ∙ ap (λ (v : HostShown g.row.S.Denot). v.host) c.self.view_is in
+    let did = Pruned c.args.now c.args.max_age c.args.max_life c.close_idle-closed.result in
+    let tells_so = c.tell.ensures.account ∙ ap (λ (n : ℕ). change_at c.args.pass.now n (told did)) host_is in
+    let seated = seated_same inside.state.log after inside.seats inv.seated (record { same = closes.holders; lengths = sym closed.as_many_held; starts = closes.starts }) in
+    let same = same_gone inside.state.log after inside.seats inside.seats inv.seated seated refl ∙ ap (λ (v : HostShown g.row.S.Denot). gone v.log) c.self.view_is in
+    accounts_told c.args.self.now after c.args.pass.now c.tell.new.self (Some did) c.requires.enrolled tells_so same

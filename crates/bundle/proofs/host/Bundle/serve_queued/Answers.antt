@@ -2,6 +2,8 @@ use Rattle.std.proofs.Common.{ap, ◌∙◌}
 use Rattle.host_state.specs.Idle.{stream_of}
 use Rattle.bundle.specs.Calls.{is_queued}
 use Rattle.bundle.specs.Lease.{HostShown}
+use Rattle.bundle.specs.Seats.{gone}
+use Rattle.bundle.proofs.Seating.{same_gone}
 use Rattle.bundle.proofs.Answering.{both_same}
 use Rattle.bundle.proofs.TurnLogs.{turn_keeps, grants_keep, keeps_at, grows_at}
 use Rattle.bundle.proofs.host.Bundle.serve_queued.Goals as goal
@@ -42,3 +44,9 @@ returns-clause-grew g c =
     let queued = ap (λ (v : HostShown g.row.S.Denot). is_queued v.settings v.log) c.self.view_is ∙ c.requires.queued in
     let after = turn_keeps _ _ _ _ _ _ _ c.args.now _ inv.settled queued inv.grants inv.bookings c.open_for_head.ensures.same.settings c.moment-moment.ensures c.open_for_head.ensures.log c.open_for_head.ensures.grants in
     grows_at _ _ _ (ap (λ (v : HostShown g.row.S.Denot). v.log) c.self.view_is) after.grew
+
+pub returns-clause-gone : goal.returns-clause-gone
+returns-clause-gone g c =
+    let served = c.open_for_head.ensures in
+    same_gone c.self.inside.state.log c.open_for_head.new.state.log c.self.inside.seats c.open_for_head.new.seats c.self.invariant.seated served.seated served.starts.ended
+    ∙ ap (λ (v : HostShown g.row.S.Denot). gone v.log) c.self.view_is

@@ -1,17 +1,47 @@
-use Rattle.std.proofs.Common.{◌≡◌, ◌<◌, ◌≤◌, length, sym, ap, subst, ◌∙◌}
+use Rattle.std.proofs.Common.{◌≡◌, ℕ, ◌<◌, ◌≤◌, Bool, true, false, List, length, Some, refl, sym, ap, subst, ◌∙◌, arith}
 use Rattle.budget.specs.declared.permits.Try.TheVariants.{Full}
+use Rattle.budget.specs.Accounts.{change_at, told}
+use Rattle.conn_log.specs.declared.entry.Event.TheVariants.{Limit}
+use Rattle.conn_log.specs.declared.entry.Entry.{Entry}
 use Rattle.conn_log.specs.Connections.{open_connections}
 use Rattle.conn_log.specs.Waiting.{waiting}
 use Rattle.host_state.specs.Idle.{stream_of}
 use Rattle.host_state.specs.State.{HostState}
+use Rattle.bundle.specs.declared.did.Did.TheVariants.{Wrote}
+use Rattle.bundle.specs.Passes.{tells, held_did}
+use Rattle.bundle.specs.Seats.{gone}
 use Rattle.bundle.specs.Calls.{after_limit, kept_limit, starts_due, is_queued}
 use Rattle.bundle.specs.Grants.{with_limit}
 use Rattle.bundle.specs.Lease.{HostShown}
 use Rattle.bundle.proofs.Answering.{both_same}
 use Rattle.bundle.proofs.QueuedHosts.{host_stayed}
 use Rattle.bundle.proofs.TurnLogs.{grants_keep, keeps_at, grows_at}
-use Rattle.bundle.proofs.LimitLogs.{room_left, limit_keeps}
+use Rattle.bundle.proofs.LimitLogs.{AfterLimit, room_left, limit_keeps}
+use Rattle.bundle.proofs.Seating.{same_gone}
+use Rattle.bundle.proofs.Telling.{accounts_told}
+use Rattle.bundle.proofs.host.Bundle.set_host_limit.Given.{Over}
 use Rattle.bundle.proofs.host.Bundle.set_host_limit.Goals as goal
+
+-- no more start than wait
+starts_wait : (queued : Bool) (most given : ℕ) (log : List Entry) → given ≤ starts_due queued most log → given ≤ length (waiting log)
+starts_wait true most given log few = omega (arith, few)
+starts_wait false most given log few = omega (arith, few)
+
+pub returns-in-Some-clause-account : goal.returns-in-Some-clause-account
+returns-in-Some-clause-account g c =
+    let host_is = c.host.ensures ∙ ap (λ (v : HostShown g.row.S.Denot). v.host) c.self.view_is in
+    let did = held_did c.in-Some.reason in
+    let tells_so = c.tell_held.ensures.told ∙ ap (λ (n : ℕ). tells n did c.args.pass.now) host_is in
+    accounts_told c.args.self.now c.args.self.now.log c.args.pass.now c.tell_held.new.pass did c.requires.enrolled tells_so refl
+
+pub change_limit-freed-requires-clause-waits : goal.change_limit-freed-requires-clause-waits
+change_limit-freed-requires-clause-waits g c =
+    let given = c.in-Some-reserve_up_to.given in
+    let queued = c.queued-was_queued.result in
+    let most = c.kept_limit-most.result in
+    let log = c.self.inside.state.log in
+    let within : given ≤ starts_due queued most log = subst (λ n. given ≤ n) c.starts_due-count.ensures c.in-Some-reserve_up_to.ensures.most in
+    subst (λ (v : HostState g.row.S.Denot). given ≤ length (waiting v.log)) (sym c.in-Ok.ensures.ok) (starts_wait queued most given log within)
 
 pub returns-in-Some-clause-marked : goal.returns-in-Some-clause-marked
 returns-in-Some-clause-marked g c = host_stayed c.args.self.now.host (is_queued c.args.self.now.settings c.args.self.now.log) c.args.lobby.now c.requires.lists
@@ -33,6 +63,37 @@ invariant_of-self-2 g c =
     let after = limit_keeps _ _ _ _ c.args.limit given c.args.now inv.settled inv.grants inv.bookings allowed within _ _ _ c.kept_limit-most.result same_settings c.kept_limit-most.ensures log_is grants_are in
     record {
       count = changed.booked ∙ ap (λ (v : HostState g.row.S.Denot). v.booked) reserved ∙ inv.count;
+      bookings = after.halfway;
+      settled = after.settled;
+      grants = after.same.kept;
+      spare = changed.spare;
+      seated = changed.seated;
+      unclaimed = changed.unclaimed;
+    }
+
+-- what the change of the limit left
+left_after : (g : Over) (c : goal.After-tell g) → AfterLimit c.change_limit-freed.new.state.settings c.self.inside.state.log c.change_limit-freed.new.state.log c.self.inside.grants.items c.change_limit-freed.new.grants.items c.self.inside.bookings.items
+left_after g c =
+    let state = c.self.inside.state in
+    let inv = c.self.invariant in
+    let given = c.in-Some-reserve_up_to.given in
+    let reserved = c.in-Ok.ensures.ok in
+    let allowed = sym c.reason_against.ensures ∙ c.in_default.is in
+    let queued : c.queued-was_queued.result ≡ is_queued state.settings state.log = c.queued-was_queued.ensures ∙ sym (ap (λ (v : HostShown g.row.S.Denot). is_queued v.settings v.log) c.self.view_is) in
+    let so_many = c.starts_due-count.ensures ∙ ap (λ b. starts_due b c.kept_limit-most.result state.log) queued ∙ ap (λ n. starts_due (is_queued state.settings state.log) n state.log) c.kept_limit-most.ensures in
+    let within : given ≤ starts_due (is_queued state.settings state.log) (kept_limit c.args.limit) state.log = subst (λ n. given ≤ n) so_many c.in-Some-reserve_up_to.ensures.most in
+    let changed = c.change_limit-freed.ensures in
+    let same_settings = changed.same.settings ∙ ap (λ (v : HostState g.row.S.Denot). v.settings) reserved in
+    let log_is = changed.log ∙ ap (λ (v : HostState g.row.S.Denot). after_limit c.kept_limit-most.result given v.settings v.log c.args.now) reserved in
+    let grants_are = changed.grants ∙ ap (λ (v : HostState g.row.S.Denot). with_limit c.kept_limit-most.result given v.settings v.log c.args.now c.self.inside.grants.items) reserved in
+    limit_keeps _ _ _ _ c.args.limit given c.args.now inv.settled inv.grants inv.bookings allowed within _ _ _ c.kept_limit-most.result same_settings c.kept_limit-most.ensures log_is grants_are
+
+pub invariant_of-self-3 : goal.invariant_of-self-3
+invariant_of-self-3 g c =
+    let changed = c.change_limit-freed.ensures in
+    let after = left_after g c in
+    record {
+      count = changed.booked ∙ ap (λ (v : HostState g.row.S.Denot). v.booked) c.in-Ok.ensures.ok ∙ c.self.invariant.count;
       bookings = after.halfway;
       settled = after.settled;
       grants = after.same.kept;
@@ -65,52 +126,26 @@ returns-clause-log g c =
 
 pub returns-clause-streams : goal.returns-clause-streams
 returns-clause-streams g c d still =
-    let state = c.self.inside.state in
-    let inv = c.self.invariant in
-    let given = c.in-Some-reserve_up_to.given in
-    let reserved = c.in-Ok.ensures.ok in
-    let allowed = sym c.reason_against.ensures ∙ c.in_default.is in
-    let queued : c.queued-was_queued.result ≡ is_queued state.settings state.log = c.queued-was_queued.ensures ∙ sym (ap (λ (v : HostShown g.row.S.Denot). is_queued v.settings v.log) c.self.view_is) in
-    let so_many = c.starts_due-count.ensures ∙ ap (λ b. starts_due b c.kept_limit-most.result state.log) queued ∙ ap (λ n. starts_due (is_queued state.settings state.log) n state.log) c.kept_limit-most.ensures in
-    let within : given ≤ starts_due (is_queued state.settings state.log) (kept_limit c.args.limit) state.log = subst (λ n. given ≤ n) so_many c.in-Some-reserve_up_to.ensures.most in
     let changed = c.change_limit-freed.ensures in
-    let same_settings = changed.same.settings ∙ ap (λ (v : HostState g.row.S.Denot). v.settings) reserved in
-    let log_is = changed.log ∙ ap (λ (v : HostState g.row.S.Denot). after_limit c.kept_limit-most.result given v.settings v.log c.args.now) reserved in
-    let grants_are = changed.grants ∙ ap (λ (v : HostState g.row.S.Denot). with_limit c.kept_limit-most.result given v.settings v.log c.args.now c.self.inside.grants.items) reserved in
-    let after = limit_keeps _ _ _ _ c.args.limit given c.args.now inv.settled inv.grants inv.bookings allowed within _ _ _ c.kept_limit-most.result same_settings c.kept_limit-most.ensures log_is grants_are in
-    both_same _ _ _ _ d (after.streams d) (changed.streams d still ∙ ap (λ (v : HostState g.row.S.Denot). stream_of v.streams d) reserved)
+    let reserved = c.in-Ok.ensures.ok in
+    both_same _ _ _ _ d ((left_after g c).streams d) (changed.streams d still ∙ ap (λ (v : HostState g.row.S.Denot). stream_of v.streams d) reserved)
     ∙ ap (λ (v : HostShown g.row.S.Denot). stream_of v.streams d) c.self.view_is
 
 pub returns-clause-keeps : goal.returns-clause-keeps
-returns-clause-keeps g c =
-    let state = c.self.inside.state in
-    let inv = c.self.invariant in
-    let given = c.in-Some-reserve_up_to.given in
-    let reserved = c.in-Ok.ensures.ok in
-    let allowed = sym c.reason_against.ensures ∙ c.in_default.is in
-    let queued : c.queued-was_queued.result ≡ is_queued state.settings state.log = c.queued-was_queued.ensures ∙ sym (ap (λ (v : HostShown g.row.S.Denot). is_queued v.settings v.log) c.self.view_is) in
-    let so_many = c.starts_due-count.ensures ∙ ap (λ b. starts_due b c.kept_limit-most.result state.log) queued ∙ ap (λ n. starts_due (is_queued state.settings state.log) n state.log) c.kept_limit-most.ensures in
-    let within : given ≤ starts_due (is_queued state.settings state.log) (kept_limit c.args.limit) state.log = subst (λ n. given ≤ n) so_many c.in-Some-reserve_up_to.ensures.most in
-    let changed = c.change_limit-freed.ensures in
-    let same_settings = changed.same.settings ∙ ap (λ (v : HostState g.row.S.Denot). v.settings) reserved in
-    let log_is = changed.log ∙ ap (λ (v : HostState g.row.S.Denot). after_limit c.kept_limit-most.result given v.settings v.log c.args.now) reserved in
-    let grants_are = changed.grants ∙ ap (λ (v : HostState g.row.S.Denot). with_limit c.kept_limit-most.result given v.settings v.log c.args.now c.self.inside.grants.items) reserved in
-    let after = limit_keeps _ _ _ _ c.args.limit given c.args.now inv.settled inv.grants inv.bookings allowed within _ _ _ c.kept_limit-most.result same_settings c.kept_limit-most.ensures log_is grants_are in
-    keeps_at _ _ _ c.self.view_is (grants_keep _ _ _ _ _ _ _ _ _ _ _ _ _ _ after.same)
+returns-clause-keeps g c = keeps_at _ _ _ c.self.view_is (grants_keep _ _ _ _ _ _ _ _ _ _ _ _ _ _ (left_after g c).same)
 
 pub returns-clause-grew : goal.returns-clause-grew
-returns-clause-grew g c =
-    let state = c.self.inside.state in
-    let inv = c.self.invariant in
-    let given = c.in-Some-reserve_up_to.given in
-    let reserved = c.in-Ok.ensures.ok in
-    let allowed = sym c.reason_against.ensures ∙ c.in_default.is in
-    let queued : c.queued-was_queued.result ≡ is_queued state.settings state.log = c.queued-was_queued.ensures ∙ sym (ap (λ (v : HostShown g.row.S.Denot). is_queued v.settings v.log) c.self.view_is) in
-    let so_many = c.starts_due-count.ensures ∙ ap (λ b. starts_due b c.kept_limit-most.result state.log) queued ∙ ap (λ n. starts_due (is_queued state.settings state.log) n state.log) c.kept_limit-most.ensures in
-    let within : given ≤ starts_due (is_queued state.settings state.log) (kept_limit c.args.limit) state.log = subst (λ n. given ≤ n) so_many c.in-Some-reserve_up_to.ensures.most in
-    let changed = c.change_limit-freed.ensures in
-    let same_settings = changed.same.settings ∙ ap (λ (v : HostState g.row.S.Denot). v.settings) reserved in
-    let log_is = changed.log ∙ ap (λ (v : HostState g.row.S.Denot). after_limit c.kept_limit-most.result given v.settings v.log c.args.now) reserved in
-    let grants_are = changed.grants ∙ ap (λ (v : HostState g.row.S.Denot). with_limit c.kept_limit-most.result given v.settings v.log c.args.now c.self.inside.grants.items) reserved in
-    let after = limit_keeps _ _ _ _ c.args.limit given c.args.now inv.settled inv.grants inv.bookings allowed within _ _ _ c.kept_limit-most.result same_settings c.kept_limit-most.ensures log_is grants_are in
-    grows_at _ _ _ (ap (λ (v : HostShown g.row.S.Denot). v.log) c.self.view_is) after.grew
+returns-clause-grew g c = grows_at _ _ _ (ap (λ (v : HostShown g.row.S.Denot). v.log) c.self.view_is) (left_after g c).grew
+
+pub returns-clause-stays : goal.returns-clause-stays
+returns-clause-stays g c = g.met.P.Permits.stays_on _ _ _ c.in-Some-reserve_up_to.ensures.stays c.change_limit-freed.ensures.stays
+
+pub returns-clause-account : goal.returns-clause-account
+returns-clause-account g c =
+    let inside = c.self.inside in
+    let changed = c.change_limit-freed in
+    let entry : Entry = record { moment = c.moment-moment.result; event = Limit c.kept_limit-most.result } in
+    let host_is = c.host-2.ensures ∙ changed.ensures.same.host ∙ ap (λ (v : HostState g.row.S.Denot). v.host) c.in-Ok.ensures.ok ∙ ap (λ (v : HostShown g.row.S.Denot). v.host) c.self.view_is in
+    let tells_so = c.tell.ensures.account ∙ ap (λ (n : ℕ). change_at c.args.pass.now n (told (Wrote entry))) host_is in
+    let same = same_gone inside.state.log changed.new.state.log inside.seats changed.new.seats c.self.invariant.seated changed.ensures.seated changed.ensures.starts.ended in
+    accounts_told c.args.self.now changed.new.state.log c.args.pass.now c.tell.new.self (Some (Wrote entry)) c.requires.enrolled tells_so (same ∙ ap (λ (v : HostShown g.row.S.Denot). gone v.log) c.self.view_is)

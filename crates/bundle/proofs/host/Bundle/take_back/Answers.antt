@@ -1,29 +1,32 @@
-use Rattle.std.proofs.Common.{◌≡◌, ℕ, true, false, not, length, Some, sym, ap, subst, ◌∙◌, arith}
+use Rattle.std.proofs.Common.{◌≡◌, ℕ, true, false, not, length, Some, refl, sym, ap, subst, ◌∙◌, arith}
 use Rattle.std.specs.Prelude.{◌==◌}
 use mathlib.Core.Bool.{false≢true}
 use Rattle.persistence.specs.Persistent.{is_persistent}
-use Rattle.budget.specs.Pairs.{HeldPairs}
 use Rattle.budget.specs.declared.permits.Try.TheVariants.{Got, Full, Contended}
+use Rattle.budget.specs.Permits.{held, if_got, one_more_kept, one_less_open}
 use Rattle.conn_log.specs.declared.entry.Cause.TheVariants.{CacheFull}
 use Rattle.conn_log.specs.declared.entry.Event.TheVariants.{Returned, Closed}
 use Rattle.conn_log.specs.Connections.{is_open, open_connections, idle_connections}
 use Rattle.conn_log.specs.Waiting.{waiting}
+use Rattle.conn_log.specs.Starts.{start_count}
 use Rattle.conn_log.proofs.Soundness.{and_left}
-use Rattle.host_state.specs.State.{HostState, IsFreeOf}
+use Rattle.host_state.specs.State.{HostState, ComesBackUnkept}
 use Rattle.host_state.specs.Steps.{add, moment_at}
 use Rattle.bundle.specs.Calls.{after_give_back, returned, becomes_idle, is_freed}
 use Rattle.host_state.specs.Idle.{stream_of}
 use Rattle.bundle.specs.Laws.{IsSoundAndQuiet}
 use Rattle.bundle.specs.Lease.{HostShown, Leasing, AreBooked, held_by}
 use Rattle.bundle.specs.Grants.{grant_starts, GrantsKept}
-use Rattle.bundle.specs.Seats.{IsSeated, AreUnclaimed}
+use Rattle.bundle.specs.Seats.{SeatsShown, IsSeated, AreUnclaimed}
 use Rattle.bundle.proofs.Told.{held_here}
 use Rattle.bundle.proofs.Answering.{known, freed_spends, spends_at}
-use Rattle.bundle.proofs.Settling.{settled_passed, settled_ended, alone_passed, room_ended, settled_unkept, passed_kept, ended_gone, grows_from, unmarked_from}
+use Rattle.bundle.proofs.Settling.{Settled, settled_passed, settled_ended, alone_passed, room_ended, settled_unkept, passed_kept, ended_gone, grows_from, unmarked_from}
 use Rattle.bundle.proofs.Halfway.{booked_freed}
 use Rattle.bundle.proofs.Freeing.{part_fewer, freed_end}
 use Rattle.bundle.proofs.Resting.{back_spent, passed_given_back, ended_given_back, would_rest, back_again, back_not_kept, back_closed, shown, same_lease, full_told, freed_one, if_none, if_some, if_there, passed_open, not_freed, passed_part, released_part}
-use Rattle.bundle.proofs.LeaseEnds.{lease_held, ends_closed, ends_idle, handed_back, seated_spent, unclaimed_spent, table_here, apart_number, apart_transfer, apart_pair}
+use Rattle.bundle.proofs.LeaseEnds.{grants_kept, gone_spent, lease_held, ends_closed, ends_idle, handed_back, seated_spent, unclaimed_spent, tables_here, apart_number, apart_transfer, apart_pair}
+use Rattle.bundle.proofs.Accounting.{accounts_spent}
+use Rattle.bundle.proofs.host.Bundle.take_back.Given.{Over}
 use Rattle.bundle.proofs.host.Bundle.take_back.Goals as goal
 
 pub grant_to_head-requires-clause-alone : goal.grant_to_head-requires-clause-alone
@@ -39,8 +42,8 @@ grant_to_head-requires-clause-seated g c =
     let n = c.number-number.result in
     let pair_is = apart_pair c.args.lease _ _ c.take_apart-used.ensures.used _ _ c.number-number.ensures c.transfer-transfer.ensures _ c.take_apart-used.ensures.pair in
     let back = c.in-Idle.ensures.idle in
-    let ends = ends_idle state.log c.give_back-back.new.self.log t back.holders back.as_many_open back.more_idle in
-    seated_spent state.log c.self.inside.seats _ n t pair_is c.self.invariant.seated c.take_back.ensures.leased c.take_back.new.self c.clear.new.self c.take_back.ensures.back c.clear.ensures _ ends
+    let ends = ends_idle state.log c.give_back-back.new.self.log t back.holders (ap start_count back.log) back.as_many_open back.more_idle in
+    seated_spent state.log c.self.inside.seats _ n t pair_is c.self.invariant.seated c.take_back-start.ensures.leased c.take_back-start.new.self c.spend.new.seats c.take_back-start.ensures.back c.spend.ensures.cleared _ ends
 
 pub grant_to_head-requires-clause-unclaimed : goal.grant_to_head-requires-clause-unclaimed
 grant_to_head-requires-clause-unclaimed g c =
@@ -49,16 +52,25 @@ grant_to_head-requires-clause-unclaimed g c =
     let t = c.transfer-transfer.result in
     let n = c.number-number.result in
     let pair_is = apart_pair c.args.lease _ _ c.take_apart-used.ensures.used _ _ c.number-number.ensures c.transfer-transfer.ensures _ c.take_apart-used.ensures.pair in
-    unclaimed_spent state.log c.self.inside.seats _ n t pair_is inv.seated c.take_back.ensures.leased c.take_back.new.self c.clear.new.self c.take_back.ensures.back c.clear.ensures c.self.inside.grants.items c.spend.new.grants.items inv.grants inv.unclaimed c.spend.ensures.others
+    unclaimed_spent state.log c.self.inside.seats _ n t pair_is inv.seated c.take_back-start.ensures.leased c.take_back-start.new.self c.spend.new.seats c.take_back-start.ensures.back c.spend.ensures.cleared c.self.inside.grants.items inv.unclaimed
 
-pub invariant_of-self : goal.invariant_of-self
-invariant_of-self g c =
+-- the host once the connection is idle, or went to the first that waits
+passed : (g : Over) (c : goal.After-grant_to_head g) → Settled c.self.inside.state.settings c.self.inside.state.log c.self.inside.grants.items c.self.inside.state.streams c.transfer-transfer.result c.in-Idle.held.number c.grant_to_head.new.state.log c.grant_to_head.new.grants.items c.grant_to_head.new.state.streams
+passed g c =
     let state = c.self.inside.state in
     let back = c.in-Idle.ensures.idle in
     let inv = c.self.invariant in
     let held = c.in-Idle.held in
     let it = known state.log c.transfer-transfer.result held back.was_held in
-    let settled = settled_passed state.settings state.log c.self.inside.grants.items inv.settled inv.grants state.streams c.transfer-transfer.result held.number it.number c.args.now c.args.facts c.detach-stream.result c.give_back-back.new.self.settings back.same.settings c.moment-moment.result c.moment-moment.ensures c.give_back-back.new.self.log back.log back.settled c.give_back-back.new.self.streams back.kept c.spend.new.grants.items c.spend.ensures.others c.grant_to_head.new.state.log c.grant_to_head.ensures.log c.grant_to_head.new.grants.items c.grant_to_head.ensures.grants c.grant_to_head.new.state.streams (λ d other still. c.grant_to_head.ensures.others d other still ∙ back.others d other) in
+    let pair_is = apart_pair c.args.lease _ _ c.take_apart-used.ensures.used _ _ c.number-number.ensures c.transfer-transfer.ensures _ c.take_apart-used.ensures.pair in
+    let left = grants_kept state.log c.self.inside.seats _ c.number-number.result c.transfer-transfer.result pair_is inv.seated c.take_back-start.ensures.leased c.self.inside.grants.items inv.grants inv.unclaimed in
+    settled_passed state.settings state.log c.self.inside.grants.items inv.settled inv.grants state.streams c.transfer-transfer.result held.number it.number c.args.now c.args.facts c.detach-stream.result c.give_back-back.new.self.settings back.same.settings c.moment-moment.result c.moment-moment.ensures c.give_back-back.new.self.log back.log back.settled c.give_back-back.new.self.streams back.kept c.self.inside.grants.items left c.grant_to_head.new.state.log c.grant_to_head.ensures.log c.grant_to_head.new.grants.items c.grant_to_head.ensures.grants c.grant_to_head.new.state.streams (λ d other still. c.grant_to_head.ensures.others d other still ∙ back.others d other)
+
+pub invariant_of-self : goal.invariant_of-self
+invariant_of-self g c =
+    let back = c.in-Idle.ensures.idle in
+    let inv = c.self.invariant in
+    let settled = passed g c in
     record {
       count = c.grant_to_head.ensures.booked ∙ back.booked ∙ inv.count;
       bookings = booked_freed _ _ _ _ _ inv.grants settled.freed c.self.inside.bookings.items inv.bookings;
@@ -78,40 +90,28 @@ returns-in-Idle-clause-stream g c still =
     let held = c.in-Idle.held in
     let it = known state.log c.transfer-transfer.result held back.was_held in
     let number = c.in-Idle.ensures.number ∙ number_is in
-    let kept = passed_kept state.settings state.log c.self.inside.grants.items inv.settled inv.grants state.streams c.transfer-transfer.result held.number it.number c.args.now c.detach-stream.result c.give_back-back.new.self.settings c.moment-moment.result c.give_back-back.new.self.log c.give_back-back.new.self.streams back.kept c.spend.new.grants.items c.spend.ensures.others c.grant_to_head.new.state.log c.grant_to_head.ensures.log c.grant_to_head.new.grants.items c.grant_to_head.ensures.grants c.grant_to_head.new.state.streams (λ none. ap (λ (s : HostState g.row.S.Denot). s.streams) (c.grant_to_head.ensures.nobody none)) (ap (is_open c.grant_to_head.new.state.log) number ∙ still) in
+    let pair_is = apart_pair c.args.lease _ _ c.take_apart-used.ensures.used _ _ c.number-number.ensures c.transfer-transfer.ensures _ c.take_apart-used.ensures.pair in
+    let left = grants_kept state.log c.self.inside.seats _ c.number-number.result c.transfer-transfer.result pair_is inv.seated c.take_back-start.ensures.leased c.self.inside.grants.items inv.grants inv.unclaimed in
+    let kept = passed_kept state.settings state.log c.self.inside.grants.items inv.settled inv.grants state.streams c.transfer-transfer.result held.number it.number c.args.now c.detach-stream.result c.give_back-back.new.self.settings c.moment-moment.result c.give_back-back.new.self.log c.give_back-back.new.self.streams back.kept c.self.inside.grants.items left c.grant_to_head.new.state.log c.grant_to_head.ensures.log c.grant_to_head.new.grants.items c.grant_to_head.ensures.grants c.grant_to_head.new.state.streams (λ none. ap (λ (s : HostState g.row.S.Denot). s.streams) (c.grant_to_head.ensures.nobody none)) (ap (is_open c.grant_to_head.new.state.log) number ∙ still) in
     ap (stream_of _) (sym number) ∙ kept ∙ sym c.detach-stream.ensures.stream ∙ ap (λ (l : Leasing g.row.S.Denot). l.stream) (sym c.take_apart-used.ensures.used)
 
 pub returns-in-Idle-clause-streams : goal.returns-in-Idle-clause-streams
 returns-in-Idle-clause-streams g c d other still =
     let number_is = apart_number c.args.lease _ _ c.take_apart-used.ensures.used _ _ c.number-number.ensures c.transfer-transfer.ensures in
-    let state = c.self.inside.state in
-    let back = c.in-Idle.ensures.idle in
-    let inv = c.self.invariant in
     let held = c.in-Idle.held in
-    let it = known state.log c.transfer-transfer.result held back.was_held in
-    let settled = settled_passed state.settings state.log c.self.inside.grants.items inv.settled inv.grants state.streams c.transfer-transfer.result held.number it.number c.args.now c.args.facts c.detach-stream.result c.give_back-back.new.self.settings back.same.settings c.moment-moment.result c.moment-moment.ensures c.give_back-back.new.self.log back.log back.settled c.give_back-back.new.self.streams back.kept c.spend.new.grants.items c.spend.ensures.others c.grant_to_head.new.state.log c.grant_to_head.ensures.log c.grant_to_head.new.grants.items c.grant_to_head.ensures.grants c.grant_to_head.new.state.streams (λ d other still. c.grant_to_head.ensures.others d other still ∙ back.others d other) in
+    let settled = passed g c in
     let apart : (held.number == d) ≡ false = ap (λ (n : ℕ). n == d) (c.in-Idle.ensures.number ∙ number_is) ∙ other in
     settled.others d apart still ∙ ap (λ (v : HostShown g.row.S.Denot). stream_of v.streams d) c.self.view_is
 
 pub returns-in-Idle-clause-spends : goal.returns-in-Idle-clause-spends
 returns-in-Idle-clause-spends g c =
     let transfer_is = apart_transfer c.args.lease _ _ c.take_apart-used.ensures.used _ _ c.number-number.ensures c.transfer-transfer.ensures in
-    let state = c.self.inside.state in
-    let back = c.in-Idle.ensures.idle in
-    let inv = c.self.invariant in
-    let held = c.in-Idle.held in
-    let it = known state.log c.transfer-transfer.result held back.was_held in
-    let settled = settled_passed state.settings state.log c.self.inside.grants.items inv.settled inv.grants state.streams c.transfer-transfer.result held.number it.number c.args.now c.args.facts c.detach-stream.result c.give_back-back.new.self.settings back.same.settings c.moment-moment.result c.moment-moment.ensures c.give_back-back.new.self.log back.log back.settled c.give_back-back.new.self.streams back.kept c.spend.new.grants.items c.spend.ensures.others c.grant_to_head.new.state.log c.grant_to_head.ensures.log c.grant_to_head.new.grants.items c.grant_to_head.ensures.grants c.grant_to_head.new.state.streams (λ d other still. c.grant_to_head.ensures.others d other still ∙ back.others d other) in
+    let settled = passed g c in
     spends_at _ _ _ _ _ c.self.view_is transfer_is (freed_spends _ _ _ _ _ _ _ _ _ _ _ _ _ _ _ settled.freed)
 
 pub returns-in-Idle-clause-grew : goal.returns-in-Idle-clause-grew
 returns-in-Idle-clause-grew g c =
-    let state = c.self.inside.state in
-    let back = c.in-Idle.ensures.idle in
-    let inv = c.self.invariant in
-    let held = c.in-Idle.held in
-    let it = known state.log c.transfer-transfer.result held back.was_held in
-    let settled = settled_passed state.settings state.log c.self.inside.grants.items inv.settled inv.grants state.streams c.transfer-transfer.result held.number it.number c.args.now c.args.facts c.detach-stream.result c.give_back-back.new.self.settings back.same.settings c.moment-moment.result c.moment-moment.ensures c.give_back-back.new.self.log back.log back.settled c.give_back-back.new.self.streams back.kept c.spend.new.grants.items c.spend.ensures.others c.grant_to_head.new.state.log c.grant_to_head.ensures.log c.grant_to_head.new.grants.items c.grant_to_head.ensures.grants c.grant_to_head.new.state.streams (λ d other still. c.grant_to_head.ensures.others d other still ∙ back.others d other) in
+    let settled = passed g c in
     grows_from _ _ _ (ap (λ (v : HostShown g.row.S.Denot). v.log) c.self.view_is) settled.grew
 
 pub hand_on-requires-clause-seated : goal.hand_on-requires-clause-seated
@@ -121,8 +121,8 @@ hand_on-requires-clause-seated g c =
     let n = c.number-number.result in
     let pair_is = apart_pair c.args.lease _ _ c.take_apart-used.ensures.used _ _ c.number-number.ensures c.transfer-transfer.ensures _ c.take_apart-used.ensures.pair in
     let ended = c.in-Ended.ensures.closed in
-    let ends = ends_closed state.log c.give_back-back.new.self.log t ended.holders ended.fewer_open ended.as_many_idle in
-    seated_spent state.log c.self.inside.seats _ n t pair_is c.self.invariant.seated c.take_back.ensures.leased c.take_back.new.self c.clear-in-Ended.new.self c.take_back.ensures.back c.clear-in-Ended.ensures _ ends
+    let ends = ends_closed state.log c.give_back-back.new.self.log t ended.holders (ap start_count ended.ends.log) ended.fewer_open ended.as_many_idle in
+    seated_spent state.log c.self.inside.seats _ n t pair_is c.self.invariant.seated c.take_back-start.ensures.leased c.take_back-start.new.self c.spend-in-Ended.new.seats c.take_back-start.ensures.back c.spend-in-Ended.ensures.cleared _ ends
 
 pub hand_on-requires-clause-unclaimed : goal.hand_on-requires-clause-unclaimed
 hand_on-requires-clause-unclaimed g c =
@@ -131,7 +131,7 @@ hand_on-requires-clause-unclaimed g c =
     let t = c.transfer-transfer.result in
     let n = c.number-number.result in
     let pair_is = apart_pair c.args.lease _ _ c.take_apart-used.ensures.used _ _ c.number-number.ensures c.transfer-transfer.ensures _ c.take_apart-used.ensures.pair in
-    unclaimed_spent state.log c.self.inside.seats _ n t pair_is inv.seated c.take_back.ensures.leased c.take_back.new.self c.clear-in-Ended.new.self c.take_back.ensures.back c.clear-in-Ended.ensures c.self.inside.grants.items c.spend-in-Ended.new.grants.items inv.grants inv.unclaimed c.spend-in-Ended.ensures.others
+    unclaimed_spent state.log c.self.inside.seats _ n t pair_is inv.seated c.take_back-start.ensures.leased c.take_back-start.new.self c.spend-in-Ended.new.seats c.take_back-start.ensures.back c.spend-in-Ended.ensures.cleared c.self.inside.grants.items inv.unclaimed
 
 pub hand_on-requires-clause-room : goal.hand_on-requires-clause-room
 hand_on-requires-clause-room g c =
@@ -139,6 +139,16 @@ hand_on-requires-clause-room g c =
     let inv = c.self.invariant in
     let ended = c.in-Ended.ensures.closed in
     room_ended state.settings state.log c.self.inside.grants.items inv.settled inv.grants state.streams c.transfer-transfer.result c.number-number.result ended.was_held c.args.now c.args.facts ended.ends.cause c.give_back-back.new.self.settings ended.same.settings c.moment-moment.result c.give_back-back.new.self.log ended.ends.log
+
+-- and once its use ended
+use_ended : (g : Over) (c : goal.After-hand_on g) → Settled c.self.inside.state.settings c.self.inside.state.log c.self.inside.grants.items c.self.inside.state.streams c.transfer-transfer.result c.number-number.result c.hand_on.new.state.log c.hand_on.new.grants.items c.hand_on.new.state.streams
+use_ended g c =
+    let state = c.self.inside.state in
+    let inv = c.self.invariant in
+    let ended = c.in-Ended.ensures.closed in
+    let pair_is = apart_pair c.args.lease _ _ c.take_apart-used.ensures.used _ _ c.number-number.ensures c.transfer-transfer.ensures _ c.take_apart-used.ensures.pair in
+    let left = grants_kept state.log c.self.inside.seats _ c.number-number.result c.transfer-transfer.result pair_is inv.seated c.take_back-start.ensures.leased c.self.inside.grants.items inv.grants inv.unclaimed in
+    settled_ended state.settings state.log c.self.inside.grants.items inv.settled inv.grants state.streams c.transfer-transfer.result c.number-number.result ended.was_held c.args.now c.args.facts ended.ends.cause c.give_back-back.new.self.settings ended.same.settings c.moment-moment.result c.moment-moment.ensures ended.ends.owes c.give_back-back.new.self.log ended.ends.log c.self.inside.grants.items left c.hand_on.new.state.log c.hand_on.ensures.log c.hand_on.new.grants.items c.hand_on.ensures.grants c.hand_on.new.state.streams (c.hand_on.ensures.streams ∙ ended.streams)
 
 pub returns-in-Ended-clause-stream : goal.returns-in-Ended-clause-stream
 returns-in-Ended-clause-stream g c still =
@@ -150,36 +160,26 @@ returns-in-Ended-clause-stream g c still =
 pub returns-in-Ended-clause-streams : goal.returns-in-Ended-clause-streams
 returns-in-Ended-clause-streams g c d other still =
     let number_is = apart_number c.args.lease _ _ c.take_apart-used.ensures.used _ _ c.number-number.ensures c.transfer-transfer.ensures in
-    let state = c.self.inside.state in
-    let inv = c.self.invariant in
-    let ended = c.in-Ended.ensures.closed in
-    let settled = settled_ended state.settings state.log c.self.inside.grants.items inv.settled inv.grants state.streams c.transfer-transfer.result c.number-number.result ended.was_held c.args.now c.args.facts ended.ends.cause c.give_back-back.new.self.settings ended.same.settings c.moment-moment.result c.moment-moment.ensures ended.ends.owes c.give_back-back.new.self.log ended.ends.log c.spend-in-Ended.new.grants.items c.spend-in-Ended.ensures.others c.hand_on.new.state.log c.hand_on.ensures.log c.hand_on.new.grants.items c.hand_on.ensures.grants c.hand_on.new.state.streams (c.hand_on.ensures.streams ∙ ended.streams) in
+    let settled = use_ended g c in
     let apart : (c.number-number.result == d) ≡ false = ap (λ (n : ℕ). n == d) number_is ∙ other in
     settled.others d apart still ∙ ap (λ (v : HostShown g.row.S.Denot). stream_of v.streams d) c.self.view_is
 
 pub returns-in-Ended-clause-spends : goal.returns-in-Ended-clause-spends
 returns-in-Ended-clause-spends g c =
     let transfer_is = apart_transfer c.args.lease _ _ c.take_apart-used.ensures.used _ _ c.number-number.ensures c.transfer-transfer.ensures in
-    let state = c.self.inside.state in
-    let inv = c.self.invariant in
-    let ended = c.in-Ended.ensures.closed in
-    let settled = settled_ended state.settings state.log c.self.inside.grants.items inv.settled inv.grants state.streams c.transfer-transfer.result c.number-number.result ended.was_held c.args.now c.args.facts ended.ends.cause c.give_back-back.new.self.settings ended.same.settings c.moment-moment.result c.moment-moment.ensures ended.ends.owes c.give_back-back.new.self.log ended.ends.log c.spend-in-Ended.new.grants.items c.spend-in-Ended.ensures.others c.hand_on.new.state.log c.hand_on.ensures.log c.hand_on.new.grants.items c.hand_on.ensures.grants c.hand_on.new.state.streams (c.hand_on.ensures.streams ∙ ended.streams) in
+    let settled = use_ended g c in
     spends_at _ _ _ _ _ c.self.view_is transfer_is (freed_spends _ _ _ _ _ _ _ _ _ _ _ _ _ _ _ settled.freed)
 
 pub returns-in-Ended-clause-grew : goal.returns-in-Ended-clause-grew
 returns-in-Ended-clause-grew g c =
-    let state = c.self.inside.state in
-    let inv = c.self.invariant in
-    let ended = c.in-Ended.ensures.closed in
-    let settled = settled_ended state.settings state.log c.self.inside.grants.items inv.settled inv.grants state.streams c.transfer-transfer.result c.number-number.result ended.was_held c.args.now c.args.facts ended.ends.cause c.give_back-back.new.self.settings ended.same.settings c.moment-moment.result c.moment-moment.ensures ended.ends.owes c.give_back-back.new.self.log ended.ends.log c.spend-in-Ended.new.grants.items c.spend-in-Ended.ensures.others c.hand_on.new.state.log c.hand_on.ensures.log c.hand_on.new.grants.items c.hand_on.ensures.grants c.hand_on.new.state.streams (c.hand_on.ensures.streams ∙ ended.streams) in
+    let settled = use_ended g c in
     grows_from _ _ _ (ap (λ (v : HostShown g.row.S.Denot). v.log) c.self.view_is) settled.grew
 
 pub invariant_of-self-in-Ended : goal.invariant_of-self-in-Ended
 invariant_of-self-in-Ended g c =
-    let state = c.self.inside.state in
     let inv = c.self.invariant in
     let ended = c.in-Ended.ensures.closed in
-    let settled = settled_ended state.settings state.log c.self.inside.grants.items inv.settled inv.grants state.streams c.transfer-transfer.result c.number-number.result ended.was_held c.args.now c.args.facts ended.ends.cause c.give_back-back.new.self.settings ended.same.settings c.moment-moment.result c.moment-moment.ensures ended.ends.owes c.give_back-back.new.self.log ended.ends.log c.spend-in-Ended.new.grants.items c.spend-in-Ended.ensures.others c.hand_on.new.state.log c.hand_on.ensures.log c.hand_on.new.grants.items c.hand_on.ensures.grants c.hand_on.new.state.streams (c.hand_on.ensures.streams ∙ ended.streams) in
+    let settled = use_ended g c in
     record {
       count = c.hand_on.ensures.booked ∙ ended.booked ∙ inv.count;
       bookings = booked_freed _ _ _ _ _ inv.grants settled.freed c.self.inside.bookings.items inv.bookings;
@@ -200,7 +200,7 @@ returns-in-Idle-clause-told g c =
     ∙ ap (λ (n : ℕ). after_give_back state.settings state.log n c.args.facts c.args.now) (c.in-Idle.ensures.number ∙ number_is)
     ∙ ap (λ (v : HostShown g.row.S.Denot). after_give_back v.settings v.log c.args.lease.start.number c.args.facts c.args.now) c.self.view_is in
     let opens = passed_open c.give_back-back.new.self.log c.grant_to_head.new.state.log c.grant_to_head.ensures.taken (λ none. ap (λ (s : HostState g.row.S.Denot). s.log) (c.grant_to_head.ensures.nobody none)) ∙ back.as_many_open ∙ ap (λ (v : HostShown g.row.S.Denot). length (open_connections v.log)) c.self.view_is in
-    (Got, g.met.P.Permits.not_asked_to_keep _ _ c.ask_to_keep-asked.ensures.stays, back_spent c.args.self.now (shown c.grant_to_head.new.state c.grant_to_head.new.grants.items c.self.inside.bookings.items c.grant_to_head.new.seats.table) c.args.lease c.args.facts c.args.now c.args.close_if_full false log_is (not_freed c.args.self.now.log c.grant_to_head.new.state.log opens))
+    (Got, g.met.P.Permits.not_asked_to_keep _ _ c.ask_to_keep-asked.ensures.stays, back_spent c.args.self.now (shown c.grant_to_head.new.state c.grant_to_head.new.grants.items c.self.inside.bookings.items c.grant_to_head.new.seats.tables) c.args.lease c.args.facts c.args.now c.args.close_if_full false log_is (not_freed c.args.self.now.log c.grant_to_head.new.state.log opens))
 
 pub returns-in-Idle-clause-part : goal.returns-in-Idle-clause-part
 returns-in-Idle-clause-part g c =
@@ -213,10 +213,7 @@ pub returns-in-Idle-clause-mark : goal.returns-in-Idle-clause-mark
 returns-in-Idle-clause-mark g c =
     let state = c.self.inside.state in
     let back = c.in-Idle.ensures.idle in
-    let inv = c.self.invariant in
-    let held = c.in-Idle.held in
-    let it = known state.log c.transfer-transfer.result held back.was_held in
-    let settled = settled_passed state.settings state.log c.self.inside.grants.items inv.settled inv.grants state.streams c.transfer-transfer.result held.number it.number c.args.now c.args.facts c.detach-stream.result c.give_back-back.new.self.settings back.same.settings c.moment-moment.result c.moment-moment.ensures c.give_back-back.new.self.log back.log back.settled c.give_back-back.new.self.streams back.kept c.spend.new.grants.items c.spend.ensures.others c.grant_to_head.new.state.log c.grant_to_head.ensures.log c.grant_to_head.new.grants.items c.grant_to_head.ensures.grants c.grant_to_head.new.state.streams (λ d other still. c.grant_to_head.ensures.others d other still ∙ back.others d other) in
+    let settled = passed g c in
     unmarked_from state.settings c.args.self.now.settings c.grant_to_head.new.state.settings state.log c.args.self.now.log c.grant_to_head.new.state.log (c.grant_to_head.ensures.same.settings ∙ back.same.settings) (ap (λ (v : HostShown g.row.S.Denot). v.settings) c.self.view_is) (ap (λ (v : HostShown g.row.S.Denot). v.log) c.self.view_is) settled.mark
 
 pub hand_on-requires-clause-part : goal.hand_on-requires-clause-part
@@ -240,14 +237,13 @@ returns-in-Ended-clause-told g c =
     let freed_is = freed_end state.settings state.log c.self.invariant.settled c.transfer-transfer.result c.number-number.result ended.was_held c.args.now c.give_back-back.new.self.settings ended.same.settings c.moment-moment.result c.moment-moment.ensures c.give_back-back.new.self.log c.hand_on.new.state.log c.hand_on.ensures.log c.anyone_waits-freed.result c.anyone_waits-freed.ensures.yes c.anyone_waits-freed.ensures.no c.args.facts ended.ends.cause ended.ends.owes ended.ends.log
     ∙ ap (λ (v : HostShown g.row.S.Denot). is_freed v.log c.hand_on.new.state.log) c.self.view_is in
     let stays = g.met.P.Permits.stays_on _ _ _ c.ask_to_keep-asked.ensures.stays (g.met.P.Permits.stays_on _ _ _ c.release_unused.ensures.stays c.hand_on.ensures.stays) in
-    (Got, g.met.P.Permits.not_asked_to_keep _ _ stays, back_spent c.args.self.now (shown c.hand_on.new.state c.hand_on.new.grants.items c.self.inside.bookings.items c.hand_on.new.seats.table) c.args.lease c.args.facts c.args.now c.args.close_if_full (not c.anyone_waits-freed.result) log_is freed_is)
+    (Got, g.met.P.Permits.not_asked_to_keep _ _ stays, back_spent c.args.self.now (shown c.hand_on.new.state c.hand_on.new.grants.items c.self.inside.bookings.items c.hand_on.new.seats.tables) c.args.lease c.args.facts c.args.now c.args.close_if_full (not c.anyone_waits-freed.result) log_is freed_is)
 
 pub returns-in-Ended-clause-mark : goal.returns-in-Ended-clause-mark
 returns-in-Ended-clause-mark g c =
     let state = c.self.inside.state in
-    let inv = c.self.invariant in
     let ended = c.in-Ended.ensures.closed in
-    let settled = settled_ended state.settings state.log c.self.inside.grants.items inv.settled inv.grants state.streams c.transfer-transfer.result c.number-number.result ended.was_held c.args.now c.args.facts ended.ends.cause c.give_back-back.new.self.settings ended.same.settings c.moment-moment.result c.moment-moment.ensures ended.ends.owes c.give_back-back.new.self.log ended.ends.log c.spend-in-Ended.new.grants.items c.spend-in-Ended.ensures.others c.hand_on.new.state.log c.hand_on.ensures.log c.hand_on.new.grants.items c.hand_on.ensures.grants c.hand_on.new.state.streams (c.hand_on.ensures.streams ∙ ended.streams) in
+    let settled = use_ended g c in
     unmarked_from state.settings c.args.self.now.settings c.hand_on.new.state.settings state.log c.args.self.now.log c.hand_on.new.state.log (c.hand_on.ensures.same.settings ∙ ended.same.settings) (ap (λ (v : HostShown g.row.S.Denot). v.settings) c.self.view_is) (ap (λ (v : HostShown g.row.S.Denot). v.log) c.self.view_is) settled.mark
 
 pub returns-then-must_ask_again-clause-told : goal.returns-then-must_ask_again-clause-told
@@ -261,12 +257,12 @@ returns-then-must_ask_again-clause-told g c =
     let same = c.in-Unkept.ensures.unkept_same.1 in
     let idle = would_rest state.settings state inv.settled.sound c.transfer-transfer.result number c.args.facts c.args.now c.in-Unkept.ensures.unkept.1 (if_there asked.result not_given.0 asked.ensures.nobody) in
     let idle_here = ap (λ (v : HostShown g.row.S.Denot). becomes_idle v.log c.args.lease.start.number c.args.facts c.args.now) (sym c.self.view_is) ∙ ap (λ (n : ℕ). becomes_idle state.log n c.args.facts c.args.now) (sym number_is) ∙ idle in
-    let handed = handed_back c.self.inside.seats c.take_back.new.self _ c.take_back.ensures.back inv.seated.none_back c.again.new.seats c.again.ensures.seats in
-    let unchanged = ap (λ (s : HostState g.row.S.Denot). shown s c.self.inside.grants.items c.self.inside.bookings.items c.again.new.seats.table) same ∙ ap (λ (h : HeldPairs). shown state c.self.inside.grants.items c.self.inside.bookings.items h.table) handed ∙ c.self.view_is in
-    let now_here = table_here c.args.lease _ _ c.take_apart-used.ensures.used c.self.inside.seats c.take_back.new.self _ _ c.requires.here (ap (λ (v : HostShown g.row.S.Denot). v.table) c.self.view_is) c.take_back.ensures.back in
+    let handed = handed_back c.self.inside.seats c.take_back-start.new.self _ c.take_back-start.ensures.back inv.seated.none_back c.again.new.seats c.again.ensures.seats in
+    let unchanged = ap (λ (s : HostState g.row.S.Denot). shown s c.self.inside.grants.items c.self.inside.bookings.items c.again.new.seats.tables) same ∙ ap (λ (h : SeatsShown). shown state c.self.inside.grants.items c.self.inside.bookings.items h.tables) handed ∙ c.self.view_is in
+    let now_here = tables_here c.args.lease _ _ c.take_apart-used.ensures.used c.self.inside.seats c.take_back-start.new.self _ _ c.requires.here (ap (λ (v : HostShown g.row.S.Denot). v.tables) c.self.view_is) c.take_back-start.ensures.back in
     let as_it_was = same_lease c.args.lease c.again.result _ _ _ _ _ _ c.take_apart-used.ensures.used c.detach-stream.ensures.stream c.detach-stream.ensures.rest c.again.ensures.lease now_here c.in-Unkept.ensures.unkept_same.0 in
     let missed = c.must_ask_again.ensures.yes c.if-must_ask_again.true in
-    (Contended, if_some asked.result Contended (λ told. g.P.Permits.keeping c.args.permits.now asked.new.permits told) missed asked.ensures.told, back_again c.args.self.now (shown c.give_back-back.new.self c.self.inside.grants.items c.self.inside.bookings.items c.again.new.seats.table) c.args.lease c.args.facts c.args.now idle_here c.args.close_if_full _ as_it_was unchanged)
+    (Contended, if_some asked.result Contended (λ told. g.P.Permits.keeping c.args.permits.now asked.new.permits told) missed asked.ensures.told, back_again c.args.self.now (shown c.give_back-back.new.self c.self.inside.grants.items c.self.inside.bookings.items c.again.new.seats.tables) c.args.lease c.args.facts c.args.now idle_here c.args.close_if_full _ as_it_was unchanged)
 
 pub returns-then-not-close_if_full-clause-told : goal.returns-then-not-close_if_full-clause-told
 returns-then-not-close_if_full-clause-told g c =
@@ -279,12 +275,12 @@ returns-then-not-close_if_full-clause-told g c =
     let same = c.in-Unkept.ensures.unkept_same.1 in
     let idle = would_rest state.settings state inv.settled.sound c.transfer-transfer.result number c.args.facts c.args.now c.in-Unkept.ensures.unkept.1 (if_there asked.result not_given.0 asked.ensures.nobody) in
     let idle_here = ap (λ (v : HostShown g.row.S.Denot). becomes_idle v.log c.args.lease.start.number c.args.facts c.args.now) (sym c.self.view_is) ∙ ap (λ (n : ℕ). becomes_idle state.log n c.args.facts c.args.now) (sym number_is) ∙ idle in
-    let handed = handed_back c.self.inside.seats c.take_back.new.self _ c.take_back.ensures.back inv.seated.none_back c.again-then-not-close_if_full.new.seats c.again-then-not-close_if_full.ensures.seats in
-    let unchanged = ap (λ (s : HostState g.row.S.Denot). shown s c.self.inside.grants.items c.self.inside.bookings.items c.again-then-not-close_if_full.new.seats.table) same ∙ ap (λ (h : HeldPairs). shown state c.self.inside.grants.items c.self.inside.bookings.items h.table) handed ∙ c.self.view_is in
-    let now_here = table_here c.args.lease _ _ c.take_apart-used.ensures.used c.self.inside.seats c.take_back.new.self _ _ c.requires.here (ap (λ (v : HostShown g.row.S.Denot). v.table) c.self.view_is) c.take_back.ensures.back in
+    let handed = handed_back c.self.inside.seats c.take_back-start.new.self _ c.take_back-start.ensures.back inv.seated.none_back c.again-then-not-close_if_full.new.seats c.again-then-not-close_if_full.ensures.seats in
+    let unchanged = ap (λ (s : HostState g.row.S.Denot). shown s c.self.inside.grants.items c.self.inside.bookings.items c.again-then-not-close_if_full.new.seats.tables) same ∙ ap (λ (h : SeatsShown). shown state c.self.inside.grants.items c.self.inside.bookings.items h.tables) handed ∙ c.self.view_is in
+    let now_here = tables_here c.args.lease _ _ c.take_apart-used.ensures.used c.self.inside.seats c.take_back-start.new.self _ _ c.requires.here (ap (λ (v : HostShown g.row.S.Denot). v.tables) c.self.view_is) c.take_back-start.ensures.back in
     let as_it_was = same_lease c.args.lease c.again-then-not-close_if_full.result _ _ _ _ _ _ c.take_apart-used.ensures.used c.detach-stream.ensures.stream c.detach-stream.ensures.rest c.again-then-not-close_if_full.ensures.lease now_here c.in-Unkept.ensures.unkept_same.0 in
     let full = full_told asked.result not_given.0 not_given.1 (c.must_ask_again.ensures.no c.if-must_ask_again.false) in
-    (Full, if_some asked.result Full (λ told. g.P.Permits.keeping c.args.permits.now asked.new.permits told) full asked.ensures.told, back_not_kept c.args.self.now (shown c.give_back-back.new.self c.self.inside.grants.items c.self.inside.bookings.items c.again-then-not-close_if_full.new.seats.table) c.args.lease c.args.facts c.args.now idle_here c.args.close_if_full c.if-not-close_if_full.true _ as_it_was unchanged)
+    (Full, if_some asked.result Full (λ told. g.P.Permits.keeping c.args.permits.now asked.new.permits told) full asked.ensures.told, back_not_kept c.args.self.now (shown c.give_back-back.new.self c.self.inside.grants.items c.self.inside.bookings.items c.again-then-not-close_if_full.new.seats.tables) c.args.lease c.args.facts c.args.now idle_here c.args.close_if_full c.if-not-close_if_full.true _ as_it_was unchanged)
 
 pub invariant_of-self-then-must_ask_again : goal.invariant_of-self-then-must_ask_again
 invariant_of-self-then-must_ask_again g c =
@@ -292,7 +288,7 @@ invariant_of-self-then-must_ask_again g c =
     let grants = c.self.inside.grants.items in
     let inv = c.self.invariant in
     let same = c.in-Unkept.ensures.unkept_same.1 in
-    let handed = handed_back c.self.inside.seats c.take_back.new.self _ c.take_back.ensures.back inv.seated.none_back c.again.new.seats c.again.ensures.seats in
+    let handed = handed_back c.self.inside.seats c.take_back-start.new.self _ c.take_back-start.ensures.back inv.seated.none_back c.again.new.seats c.again.ensures.seats in
     let old = sym same in
     record {
       count = ap (λ (s : HostState g.row.S.Denot). s.booked) same ∙ inv.count;
@@ -300,8 +296,8 @@ invariant_of-self-then-must_ask_again g c =
       settled = subst (λ (s : HostState g.row.S.Denot). IsSoundAndQuiet s.settings s.log) old inv.settled;
       grants = subst (λ (s : HostState g.row.S.Denot). GrantsKept s.log grants) old inv.grants;
       spare = omega (arith, inv.spare, ap (λ (s : HostState g.row.S.Denot). s.booked) same, ap (λ (s : HostState g.row.S.Denot). length (waiting s.log)) same);
-      seated = subst (λ (h : HeldPairs). IsSeated c.give_back-back.new.self.log h) (sym handed) (subst (λ (s : HostState g.row.S.Denot). IsSeated s.log c.self.inside.seats) old inv.seated);
-      unclaimed = subst (λ (h : HeldPairs). AreUnclaimed (grant_starts grants) h) (sym handed) inv.unclaimed;
+      seated = subst (λ (h : SeatsShown). IsSeated c.give_back-back.new.self.log h) (sym handed) (subst (λ (s : HostState g.row.S.Denot). IsSeated s.log c.self.inside.seats) old inv.seated);
+      unclaimed = subst (λ (h : SeatsShown). AreUnclaimed (grant_starts grants) h) (sym handed) inv.unclaimed;
     }
 
 pub invariant_of-self-then-not-close_if_full : goal.invariant_of-self-then-not-close_if_full
@@ -310,7 +306,7 @@ invariant_of-self-then-not-close_if_full g c =
     let grants = c.self.inside.grants.items in
     let inv = c.self.invariant in
     let same = c.in-Unkept.ensures.unkept_same.1 in
-    let handed = handed_back c.self.inside.seats c.take_back.new.self _ c.take_back.ensures.back inv.seated.none_back c.again-then-not-close_if_full.new.seats c.again-then-not-close_if_full.ensures.seats in
+    let handed = handed_back c.self.inside.seats c.take_back-start.new.self _ c.take_back-start.ensures.back inv.seated.none_back c.again-then-not-close_if_full.new.seats c.again-then-not-close_if_full.ensures.seats in
     let old = sym same in
     record {
       count = ap (λ (s : HostState g.row.S.Denot). s.booked) same ∙ inv.count;
@@ -318,23 +314,23 @@ invariant_of-self-then-not-close_if_full g c =
       settled = subst (λ (s : HostState g.row.S.Denot). IsSoundAndQuiet s.settings s.log) old inv.settled;
       grants = subst (λ (s : HostState g.row.S.Denot). GrantsKept s.log grants) old inv.grants;
       spare = omega (arith, inv.spare, ap (λ (s : HostState g.row.S.Denot). s.booked) same, ap (λ (s : HostState g.row.S.Denot). length (waiting s.log)) same);
-      seated = subst (λ (h : HeldPairs). IsSeated c.give_back-back.new.self.log h) (sym handed) (subst (λ (s : HostState g.row.S.Denot). IsSeated s.log c.self.inside.seats) old inv.seated);
-      unclaimed = subst (λ (h : HeldPairs). AreUnclaimed (grant_starts grants) h) (sym handed) inv.unclaimed;
+      seated = subst (λ (h : SeatsShown). IsSeated c.give_back-back.new.self.log h) (sym handed) (subst (λ (s : HostState g.row.S.Denot). IsSeated s.log c.self.inside.seats) old inv.seated);
+      unclaimed = subst (λ (h : SeatsShown). AreUnclaimed (grant_starts grants) h) (sym handed) inv.unclaimed;
     }
 
 pub returns-then-must_ask_again-clause-unchanged : goal.returns-then-must_ask_again-clause-unchanged
 returns-then-must_ask_again-clause-unchanged g c =
     let state = c.self.inside.state in
     let same = c.in-Unkept.ensures.unkept_same.1 in
-    let handed = handed_back c.self.inside.seats c.take_back.new.self _ c.take_back.ensures.back c.self.invariant.seated.none_back c.again.new.seats c.again.ensures.seats in
-    ap (λ (s : HostState g.row.S.Denot). shown s c.self.inside.grants.items c.self.inside.bookings.items c.again.new.seats.table) same ∙ ap (λ (h : HeldPairs). shown state c.self.inside.grants.items c.self.inside.bookings.items h.table) handed ∙ c.self.view_is
+    let handed = handed_back c.self.inside.seats c.take_back-start.new.self _ c.take_back-start.ensures.back c.self.invariant.seated.none_back c.again.new.seats c.again.ensures.seats in
+    ap (λ (s : HostState g.row.S.Denot). shown s c.self.inside.grants.items c.self.inside.bookings.items c.again.new.seats.tables) same ∙ ap (λ (h : SeatsShown). shown state c.self.inside.grants.items c.self.inside.bookings.items h.tables) handed ∙ c.self.view_is
 
 pub returns-then-not-close_if_full-clause-unchanged : goal.returns-then-not-close_if_full-clause-unchanged
 returns-then-not-close_if_full-clause-unchanged g c =
     let state = c.self.inside.state in
     let same = c.in-Unkept.ensures.unkept_same.1 in
-    let handed = handed_back c.self.inside.seats c.take_back.new.self _ c.take_back.ensures.back c.self.invariant.seated.none_back c.again-then-not-close_if_full.new.seats c.again-then-not-close_if_full.ensures.seats in
-    ap (λ (s : HostState g.row.S.Denot). shown s c.self.inside.grants.items c.self.inside.bookings.items c.again-then-not-close_if_full.new.seats.table) same ∙ ap (λ (h : HeldPairs). shown state c.self.inside.grants.items c.self.inside.bookings.items h.table) handed ∙ c.self.view_is
+    let handed = handed_back c.self.inside.seats c.take_back-start.new.self _ c.take_back-start.ensures.back c.self.invariant.seated.none_back c.again-then-not-close_if_full.new.seats c.again-then-not-close_if_full.ensures.seats in
+    ap (λ (s : HostState g.row.S.Denot). shown s c.self.inside.grants.items c.self.inside.bookings.items c.again-then-not-close_if_full.new.seats.tables) same ∙ ap (λ (h : SeatsShown). shown state c.self.inside.grants.items c.self.inside.bookings.items h.tables) handed ∙ c.self.view_is
 
 pub unreachable-requires : goal.unreachable-requires
 unreachable-requires g c =
@@ -343,36 +339,53 @@ unreachable-requires g c =
     let t = c.transfer-transfer.result in
     let n = c.number-number.result in
     let pair_is = apart_pair c.args.lease _ _ c.take_apart-used.ensures.used _ _ c.number-number.ensures c.transfer-transfer.ensures _ c.take_apart-used.ensures.pair in
-    let held = lease_held state.log c.self.inside.seats _ n t pair_is inv.seated c.take_back.ensures.leased in
+    let held = lease_held state.log c.self.inside.seats _ n t pair_is inv.seated c.take_back-start.ensures.leased in
     false≢true (sym c.in-Strange.ensures.strange ∙ held_here state.settings state.log inv.settled.sound.orderly t n held)
 
-pub invariant_of-self-in-Unkept : goal.invariant_of-self-in-Unkept
-invariant_of-self-in-Unkept g c =
+-- and once it was closed since the cache is full
+closed_out : (g : Over) (c : goal.After-release_open g) → ComesBackUnkept c.self.inside.state c.give_back_to_close.new.self c.transfer-transfer.result c.number-number.result c.args.facts c.moment-moment.result
+closed_out g c = subst (λ (s : HostState g.row.S.Denot). ComesBackUnkept s c.give_back_to_close.new.self c.transfer-transfer.result c.number-number.result c.args.facts c.moment-moment.result) c.in-Unkept.ensures.unkept_same.1 c.give_back_to_close.ensures
+
+seated_out : (g : Over) (c : goal.After-release_open g) → IsSeated c.give_back_to_close.new.self.log c.spend-in-Unkept.new.seats
+seated_out g c =
+    let log = c.self.inside.state.log in
+    let t = c.transfer-transfer.result in
+    let closed = closed_out g c in
+    let ends = ends_closed log c.give_back_to_close.new.self.log t closed.holders (ap start_count closed.log) closed.fewer_open closed.as_many_idle in
+    let pair_is = apart_pair c.args.lease _ _ c.take_apart-used.ensures.used _ _ c.number-number.ensures c.transfer-transfer.ensures _ c.take_apart-used.ensures.pair in
+    seated_spent log c.self.inside.seats _ c.number-number.result t pair_is c.self.invariant.seated c.take_back-start.ensures.leased c.take_back-start.new.self c.spend-in-Unkept.new.seats c.take_back-start.ensures.back c.spend-in-Unkept.ensures.cleared _ ends
+
+not_kept : (g : Over) (c : goal.After-release_open g) → Settled c.self.inside.state.settings c.self.inside.state.log c.self.inside.grants.items c.self.inside.state.streams c.transfer-transfer.result c.number-number.result c.give_back_to_close.new.self.log c.self.inside.grants.items c.give_back_to_close.new.self.streams
+not_kept g c =
     let state = c.self.inside.state in
     let inv = c.self.invariant in
     let asked = c.ask_to_keep-asked in
     let number = c.number-number.result in
     let not_given = c.may_keep.ensures.no c.in-Unkept.ensures.unkept.0 in
-    let same = c.in-Unkept.ensures.unkept_same.1 in
-    let idle = would_rest state.settings state inv.settled.sound c.transfer-transfer.result number c.args.facts c.args.now c.in-Unkept.ensures.unkept.1 (if_there asked.result not_given.0 asked.ensures.nobody) in
     let would = c.in-Unkept.ensures.unkept.1 in
+    let idle = would_rest state.settings state inv.settled.sound c.transfer-transfer.result number c.args.facts c.args.now would (if_there asked.result not_given.0 asked.ensures.nobody) in
     let it = known state.log c.transfer-transfer.result would.held would.was_held in
     let mine = it.number ∙ ap (λ (k : ℕ). Some k) would.number in
-    let log_is = c.give_back_to_close.ensures.log ∙ ap (λ (s : HostState g.row.S.Denot). add c.moment-moment.result (Closed number CacheFull) (add c.moment-moment.result (Returned number c.args.facts) s.log)) same in
-    let streams_are = c.give_back_to_close.ensures.streams ∙ ap (λ (s : HostState g.row.S.Denot). s.streams) same in
-    let settled = settled_unkept state.settings state.log c.self.inside.grants.items inv.settled inv.grants state.streams c.transfer-transfer.result number mine c.args.now c.args.facts idle c.moment-moment.result c.moment-moment.ensures c.spend-in-Unkept.new.grants.items c.spend-in-Unkept.ensures.others c.give_back_to_close.new.self.log log_is c.give_back_to_close.new.self.streams streams_are in
-    let booked = c.give_back_to_close.ensures.booked ∙ ap (λ (s : HostState g.row.S.Denot). s.booked) same in
-    let back = c.give_back_to_close.ensures in
-    let ends = ends_closed state.log c.give_back_to_close.new.self.log c.transfer-transfer.result (subst (λ (s : HostState g.row.S.Denot). IsFreeOf s.log c.give_back_to_close.new.self.log c.transfer-transfer.result) same back.holders) (ap (λ (s : HostState g.row.S.Denot). length (open_connections s.log)) (sym same) ∙ back.fewer_open) (back.as_many_idle ∙ ap (λ (s : HostState g.row.S.Denot). length (idle_connections s.log)) same) in
+    let closed = closed_out g c in
+    let pair_is = apart_pair c.args.lease _ _ c.take_apart-used.ensures.used _ _ c.number-number.ensures c.transfer-transfer.ensures _ c.take_apart-used.ensures.pair in
+    let left = grants_kept state.log c.self.inside.seats _ number c.transfer-transfer.result pair_is inv.seated c.take_back-start.ensures.leased c.self.inside.grants.items inv.grants inv.unclaimed in
+    settled_unkept state.settings state.log c.self.inside.grants.items inv.settled inv.grants state.streams c.transfer-transfer.result number mine c.args.now c.args.facts idle c.moment-moment.result c.moment-moment.ensures c.self.inside.grants.items left c.give_back_to_close.new.self.log closed.log c.give_back_to_close.new.self.streams closed.streams
+
+pub invariant_of-self-in-Unkept : goal.invariant_of-self-in-Unkept
+invariant_of-self-in-Unkept g c =
+    let state = c.self.inside.state in
+    let inv = c.self.invariant in
+    let settled = not_kept g c in
+    let closed = closed_out g c in
     let pair_is = apart_pair c.args.lease _ _ c.take_apart-used.ensures.used _ _ c.number-number.ensures c.transfer-transfer.ensures _ c.take_apart-used.ensures.pair in
     record {
-      count = booked ∙ inv.count;
+      count = closed.booked ∙ inv.count;
       bookings = booked_freed _ _ _ _ _ inv.grants settled.freed c.self.inside.bookings.items inv.bookings;
-      settled = subst (λ settings. IsSoundAndQuiet settings c.give_back_to_close.new.self.log) (sym (c.give_back_to_close.ensures.same.settings ∙ ap (λ (s : HostState g.row.S.Denot). s.settings) same)) settled.settled;
+      settled = subst (λ settings. IsSoundAndQuiet settings c.give_back_to_close.new.self.log) (sym closed.same.settings) settled.settled;
       grants = settled.freed.kept;
-      spare = omega (arith, inv.spare, ap (λ log. length (waiting log)) log_is, booked, c.spend-in-Unkept.ensures.len, c.spend-in-Unkept.ensures.capacity);
-      seated = seated_spent state.log c.self.inside.seats _ number c.transfer-transfer.result pair_is inv.seated c.take_back.ensures.leased c.take_back.new.self c.clear-in-Unkept.new.self c.take_back.ensures.back c.clear-in-Unkept.ensures _ ends;
-      unclaimed = unclaimed_spent state.log c.self.inside.seats _ number c.transfer-transfer.result pair_is inv.seated c.take_back.ensures.leased c.take_back.new.self c.clear-in-Unkept.new.self c.take_back.ensures.back c.clear-in-Unkept.ensures c.self.inside.grants.items c.spend-in-Unkept.new.grants.items inv.grants inv.unclaimed c.spend-in-Unkept.ensures.others;
+      spare = omega (arith, inv.spare, ap (λ log. length (waiting log)) closed.log, closed.booked);
+      seated = seated_out g c;
+      unclaimed = unclaimed_spent state.log c.self.inside.seats _ c.number-number.result c.transfer-transfer.result pair_is inv.seated c.take_back-start.ensures.leased c.take_back-start.new.self c.spend-in-Unkept.new.seats c.take_back-start.ensures.back c.spend-in-Unkept.ensures.cleared c.self.inside.grants.items inv.unclaimed;
     }
 
 pub returns-else-not-close_if_full-clause-told : goal.returns-else-not-close_if_full-clause-told
@@ -383,67 +396,66 @@ returns-else-not-close_if_full-clause-told g c =
     let asked = c.ask_to_keep-asked in
     let number = c.number-number.result in
     let not_given = c.may_keep.ensures.no c.in-Unkept.ensures.unkept.0 in
-    let same = c.in-Unkept.ensures.unkept_same.1 in
+    let closed = closed_out g c in
     let idle = would_rest state.settings state inv.settled.sound c.transfer-transfer.result number c.args.facts c.args.now c.in-Unkept.ensures.unkept.1 (if_there asked.result not_given.0 asked.ensures.nobody) in
     let idle_here = ap (λ (v : HostShown g.row.S.Denot). becomes_idle v.log c.args.lease.start.number c.args.facts c.args.now) (sym c.self.view_is) ∙ ap (λ (n : ℕ). becomes_idle state.log n c.args.facts c.args.now) (sym number_is) ∙ idle in
     let full = full_told asked.result not_given.0 not_given.1 (c.must_ask_again.ensures.no c.if-must_ask_again.false) in
     let keeps = if_some asked.result Full (λ told. g.P.Permits.keeping c.args.permits.now asked.new.permits told) full asked.ensures.told in
-    let log_is = c.give_back_to_close.ensures.log ∙ ap (λ (s : HostState g.row.S.Denot). add c.moment-moment.result (Closed number CacheFull) (add c.moment-moment.result (Returned number c.args.facts) s.log)) same
+    let log_is = closed.log
     ∙ ap (λ (k : ℕ). add k (Closed number CacheFull) (add k (Returned number c.args.facts) state.log)) c.moment-moment.ensures
     ∙ ap (λ (n : ℕ). add (moment_at state.log c.args.now) (Closed n CacheFull) (returned state.log n c.args.facts c.args.now)) number_is
     ∙ ap (λ (v : HostShown g.row.S.Denot). add (moment_at v.log c.args.now) (Closed c.args.lease.start.number CacheFull) (returned v.log c.args.lease.start.number c.args.facts c.args.now)) c.self.view_is in
-    let fewer = ap (λ (v : HostShown g.row.S.Denot). length (open_connections v.log)) (sym c.self.view_is) ∙ ap (λ (s : HostState g.row.S.Denot). length (open_connections s.log)) (sym same) ∙ c.give_back_to_close.ensures.fewer_open in
-    (Full, g.met.P.Permits.keeping_still _ _ _ Full keeps c.release_open.ensures.stays c.release_open.ensures.same_kept, back_closed c.args.self.now (shown c.give_back_to_close.new.self c.spend-in-Unkept.new.grants.items c.self.inside.bookings.items c.clear-in-Unkept.new.self.table) c.args.lease c.args.facts c.args.now idle_here c.args.close_if_full c.if-not-close_if_full.false true log_is (freed_one c.args.self.now.log c.give_back_to_close.new.self.log fewer))
+    let fewer = ap (λ (v : HostShown g.row.S.Denot). length (open_connections v.log)) (sym c.self.view_is) ∙ closed.fewer_open in
+    (Full, g.met.P.Permits.keeping_still _ _ _ Full keeps c.release_open.ensures.stays c.release_open.ensures.same_kept, back_closed c.args.self.now (shown c.give_back_to_close.new.self c.self.inside.grants.items c.self.inside.bookings.items c.spend-in-Unkept.new.seats.tables) c.args.lease c.args.facts c.args.now idle_here c.args.close_if_full c.if-not-close_if_full.false true log_is (freed_one c.args.self.now.log c.give_back_to_close.new.self.log fewer))
 
 pub returns-else-not-close_if_full-clause-streams : goal.returns-else-not-close_if_full-clause-streams
 returns-else-not-close_if_full-clause-streams g c d other still =
     let number_is = apart_number c.args.lease _ _ c.take_apart-used.ensures.used _ _ c.number-number.ensures c.transfer-transfer.ensures in
-    let state = c.self.inside.state in
-    let inv = c.self.invariant in
-    let asked = c.ask_to_keep-asked in
-    let number = c.number-number.result in
-    let not_given = c.may_keep.ensures.no c.in-Unkept.ensures.unkept.0 in
-    let same = c.in-Unkept.ensures.unkept_same.1 in
-    let idle = would_rest state.settings state inv.settled.sound c.transfer-transfer.result number c.args.facts c.args.now c.in-Unkept.ensures.unkept.1 (if_there asked.result not_given.0 asked.ensures.nobody) in
-    let would = c.in-Unkept.ensures.unkept.1 in
-    let it = known state.log c.transfer-transfer.result would.held would.was_held in
-    let mine = it.number ∙ ap (λ (k : ℕ). Some k) would.number in
-    let log_is = c.give_back_to_close.ensures.log ∙ ap (λ (s : HostState g.row.S.Denot). add c.moment-moment.result (Closed number CacheFull) (add c.moment-moment.result (Returned number c.args.facts) s.log)) same in
-    let streams_are = c.give_back_to_close.ensures.streams ∙ ap (λ (s : HostState g.row.S.Denot). s.streams) same in
-    let settled = settled_unkept state.settings state.log c.self.inside.grants.items inv.settled inv.grants state.streams c.transfer-transfer.result number mine c.args.now c.args.facts idle c.moment-moment.result c.moment-moment.ensures c.spend-in-Unkept.new.grants.items c.spend-in-Unkept.ensures.others c.give_back_to_close.new.self.log log_is c.give_back_to_close.new.self.streams streams_are in
+    let settled = not_kept g c in
     settled.others d (ap (λ (n : ℕ). n == d) number_is ∙ other) still ∙ ap (λ (v : HostShown g.row.S.Denot). stream_of v.streams d) c.self.view_is
 
 pub returns-else-not-close_if_full-clause-spends : goal.returns-else-not-close_if_full-clause-spends
 returns-else-not-close_if_full-clause-spends g c =
     let transfer_is = apart_transfer c.args.lease _ _ c.take_apart-used.ensures.used _ _ c.number-number.ensures c.transfer-transfer.ensures in
-    let state = c.self.inside.state in
-    let inv = c.self.invariant in
-    let asked = c.ask_to_keep-asked in
-    let number = c.number-number.result in
-    let not_given = c.may_keep.ensures.no c.in-Unkept.ensures.unkept.0 in
-    let same = c.in-Unkept.ensures.unkept_same.1 in
-    let idle = would_rest state.settings state inv.settled.sound c.transfer-transfer.result number c.args.facts c.args.now c.in-Unkept.ensures.unkept.1 (if_there asked.result not_given.0 asked.ensures.nobody) in
-    let would = c.in-Unkept.ensures.unkept.1 in
-    let it = known state.log c.transfer-transfer.result would.held would.was_held in
-    let mine = it.number ∙ ap (λ (k : ℕ). Some k) would.number in
-    let log_is = c.give_back_to_close.ensures.log ∙ ap (λ (s : HostState g.row.S.Denot). add c.moment-moment.result (Closed number CacheFull) (add c.moment-moment.result (Returned number c.args.facts) s.log)) same in
-    let streams_are = c.give_back_to_close.ensures.streams ∙ ap (λ (s : HostState g.row.S.Denot). s.streams) same in
-    let settled = settled_unkept state.settings state.log c.self.inside.grants.items inv.settled inv.grants state.streams c.transfer-transfer.result number mine c.args.now c.args.facts idle c.moment-moment.result c.moment-moment.ensures c.spend-in-Unkept.new.grants.items c.spend-in-Unkept.ensures.others c.give_back_to_close.new.self.log log_is c.give_back_to_close.new.self.streams streams_are in
+    let settled = not_kept g c in
     spends_at _ _ _ _ _ c.self.view_is transfer_is (freed_spends _ _ _ _ _ _ _ _ _ _ _ _ _ _ _ settled.freed)
 
 pub returns-else-not-close_if_full-clause-grew : goal.returns-else-not-close_if_full-clause-grew
 returns-else-not-close_if_full-clause-grew g c =
-    let state = c.self.inside.state in
-    let inv = c.self.invariant in
-    let asked = c.ask_to_keep-asked in
-    let number = c.number-number.result in
-    let not_given = c.may_keep.ensures.no c.in-Unkept.ensures.unkept.0 in
-    let same = c.in-Unkept.ensures.unkept_same.1 in
-    let idle = would_rest state.settings state inv.settled.sound c.transfer-transfer.result number c.args.facts c.args.now c.in-Unkept.ensures.unkept.1 (if_there asked.result not_given.0 asked.ensures.nobody) in
-    let would = c.in-Unkept.ensures.unkept.1 in
-    let it = known state.log c.transfer-transfer.result would.held would.was_held in
-    let mine = it.number ∙ ap (λ (k : ℕ). Some k) would.number in
-    let log_is = c.give_back_to_close.ensures.log ∙ ap (λ (s : HostState g.row.S.Denot). add c.moment-moment.result (Closed number CacheFull) (add c.moment-moment.result (Returned number c.args.facts) s.log)) same in
-    let streams_are = c.give_back_to_close.ensures.streams ∙ ap (λ (s : HostState g.row.S.Denot). s.streams) same in
-    let settled = settled_unkept state.settings state.log c.self.inside.grants.items inv.settled inv.grants state.streams c.transfer-transfer.result number mine c.args.now c.args.facts idle c.moment-moment.result c.moment-moment.ensures c.spend-in-Unkept.new.grants.items c.spend-in-Unkept.ensures.others c.give_back_to_close.new.self.log log_is c.give_back_to_close.new.self.streams streams_are in
+    let settled = not_kept g c in
     grows_from _ _ _ (ap (λ (v : HostShown g.row.S.Denot). v.log) c.self.view_is) settled.grew
+
+pub returns-in-Idle-clause-account : goal.returns-in-Idle-clause-account
+returns-in-Idle-clause-account g c =
+    let state = c.self.inside.state in
+    let pair_is = apart_pair c.args.lease _ _ c.take_apart-used.ensures.used _ _ c.number-number.ensures c.transfer-transfer.ensures _ c.take_apart-used.ensures.pair in
+    let more = gone_spent state.log c.self.inside.seats _ c.number-number.result c.transfer-transfer.result pair_is c.self.invariant.seated c.take_back-start.ensures.leased c.take_back-start.new.self c.spend.new.seats c.take_back-start.ensures.back c.spend.ensures.cleared c.grant_to_head.new.state.log c.grant_to_head.new.seats c.grant_to_head.ensures.seated c.grant_to_head.ensures.starts.ended in
+    accounts_spent c.args.self.now state.log c.grant_to_head.new.state.log (ap (λ (v : HostShown g.row.S.Denot). v.log) c.self.view_is) more c.args.pass.now _ _ (c.host-host.ensures ∙ ap (λ (v : HostShown g.row.S.Denot). v.host) c.self.view_is) _ _ c.requires.enrolled c.spend.ensures.spent
+
+pub returns-in-Ended-clause-account : goal.returns-in-Ended-clause-account
+returns-in-Ended-clause-account g c =
+    let state = c.self.inside.state in
+    let pair_is = apart_pair c.args.lease _ _ c.take_apart-used.ensures.used _ _ c.number-number.ensures c.transfer-transfer.ensures _ c.take_apart-used.ensures.pair in
+    let more = gone_spent state.log c.self.inside.seats _ c.number-number.result c.transfer-transfer.result pair_is c.self.invariant.seated c.take_back-start.ensures.leased c.take_back-start.new.self c.spend-in-Ended.new.seats c.take_back-start.ensures.back c.spend-in-Ended.ensures.cleared c.hand_on.new.state.log c.hand_on.new.seats c.hand_on.ensures.seated c.hand_on.ensures.starts.ended in
+    accounts_spent c.args.self.now state.log c.hand_on.new.state.log (ap (λ (v : HostShown g.row.S.Denot). v.log) c.self.view_is) more c.args.pass.now _ _ (c.host-host.ensures ∙ ap (λ (v : HostShown g.row.S.Denot). v.host) c.self.view_is) _ _ c.requires.enrolled c.spend-in-Ended.ensures.spent
+
+pub returns-else-not-close_if_full-clause-account : goal.returns-else-not-close_if_full-clause-account
+returns-else-not-close_if_full-clause-account g c =
+    let state = c.self.inside.state in
+    let pair_is = apart_pair c.args.lease _ _ c.take_apart-used.ensures.used _ _ c.number-number.ensures c.transfer-transfer.ensures _ c.take_apart-used.ensures.pair in
+    let more = gone_spent state.log c.self.inside.seats _ c.number-number.result c.transfer-transfer.result pair_is c.self.invariant.seated c.take_back-start.ensures.leased c.take_back-start.new.self c.spend-in-Unkept.new.seats c.take_back-start.ensures.back c.spend-in-Unkept.ensures.cleared c.give_back_to_close.new.self.log c.spend-in-Unkept.new.seats (seated_out g c) refl in
+    accounts_spent c.args.self.now state.log c.give_back_to_close.new.self.log (ap (λ (v : HostShown g.row.S.Denot). v.log) c.self.view_is) more c.args.pass.now _ _ (c.host-host.ensures ∙ ap (λ (v : HostShown g.row.S.Denot). v.host) c.self.view_is) _ _ c.requires.enrolled c.spend-in-Unkept.ensures.spent
+
+pub returns-else-not-close_if_full-clause-stays : goal.returns-else-not-close_if_full-clause-stays
+returns-else-not-close_if_full-clause-stays g c = g.met.P.Permits.stays_on _ _ _ c.ask_to_keep-asked.ensures.stays c.release_open.ensures.stays
+
+pub returns-else-not-close_if_full-clause-part : goal.returns-else-not-close_if_full-clause-part
+returns-else-not-close_if_full-clause-part g c =
+    let asked = c.ask_to_keep-asked in
+    let not_given = c.may_keep.ensures.no c.in-Unkept.ensures.unkept.0 in
+    let full = full_told asked.result not_given.0 not_given.1 (c.must_ask_again.ensures.no c.if-must_ask_again.false) in
+    let as_before = if_some asked.result Full (λ told. g.P.Permits.held asked.new.permits ≡ if_got told one_more_kept (g.P.Permits.held c.args.permits.now)) full asked.ensures.held in
+    let closed = closed_out g c in
+    let after = c.give_back_to_close.new.self.log in
+    let held_is = as_before ∙ c.requires.part ∙ ap (λ (v : HostShown g.row.S.Denot). held_by v.log) (sym c.self.view_is) ∙ part_fewer c.self.inside.state.log after closed.fewer_open closed.as_many_idle in
+    c.release_open.ensures.held ∙ ap one_less_open held_is ∙ ap (λ (n : ℕ). held n (length (idle_connections after))) (omega arith)

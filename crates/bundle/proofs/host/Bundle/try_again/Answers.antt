@@ -1,19 +1,22 @@
-use Rattle.std.proofs.Common.{◌≡◌, true, refl, sym, ap, subst, ◌∙◌, ◌++◌}
+use Rattle.std.proofs.Common.{◌≡◌, ℕ, true, refl, sym, ap, subst, ◌∙◌, ◌++◌}
 use Rattle.conn_log.specs.declared.entry.Want.{Want}
 use Rattle.conn_log.specs.Connections.{is_among}
 use Rattle.bundle.specs.Calls.{is_queued, GrowsBy}
 use Rattle.bundle.specs.Grants.{grant_starts, grant_streams}
 use Rattle.bundle.specs.Laws.{IsSoundAndQuiet}
 use Rattle.bundle.specs.Lease.{HostShown, HasItsStream}
+use Rattle.bundle.specs.Passes.{tells, got_did}
+use Rattle.bundle.specs.Seats.{gone}
 use Rattle.bundle.specs.Replies.{GivesLease}
 use Rattle.bundle.proofs.Bookings.{out_by}
 use Rattle.bundle.proofs.Outcomes.{count_left, spare_after, bookings_left}
-use Rattle.bundle.proofs.Seating.{unclaimed_same}
+use Rattle.bundle.proofs.Seating.{unclaimed_same, same_gone}
+use Rattle.bundle.proofs.Telling.{account_there, accounts_told}
 use Rattle.bundle.proofs.AcquiredHosts.{Leaves, leaves, grants_after, stream_got, lease_got, ticket_got, booking_got, others_kept, all_kept, halfway_kept}
 use Rattle.bundle.proofs.host.Bundle.try_again.Given.{Over}
 use Rattle.bundle.proofs.host.Bundle.try_again.Goals as goal
 
-among : (g : Over) (c : goal.After-take_booking g) → is_among c.spend-want.result.transfer c.self.inside.bookings.items ≡ true
+among : (g : Over) (c : goal.After-tell_got g) → is_among c.spend-want.result.transfer c.self.inside.bookings.items ≡ true
 among g c =
     ap (λ (v : HostShown g.row.S.Denot). is_among c.spend-want.result.transfer v.booked) c.self.view_is
     ∙ ap (λ (w : Want). is_among w.transfer c.args.self.now.booked) c.spend-want.ensures
@@ -29,7 +32,7 @@ start_or_wait-got-requires-clause-once g c =
     let here = ap (λ (v : HostShown g.row.S.Denot). is_among c.spend-want.result.transfer v.booked) c.self.view_is ∙ ap (λ (w : Want). is_among w.transfer c.args.self.now.booked) c.spend-want.ensures ∙ c.requires.here.1 in
     (out_by c.self.inside.state.log c.self.inside.bookings.items c.spend-want.result.transfer c.self.invariant.bookings here).waits_not
 
-left : (g : Over) (c : goal.After-take_booking g) → Leaves c.args.is_last c.self.inside.state.settings c.self.inside.state.log c.start_or_wait-got.new.state.log c.spend-want.result c.start_or_wait-got.result
+left : (g : Over) (c : goal.After-tell_got g) → Leaves c.args.is_last c.self.inside.state.settings c.self.inside.state.log c.start_or_wait-got.new.state.log c.spend-want.result c.start_or_wait-got.result
 left g c =
     let state = c.self.inside.state in
     let told = c.start_or_wait-got.ensures.told in
@@ -86,22 +89,43 @@ returns-clause-gets_lease g c =
     let inside = c.self.inside in
     let tried = c.start_or_wait-got in
     let it = left g c in
-    lease_got inside.state.settings inside.state.log tried.new.state.log inside.grants.items c.self.invariant.grants c.spend-want.result it.out.free tried.new.state.settings inside.state.host tried.new.state.host (grant_streams inside.grants.items ++ inside.state.streams) (grant_streams inside.grants.items ++ tried.new.state.streams) inside.bookings.items c.take_booking.new.bookings.items inside.seats.table tried.new.seats.table inside.grants.items refl c.args.self.now c.self.view_is c.args.booking.want c.spend-want.ensures tried.result it.outcome
+    lease_got inside.state.settings inside.state.log tried.new.state.log inside.grants.items c.self.invariant.grants c.spend-want.result it.out.free tried.new.state.settings inside.state.host tried.new.state.host (grant_streams inside.grants.items ++ inside.state.streams) (grant_streams inside.grants.items ++ tried.new.state.streams) inside.bookings.items c.take_booking.new.bookings.items inside.seats.tables tried.new.seats.tables inside.grants.items refl c.args.self.now c.self.view_is c.args.booking.want c.spend-want.ensures tried.result it.outcome
 
 pub returns-clause-gets_ticket : goal.returns-clause-gets_ticket
 returns-clause-gets_ticket g c =
     let inside = c.self.inside in
     let tried = c.start_or_wait-got in
     let it = left g c in
-    ticket_got inside.state.settings inside.state.log tried.new.state.log inside.grants.items c.self.invariant.grants c.spend-want.result it.out.free tried.new.state.settings inside.state.host tried.new.state.host (grant_streams inside.grants.items ++ inside.state.streams) (grant_streams inside.grants.items ++ tried.new.state.streams) inside.bookings.items c.take_booking.new.bookings.items inside.seats.table tried.new.seats.table inside.grants.items refl c.args.self.now c.self.view_is c.args.booking.want c.spend-want.ensures tried.result it.outcome
+    ticket_got inside.state.settings inside.state.log tried.new.state.log inside.grants.items c.self.invariant.grants c.spend-want.result it.out.free tried.new.state.settings inside.state.host tried.new.state.host (grant_streams inside.grants.items ++ inside.state.streams) (grant_streams inside.grants.items ++ tried.new.state.streams) inside.bookings.items c.take_booking.new.bookings.items inside.seats.tables tried.new.seats.tables inside.grants.items refl c.args.self.now c.self.view_is c.args.booking.want c.spend-want.ensures tried.result it.outcome
 
 pub returns-clause-gets_booking : goal.returns-clause-gets_booking
 returns-clause-gets_booking g c =
     let inside = c.self.inside in
     let tried = c.start_or_wait-got in
     let it = left g c in
-    booking_got inside.state.settings inside.state.log tried.new.state.log inside.grants.items c.self.invariant.grants c.spend-want.result it.out.free tried.new.state.settings inside.state.host tried.new.state.host (grant_streams inside.grants.items ++ inside.state.streams) (grant_streams inside.grants.items ++ tried.new.state.streams) inside.bookings.items c.take_booking.new.bookings.items inside.seats.table tried.new.seats.table inside.grants.items refl c.args.self.now c.self.view_is c.args.booking.want c.spend-want.ensures tried.result it.outcome
+    booking_got inside.state.settings inside.state.log tried.new.state.log inside.grants.items c.self.invariant.grants c.spend-want.result it.out.free tried.new.state.settings inside.state.host tried.new.state.host (grant_streams inside.grants.items ++ inside.state.streams) (grant_streams inside.grants.items ++ tried.new.state.streams) inside.bookings.items c.take_booking.new.bookings.items inside.seats.tables tried.new.seats.tables inside.grants.items refl c.args.self.now c.self.view_is c.args.booking.want c.spend-want.ensures tried.result it.outcome
 
 pub returns-clause-grew : goal.returns-clause-grew
 returns-clause-grew g c =
     subst (λ log. GrowsBy log c.start_or_wait-got.new.state.log) (ap (λ (v : HostShown g.row.S.Denot). v.log) c.self.view_is) (left g c).grew
+
+host_is : (g : Over) (c : goal.After-tell_got g) → c.host.result ≡ c.args.self.now.host
+host_is g c = c.host.ensures ∙ c.start_or_wait-got.ensures.same.host ∙ ap (λ (v : HostShown g.row.S.Denot). v.host) c.self.view_is
+
+tells_so : (g : Over) (c : goal.After-tell_got g) → c.tell_got.new.pass ≡ tells c.args.self.now.host (got_did c.start_or_wait-got.result) c.args.pass.now
+tells_so g c = c.tell_got.ensures.told ∙ ap (λ (host : ℕ). tells host (got_did c.start_or_wait-got.result) c.args.pass.now) (host_is g c)
+
+pub tell_got-requires : goal.tell_got-requires
+tell_got-requires g c =
+    let host_is = c.host.ensures ∙ c.start_or_wait-got.ensures.same.host ∙ ap (λ (v : HostShown g.row.S.Denot). v.host) c.self.view_is in
+    record { there = account_there c.args.pass.now c.args.self.now c.host.result host_is c.requires.enrolled }
+
+pub returns-clause-tells : goal.returns-clause-tells
+returns-clause-tells g c = tells_so g c
+
+pub returns-clause-account : goal.returns-clause-account
+returns-clause-account g c =
+    let inside = c.self.inside in
+    let tried = c.start_or_wait-got in
+    let same = same_gone inside.state.log tried.new.state.log inside.seats tried.new.seats c.self.invariant.seated tried.ensures.seated tried.ensures.granted.ended in
+    accounts_told c.args.self.now tried.new.state.log c.args.pass.now c.tell_got.new.pass (got_did tried.result) c.requires.enrolled (tells_so g c) (same ∙ ap (λ (v : HostShown g.row.S.Denot). gone v.log) c.self.view_is)

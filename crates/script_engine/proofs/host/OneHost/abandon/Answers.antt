@@ -37,7 +37,7 @@ invariant_of-self c =
     let lease = c.in-Some.lease in
     let kept = kept-lease host c.args.transfer lease (ap (option_map lease_facts) (sym c.in-Some.is ∙ c.remove.ensures.value) ∙ c.self.invariant.1.leases c.args.transfer) in (
       ap (λ t. t.first) c.abandon.ensures.same.settings ∙ c.self.invariant.0,
-      lease-spent host new c.abandon.ensures.same.table c.log.ensures.sound c.args.transfer (get nat_cmp c.self.inside.leases) (get nat_cmp c.remove.new.self) (get nat_cmp c.self.inside.tickets) lease.start.number
+      lease-spent host new c.abandon.ensures.same.tables c.log.ensures.sound c.args.transfer (get nat_cmp c.self.inside.leases) (get nat_cmp c.remove.new.self) (get nat_cmp c.self.inside.tickets) lease.start.number
           c.self.invariant.1 kept.leased c.remove.ensures.updates.0 (subst (Spends host new) kept.own c.abandon.ensures.spends),
       c.self.invariant.2,
     )

@@ -30,7 +30,7 @@ returns-in_default-clause-answer c =
     (rw same (gives-answer string_bytes (record { settings = host.settings; host = shown }) (actions.Claim c.args.transfer) shown _ c.reply.result (claim-stranger c.args.transfer shown among) c.reply.ensures))
 
 pub keep_lease-requires-clause-here : goal.keep_lease-requires-clause-here
-keep_lease-requires-clause-here c = (rw c.in-Ok-Lease.field-0-is at c.in-Ok-Lease.ensures.made_here) ∙ sym c.claim.ensures.same.table
+keep_lease-requires-clause-here c = (rw c.in-Ok-Lease.field-0-is at c.in-Ok-Lease.ensures.made_here) ∙ sym c.claim.ensures.same.tables
 
 pub keep_lease-requires-clause-own : goal.keep_lease-requires-clause-own
 keep_lease-requires-clause-own c =
@@ -63,7 +63,7 @@ keep_lease-requires-clause-others c =
     let gets : GetsLease host new want.transfer lease.start.number = rw c.in-Ok-Lease.field-0-is at c.in-Ok-Lease.ensures.gets_lease in
     let own : lease.start.want.transfer ≡ want.transfer = ap (λ (w : Want). w.transfer) (rw c.in-Ok-Lease.field-0-is at c.in-Ok-Lease.ensures.want) in
     subst (λ (t : ℕ). KeepsLeases (due_others t (leases_of new)) (get nat_cmp c.self.inside.leases)) (sym own)
-    (lease-awaits host new c.claim.ensures.same.table want.transfer lease.start.number (get nat_cmp c.self.inside.leases) c.self.invariant.1.leases none gets)
+    (lease-awaits host new c.claim.ensures.same.tables want.transfer lease.start.number (get nat_cmp c.self.inside.leases) c.self.invariant.1.leases none gets)
 
 pub invariant_of-self-in_err-keep_lease-in-Ok-Lease : goal.invariant_of-self-in_err-keep_lease-in-Ok-Lease
 invariant_of-self-in_err-keep_lease-in-Ok-Lease c =

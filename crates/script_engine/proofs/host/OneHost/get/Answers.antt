@@ -21,7 +21,7 @@ use Rattle.script_engine.proofs.Spending.{ticketed, lease-awaits, lease-own, lea
 use Rattle.script_engine.proofs.host.OneHost.get.Goals as goal
 
 pub keep_lease-requires-clause-here : goal.keep_lease-requires-clause-here
-keep_lease-requires-clause-here c = (rw c.in-Ok-Lease.field-0-is at c.in-Ok-Lease.ensures.made_here) ∙ sym c.acquire.ensures.same.table
+keep_lease-requires-clause-here c = (rw c.in-Ok-Lease.field-0-is at c.in-Ok-Lease.ensures.made_here) ∙ sym c.acquire.ensures.same.tables
 
 pub keep_lease-requires-clause-own : goal.keep_lease-requires-clause-own
 keep_lease-requires-clause-own c =
@@ -58,7 +58,7 @@ keep_lease-requires-clause-others c =
     let free = accepted-free host.settings host.log c.log.ensures.sound want only in
     let none = free-none host c.log.ensures.sound want.transfer free.0 free.1 in
     subst (λ (w : Want). KeepsLeases (due_others w.transfer (leases_of new)) (get nat_cmp c.self.inside.leases)) (sym own)
-    (lease-awaits host new c.acquire.ensures.same.table want.transfer lease.start.number (get nat_cmp c.self.inside.leases) c.self.invariant.1.leases none.0 gets)
+    (lease-awaits host new c.acquire.ensures.same.tables want.transfer lease.start.number (get nat_cmp c.self.inside.leases) c.self.invariant.1.leases none.0 gets)
 
 pub invariant_of-self : goal.invariant_of-self
 invariant_of-self c =

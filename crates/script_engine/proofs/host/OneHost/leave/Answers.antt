@@ -36,7 +36,7 @@ invariant_of-self c =
     let stand : is_valid_ticket host want ≡ true = kept-valid host c.args.transfer want kept.0 kept.1 in
     let spends = c.withdraw.ensures.spends stand in (
       ap (λ t. t.first) c.withdraw.ensures.same.settings ∙ c.self.invariant.0,
-      ticket-spent host new c.withdraw.ensures.same.table c.log.ensures.sound c.args.transfer (get nat_cmp c.self.inside.leases) (get nat_cmp c.self.inside.tickets) (get nat_cmp c.remove.new.self) want
+      ticket-spent host new c.withdraw.ensures.same.tables c.log.ensures.sound c.args.transfer (get nat_cmp c.self.inside.leases) (get nat_cmp c.self.inside.tickets) (get nat_cmp c.remove.new.self) want
           c.self.invariant.1 kept.0 c.remove.ensures.updates.0 (subst (Spends host new) kept.1 spends),
       c.remove.ensures.ordered,
     )

@@ -30,7 +30,7 @@ invariant_of-self c =
     let part : held_at_host budget.hosts 0 ≡ held_by new.log = search rules in
     let others : KeepsOtherHosts 0 c.self.inside.budget budget = search rules in
     let done = c.in-Spent.ensures in
-    still-sole old new c.self.inside.budget budget c.self.invariant part others done.stands.1 (gave-limit old new budget c.args.lease c.args.facts c.args.now _ done.told done.same.settings) done.booked done.mark
+    still-sole old new c.self.inside.budget budget c.self.invariant part others done.stands.1 c.give_back.new.pass done.same done.seats done.account (gave-limit old new budget c.args.lease c.args.facts c.args.now _ done.told done.same.settings) done.booked done.mark
 
 pub returns-clause-log : goal.returns-clause-log
 returns-clause-log c =
