@@ -10,10 +10,11 @@ use crate::desk::{
     KEEP, Stream, accept, again_of, attach_new, booked, booking_of, lease_of, scrap_back, spent,
     ticket_of, want_of, with_stream,
 };
+use crate::did::Did;
 use crate::host::Bundle;
 use crate::lease::Lease;
 use crate::ticket::Ticket;
-use budget::{Held, Lobby, Permits, Refusal, Try};
+use budget::{Held, Lobby, Pass, Permits, Refusal, Try};
 use std::alloc::Global;
 use std::marker::Model;
 use std::process::Abort;
@@ -112,43 +113,62 @@ impl Permits for Told {
     ghost same_kept_from_start = { λ x. tt };
 }
 
-// Host 0 under such a budget. What its part holds is what its log tells, and the lobby lists it
-// where it is queued. Contracts see at which table its leases are made.
-#[derive(Drop)]
+// Host 0 under such a budget. What its part holds is what its log tells, the lobby lists it where
+// it is queued, and the pass has a seat there. Contracts see at which tables its leases are made.
 struct ToldHost {
     bundle: Bundle<Stream>,
     permits: Told,
     lobby: Lobby,
+    pass: Pass<Did>,
+}
+
+impl Drop for ToldHost {
+    fn drop(self) {
+        let ToldHost {
+            bundle: _,
+            permits: _,
+            lobby: _,
+            pass,
+        } = self;
+        pass.discard();
+    }
 }
 
 impl Model for ToldHost {
     ghost use Rattle.std.specs.Prelude.{◌≡◌};
+    ghost use Rattle.budget.specs.Accounts.{IsEnrolledAt};
     ghost use Rattle.bundle.specs.Calls.{is_queued};
-    ghost use Rattle.atomic_table.specs.Seated.{TableId};
+    ghost use Rattle.bundle.specs.Seats.{Tables};
     ghost use Rattle.bundle.specs.Lease.{held_by};
     ghost use Rattle.bundle.specs.Lobbies.{Lists};
 
-    ghost Value = { TableId };
+    ghost Value = { Tables };
 
-    ghost view = { λ told. told.bundle.table };
+    ghost view = { λ told. told.bundle.tables };
 
     ghost invariant = { λ told. record {
       part : told.permits.held ≡ held_by told.bundle.log;
       lists : let host = told.bundle in
           Lists host.host (is_queued host.settings host.log) told.lobby;
+      enrolled : IsEnrolledAt told.pass told.bundle.host told.bundle.tables.starts;
     } };
 }
 
 impl ToldHost {
     // The host may have so many open.
     fn new(alloc: Global, limit: u32, answer: Try) -> Result<Self, Refusal> {
+        let mut bundle = Bundle::new(alloc, limit, 0, 1)?;
+        let lobby = Lobby::new(alloc, 1)?;
+        let mut pass = Pass::new(alloc, 1)?;
+        bundle.enrol(&mut pass);
         Ok(ToldHost {
-            bundle: Bundle::new(alloc, limit, 0, 1)?,
+            bundle,
             permits: Told {
                 held: Held { alive: 0, kept: 0 },
                 answer,
             },
-            lobby: Lobby::new(alloc, 1)?,
+            lobby,
+            pass,
         })
     }
 
@@ -163,12 +183,18 @@ impl ToldHost {
         self.permits.held
     }
 
+    // How many calls the pass was told of, and how many leases were spent with it.
+    fn told(&self) -> (u64, u64) {
+        (self.pass.calls(0), self.pass.spent(0))
+    }
+
     fn acquire(&mut self, transfer: u64, now: u64) -> Result<Got<Stream>, Refusal>
         ensures made_here { IfGot result (λ got. GivesLease got (IsMadeAt self.old)) }
         ensures same { self.new ≡ self.old }
     {
+        let want = want_of(transfer);
         self.bundle
-            .acquire(want_of(transfer), now, &mut self.permits)
+            .acquire(want, now, &mut self.permits, &mut self.pass)
     }
 
     // Another try of an acquire that is halfway here.
@@ -177,7 +203,8 @@ impl ToldHost {
         ensures same { self.new ≡ self.old }
     {
         let booking = booked(rt, &self.bundle, booking);
-        self.bundle.retry(booking, now, &mut self.permits, None)
+        self.bundle
+            .retry(booking, now, &mut self.permits, None, &mut self.pass)
     }
 
     // And the last one.
@@ -187,7 +214,8 @@ impl ToldHost {
     {
         let booking = booked(rt, &self.bundle, booking);
         let lobby = Some(&mut self.lobby);
-        self.bundle.retry(booking, now, &mut self.permits, lobby)
+        self.bundle
+            .retry(booking, now, &mut self.permits, lobby, &mut self.pass)
     }
 
     fn give_back(
@@ -197,32 +225,32 @@ impl ToldHost {
         now: u64,
         close_if_full: bool,
     ) -> Back<Stream>
-        requires here { lease.table ≡ self.old }
+        requires here { lease.tables ≡ self.old }
         ensures made_here { IfBack result (IsMadeAt self.old) }
         ensures same { self.new ≡ self.old }
     {
         let lease = with_stream(rt, lease);
-        let lobby = Some(&mut self.lobby);
+        let (permits, lobby) = (&mut self.permits, Some(&mut self.lobby));
+        let pass = &mut self.pass;
         self.bundle
-            .give_back(lease, KEEP, now, &mut self.permits, lobby, close_if_full)
+            .give_back(lease, KEEP, now, pass, permits, lobby, close_if_full)
     }
 
     fn abandon(&mut self, rt: &impl Abort, lease: Lease<Stream>, now: u64) -> bool
-        requires here { lease.table ≡ self.old }
+        requires here { lease.tables ≡ self.old }
         ensures same { self.new ≡ self.old }
     {
-        let lobby = Some(&mut self.lobby);
-        accept(
-            rt,
-            self.bundle.abandon(lease, now, &mut self.permits, lobby),
-        )
+        let (permits, lobby) = (&mut self.permits, Some(&mut self.lobby));
+        let pass = &mut self.pass;
+        accept(rt, self.bundle.abandon(lease, now, pass, permits, lobby))
     }
 
     fn withdraw(&mut self, rt: &impl Abort, ticket: Ticket, now: u64) -> bool
         ensures same { self.new ≡ self.old }
     {
-        let lobby = Some(&mut self.lobby);
-        match self.bundle.withdraw(ticket, now, &mut self.permits, lobby) {
+        let (permits, lobby) = (&mut self.permits, Some(&mut self.lobby));
+        let pass = &mut self.pass;
+        match self.bundle.withdraw(ticket, now, pass, permits, lobby) {
             Ok(freed) => freed,
             Err(stray) => {
                 stray.scrap();
@@ -245,9 +273,9 @@ impl ToldHost {
     fn set_host_limit(&mut self, limit: u32, now: u64) -> Result<Changed, Refusal>
         ensures same { self.new ≡ self.old }
     {
-        let lobby = &mut self.lobby;
+        let (lobby, pass) = (&mut self.lobby, &mut self.pass);
         self.bundle
-            .set_host_limit(limit, now, &mut self.permits, lobby)
+            .set_host_limit(limit, now, &mut self.permits, lobby, pass)
     }
 }
 
@@ -259,6 +287,7 @@ fn an_acquire_is_tried_again(rt: HostRuntime) -> Result<(), Fail> {
     let booking = again_of(&rt, host.retry(&rt, booking, 1));
     let booking = again_of(&rt, host.retry_at_last(&rt, booking, 2));
     assert_eq!(rt; (host.bundle.log().len(), host.lobby.first()), (0, None));
+    assert_eq!(rt; host.told(), (0, 0));
     host.answer(Try::Got);
     let lease = lease_of(&rt, host.retry(&rt, booking, 3));
     assert_eq!(rt; (lease.moment(), host.held().alive), (3, 1));
@@ -281,10 +310,12 @@ fn a_give_back_comes_again(rt: HostRuntime) -> Result<(), Fail> {
             panic!(rt; "it does not come again");
         };
         assert_eq!(rt; (host.bundle.log().len(), lease.has_stream()), (1, true));
+        assert_eq!(rt; host.told(), (1, 0));
         host.answer(Try::Got);
         let back = host.give_back(&rt, lease, 2, close_if_full);
         assert_eq!(rt; spent(&rt, back), false);
         assert_eq!(rt; host.held(), Held { alive: 1, kept: 1 });
+        assert_eq!(rt; host.told(), (2, 1));
     }
     Ok(())
 }
@@ -309,6 +340,7 @@ fn a_turn_and_a_new_limit_come_again(rt: HostRuntime) -> Result<(), Fail> {
     host.answer(Try::Contended);
     let changed = host.set_host_limit(2, 4);
     assert_eq!(rt; (changed, host.bundle.log().len()), (Ok(Changed::Again), 3));
+    assert_eq!(rt; host.told(), (2, 0));
     host.answer(Try::Got);
     assert_eq!(rt;
         host.set_host_limit(2, 5),

@@ -1,15 +1,16 @@
 //! What tests of calls share: two hosts with their budget and the lobby, and wants and responses.
 
-ghost use Rattle.std.specs.Prelude.{◌≡◌, ◌<◌, IsSome};
+ghost use Rattle.std.specs.Prelude.{◌≡◌, ◌<◌, ◌≤◌, IsSome};
 ghost use Rattle.bundle.specs.Lease.{IsBookedHere, IsMadeAt};
 ghost use Rattle.bundle.specs.Replies.{IfBack, IfClaimed, IfGot, GivesLease};
 
 use crate::answers::{Back, Changed, Claimed, Got, Served};
 use crate::booking::Booking;
+use crate::did::Did;
 use crate::host::Bundle;
 use crate::lease::{Lease, Stray};
 use crate::ticket::Ticket;
-use budget::{Limits, Lobby, Permits, PlainBudget, Refusal, Try};
+use budget::{Limits, Lobby, Pass, Permits, PlainBudget, Refusal, Try};
 use conn_log::{Cause, Entry, Event, Stamp, Want};
 use persistence::{Facts, Framing, Version};
 use std::alloc::Global;
@@ -53,33 +54,47 @@ pub(crate) fn closed(moment: u64, connection: u32, cause: Cause) -> Entry {
     }
 }
 
-/// Host 7, and host 3 that can take its place, with their budget and the lobby. Of the budget each
-/// holds what its log tells, and the lobby lists it where it is queued. Contracts see at which
-/// tables the leases of the two are made.
-#[derive(Drop)]
+/// A host, and another one that can take its place, with their budget, the lobby and a pass. Of the
+/// budget each holds what its log tells, the lobby lists it where it is queued, and the pass has a
+/// seat at each. Contracts see at which tables the leases of the two are made.
 pub(crate) struct Desk<S: Drop> {
     pub bundle: Bundle<S>,
     other: Bundle<S>,
     budget: PlainBudget,
     pub lobby: Lobby,
+    pub pass: Pass<Did>,
+}
+
+impl<S: Drop> Drop for Desk<S> {
+    fn drop(self) {
+        let Desk {
+            bundle: _,
+            other: _,
+            budget: _,
+            lobby: _,
+            pass,
+        } = self;
+        pass.discard();
+    }
 }
 
 impl<S: Drop> Model for Desk<S> {
-    ghost use Rattle.std.specs.Prelude.{◌≡◌, ◌≢◌, ◌<◌, length};
+    ghost use Rattle.std.specs.Prelude.{◌≡◌, ◌≢◌, ◌<◌, ◌≤◌, length};
+    ghost use Rattle.budget.specs.Accounts.{IsEnrolledAt};
     ghost use Rattle.budget.specs.Plain.{held_at_host};
     ghost use Rattle.bundle.specs.Calls.{is_queued};
-    ghost use Rattle.bundle.specs.Desks.{Tables};
+    ghost use Rattle.bundle.specs.Desks.{TwoHosts};
     ghost use Rattle.bundle.specs.Lease.{held_by};
     ghost use Rattle.bundle.specs.Lobbies.{Lists};
 
-    ghost Value = { Tables };
+    ghost Value = { TwoHosts };
 
-    ghost view = { λ desk. record { here = desk.bundle.table; there = desk.other.table } };
+    ghost view = { λ desk. record { here = desk.bundle.tables; there = desk.other.tables } };
 
     ghost invariant = { λ desk. record {
-      hosts : length desk.budget.hosts ≡ 8;
-      here : desk.bundle.host < 8;
-      there : desk.other.host < 8;
+      hosts : 3 ≤ length desk.budget.hosts;
+      here : desk.bundle.host < length desk.budget.hosts;
+      there : desk.other.host < length desk.budget.hosts;
       two : desk.bundle.host ≢ desk.other.host;
       part : held_at_host desk.budget.hosts desk.bundle.host ≡ held_by desk.bundle.log;
       others : held_at_host desk.budget.hosts desk.other.host ≡ held_by desk.other.log;
@@ -87,22 +102,49 @@ impl<S: Drop> Model for Desk<S> {
           Lists host.host (is_queued host.settings host.log) desk.lobby;
       lists_other : let host = desk.other in
           Lists host.host (is_queued host.settings host.log) desk.lobby;
+      enrolled : IsEnrolledAt desk.pass desk.bundle.host desk.bundle.tables.starts;
+      enrolled_other : IsEnrolledAt desk.pass desk.other.host desk.other.tables.starts;
     } };
 }
 
 impl<S: Drop> Desk<S> {
-    /// The limits of a host, of the total, and of those kept; 0 is none.
+    /// Host 7 of eight, and host 3. The limits of a host, of the total, and of those kept; 0 is
+    /// none.
     pub fn new(alloc: Global, limits: (u32, u32, u32), first: u32) -> Result<Self, Refusal> {
+        Desk::of_two(alloc, limits, first, 8, (7, 3))
+    }
+
+    /// The same of two other hosts, of so many.
+    pub fn of_two(
+        alloc: Global,
+        limits: (u32, u32, u32),
+        first: u32,
+        hosts: u32,
+        two: (u32, u32),
+    ) -> Result<Self, Refusal>
+        requires hosts { 3 ≤ hosts }
+        requires here { two.0 < hosts }
+        requires there { two.1 < hosts }
+        requires two { two.0 ≡ two.1 → ⊥ }
+    {
         let (host, total, connects) = limits;
         let Ok(limits) = Limits::new(host, total, connects) else {
             return Err(Refusal::BadLimit);
         };
         let first = first.max(1);
+        let mut bundle = Bundle::new(alloc, limits.host(), two.0, first)?;
+        let mut other = Bundle::new(alloc, limits.host(), two.1, first)?;
+        let budget = PlainBudget::new(alloc, limits, hosts)?;
+        let lobby = Lobby::new(alloc, hosts)?;
+        let mut pass = Pass::new(alloc, hosts as usize)?;
+        bundle.enrol(&mut pass);
+        other.enrol(&mut pass);
         Ok(Desk {
-            bundle: Bundle::new(alloc, limits.host(), 7, first)?,
-            other: Bundle::new(alloc, limits.host(), 3, first)?,
-            budget: PlainBudget::new(alloc, limits, 8)?,
-            lobby: Lobby::new(alloc, 8)?,
+            bundle,
+            other,
+            budget,
+            lobby,
+            pass,
         })
     }
 
@@ -116,6 +158,16 @@ impl<S: Drop> Desk<S> {
         ensures { self.new ≡ record { here = self.old.there; there = self.old.here } }
     {
         std::mem::swap(&mut self.bundle, &mut self.other);
+    }
+
+    /// How many starts there were at the host, how many of them are over, and how many connections
+    /// are held.
+    pub fn counts(&mut self) -> (u64, u64, u64)
+        ensures same { self.new ≡ self.old }
+    {
+        let starts = self.bundle.starts();
+        let gone = self.bundle.gone();
+        (starts, gone, self.bundle.held())
     }
 
     /// A connection is opened at a host elsewhere, as the budget answers.
@@ -140,7 +192,7 @@ impl<S: Drop> Desk<S> {
         ensures same { self.new ≡ self.old }
     {
         let mut permits = self.budget.at(self.bundle.host());
-        self.bundle.acquire(want, now, &mut permits)
+        self.bundle.acquire(want, now, &mut permits, &mut self.pass)
     }
 
     /// Another try of an acquire that is halfway here.
@@ -150,7 +202,8 @@ impl<S: Drop> Desk<S> {
     {
         let booking = booked(rt, &self.bundle, booking);
         let mut permits = self.budget.at(self.bundle.host());
-        self.bundle.retry(booking, now, &mut permits, None)
+        self.bundle
+            .retry(booking, now, &mut permits, None, &mut self.pass)
     }
 
     /// And the last one.
@@ -161,19 +214,20 @@ impl<S: Drop> Desk<S> {
         let booking = booked(rt, &self.bundle, booking);
         let mut permits = self.budget.at(self.bundle.host());
         let lobby = Some(&mut self.lobby);
-        self.bundle.retry(booking, now, &mut permits, lobby)
+        self.bundle
+            .retry(booking, now, &mut permits, lobby, &mut self.pass)
     }
 
     pub fn give_back(&mut self, rt: &impl Abort, lease: Lease<S>, facts: Facts, now: u64) -> Back<S>
-        requires here { lease.table ≡ self.old.here }
+        requires here { lease.tables ≡ self.old.here }
         ensures made_here { IfBack result (IsMadeAt self.old.here) }
         ensures same { self.new ≡ self.old }
     {
         let lease = with_stream(rt, lease);
         let mut permits = self.budget.at(self.bundle.host());
-        let lobby = Some(&mut self.lobby);
+        let (pass, lobby) = (&mut self.pass, Some(&mut self.lobby));
         self.bundle
-            .give_back(lease, facts, now, &mut permits, lobby, false)
+            .give_back(lease, facts, now, pass, &mut permits, lobby, false)
     }
 
     /// The same, with a close where the connection is not kept.
@@ -184,39 +238,39 @@ impl<S: Drop> Desk<S> {
         facts: Facts,
         now: u64,
     ) -> Back<S>
-        requires here { lease.table ≡ self.old.here }
+        requires here { lease.tables ≡ self.old.here }
         ensures made_here { IfBack result (IsMadeAt self.old.here) }
         ensures same { self.new ≡ self.old }
     {
         let lease = with_stream(rt, lease);
         let mut permits = self.budget.at(self.bundle.host());
-        let lobby = Some(&mut self.lobby);
+        let (pass, lobby) = (&mut self.pass, Some(&mut self.lobby));
         self.bundle
-            .give_back(lease, facts, now, &mut permits, lobby, true)
+            .give_back(lease, facts, now, pass, &mut permits, lobby, true)
     }
 
     pub fn abandon(&mut self, lease: Lease<S>, now: u64) -> Result<bool, Stray<Lease<S>>>
-        requires here { lease.table ≡ self.old.here }
+        requires here { lease.tables ≡ self.old.here }
         ensures same { self.new ≡ self.old }
     {
         let mut permits = self.budget.at(self.bundle.host());
-        let lobby = Some(&mut self.lobby);
-        self.bundle.abandon(lease, now, &mut permits, lobby)
+        let (pass, lobby) = (&mut self.pass, Some(&mut self.lobby));
+        self.bundle.abandon(lease, now, pass, &mut permits, lobby)
     }
 
     pub fn withdraw(&mut self, ticket: Ticket, now: u64) -> Result<bool, Stray<Ticket>>
         ensures same { self.new ≡ self.old }
     {
         let mut permits = self.budget.at(self.bundle.host());
-        let lobby = Some(&mut self.lobby);
-        self.bundle.withdraw(ticket, now, &mut permits, lobby)
+        let (pass, lobby) = (&mut self.pass, Some(&mut self.lobby));
+        self.bundle.withdraw(ticket, now, pass, &mut permits, lobby)
     }
 
     pub fn claim(&mut self, ticket: Ticket) -> Result<Claimed<S>, Stray<Ticket>>
         ensures made_here { IfClaimed result (IsMadeAt self.old.here) }
         ensures same { self.new ≡ self.old }
     {
-        self.bundle.claim(ticket)
+        self.bundle.claim(ticket, &mut self.pass)
     }
 
     /// A turn of the host, if it is queued and first.
@@ -243,15 +297,17 @@ impl<S: Drop> Desk<S> {
         ensures same { self.new ≡ self.old }
     {
         let mut permits = self.budget.at(self.bundle.host());
-        self.bundle.prune(now, max_age, max_life, &mut permits)
+        self.bundle
+            .prune(now, max_age, max_life, &mut permits, &mut self.pass)
     }
 
     pub fn set_host_limit(&mut self, limit: u32, now: u64) -> Result<Changed, Refusal>
         ensures same { self.new ≡ self.old }
     {
         let mut permits = self.budget.at(self.bundle.host());
-        let lobby = &mut self.lobby;
-        self.bundle.set_host_limit(limit, now, &mut permits, lobby)
+        let (lobby, pass) = (&mut self.lobby, &mut self.pass);
+        self.bundle
+            .set_host_limit(limit, now, &mut permits, lobby, pass)
     }
 }
 
@@ -276,6 +332,18 @@ fn close_one<P: Permits>(permits: &mut P)
     if permits.held().alive > 0 {
         permits.release_open();
     }
+}
+
+/// What the pass remembers of a host: the last answer, how many there were, and how many leases
+/// were spent with it.
+pub(crate) fn told<S: Drop>(
+    rt: &impl Abort,
+    desk: &Desk<S>,
+    host: usize,
+) -> (Option<Did>, u64, u64) {
+    let pass = &desk.pass;
+    assert!(rt; host < pass.hosts());
+    (pass.last(host), pass.calls(host), pass.spent(host))
 }
 
 /// The booking, which has to be the host's.
@@ -328,7 +396,7 @@ pub(crate) fn scrap_back<S: Drop>(back: Back<S>) {
 }
 
 pub(crate) fn attach_new(lease: &mut Lease<Stream>)
-    ensures same { lease.new.table ≡ lease.old.table }
+    ensures same { lease.new.tables ≡ lease.old.tables }
 {
     if !lease.has_stream() {
         let number = lease.number();
@@ -397,7 +465,7 @@ pub(crate) fn leased(
     transfer: u64,
     now: u64,
 ) -> Lease<Stream>
-    ensures made_here { result.table ≡ desk.old.here }
+    ensures made_here { result.tables ≡ desk.old.here }
     ensures same { desk.new ≡ desk.old }
 {
     leased_for(rt, desk, want_of(transfer), now)
@@ -409,7 +477,7 @@ pub(crate) fn leased_for(
     want: Want,
     now: u64,
 ) -> Lease<Stream>
-    ensures made_here { result.table ≡ desk.old.here }
+    ensures made_here { result.tables ≡ desk.old.here }
     ensures same { desk.new ≡ desk.old }
 {
     let mut lease = lease_of(rt, asked(rt, desk, want, now));
@@ -504,7 +572,7 @@ pub(crate) fn drop_lease(
     lease: Lease<Stream>,
     now: u64,
 ) -> bool
-    requires here { lease.table ≡ desk.old.here }
+    requires here { lease.tables ≡ desk.old.here }
     ensures same { desk.new ≡ desk.old }
 {
     accept(rt, desk.abandon(lease, now))
@@ -516,7 +584,7 @@ pub(crate) fn give_back(
     lease: Lease<Stream>,
     now: u64,
 ) -> bool
-    requires here { lease.table ≡ desk.old.here }
+    requires here { lease.tables ≡ desk.old.here }
     ensures same { desk.new ≡ desk.old }
 {
     let mut lease = lease;
@@ -531,7 +599,7 @@ pub(crate) fn stream_under(
     lease: Lease<Stream>,
     now: u64,
 ) -> (u32, Option<Stream>)
-    requires here { lease.table ≡ desk.old.here }
+    requires here { lease.tables ≡ desk.old.here }
     ensures same { desk.new ≡ desk.old }
 {
     let number = lease.number();
@@ -548,7 +616,7 @@ pub(crate) fn stream_under(
 
 /// The lease that a ticket has to give.
 pub(crate) fn claimed(rt: &impl Abort, desk: &mut Desk<Stream>, ticket: Ticket) -> Lease<Stream>
-    ensures made_here { result.table ≡ desk.old.here }
+    ensures made_here { result.tables ≡ desk.old.here }
     ensures same { desk.new ≡ desk.old }
 {
     match desk.claim(ticket) {

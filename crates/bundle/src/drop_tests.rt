@@ -28,7 +28,7 @@ fn leased<'a>(
     now: u64,
     ends: &'a Cell<u32>,
 ) -> Lease<Counted<'a>>
-    ensures made_here { result.table ≡ desk.old.here }
+    ensures made_here { result.tables ≡ desk.old.here }
     ensures same { desk.new ≡ desk.old }
 {
     let mut lease = lease_of(rt, asked(rt, desk, want, now));
@@ -39,7 +39,7 @@ fn leased<'a>(
 }
 
 fn give_back<'a>(rt: &impl Abort, desk: &mut Desk<Counted<'a>>, lease: Lease<Counted<'a>>, now: u64)
-    requires here { lease.table ≡ desk.old.here }
+    requires here { lease.tables ≡ desk.old.here }
     ensures same { desk.new ≡ desk.old }
 {
     spent(rt, desk.give_back(rt, lease, KEEP, now));

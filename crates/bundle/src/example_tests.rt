@@ -2,7 +2,7 @@
 
 use crate::desk::{scrap, scrap_back};
 use crate::{Bundle, Got};
-use budget::{Limits, PlainBudget};
+use budget::{Limits, Pass, PlainBudget};
 use conn_log::Want;
 use persistence::{Method, ResponseReader};
 use std::test::Fail;
@@ -22,9 +22,13 @@ fn the_second_request_reuses_the_connection(rt: HostRuntime) -> Result<(), Fail>
     let mut budget = PlainBudget::new(rt.alloc(), limits, 1)?;
     let mut bundle = Bundle::new(rt.alloc(), limits.host(), 0, 1)?;
     let mut permits = budget.at(0);
+    // Each call is lent this pass, which remembers what it answered. It has to be discarded in the
+    // end, so there is no `?` from then on.
+    let mut pass = Pass::new(rt.alloc(), 1)?;
+    bundle.enrol(&mut pass);
     for transfer in 1..=2 {
         let now = 10 * transfer;
-        let mut reader = ResponseReader::new(rt.alloc(), Method::Get, false)?;
+        let mut reader = ResponseReader::new(rt.alloc(), Method::Get, false).expect(&rt, "memory");
         let want = Want {
             transfer,
             lane: 0,
@@ -33,7 +37,8 @@ fn the_second_request_reuses_the_connection(rt: HostRuntime) -> Result<(), Fail>
             fresh: false,
             forbid_reuse: false,
         };
-        match bundle.acquire(want, now, &mut permits)? {
+        let got = bundle.acquire(want, now, &mut permits, &mut pass);
+        match got.expect(&rt, "an answer") {
             Got::Lease(mut lease) => {
                 assert_eq!(rt; lease.reused(), transfer == 2);
                 if !lease.has_stream() {
@@ -43,11 +48,15 @@ fn the_second_request_reuses_the_connection(rt: HostRuntime) -> Result<(), Fail>
                     let _ = reader.feed(piece);
                 }
                 let facts = reader.facts();
-                scrap_back(bundle.give_back(lease, facts, now, &mut permits, None, true));
+                let back = bundle.give_back(lease, facts, now, &mut pass, &mut permits, None, true);
+                scrap_back(back);
             }
             got => scrap(got),
         }
     }
+    assert_eq!(rt; pass.spent(0), 2);
+    pass.discard();
+    assert_eq!(rt; (bundle.starts(), bundle.gone(), bundle.held()), (2, 2, 0));
     assert_eq!(rt; bundle.look().idle, 1);
     Ok(())
 }

@@ -8,12 +8,12 @@ ghost use Rattle.bundle.specs.Replies.{GivesLease};
 use crate::answers::{Changed, Got};
 use crate::desk::{
     Desk, Stream, attach_new, booking_of, claimed, drop_lease, give_back, lease_of, leave,
-    ticket_of, want_of,
+    ticket_of, told, want_of,
 };
 use crate::host::Bundle;
 use crate::lease::Lease;
 use crate::ticket::Ticket;
-use budget::Refusal;
+use budget::{Pass, Refusal};
 use conn_log::Want;
 use std::alloc::Global;
 use std::process::Abort;
@@ -35,9 +35,9 @@ fn new_at_last(
 }
 
 #[test]
-fn want_of_memory_refuses_a_new_host(rt: HostRuntime) -> Result<(), Fail> {
+fn want_of_memory_refuses_a_new_host_and_a_new_pass(rt: HostRuntime) -> Result<(), Fail> {
     let made: Result<Bundle<Stream>, Refusal> = Bundle::new(rt.alloc(), 4, 7, 1);
-    let bundle = match made {
+    let mut bundle = match made {
         Ok(bundle) => bundle,
         Err(refusal) => {
             assert_eq!(rt; refusal, Refusal::Memory);
@@ -45,6 +45,18 @@ fn want_of_memory_refuses_a_new_host(rt: HostRuntime) -> Result<(), Fail> {
         }
     };
     assert_eq!(rt; (bundle.host(), bundle.log().len()), (7, 0));
+    let mut pass = match Pass::new(rt.alloc(), 8) {
+        Ok(pass) => pass,
+        Err(refusal) => {
+            assert_eq!(rt; refusal, Refusal::Memory);
+            Pass::new(rt.alloc(), 8)?
+        }
+    };
+    // a seat takes no memory
+    bundle.enrol(&mut pass);
+    assert_eq!(rt; (pass.is_enrolled(7), pass.is_enrolled(0)), (true, false));
+    assert_eq!(rt; (pass.spent(7), pass.calls(7)), (0, 0));
+    pass.discard();
     Ok(())
 }
 
@@ -55,19 +67,21 @@ fn asked_at_last(rt: &impl Abort, desk: &mut Desk<Stream>, want: Want) -> Got<St
 {
     let entries = desk.bundle.log().len();
     let before = desk.bundle.look();
+    let remembered = told(rt, desk, 7);
     match desk.acquire(want, 0) {
         Ok(got) => got,
         Err(refusal) => {
             assert_eq!(rt; refusal, Refusal::Memory);
             assert_eq!(rt; desk.bundle.log().len(), entries);
             assert_eq!(rt; desk.bundle.look(), before);
+            assert_eq!(rt; told(rt, desk, 7), remembered);
             desk.acquire(want, 0).expect(rt, "an answer")
         }
     }
 }
 
 fn leased_at_last(rt: &impl Abort, desk: &mut Desk<Stream>, transfer: u64) -> Lease<Stream>
-    ensures made_here { result.table ≡ desk.old.here }
+    ensures made_here { result.tables ≡ desk.old.here }
     ensures same { desk.new ≡ desk.old }
 {
     let mut lease = lease_of(rt, asked_at_last(rt, desk, want_of(transfer)));
@@ -136,12 +150,14 @@ fn limit_at_last(rt: &impl Abort, desk: &mut Desk<Stream>, limit: u32) -> Change
 {
     let entries = desk.bundle.log().len();
     let before = desk.bundle.look();
+    let remembered = told(rt, desk, 7);
     match desk.set_host_limit(limit, 0) {
         Ok(changed) => changed,
         Err(refusal) => {
             assert_eq!(rt; refusal, Refusal::Memory);
             assert_eq!(rt; desk.bundle.log().len(), entries);
             assert_eq!(rt; desk.bundle.look(), before);
+            assert_eq!(rt; told(rt, desk, 7), remembered);
             desk.set_host_limit(limit, 0).expect(rt, "an answer")
         }
     }
