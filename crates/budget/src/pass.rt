@@ -19,6 +19,19 @@ pub struct Account<D> {
     pub calls: u64,
 }
 
+impl<D: Copy + Drop> Account<D> {
+    // Remembers what one more call answers.
+    #[inline(always)]
+    fn tell(&mut self, did: D)
+        ensures { self.new ≡ told did self.old }
+    {
+        self.last = Some(did);
+        if self.calls < u64::MAX {
+            self.calls += 1;
+        }
+    }
+}
+
 /// The account of whoever calls: an account for each host, by its index. It must be given up.
 /// `D` is what a call answers.
 pub struct Pass<D> {
@@ -113,8 +126,7 @@ impl<D: Copy + Drop> Pass<D> {
         ensures seats { KeepsSeats self.old self.new }
     {
         let account = &mut self.accounts[host];
-        account.last = Some(did);
-        account.calls = account.calls.saturating_add(1);
+        account.tell(did);
     }
 
     /// Spends a lease at this host, where it is enrolled, and remembers what the call answers.
@@ -125,13 +137,13 @@ impl<D: Copy + Drop> Pass<D> {
         ensures account { self.new ≡ change_at self.old host (spent_once did) }
         ensures seats { KeepsSeats self.old self.new }
     {
+        // What is told is written first: no move of it is merged with another across an atomic step.
         let enrolled = &mut self.accounts[host];
+        enrolled.tell(did);
         match &mut enrolled.seat {
             Some(seat) => tally.join(seat, start),
             None => unreachable!(),
         }
-        enrolled.last = Some(did);
-        enrolled.calls = enrolled.calls.saturating_add(1);
     }
 
     /// Gives the pass up. What was spent with it stays counted at the tallies.

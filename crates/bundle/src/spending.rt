@@ -217,20 +217,19 @@ impl<S: Drop> Bundle<S> {
         let moment = self.state.moment(now);
         let asked = ask_to_keep(&self.state, &facts, permits);
         let stream = used.detach();
-        let (host, connection) = (self.state.host(), number);
-        let event = Event::Returned { connection, facts };
+        let host = self.state.host();
         let back = self
             .state
             .give_back(transfer, number, facts, stream, moment, may_keep(asked));
         match back {
             Returned::Idle(held) => {
-                spend(used, start, &mut self.seats, host, pass, moment, event);
+                spend_returned(used, start, &mut self.seats, host, pass, moment, facts);
                 let seats = &mut self.seats;
                 grant_to_head(&mut self.state, seats, &mut self.grants, &held, moment);
                 Back::Spent { freed: false }
             }
             Returned::Ended => {
-                spend(used, start, &mut self.seats, host, pass, moment, event);
+                spend_returned(used, start, &mut self.seats, host, pass, moment, facts);
                 release_unused(asked, permits);
                 let freed = !self.state.anyone_waits();
                 let seats = &mut self.seats;
@@ -244,7 +243,7 @@ impl<S: Drop> Bundle<S> {
                 if !close_if_full {
                     return Back::NoKeep(again(used, stream, start, &mut self.seats));
                 }
-                spend(used, start, &mut self.seats, host, pass, moment, event);
+                spend_returned(used, start, &mut self.seats, host, pass, moment, facts);
                 self.state
                     .give_back_to_close(transfer, number, facts, stream, moment);
                 permits.release_open();
@@ -538,10 +537,38 @@ fn spend<S: Drop>(
     ensures spent { pass.new ≡ spends host moment event pass.old }
     ensures seats { KeepsSeats pass.old pass.new }
 {
-    let _ = used.into_stream();
-    seats.clear();
+    // The entry is told at once: no move of it is merged with another across an atomic step.
     let did = Did::Wrote(Entry { moment, event });
     pass.spend(host as usize, seats.tally(), start, did);
+    let _ = used.into_stream();
+    seats.clear();
+}
+
+// The same for a lease that came back with those facts. The event is made only here, after the
+// atomic steps before.
+#[inline(always)]
+fn spend_returned<S: Drop>(
+    used: Use<S>,
+    start: StartSeat,
+    seats: &mut Seats,
+    host: u32,
+    pass: &mut Pass<Did>,
+    moment: u64,
+    facts: Facts,
+)
+    requires enrolled { IsEnrolledAt pass.old host seats.old.tables.starts }
+    requires start { start ≡ seats.old.tables.starts }
+    requires back { IsSome seats.old.back }
+    requires leased { IfSome seats.old.back (λ pair. pair_count pair seats.old.leased ≡ 1) }
+    ensures cleared { IfSome seats.old.back (λ pair. seats.new
+        ≡ record seats.old { leased = without_pair pair seats.old.leased; back = None }) }
+    ensures spent { let returned = CameBack used.start.number facts in
+        pass.new ≡ spends host moment returned pass.old }
+    ensures seats { KeepsSeats pass.old pass.new }
+{
+    let connection = used.number();
+    let event = Event::Returned { connection, facts };
+    spend(used, start, seats, host, pass, moment, event);
 }
 
 // The lease that was taken apart, with its stream and its seats again.

@@ -12,6 +12,6 @@ returns-clause-seats g c =
     let host = c.args.host in
     let was = c.index_mut-enrolled.result.now in
     let read = account_read accounts inside host was c.self.view_is c.requires.host c.index_mut-enrolled.ensures.value in
-    let seat = sym (ap (λ (a : Account _). a.seat) read) in
+    let seat = ap (λ (a : Account _). a.seat) c.tell.ensures ∙ sym (ap (λ (a : Account _). a.seat) read) in
     keeps_seats accounts inside host _ c.self.view_is c.requires.host
     (λ table has. (c.join.new.pass.spent, ap (λ (s : Spendings). Some s) (same_tally c.in-Some.seat c.join.new.pass table has.0 (sym c.in-Some.is ∙ seat ∙ has.1) c.join.ensures)))

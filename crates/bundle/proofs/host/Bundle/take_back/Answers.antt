@@ -43,7 +43,7 @@ grant_to_head-requires-clause-seated g c =
     let pair_is = apart_pair c.args.lease _ _ c.take_apart-used.ensures.used _ _ c.number-number.ensures c.transfer-transfer.ensures _ c.take_apart-used.ensures.pair in
     let back = c.in-Idle.ensures.idle in
     let ends = ends_idle state.log c.give_back-back.new.self.log t back.holders (ap start_count back.log) back.as_many_open back.more_idle in
-    seated_spent state.log c.self.inside.seats _ n t pair_is c.self.invariant.seated c.take_back-start.ensures.leased c.take_back-start.new.self c.spend.new.seats c.take_back-start.ensures.back c.spend.ensures.cleared _ ends
+    seated_spent state.log c.self.inside.seats _ n t pair_is c.self.invariant.seated c.take_back-start.ensures.leased c.take_back-start.new.self c.spend_returned.new.seats c.take_back-start.ensures.back c.spend_returned.ensures.cleared _ ends
 
 pub grant_to_head-requires-clause-unclaimed : goal.grant_to_head-requires-clause-unclaimed
 grant_to_head-requires-clause-unclaimed g c =
@@ -52,7 +52,7 @@ grant_to_head-requires-clause-unclaimed g c =
     let t = c.transfer-transfer.result in
     let n = c.number-number.result in
     let pair_is = apart_pair c.args.lease _ _ c.take_apart-used.ensures.used _ _ c.number-number.ensures c.transfer-transfer.ensures _ c.take_apart-used.ensures.pair in
-    unclaimed_spent state.log c.self.inside.seats _ n t pair_is inv.seated c.take_back-start.ensures.leased c.take_back-start.new.self c.spend.new.seats c.take_back-start.ensures.back c.spend.ensures.cleared c.self.inside.grants.items inv.unclaimed
+    unclaimed_spent state.log c.self.inside.seats _ n t pair_is inv.seated c.take_back-start.ensures.leased c.take_back-start.new.self c.spend_returned.new.seats c.take_back-start.ensures.back c.spend_returned.ensures.cleared c.self.inside.grants.items inv.unclaimed
 
 -- the host once the connection is idle, or went to the first that waits
 passed : (g : Over) (c : goal.After-grant_to_head g) → Settled c.self.inside.state.settings c.self.inside.state.log c.self.inside.grants.items c.self.inside.state.streams c.transfer-transfer.result c.in-Idle.held.number c.grant_to_head.new.state.log c.grant_to_head.new.grants.items c.grant_to_head.new.state.streams
@@ -122,7 +122,7 @@ hand_on-requires-clause-seated g c =
     let pair_is = apart_pair c.args.lease _ _ c.take_apart-used.ensures.used _ _ c.number-number.ensures c.transfer-transfer.ensures _ c.take_apart-used.ensures.pair in
     let ended = c.in-Ended.ensures.closed in
     let ends = ends_closed state.log c.give_back-back.new.self.log t ended.holders (ap start_count ended.ends.log) ended.fewer_open ended.as_many_idle in
-    seated_spent state.log c.self.inside.seats _ n t pair_is c.self.invariant.seated c.take_back-start.ensures.leased c.take_back-start.new.self c.spend-in-Ended.new.seats c.take_back-start.ensures.back c.spend-in-Ended.ensures.cleared _ ends
+    seated_spent state.log c.self.inside.seats _ n t pair_is c.self.invariant.seated c.take_back-start.ensures.leased c.take_back-start.new.self c.spend_returned-in-Ended.new.seats c.take_back-start.ensures.back c.spend_returned-in-Ended.ensures.cleared _ ends
 
 pub hand_on-requires-clause-unclaimed : goal.hand_on-requires-clause-unclaimed
 hand_on-requires-clause-unclaimed g c =
@@ -131,7 +131,7 @@ hand_on-requires-clause-unclaimed g c =
     let t = c.transfer-transfer.result in
     let n = c.number-number.result in
     let pair_is = apart_pair c.args.lease _ _ c.take_apart-used.ensures.used _ _ c.number-number.ensures c.transfer-transfer.ensures _ c.take_apart-used.ensures.pair in
-    unclaimed_spent state.log c.self.inside.seats _ n t pair_is inv.seated c.take_back-start.ensures.leased c.take_back-start.new.self c.spend-in-Ended.new.seats c.take_back-start.ensures.back c.spend-in-Ended.ensures.cleared c.self.inside.grants.items inv.unclaimed
+    unclaimed_spent state.log c.self.inside.seats _ n t pair_is inv.seated c.take_back-start.ensures.leased c.take_back-start.new.self c.spend_returned-in-Ended.new.seats c.take_back-start.ensures.back c.spend_returned-in-Ended.ensures.cleared c.self.inside.grants.items inv.unclaimed
 
 pub hand_on-requires-clause-room : goal.hand_on-requires-clause-room
 hand_on-requires-clause-room g c =
@@ -346,14 +346,14 @@ unreachable-requires g c =
 closed_out : (g : Over) (c : goal.After-release_open g) → ComesBackUnkept c.self.inside.state c.give_back_to_close.new.self c.transfer-transfer.result c.number-number.result c.args.facts c.moment-moment.result
 closed_out g c = subst (λ (s : HostState g.row.S.Denot). ComesBackUnkept s c.give_back_to_close.new.self c.transfer-transfer.result c.number-number.result c.args.facts c.moment-moment.result) c.in-Unkept.ensures.unkept_same.1 c.give_back_to_close.ensures
 
-seated_out : (g : Over) (c : goal.After-release_open g) → IsSeated c.give_back_to_close.new.self.log c.spend-in-Unkept.new.seats
+seated_out : (g : Over) (c : goal.After-release_open g) → IsSeated c.give_back_to_close.new.self.log c.spend_returned-in-Unkept.new.seats
 seated_out g c =
     let log = c.self.inside.state.log in
     let t = c.transfer-transfer.result in
     let closed = closed_out g c in
     let ends = ends_closed log c.give_back_to_close.new.self.log t closed.holders (ap start_count closed.log) closed.fewer_open closed.as_many_idle in
     let pair_is = apart_pair c.args.lease _ _ c.take_apart-used.ensures.used _ _ c.number-number.ensures c.transfer-transfer.ensures _ c.take_apart-used.ensures.pair in
-    seated_spent log c.self.inside.seats _ c.number-number.result t pair_is c.self.invariant.seated c.take_back-start.ensures.leased c.take_back-start.new.self c.spend-in-Unkept.new.seats c.take_back-start.ensures.back c.spend-in-Unkept.ensures.cleared _ ends
+    seated_spent log c.self.inside.seats _ c.number-number.result t pair_is c.self.invariant.seated c.take_back-start.ensures.leased c.take_back-start.new.self c.spend_returned-in-Unkept.new.seats c.take_back-start.ensures.back c.spend_returned-in-Unkept.ensures.cleared _ ends
 
 not_kept : (g : Over) (c : goal.After-release_open g) → Settled c.self.inside.state.settings c.self.inside.state.log c.self.inside.grants.items c.self.inside.state.streams c.transfer-transfer.result c.number-number.result c.give_back_to_close.new.self.log c.self.inside.grants.items c.give_back_to_close.new.self.streams
 not_kept g c =
@@ -385,7 +385,7 @@ invariant_of-self-in-Unkept g c =
       grants = settled.freed.kept;
       spare = omega (arith, inv.spare, ap (λ log. length (waiting log)) closed.log, closed.booked);
       seated = seated_out g c;
-      unclaimed = unclaimed_spent state.log c.self.inside.seats _ c.number-number.result c.transfer-transfer.result pair_is inv.seated c.take_back-start.ensures.leased c.take_back-start.new.self c.spend-in-Unkept.new.seats c.take_back-start.ensures.back c.spend-in-Unkept.ensures.cleared c.self.inside.grants.items inv.unclaimed;
+      unclaimed = unclaimed_spent state.log c.self.inside.seats _ c.number-number.result c.transfer-transfer.result pair_is inv.seated c.take_back-start.ensures.leased c.take_back-start.new.self c.spend_returned-in-Unkept.new.seats c.take_back-start.ensures.back c.spend_returned-in-Unkept.ensures.cleared c.self.inside.grants.items inv.unclaimed;
     }
 
 pub returns-else-not-close_if_full-clause-told : goal.returns-else-not-close_if_full-clause-told
@@ -406,7 +406,7 @@ returns-else-not-close_if_full-clause-told g c =
     ∙ ap (λ (n : ℕ). add (moment_at state.log c.args.now) (Closed n CacheFull) (returned state.log n c.args.facts c.args.now)) number_is
     ∙ ap (λ (v : HostShown g.row.S.Denot). add (moment_at v.log c.args.now) (Closed c.args.lease.start.number CacheFull) (returned v.log c.args.lease.start.number c.args.facts c.args.now)) c.self.view_is in
     let fewer = ap (λ (v : HostShown g.row.S.Denot). length (open_connections v.log)) (sym c.self.view_is) ∙ closed.fewer_open in
-    (Full, g.met.P.Permits.keeping_still _ _ _ Full keeps c.release_open.ensures.stays c.release_open.ensures.same_kept, back_closed c.args.self.now (shown c.give_back_to_close.new.self c.self.inside.grants.items c.self.inside.bookings.items c.spend-in-Unkept.new.seats.tables) c.args.lease c.args.facts c.args.now idle_here c.args.close_if_full c.if-not-close_if_full.false true log_is (freed_one c.args.self.now.log c.give_back_to_close.new.self.log fewer))
+    (Full, g.met.P.Permits.keeping_still _ _ _ Full keeps c.release_open.ensures.stays c.release_open.ensures.same_kept, back_closed c.args.self.now (shown c.give_back_to_close.new.self c.self.inside.grants.items c.self.inside.bookings.items c.spend_returned-in-Unkept.new.seats.tables) c.args.lease c.args.facts c.args.now idle_here c.args.close_if_full c.if-not-close_if_full.false true log_is (freed_one c.args.self.now.log c.give_back_to_close.new.self.log fewer))
 
 pub returns-else-not-close_if_full-clause-streams : goal.returns-else-not-close_if_full-clause-streams
 returns-else-not-close_if_full-clause-streams g c d other still =
@@ -429,22 +429,22 @@ pub returns-in-Idle-clause-account : goal.returns-in-Idle-clause-account
 returns-in-Idle-clause-account g c =
     let state = c.self.inside.state in
     let pair_is = apart_pair c.args.lease _ _ c.take_apart-used.ensures.used _ _ c.number-number.ensures c.transfer-transfer.ensures _ c.take_apart-used.ensures.pair in
-    let more = gone_spent state.log c.self.inside.seats _ c.number-number.result c.transfer-transfer.result pair_is c.self.invariant.seated c.take_back-start.ensures.leased c.take_back-start.new.self c.spend.new.seats c.take_back-start.ensures.back c.spend.ensures.cleared c.grant_to_head.new.state.log c.grant_to_head.new.seats c.grant_to_head.ensures.seated c.grant_to_head.ensures.starts.ended in
-    accounts_spent c.args.self.now state.log c.grant_to_head.new.state.log (ap (λ (v : HostShown g.row.S.Denot). v.log) c.self.view_is) more c.args.pass.now _ _ (c.host-host.ensures ∙ ap (λ (v : HostShown g.row.S.Denot). v.host) c.self.view_is) _ _ c.requires.enrolled c.spend.ensures.spent
+    let more = gone_spent state.log c.self.inside.seats _ c.number-number.result c.transfer-transfer.result pair_is c.self.invariant.seated c.take_back-start.ensures.leased c.take_back-start.new.self c.spend_returned.new.seats c.take_back-start.ensures.back c.spend_returned.ensures.cleared c.grant_to_head.new.state.log c.grant_to_head.new.seats c.grant_to_head.ensures.seated c.grant_to_head.ensures.starts.ended in
+    accounts_spent c.args.self.now state.log c.grant_to_head.new.state.log (ap (λ (v : HostShown g.row.S.Denot). v.log) c.self.view_is) more c.args.pass.now _ _ (c.host-host.ensures ∙ ap (λ (v : HostShown g.row.S.Denot). v.host) c.self.view_is) _ _ c.requires.enrolled c.spend_returned.ensures.spent
 
 pub returns-in-Ended-clause-account : goal.returns-in-Ended-clause-account
 returns-in-Ended-clause-account g c =
     let state = c.self.inside.state in
     let pair_is = apart_pair c.args.lease _ _ c.take_apart-used.ensures.used _ _ c.number-number.ensures c.transfer-transfer.ensures _ c.take_apart-used.ensures.pair in
-    let more = gone_spent state.log c.self.inside.seats _ c.number-number.result c.transfer-transfer.result pair_is c.self.invariant.seated c.take_back-start.ensures.leased c.take_back-start.new.self c.spend-in-Ended.new.seats c.take_back-start.ensures.back c.spend-in-Ended.ensures.cleared c.hand_on.new.state.log c.hand_on.new.seats c.hand_on.ensures.seated c.hand_on.ensures.starts.ended in
-    accounts_spent c.args.self.now state.log c.hand_on.new.state.log (ap (λ (v : HostShown g.row.S.Denot). v.log) c.self.view_is) more c.args.pass.now _ _ (c.host-host.ensures ∙ ap (λ (v : HostShown g.row.S.Denot). v.host) c.self.view_is) _ _ c.requires.enrolled c.spend-in-Ended.ensures.spent
+    let more = gone_spent state.log c.self.inside.seats _ c.number-number.result c.transfer-transfer.result pair_is c.self.invariant.seated c.take_back-start.ensures.leased c.take_back-start.new.self c.spend_returned-in-Ended.new.seats c.take_back-start.ensures.back c.spend_returned-in-Ended.ensures.cleared c.hand_on.new.state.log c.hand_on.new.seats c.hand_on.ensures.seated c.hand_on.ensures.starts.ended in
+    accounts_spent c.args.self.now state.log c.hand_on.new.state.log (ap (λ (v : HostShown g.row.S.Denot). v.log) c.self.view_is) more c.args.pass.now _ _ (c.host-host.ensures ∙ ap (λ (v : HostShown g.row.S.Denot). v.host) c.self.view_is) _ _ c.requires.enrolled c.spend_returned-in-Ended.ensures.spent
 
 pub returns-else-not-close_if_full-clause-account : goal.returns-else-not-close_if_full-clause-account
 returns-else-not-close_if_full-clause-account g c =
     let state = c.self.inside.state in
     let pair_is = apart_pair c.args.lease _ _ c.take_apart-used.ensures.used _ _ c.number-number.ensures c.transfer-transfer.ensures _ c.take_apart-used.ensures.pair in
-    let more = gone_spent state.log c.self.inside.seats _ c.number-number.result c.transfer-transfer.result pair_is c.self.invariant.seated c.take_back-start.ensures.leased c.take_back-start.new.self c.spend-in-Unkept.new.seats c.take_back-start.ensures.back c.spend-in-Unkept.ensures.cleared c.give_back_to_close.new.self.log c.spend-in-Unkept.new.seats (seated_out g c) refl in
-    accounts_spent c.args.self.now state.log c.give_back_to_close.new.self.log (ap (λ (v : HostShown g.row.S.Denot). v.log) c.self.view_is) more c.args.pass.now _ _ (c.host-host.ensures ∙ ap (λ (v : HostShown g.row.S.Denot). v.host) c.self.view_is) _ _ c.requires.enrolled c.spend-in-Unkept.ensures.spent
+    let more = gone_spent state.log c.self.inside.seats _ c.number-number.result c.transfer-transfer.result pair_is c.self.invariant.seated c.take_back-start.ensures.leased c.take_back-start.new.self c.spend_returned-in-Unkept.new.seats c.take_back-start.ensures.back c.spend_returned-in-Unkept.ensures.cleared c.give_back_to_close.new.self.log c.spend_returned-in-Unkept.new.seats (seated_out g c) refl in
+    accounts_spent c.args.self.now state.log c.give_back_to_close.new.self.log (ap (λ (v : HostShown g.row.S.Denot). v.log) c.self.view_is) more c.args.pass.now _ _ (c.host-host.ensures ∙ ap (λ (v : HostShown g.row.S.Denot). v.host) c.self.view_is) _ _ c.requires.enrolled c.spend_returned-in-Unkept.ensures.spent
 
 pub returns-else-not-close_if_full-clause-stays : goal.returns-else-not-close_if_full-clause-stays
 returns-else-not-close_if_full-clause-stays g c = g.met.P.Permits.stays_on _ _ _ c.ask_to_keep-asked.ensures.stays c.release_open.ensures.stays
