@@ -206,6 +206,18 @@ pub(crate) fn put_in<S: Drop>(idle: &mut VecDeque<Idle<S>>, place: usize, new: I
         idle.push_back_reserved(new);
         return;
     }
+    put_before(idle, place, new);
+}
+
+// Puts one in before others. What an insertion moves about is set up only here.
+#[inline(always)]
+fn put_before<S: Drop>(idle: &mut VecDeque<Idle<S>>, place: usize, new: Idle<S>)
+    requires range { place ≤ deque_len idle.old }
+    requires room { deque_len idle.old < deque_capacity idle.old }
+    ensures items { idle.new.items ≡ insert idle.old.items place new }
+    ensures len { deque_len idle.new ≡ deque_len idle.old + 1 }
+    ensures capacity { deque_capacity idle.old ≤ deque_capacity idle.new }
+{
     let inserted: Result<_, _> = idle.insert(place, new);
     inserted.unwrap();
 }

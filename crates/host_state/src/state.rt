@@ -4,6 +4,7 @@ ghost use Rattle.std.specs.Prelude.{OnSome, is_some, if◌then◌else◌, take, 
 ghost use Rattle.std.specs.VecDeque.{deque_capacity};
 ghost use Rattle.conn_log.specs.declared.entry.Entry.{Entry};
 ghost use Rattle.conn_log.specs.declared.entry.Event.TheVariants.{Opened, Closed, Waited, Left};
+ghost use Rattle.conn_log.specs.declared.entry.Event.TheVariants.{Returned as CameBack};
 ghost use Rattle.conn_log.specs.Connections.{last_moment, held_number, is_open, is_idle};
 ghost use Rattle.conn_log.specs.Connections.{open_connections, idle_connections, holds, is_held_by};
 ghost use Rattle.conn_log.specs.Waiting.{waiting, waits};
@@ -573,13 +574,7 @@ impl<S: Drop> State<S> {
         let Some(held) = take_out_number(&mut self.held, transfer, number, more) else {
             return Returned::Strange(stream);
         };
-        self.log.append(Entry {
-            moment,
-            event: Event::Returned {
-                connection: held.number,
-                facts,
-            },
-        });
+        append_return(&mut self.log, moment, held.number, facts);
         if !stays_open(&facts, &held) {
             self.log.append(Entry {
                 moment,
@@ -623,13 +618,7 @@ impl<S: Drop> State<S> {
     {
         drop(stream);
         take_out(&mut self.held, transfer);
-        self.log.append(Entry {
-            moment,
-            event: Event::Returned {
-                connection: number,
-                facts,
-            },
-        });
+        append_return(&mut self.log, moment, number, facts);
         self.log.append(Entry {
             moment,
             event: Event::Closed {
@@ -701,6 +690,19 @@ fn ending_cause(facts: &Facts, forbids_reuse: bool) -> Cause
     } else {
         Cause::NotPersistent
     }
+}
+
+// Adds the entry of a connection that came back. It is made right where it is added: made earlier
+// it would be moved with its padding.
+#[inline(always)]
+fn append_return(log: &mut Log, moment: u64, connection: u32, facts: Facts)
+    requires room { 0 < log.old.room }
+    requires moment { last_moment log.old.entries ≤ moment }
+    ensures entries { log.new.entries ≡ add moment (CameBack connection facts) log.old.entries }
+    ensures room { log.new.room + 1 ≡ log.old.room }
+{
+    let event = Event::Returned { connection, facts };
+    log.append(Entry { moment, event });
 }
 
 // Whether a connection stays open after that response.

@@ -30,12 +30,12 @@ invariant_of-self-then-not-stays_open g c =
     let later = subst (λ log. last_moment log ≤ c.args.moment) (sym log_is) c.requires in
     let ends : stays_open c.args.facts held ≡ false = sym c.stays_open.ensures ∙ grind (arith, c.if-not-stays_open.true) in
     record {
-      replays = rw (c.append-then-not-stays_open.ensures.entries, c.append.ensures.entries) (replays_end _ _ _ _ _ _ kept c.args.transfer held c.in-Some.ensures.there c.args.moment later c.args.facts _ ends c.ending_cause.ensures _ _ c.in-Some.ensures.taken c.in-Some.ensures.len);
-      limit = rw (c.append-then-not-stays_open.ensures.entries, c.append.ensures.entries) c.self-2.invariant.limit;
-      queue = rw (c.append-then-not-stays_open.ensures.entries, c.append.ensures.entries) c.self-2.invariant.queue;
+      replays = rw (c.append.ensures.entries, c.append_return.ensures.entries) (replays_end _ _ _ _ _ _ kept c.args.transfer held c.in-Some.ensures.there c.args.moment later c.args.facts _ ends c.ending_cause.ensures _ _ c.in-Some.ensures.taken c.in-Some.ensures.len);
+      limit = rw (c.append.ensures.entries, c.append_return.ensures.entries) c.self-2.invariant.limit;
+      queue = rw (c.append.ensures.entries, c.append_return.ensures.entries) c.self-2.invariant.queue;
       numbers = c.self-2.invariant.numbers;
       room = record {
-        log_room = omega (arith, room.log_room, c.append.ensures.room, c.append-then-not-stays_open.ensures.room, c.in-Some.ensures.len);
+        log_room = omega (arith, room.log_room, c.append_return.ensures.room, c.append.ensures.room, c.in-Some.ensures.len);
         idle_room = omega (arith, room.idle_room, c.in-Some.ensures.len);
         held_room = omega (arith, c.take_out_number.ensures.room (omega (arith, room.held_room, c.len.ensures)), c.len.ensures);
         queue_room = room.queue_room;
@@ -74,7 +74,7 @@ returns-then-not-stays_open-clause-closed g c =
       booked = ap (λ (v : HostState g.row.S.Denot). v.booked) c.self-2.view_is;
       same = record { settings = ap (λ (v : HostState g.row.S.Denot). v.settings) c.self-2.view_is; host = ap (λ (v : HostState g.row.S.Denot). v.host) c.self-2.view_is };
     } in
-    rw (c.append-then-not-stays_open.ensures.entries, c.append.ensures.entries) (subst (λ (m : ℕ). ComesBackToClose c.args.self.now new c.args.transfer m c.args.facts c.args.moment) c.in-Some.ensures.number told)
+    rw (c.append.ensures.entries, c.append_return.ensures.entries) (subst (λ (m : ℕ). ComesBackToClose c.args.self.now new c.args.transfer m c.args.facts c.args.moment) c.in-Some.ensures.number told)
 
 pub invariant_of-self-2 : goal.invariant_of-self-2
 invariant_of-self-2 g c =
@@ -85,12 +85,12 @@ invariant_of-self-2 g c =
     let later = subst (λ log. last_moment log ≤ c.args.moment) (sym log_is) c.requires in
     let stays : stays_open c.args.facts held ≡ true = sym c.stays_open.ensures ∙ grind (arith, c.if-not-stays_open.false) in
     record {
-      replays = rw (c.append.ensures.entries, c.put_in.ensures.items, c.idle_since.ensures) (replays_return _ _ _ _ _ _ kept c.args.transfer held c.in-Some.ensures.there c.args.moment later c.args.facts stays c.place_for-place.result c.args.stream c.place_for-place.ensures _ _ c.in-Some.ensures.taken c.in-Some.ensures.len);
-      limit = rw c.append.ensures.entries c.self-2.invariant.limit;
-      queue = rw c.append.ensures.entries c.self-2.invariant.queue;
+      replays = rw (c.append_return.ensures.entries, c.put_in.ensures.items, c.idle_since.ensures) (replays_return _ _ _ _ _ _ kept c.args.transfer held c.in-Some.ensures.there c.args.moment later c.args.facts stays c.place_for-place.result c.args.stream c.place_for-place.ensures _ _ c.in-Some.ensures.taken c.in-Some.ensures.len);
+      limit = rw c.append_return.ensures.entries c.self-2.invariant.limit;
+      queue = rw c.append_return.ensures.entries c.self-2.invariant.queue;
       numbers = c.self-2.invariant.numbers;
       room = record {
-        log_room = omega (arith, room.log_room, c.append.ensures.room, c.in-Some.ensures.len, c.put_in.ensures.len);
+        log_room = omega (arith, room.log_room, c.append_return.ensures.room, c.in-Some.ensures.len, c.put_in.ensures.len);
         idle_room = omega (arith, room.idle_room, c.in-Some.ensures.len, c.put_in.ensures.len, c.put_in.ensures.capacity);
         held_room = omega (arith, c.take_out_number.ensures.room (omega (arith, room.held_room, c.len.ensures)), c.len.ensures);
         queue_room = room.queue_room;
@@ -118,14 +118,14 @@ returns-clause-idle g c =
     record {
       was_held = ap (λ log. held_facts log c.args.transfer) (sym log_is) ∙ sym (kept.held_at c.args.transfer) ∙ ap (option_map facts_of_held) there;
       stays = stays;
-      log = c.append.ensures.entries ∙ ap (λ log. add c.args.moment (Returned n c.args.facts) log) log_is;
-      settled = rw c.append.ensures.entries (none_owed _ _ _ _ _ _ kept c.args.transfer held there c.args.moment later c.args.facts stays);
-      holders = λ t. ap (λ log. held_number log t) c.append.ensures.entries ∙ number_returned c.args.moment n c.args.facts c.self-2.inside.log.entries t kept.sound.orderly.transfers_once ∙ taken_end _ _ kept.sound.orderly n c.args.transfer (table_number kept c.args.transfer held there) t ∙ ap (λ log. if c.args.transfer == t then None else held_number log t) log_is;
+      log = c.append_return.ensures.entries ∙ ap (λ log. add c.args.moment (Returned n c.args.facts) log) log_is;
+      settled = rw c.append_return.ensures.entries (none_owed _ _ _ _ _ _ kept c.args.transfer held there c.args.moment later c.args.facts stays);
+      holders = λ t. ap (λ log. held_number log t) c.append_return.ensures.entries ∙ number_returned c.args.moment n c.args.facts c.self-2.inside.log.entries t kept.sound.orderly.transfers_once ∙ taken_end _ _ kept.sound.orderly n c.args.transfer (table_number kept c.args.transfer held there) t ∙ ap (λ log. if c.args.transfer == t then None else held_number log t) log_is;
       kept = rw (c.put_in.ensures.items, c.idle_since.ensures) (at_it ∙ ap (λ b. if b then Some c.args.stream else stream_of (streams_of c.self-2.inside.idle.items) n) it);
       others = λ d other. rw (c.put_in.ensures.items, c.idle_since.ensures) (stream_of-insert c.self-2.inside.idle.items c.place_for-place.result x d absent ∙ ap (λ b. if b then Some c.args.stream else stream_of (streams_of c.self-2.inside.idle.items) d) other ∙ ap (λ (v : HostState g.row.S.Denot). stream_of v.streams d) c.self-2.view_is);
-      as_many_open = ap (λ log. length (open_connections log)) (c.append.ensures.entries ∙ ap (λ log. add c.args.moment (Returned n c.args.facts) log) log_is);
-      more_idle = ap (λ log. length (idle_connections log)) c.append.ensures.entries ∙ more_idle_back _ _ _ _ _ _ kept c.args.transfer held there c.args.moment c.args.facts stays ∙ ap (λ log. length (idle_connections log) + 1) log_is;
-      limit = ap (limit_in_force (record { limit = c.self-2.inside.host_limit; first = c.self-2.inside.first })) c.append.ensures.entries ∙ ap (λ (v : HostState g.row.S.Denot). limit_in_force v.settings v.log) c.self-2.view_is;
+      as_many_open = ap (λ log. length (open_connections log)) (c.append_return.ensures.entries ∙ ap (λ log. add c.args.moment (Returned n c.args.facts) log) log_is);
+      more_idle = ap (λ log. length (idle_connections log)) c.append_return.ensures.entries ∙ more_idle_back _ _ _ _ _ _ kept c.args.transfer held there c.args.moment c.args.facts stays ∙ ap (λ log. length (idle_connections log) + 1) log_is;
+      limit = ap (limit_in_force (record { limit = c.self-2.inside.host_limit; first = c.self-2.inside.first })) c.append_return.ensures.entries ∙ ap (λ (v : HostState g.row.S.Denot). limit_in_force v.settings v.log) c.self-2.view_is;
       booked = ap (λ (v : HostState g.row.S.Denot). v.booked) c.self-2.view_is;
       same = record { settings = ap (λ (v : HostState g.row.S.Denot). v.settings) c.self-2.view_is; host = ap (λ (v : HostState g.row.S.Denot). v.host) c.self-2.view_is };
     }

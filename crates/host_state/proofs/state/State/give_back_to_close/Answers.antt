@@ -22,12 +22,12 @@ invariant_of-self g c =
     let there = table_from_log kept c.args.transfer stays.held (subst (λ log. held_facts log c.args.transfer ≡ Some (facts_of_held stays.held)) (sym log_is) stays.was_held) in
     let later = subst (λ log. last_moment log ≤ c.args.moment) (sym log_is) c.requires.later in
     record {
-      replays = rw (c.append-2.ensures.entries, c.append.ensures.entries, ← stays.number) (replays_unkept _ _ _ _ _ _ kept c.args.transfer stays.held there c.args.moment later c.args.facts stays.stays _ _ c.take_out.ensures.taken c.take_out.ensures.len);
-      limit = rw (c.append-2.ensures.entries, c.append.ensures.entries) c.self.invariant.limit;
-      queue = rw (c.append-2.ensures.entries, c.append.ensures.entries) c.self.invariant.queue;
+      replays = rw (c.append.ensures.entries, c.append_return.ensures.entries, ← stays.number) (replays_unkept _ _ _ _ _ _ kept c.args.transfer stays.held there c.args.moment later c.args.facts stays.stays _ _ c.take_out.ensures.taken c.take_out.ensures.len);
+      limit = rw (c.append.ensures.entries, c.append_return.ensures.entries) c.self.invariant.limit;
+      queue = rw (c.append.ensures.entries, c.append_return.ensures.entries) c.self.invariant.queue;
       numbers = c.self.invariant.numbers;
       room = record {
-        log_room = omega (arith, room.log_room, c.append.ensures.room, c.append-2.ensures.room, c.take_out.ensures.len);
+        log_room = omega (arith, room.log_room, c.append_return.ensures.room, c.append.ensures.room, c.take_out.ensures.len);
         idle_room = omega (arith, room.idle_room, c.take_out.ensures.len);
         held_room = omega (arith, room.held_room, c.take_out.ensures.room);
         queue_room = room.queue_room;
@@ -56,4 +56,4 @@ returns g c =
       booked = ap (λ (v : HostState g.row.S.Denot). v.booked) c.self.view_is;
       same = record { settings = ap (λ (v : HostState g.row.S.Denot). v.settings) c.self.view_is; host = ap (λ (v : HostState g.row.S.Denot). v.host) c.self.view_is };
     } in
-    rw (c.append-2.ensures.entries, c.append.ensures.entries) (subst (λ (m : ℕ). ComesBackUnkept c.args.self.now (record new { log = add c.args.moment (Closed m CacheFull) (add c.args.moment (Returned m c.args.facts) state.log.entries) }) c.args.transfer m c.args.facts c.args.moment) stays.number told)
+    rw (c.append.ensures.entries, c.append_return.ensures.entries) (subst (λ (m : ℕ). ComesBackUnkept c.args.self.now (record new { log = add c.args.moment (Closed m CacheFull) (add c.args.moment (Returned m c.args.facts) state.log.entries) }) c.args.transfer m c.args.facts c.args.moment) stays.number told)
