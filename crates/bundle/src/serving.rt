@@ -388,6 +388,47 @@ pub(crate) fn grant_to_head<S: Drop>(
     ensures booked { state.new.booked ≡ state.old.booked }
     ensures same { IsSameHost state.old state.new }
 {
+    if state.anyone_waits() {
+        grant_or_replace(state, seats, grants, held, moment);
+    }
+}
+
+// The same, for the few times when anyone waits.
+// Out of line, so that what comes back where nobody waits stays small enough to be inlined.
+#[inline(never)]
+fn grant_or_replace<S: Drop>(
+    state: &mut State<S>,
+    seats: &mut Seats,
+    grants: &mut Vec<Grant<S>>,
+    held: &Held,
+    moment: u64,
+)
+    requires seated { IsSeated state.old.log seats.old }
+    requires unclaimed { AreUnclaimed (grant_starts grants.old.items) seats.old }
+    requires later { last_moment state.old.log ≤ moment }
+    requires alone { IsAnyone (waiting state.old.log) → IsAlone state.old.log held.now moment }
+    requires spare { HasSpare state.old.log state.old.booked (vec_len grants.old)
+        (vec_capacity grants.old) }
+    ensures log { let log = state.old.log in
+        let wants = waiting state.old.log in
+        state.new.log ≡ grant_to state.old.settings held.now.number moment log wants }
+    ensures grants { let log = state.old.log in
+        let wants = waiting state.old.log in
+        let stream = stream_of state.old.streams held.now.number in
+        let passed = with_granted state.old.settings held.now.number moment stream log wants in
+        grants.new.items ≡ passed grants.old.items }
+    ensures seated { IsSeated state.new.log seats.new }
+    ensures unclaimed { AreUnclaimed (grant_starts grants.new.items) seats.new }
+    ensures starts { OnlyStarts seats.old seats.new }
+    ensures spare { HasSpare state.new.log state.new.booked (vec_len grants.new)
+        (vec_capacity grants.new) }
+    ensures others { KeepsOpenBut held.now.number state.old state.new }
+    ensures taken { IsAnyone (waiting state.old.log) →
+        one_more_kept (held_by state.new.log) ≡ held_by state.old.log }
+    ensures nobody { waiting state.old.log ≡ [] → state.new ≡ state.old }
+    ensures booked { state.new.booked ≡ state.old.booked }
+    ensures same { IsSameHost state.old state.new }
+{
     let Some(head) = state.first_waiting() else {
         return;
     };

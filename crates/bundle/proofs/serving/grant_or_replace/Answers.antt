@@ -13,7 +13,7 @@ use Rattle.bundle.specs.Seats.{SeatsShown}
 use Rattle.bundle.proofs.Seating.{apart, seated_granted, start_fits, granted_ended}
 use Rattle.bundle.proofs.Starting.{head_free, begins_lease, unclaimed_pushed}
 use Rattle.bundle.proofs.Unfit.{unfit_closed, unfit_granted}
-use Rattle.bundle.proofs.serving.grant_to_head.Goals as goal
+use Rattle.bundle.proofs.serving.grant_or_replace.Goals as goal
 
 pub grant-requires-clause-apart : goal.grant-requires-clause-apart
 grant-requires-clause-apart g c =
