@@ -137,7 +137,7 @@ impl<D: Copy + Drop> Pass<D> {
         ensures account { self.new ≡ change_at self.old host (spent_once did) }
         ensures seats { KeepsSeats self.old self.new }
     {
-        // What is told is written first: no move of it is merged with another across an atomic step.
+        // What is told is written first: moves of it on both sides of an atomic step stay apart.
         let enrolled = &mut self.accounts[host];
         enrolled.tell(did);
         match &mut enrolled.seat {

@@ -537,7 +537,7 @@ fn spend<S: Drop>(
     ensures spent { pass.new ≡ spends host moment event pass.old }
     ensures seats { KeepsSeats pass.old pass.new }
 {
-    // The entry is told at once: no move of it is merged with another across an atomic step.
+    // The entry is told first: moves of it on both sides of an atomic step stay apart.
     let did = Did::Wrote(Entry { moment, event });
     pass.spend(host as usize, seats.tally(), start, did);
     let _ = used.into_stream();
