@@ -62,20 +62,6 @@ left_picked closing moment log after number first is =
     let others = picked closing moment after in
     sym (ap (λ numbers. close_each (cause_of closing) moment numbers log) first ∙ ap (close_each (cause_of closing) moment others) (sym is))
 
--- idle ones were closed, and then others
-pub closes_on : {S : Type 0} (moment : ℕ) (old between new : HostState S) → ClosesIdle moment old between → ClosesIdle moment between new → ClosesIdle moment old new
-closes_on moment old between new sooner later = record {
-  opened = later.opened ∙ sooner.opened;
-  starts = later.starts ∙ sooner.starts;
-  still = λ d is. sooner.still d (later.still d is);
-  streams = λ d is. later.streams d is ∙ sooner.streams d (later.still d is);
-  holders = λ t. later.holders t ∙ sooner.holders t;
-  waiting = later.waiting ∙ sooner.waiting;
-  later = later.later;
-  booked = later.booked ∙ sooner.booked;
-  same = record { settings = later.same.settings ∙ sooner.same.settings; host = later.same.host ∙ sooner.same.host };
-}
-
 -- both permits of a closed one were freed
 pub both_freed : (alive kept alive_left kept_left : ℕ) → alive ≡ alive_left + 1 → kept ≡ kept_left + 1 → one_less_open (one_less_kept (held alive kept)) ≡ held alive_left kept_left
 both_freed alive kept alive_left kept_left fewer_open fewer_idle =

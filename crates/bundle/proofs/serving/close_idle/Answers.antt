@@ -1,6 +1,7 @@
 use Rattle.std.proofs.Common.{length, ap, ◌∙◌, arith}
 use Rattle.budget.specs.Permits.{one_less_open, one_less_kept}
-use Rattle.bundle.proofs.Starting.{left_picked, closes_on, both_freed}
+use Rattle.host_state.proofs.Limits.{closes_then}
+use Rattle.bundle.proofs.Starting.{left_picked, both_freed}
 use Rattle.bundle.proofs.serving.close_idle.Goals as goal
 
 pub loop-permits-preserved : goal.loop-permits-preserved
@@ -16,7 +17,7 @@ loop-permits-preserved g c =
     record {
       left = left_picked closing moment between.log after.log next.number next.picked next.log ∙ kept.left;
       count = omega (arith, kept.count, ap length next.picked, next.fewer_idle);
-      closes = closes_on moment c.args.state.now between after kept.closes next.closes;
+      closes = closes_then moment c.args.state.now between after kept.closes next.closes;
       stands = both.stands;
       stays = g.met.P.Permits.stays_on _ _ _ kept.stays (g.met.P.Permits.stays_on _ _ _ one.stays both.stays);
       as_many_held = omega (arith, kept.as_many_held, next.fewer_open, next.fewer_idle);
