@@ -23,7 +23,7 @@ seated_new held none = record {
   number = ap (λ (pairs : List Pair × List Pair). (length pairs.0 + length pairs.1) + 0) (λ i. (none.0 i, none.1 i));
   starts = none.3;
   unsplit = none.4 ∙ ap length (sym none.0);
-  counted = omega (arith, ap length none.0, ap length none.1);
+  held_within = omega (arith, ap length none.0, ap length none.1);
 }
 
 pub unclaimed_new : (held : SeatsShown) → CountsNone held → AreUnclaimed [] held
@@ -115,7 +115,7 @@ seated_granted log after held now c t seated free begins is = subst (IsSeated af
   number = omega (arith, seated.number, begins.lengths);
   starts = omega (arith, seated.starts, begins.starts);
   unsplit = omega (arith, seated.unsplit);
-  counted = omega (arith, seated.counted);
+  held_within = omega (arith, seated.held_within);
 })
 
 -- it claimed what it was granted
@@ -126,7 +126,7 @@ seated_claimed log held now c t seated granted is = subst (IsSeated log) (sym is
   number = omega (arith, seated.number, length_without (c, t) held.granted, granted);
   starts = seated.starts;
   unsplit = omega (arith, seated.unsplit, length_without (c, t) held.granted, granted);
-  counted = omega (arith, seated.counted, length_without (c, t) held.granted, granted);
+  held_within = omega (arith, seated.held_within, length_without (c, t) held.granted, granted);
 })
 
 -- it leased the connection at once
@@ -164,7 +164,7 @@ seated_ended log after held now c t seated leased ends is = subst (IsSeated afte
   number = omega (arith, seated.number, length_without (c, t) held.leased, leased, ends.lengths);
   starts = omega (arith, seated.starts, ends.starts);
   unsplit = seated.unsplit;
-  counted = omega (arith, seated.counted, length_without (c, t) held.leased, leased);
+  held_within = omega (arith, seated.held_within, length_without (c, t) held.leased, leased);
 })
 
 -- nothing of it changed
@@ -175,7 +175,7 @@ seated_same log after held seated same = record {
   number = omega (arith, seated.number, same.lengths);
   starts = omega (arith, seated.starts, same.starts);
   unsplit = seated.unsplit;
-  counted = seated.counted;
+  held_within = seated.held_within;
 }
 
 -- the pairs of grants: of one more at the end, of those of other transfers, and without one
@@ -278,4 +278,4 @@ pub claimed_ended : (held now : SeatsShown) (c t : ℕ) → pair_count (c, t) he
 claimed_ended held now c t granted is = omega (arith, ap ended_starts is, length_without (c, t) held.granted, granted)
 
 pub spent_ended : (log : List Entry) (held now : SeatsShown) (c t : ℕ) → IsSeated log held → pair_count (c, t) held.leased ≡ 1 → now ≡ record held { leased = without_pair (c, t) held.leased; back = None } → ended_starts now ≡ ended_starts held + 1
-spent_ended log held now c t seated leased is = omega (arith, ap ended_starts is, length_without (c, t) held.leased, leased, seated.counted)
+spent_ended log held now c t seated leased is = omega (arith, ap ended_starts is, length_without (c, t) held.leased, leased, seated.held_within)

@@ -57,7 +57,7 @@ pub record IsSeated (log : List Entry) (seats : SeatsShown) : Type 0 where
   pub number : (length seats.granted + length seats.leased) + length (idle_connections log) ≡ length (open_connections log)
   pub starts : seats.counted ≡ start_count log
   pub unsplit : seats.unsplit ≡ length seats.granted
-  pub counted : length seats.granted + length seats.leased ≤ seats.counted
+  pub held_within : length seats.granted + length seats.leased ≤ seats.counted
 
 -- the pairs of those starts
 abbrev pub pairs_of : List Start → List Pair
