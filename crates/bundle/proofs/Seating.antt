@@ -227,6 +227,11 @@ granted_once {S = S} log grants held kept unclaimed t grant is = unclaimed grant
           omega (arith, times_cons (grant.number, t) (x.number, x.want.transfer) (pairs_of (grant_starts others)), ap counted (other_transfer x.number grant.number x.want.transfer t other.0), times_granted others kept.2 it)
     ]
 
+-- and there is a start that no seat was split off for yet
+pub granted_unsplit : {S : Type 0} (log : List Entry) (grants : List (Grant S)) (held : SeatsShown) → IsSeated log held → GrantsKept log grants → AreUnclaimed (grant_starts grants) held → (t : ℕ) (grant : Grant S) → grant_of grants t ≡ Some grant → 0 < held.unsplit
+granted_unsplit log grants held seated kept unclaimed t grant is =
+    omega (arith, seated.unsplit, length_without (grant.number, t) held.granted, granted_once log grants held kept unclaimed t grant is)
+
 -- one was claimed
 pub unclaimed_claimed : {S : Type 0} (log : List Entry) (grants : List (Grant S)) (held now : SeatsShown) → GrantsKept log grants → AreUnclaimed (grant_starts grants) held → (t : ℕ) (grant : Grant S) → grant_of grants t ≡ Some grant → now ≡ pair_leased (grant.number, t) held → AreUnclaimed (grant_starts (without_grant t grants)) now
 unclaimed_claimed log grants held now kept unclaimed t grant is claimed = subst (AreUnclaimed (grant_starts (without_grant t grants))) (sym claimed) (λ d u.

@@ -6,13 +6,12 @@ use Rattle.bundle.specs.Grants.{GrantsKept, grant_starts, grant_streams, grant_t
 use Rattle.host_state.specs.Idle.{stream_of}
 use Rattle.bundle.specs.Lease.{HostShown, Using, Leasing, lease_at, start_for, is_unclaimed, is_valid_ticket}
 use Rattle.budget.specs.Accounts.{change_at, told}
-use Rattle.budget.proofs.HoldersSteps.{length_without}
 use Rattle.bundle.specs.declared.did.Did.TheVariants.{Claimed}
 use Rattle.bundle.specs.Seats.{LeaseSeats, AreUnclaimed, gone}
 use Rattle.bundle.proofs.Telling.{accounts_told}
 use Rattle.bundle.proofs.Granting.{is_some-grant_of, start_granted, kept_at, kept_without}
 use Rattle.bundle.proofs.Answering.{stood_granted, claimed_left, claimed_stream, claimed_streams, gets_at}
-use Rattle.bundle.proofs.Seating.{granted_once, seated_claimed, unclaimed_claimed}
+use Rattle.bundle.proofs.Seating.{granted_once, granted_unsplit, seated_claimed, unclaimed_claimed}
 use Rattle.bundle.proofs.LeaseEnds.{same_pair}
 use Rattle.bundle.proofs.host.Bundle.claim.Goals as goal
 
@@ -47,11 +46,7 @@ claim-seat-requires-clause-granted g c =
 pub claim-seat-requires-clause-unsplit : goal.claim-seat-requires-clause-unsplit
 claim-seat-requires-clause-unsplit g c =
     let inv = c.self.invariant in
-    let held = c.self.inside.seats in
-    let grant = c.in-Some.grant in
-    let t = c.want-want.result.transfer in
-    let once = granted_once c.self.inside.state.log c.self.inside.grants.items held inv.grants inv.unclaimed t grant (sym c.in-Some.ensures.grant) in
-    omega (arith, inv.seated.unsplit, length_without (grant.number, t) held.granted, once)
+    granted_unsplit c.self.inside.state.log c.self.inside.grants.items c.self.inside.seats inv.seated inv.grants inv.unclaimed c.want-want.result.transfer c.in-Some.grant (sym c.in-Some.ensures.grant)
 
 pub returns-clause-account : goal.returns-clause-account
 returns-clause-account g c =

@@ -1,5 +1,4 @@
 use Rattle.std.proofs.Common.{◌≡◌, ℕ, length, Some, None, true, refl, sym, ap, subst, ◌∙◌, arith}
-use Rattle.budget.proofs.HoldersSteps.{length_without}
 use Rattle.conn_log.specs.declared.entry.Want.{Want}
 use Rattle.conn_log.specs.declared.entry.Cause.TheVariants.{Withdrawn}
 use Rattle.conn_log.specs.declared.entry.Event.TheVariants.{Left}
@@ -23,7 +22,7 @@ use Rattle.bundle.proofs.Answering.{known, there_where, held_told, stood_waits, 
 use Rattle.bundle.proofs.Settling.{Settled, settled_closed, room_closed, left_log, withdrawn_log, gone_open, left_moved, grows_from, unmarked_from}
 use Rattle.bundle.proofs.Halfway.{booked_freed}
 use Rattle.bundle.proofs.Freeing.{part_fewer, freed_close}
-use Rattle.bundle.proofs.Seating.{granted_once, seated_claimed, unclaimed_claimed, unclaimed_same, same_gone}
+use Rattle.bundle.proofs.Seating.{granted_once, granted_unsplit, seated_claimed, unclaimed_claimed, unclaimed_same, same_gone}
 use Rattle.bundle.proofs.LeaseEnds.{ends_closed, seated_left, seated_spent, granted_spent, gone_spent}
 use Rattle.bundle.proofs.Telling.{accounts_told}
 use Rattle.bundle.proofs.Accounting.{accounts_spent, withdraws_as}
@@ -120,10 +119,7 @@ claim-seat-requires-clause-granted g c =
 pub claim-seat-requires-clause-unsplit : goal.claim-seat-requires-clause-unsplit
 claim-seat-requires-clause-unsplit g c =
     let inv = c.self.invariant in
-    let held = c.self.inside.seats in
-    let t = c.want-want.result.transfer in
-    let once = granted_once c.self.inside.state.log c.self.inside.grants.items held inv.grants inv.unclaimed t c.in-Some.grant (sym c.in-Some.ensures.grant) in
-    omega (arith, inv.seated.unsplit, length_without (c.in-Some.grant.number, t) held.granted, once)
+    granted_unsplit c.self.inside.state.log c.self.inside.grants.items c.self.inside.seats inv.seated inv.grants inv.unclaimed c.want-want.result.transfer c.in-Some.grant (sym c.in-Some.ensures.grant)
 
 pub returns-in_default-clause-withdrawn : goal.returns-in_default-clause-withdrawn
 returns-in_default-clause-withdrawn g c =
