@@ -11,7 +11,7 @@ use Rattle.conn_log.specs.Sound.{has_number}
 use Rattle.conn_log.specs.Starts.{start_count}
 use Rattle.conn_log.proofs.StartCounts.{starts_within}
 use Rattle.bundle.specs.declared.grant.Grant.{Grant}
-use Rattle.bundle.specs.Calls.{Start}
+use Rattle.bundle.specs.Calls.{Start, leased_len}
 use Rattle.bundle.specs.Grants.{grant_of, grant_starts, grant_transfers, without_grant, GrantsKept}
 use Rattle.bundle.specs.Seats.{SeatsShown, one_if, IsSeated, pairs_of, pair_granted, pair_leased, CountsNone, AreUnclaimed, KeepsGranted, OnlyStarts, ended_starts, gone}
 
@@ -203,6 +203,10 @@ times_without_grant p t grant (x ∷ others) is = elim (eqb_tells x.want.transfe
       let it : grant_of others t ≡ Some grant = rw other.0 at is in
       rw other.0 (omega (arith, times_cons p (x.number, x.want.transfer) (pairs_of (grant_starts others)), times_cons p (x.number, x.want.transfer) (pairs_of (grant_starts (without_grant t others))), times_without_grant p t grant others it))
 ]
+
+-- no more are held than started
+pub held_of_started : (log : List Entry) (held : SeatsShown) → IsSeated log held → leased_len log ≤ start_count log
+held_of_started log held seated = omega (arith, seated.number, seated.starts, seated.held_within)
 
 -- the grants: one more
 pub unclaimed_granted : {S : Type 0} (grants : List (Grant S)) (grant : Grant S) (held now : SeatsShown) → AreUnclaimed (grant_starts grants) held → now ≡ pair_granted (grant.number, grant.want.transfer) held → AreUnclaimed (grant_starts (grants ++ grant ∷ [])) now

@@ -4,7 +4,7 @@ ghost use Rattle.conn_log.specs.Fit.{oldest_stamp};
 ghost use Rattle.conn_log.specs.Legal.{IsLegal, IsQuiet, limit_in_force};
 ghost use Rattle.conn_log.specs.Sound.{IsSound};
 ghost use Rattle.host_state.specs.State.{HasRoomToSpend};
-ghost use Rattle.bundle.specs.Calls.{is_queued};
+ghost use Rattle.bundle.specs.Calls.{is_queued, leased_len};
 ghost use Rattle.bundle.specs.Lease.{IsNewHost, snapshot_of, HasItsStreams, UnclaimedAreStarts};
 ghost use Rattle.bundle.specs.Lease.{AreBooked};
 ghost use Rattle.bundle.specs.Seats.{gone};
@@ -96,7 +96,8 @@ impl<S: Drop> Bundle<S> {
     /// waiting transfer, two for each leased connection and one for each idle one, so that spending
     /// a lease or a ticket takes no memory. The streams that the host has, and the starts that it
     /// granted and that are not claimed, are those that the log tells of; transfers whose acquire
-    /// is halfway neither hold nor wait.
+    /// is halfway neither hold nor wait. No more connections are held than starts were counted, so
+    /// that the starts that are over are their difference.
     pub fn log(&self) -> &Log
         ensures entries { result.now.entries ≡ self.now.log }
         ensures sound { IsSound self.now.settings self.now.log }
@@ -110,6 +111,7 @@ impl<S: Drop> Bundle<S> {
         ensures streams { HasItsStreams self.now }
         ensures unclaimed { UnclaimedAreStarts self.now }
         ensures booked { AreBooked self.now.log self.now.booked }
+        ensures starts { leased_len self.now.log ≤ start_count self.now.log }
     {
         self.state.log()
     }
@@ -160,8 +162,10 @@ impl<S: Drop> Bundle<S> {
         ensures same { self.new ≡ self.old }
         ensures gone { result ≡ gone self.old.log }
     {
-        let starts = self.seats.starts();
-        starts - self.seats.held()
+        // No more are held than started.
+        let _log = self.log();
+        let starts = self.starts();
+        starts - self.held()
     }
 
     /// How many connections transfers hold, read off the lease word.

@@ -1,9 +1,12 @@
-use Rattle.std.proofs.Common.{◌≡◌, Bool, true, false, ◌||◌, is_some, refl, ap, subst, ◌∙◌}
+use Rattle.std.proofs.Common.{◌≡◌, ◌≤◌, Bool, true, false, ◌||◌, is_some, refl, ap, subst, ◌∙◌}
 use Rattle.conn_log.specs.Connections.{is_idle}
+use Rattle.conn_log.specs.Starts.{start_count}
+use Rattle.bundle.specs.Calls.{leased_len}
 use Rattle.host_state.specs.Idle.{stream_of}
 use Rattle.bundle.specs.Grants.{grant_streams}
 use Rattle.bundle.specs.Lease.{HostShown, UnclaimedAreStarts}
 use Rattle.bundle.proofs.Streams.{some_behind, granted_streams, granted_starts}
+use Rattle.bundle.proofs.Seating.{held_of_started}
 use Rattle.bundle.proofs.host.Bundle.log.Goals as goal
 
 pub returns-clause-streams : goal.returns-clause-streams
@@ -23,3 +26,6 @@ returns-clause-streams g c d =
 
 pub returns-clause-unclaimed : goal.returns-clause-unclaimed
 returns-clause-unclaimed g c = subst (λ (v : HostShown g.row.S.Denot). UnclaimedAreStarts v) c.self.view_is (granted_starts c.self.inside.state.log c.self.inside.grants.items c.self.invariant.grants)
+
+pub returns-clause-starts : goal.returns-clause-starts
+returns-clause-starts g c = subst (λ (v : HostShown g.row.S.Denot). leased_len v.log ≤ start_count v.log) c.self.view_is (held_of_started c.self.inside.state.log c.self.inside.seats c.self.invariant.seated)
