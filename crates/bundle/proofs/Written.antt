@@ -1,5 +1,5 @@
 -- What calls tell a pass stands in the log that they leave.
-use Rattle.std.proofs.Common.{◌≡◌, ℕ, Bool, true, false, List, [], ◌∷◌, Option, Some, None, refl, sym, ap, subst, ◌∙◌}
+use Rattle.std.proofs.Common.{◌≡◌, ℕ, Bool, true, false, List, [], ◌∷◌, Option, Some, None, refl, sym, ap, subst}
 use Rattle.std.specs.Prelude.{if◌then◌else◌}
 use Rattle.persistence.specs.declared.facts.Facts.{Facts}
 use Rattle.budget.specs.declared.permits.Try.{Try}
@@ -15,7 +15,7 @@ use Rattle.conn_log.specs.Fit.{newest_fit, oldest}
 use Rattle.conn_log.specs.Legal.{LimitAndFirst, owed}
 use Rattle.host_state.specs.declared.closing.Closing.TheVariants.{TooOld, Above}
 use Rattle.host_state.specs.Steps.{add, moment_at, without_picked, is_full}
-use Rattle.bundle.specs.Calls.{Start, Wait, Reply, Acquired, Returning, starts, waits_on, no_room, again, spent, not_kept, keep_again, reuse, start_opened, start_in_place_of, start_in_place, start_as_told, start_on, start_behind, acquired, open_for_head, returned, after_give_back, becomes_idle, keep_as_told, given_back, after_abandon, close_granted, after_withdraw, after_limit, GrowsBy}
+use Rattle.bundle.specs.Calls.{Start, Wait, Reply, Acquired, Returning, starts, waits_on, no_room, again, spent, not_kept, keep_again, start_in_place_of, start_in_place, start_as_told, start_on, start_behind, acquired, open_for_head, returned, after_give_back, becomes_idle, keep_as_told, given_back, after_abandon, close_granted, after_withdraw, after_limit, GrowsBy}
 use Rattle.bundle.specs.Passes.{start_entry, wait_entry}
 use Rattle.bundle.proofs.Growth.{grows_same, grows_by_one, grows_for, grows_for_first, grows_settled}
 
