@@ -1,11 +1,11 @@
 -- Which seats a pass has once one of its accounts changed.
-use Rattle.std.proofs.Common.{◌≡◌, ℕ, zero, suc, ◌+◌, ◌<◌, ◌≤◌, List, [], ◌∷◌, length, slice_set, slice_index_or, Option, Some, None, refl, sym, ap, subst, inl, inr, ◌∙◌, arith}
-use Rattle.std.proofs.lemmas.Bool.Decides.{nat_tests, eqb_tells}
+use Rattle.std.proofs.Common.{◌≡◌, ℕ, zero, suc, ◌+◌, ◌<◌, List, [], ◌∷◌, length, slice_set, slice_index_or, Option, Some, None, sym, ap, subst, inl, inr, ◌∙◌, arith}
+use Rattle.std.proofs.lemmas.Bool.Decides.{eqb_tells}
 use Rattle.std.proofs.lemmas.List.{get_or-set_same, get_or-set_other, get_or_default}
 use Rattle.atomic_table.specs.Seated.{TableId}
 use Rattle.budget.specs.Starts.{Spendings}
 use Rattle.budget.specs.declared.pass.Account.{Account}
-use Rattle.budget.specs.Accounts.{vacant, account_at, change_at, IsEnrolledAt, KeepsSeats}
+use Rattle.budget.specs.Accounts.{vacant, account_at, IsEnrolledAt, KeepsSeats}
 
 module _ {D : Type 0} where
   -- the account has a seat at that tally

@@ -1,5 +1,4 @@
-use Rattle.std.proofs.Common.{◌≡◌, ◌+◌, Option, Some, sym, ap, ◌∙◌}
-use Rattle.atomic_table.specs.Seated.{TableId}
+use Rattle.std.proofs.Common.{Some, sym, ap, ◌∙◌}
 use Rattle.budget.specs.Starts.{Spendings}
 use Rattle.budget.specs.declared.pass.Account.{Account}
 use Rattle.budget.proofs.Enrolling.{keeps_seats, account_read, same_tally}
