@@ -1,14 +1,12 @@
-use Rattle.std.proofs.Common.{◌≡◌, ℕ, ◌<◌, length, Option, Some, sym, ap, subst, ◌∙◌}
+use Rattle.std.proofs.Common.{◌≡◌, ℕ, ◌<◌, length, Option, Some, ap, ◌∙◌}
 use Rattle.std.proofs.lemmas.List.{get_or-set_same}
 use Rattle.atomic_table.specs.Seated.{TableId}
 use Rattle.budget.specs.Starts.{Spendings}
 use Rattle.budget.specs.declared.pass.Account.{Account}
 use Rattle.budget.specs.Accounts.{vacant, account_at, change_at, enrolled, IsEnrolledAt}
 use Rattle.bundle.specs.declared.did.Did.{Did}
-use Rattle.bundle.specs.Grants.{grant_starts}
 use Rattle.bundle.specs.Lease.{HostShown}
 use Rattle.bundle.specs.Passes.{Accounts}
-use Rattle.bundle.specs.Seats.{IsSeated, AreUnclaimed}
 use Rattle.bundle.proofs.host.Bundle.enrol.Goals as goal
 
 -- a seat with which nothing was spent
@@ -23,19 +21,7 @@ enrolled_then pass after host index table here seat index_is here_is there seat_
     (0, ap (λ (it : Account Did). it.seat) read ∙ ap (λ (s : Spendings). Some s) seat_is ∙ ap new_seat here_is)
 
 pub invariant_of-self : goal.invariant_of-self
-invariant_of-self g c =
-    let bundle = c.self.inside in
-    let kept = c.self.invariant in
-    let same = c.seat_pass.ensures.same in
-    record {
-      count = kept.count;
-      bookings = kept.bookings;
-      settled = kept.settled;
-      grants = kept.grants;
-      spare = kept.spare;
-      seated = subst (λ held. IsSeated bundle.state.log held) (sym same) kept.seated;
-      unclaimed = subst (λ held. AreUnclaimed (grant_starts bundle.grants.items) held) (sym same) kept.unclaimed;
-    }
+invariant_of-self g c = rw c.seat_pass.ensures.same c.self.invariant
 
 pub returns-clause-enrolled : goal.returns-clause-enrolled
 returns-clause-enrolled g c =
