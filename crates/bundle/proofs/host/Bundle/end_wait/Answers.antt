@@ -2,7 +2,7 @@ use Rattle.std.proofs.Common.{◌≡◌, ℕ, length, Some, None, true, refl, sy
 use Rattle.conn_log.specs.declared.entry.Want.{Want}
 use Rattle.conn_log.specs.declared.entry.Cause.TheVariants.{Withdrawn}
 use Rattle.conn_log.specs.declared.entry.Event.TheVariants.{Left}
-use Rattle.conn_log.specs.Waiting.{waiting}
+use Rattle.conn_log.specs.Waiting.{waiting, waits}
 use Rattle.conn_log.specs.Starts.{start_count}
 use Rattle.bundle.specs.Calls.{after_withdraw, is_queued, is_freed}
 use Rattle.host_state.specs.Idle.{stream_of}
@@ -31,14 +31,16 @@ use Rattle.bundle.proofs.host.Bundle.end_wait.Goals as goal
 
 pub leave-requires-clause-waits : goal.leave-requires-clause-waits
 leave-requires-clause-waits g c =
-    let state = c.self.inside.state in
-    let grants = c.self.inside.grants.items in
-    let inv = c.self.invariant in
-    let t = c.want-want.result.transfer in
     let test : c.is_valid_ticket.result ≡ true = grind (arith, c.if-not-is_valid_ticket.false) in
     let stood = ap (λ (v : HostShown g.row.S.Denot). is_valid_ticket v c.want-want.result) c.self.view_is ∙ sym c.is_valid_ticket.ensures ∙ test in
-    let waits_here = stood_waits state.log grants c.want-want.result (sym c.in_default.ensures.grant) stood in
-    waits_here
+    stood_waits c.self.inside.state.log c.self.inside.grants.items c.want-want.result (sym c.in_default.ensures.grant) stood
+
+-- so the transfer waits until it leaves
+waited : (g : Over) (c : goal.After-tell-in_default g) → waits c.self.inside.state.log c.want-want.result.transfer ≡ true
+waited g c =
+    let test : c.is_valid_ticket.result ≡ true = grind (arith, c.if-not-is_valid_ticket.false) in
+    let stood = ap (λ (v : HostShown g.row.S.Denot). is_valid_ticket v c.want-want.result) c.self.view_is ∙ sym c.is_valid_ticket.ensures ∙ test in
+    stood_waits c.self.inside.state.log c.self.inside.grants.items c.want-want.result (sym c.in_default.ensures.grant) stood
 
 pub invariant_of-self : goal.invariant_of-self
 invariant_of-self g c =
@@ -46,9 +48,7 @@ invariant_of-self g c =
     let grants = c.self.inside.grants.items in
     let inv = c.self.invariant in
     let t = c.want-want.result.transfer in
-    let test : c.is_valid_ticket.result ≡ true = grind (arith, c.if-not-is_valid_ticket.false) in
-    let stood = ap (λ (v : HostShown g.row.S.Denot). is_valid_ticket v c.want-want.result) c.self.view_is ∙ sym c.is_valid_ticket.ensures ∙ test in
-    let waits_here = stood_waits state.log grants c.want-want.result (sym c.in_default.ensures.grant) stood in
+    let waits_here = waited g c in
     let is = left_log state.settings state.log t c.args.now c.moment-moment.result c.leave.new.self.log waits_here c.moment-moment.ensures c.leave.ensures.log in
     let freed = left_moved state.settings state.log inv.settled.sound.orderly grants inv.grants c.moment-moment.result t waits_here c.leave.new.self.log c.leave.ensures.log c.take_grant.new.grants.items c.in_default.ensures.unchanged in
     let fewer = fewer_without t (waiting state.log) in
@@ -65,13 +65,8 @@ invariant_of-self g c =
 pub returns-in_default-clause-log : goal.returns-in_default-clause-log
 returns-in_default-clause-log g c =
     let state = c.self.inside.state in
-    let grants = c.self.inside.grants.items in
-    let inv = c.self.invariant in
     let t = c.want-want.result.transfer in
-    let test : c.is_valid_ticket.result ≡ true = grind (arith, c.if-not-is_valid_ticket.false) in
-    let stood = ap (λ (v : HostShown g.row.S.Denot). is_valid_ticket v c.want-want.result) c.self.view_is ∙ sym c.is_valid_ticket.ensures ∙ test in
-    let waits_here = stood_waits state.log grants c.want-want.result (sym c.in_default.ensures.grant) stood in
-    let log_is = ap (λ (v : HostShown g.row.S.Denot). v.log) c.self.view_is in
+    let waits_here = waited g c in
     let who : t ≡ c.args.ticket.wait.want.transfer = ap (λ (w : Want). w.transfer) c.want-want.ensures in
     let named : after_withdraw state.settings state.log t c.args.now ≡ after_withdraw c.args.self.now.settings c.args.self.now.log c.args.ticket.wait.want.transfer c.args.now = ap (λ (n : ℕ). after_withdraw state.settings state.log n c.args.now) who ∙ ap (λ (v : HostShown g.row.S.Denot). after_withdraw v.settings v.log c.args.ticket.wait.want.transfer c.args.now) c.self.view_is in
     left_log state.settings state.log t c.args.now c.moment-moment.result c.leave.new.self.log waits_here c.moment-moment.ensures c.leave.ensures.log ∙ named
@@ -82,9 +77,7 @@ returns-in_default-clause-spends g c =
     let grants = c.self.inside.grants.items in
     let inv = c.self.invariant in
     let t = c.want-want.result.transfer in
-    let test : c.is_valid_ticket.result ≡ true = grind (arith, c.if-not-is_valid_ticket.false) in
-    let stood = ap (λ (v : HostShown g.row.S.Denot). is_valid_ticket v c.want-want.result) c.self.view_is ∙ sym c.is_valid_ticket.ensures ∙ test in
-    let waits_here = stood_waits state.log grants c.want-want.result (sym c.in_default.ensures.grant) stood in
+    let waits_here = waited g c in
     let who : t ≡ c.args.ticket.wait.want.transfer = ap (λ (w : Want). w.transfer) c.want-want.ensures in
     let freed = left_moved state.settings state.log inv.settled.sound.orderly grants inv.grants c.moment-moment.result t waits_here c.leave.new.self.log c.leave.ensures.log c.take_grant.new.grants.items c.in_default.ensures.unchanged in
     spends_at _ _ _ _ _ c.self.view_is who (freed_spends _ _ _ _ _ _ _ _ _ _ _ _ _ _ _ freed)
@@ -92,12 +85,8 @@ returns-in_default-clause-spends g c =
 pub returns-in_default-clause-grew : goal.returns-in_default-clause-grew
 returns-in_default-clause-grew g c =
     let state = c.self.inside.state in
-    let grants = c.self.inside.grants.items in
-    let inv = c.self.invariant in
     let t = c.want-want.result.transfer in
-    let test : c.is_valid_ticket.result ≡ true = grind (arith, c.if-not-is_valid_ticket.false) in
-    let stood = ap (λ (v : HostShown g.row.S.Denot). is_valid_ticket v c.want-want.result) c.self.view_is ∙ sym c.is_valid_ticket.ensures ∙ test in
-    let waits_here = stood_waits state.log grants c.want-want.result (sym c.in_default.ensures.grant) stood in
+    let waits_here = waited g c in
     let is = left_log state.settings state.log t c.args.now c.moment-moment.result c.leave.new.self.log waits_here c.moment-moment.ensures c.leave.ensures.log in
     let grew = grows_withdraw state.settings state.log t c.args.now in
     grows_from state.log c.args.self.now.log c.leave.new.self.log (ap (λ (v : HostShown g.row.S.Denot). v.log) c.self.view_is) (grew.0, is ∙ grew.1)
@@ -236,12 +225,10 @@ invariant_of-self-2 g c =
 pub returns-clause-log : goal.returns-clause-log
 returns-clause-log g c =
     let state = c.self.inside.state in
-    let grants = c.self.inside.grants.items in
     let inv = c.self.invariant in
     let t = c.want-want.result.transfer in
     let held = c.unwrap-held.result in
     let it = known state.log t held (held_told state.log t _ _ c.unwrap-held.ensures c.held.ensures.some) in
-    let log_is = ap (λ (v : HostShown g.row.S.Denot). v.log) c.self.view_is in
     let who : t ≡ c.args.ticket.wait.want.transfer = ap (λ (w : Want). w.transfer) c.want-want.ensures in
     let named : after_withdraw state.settings state.log t c.args.now ≡ after_withdraw c.args.self.now.settings c.args.self.now.log c.args.ticket.wait.want.transfer c.args.now = ap (λ (n : ℕ). after_withdraw state.settings state.log n c.args.now) who ∙ ap (λ (v : HostShown g.row.S.Denot). after_withdraw v.settings v.log c.args.ticket.wait.want.transfer c.args.now) c.self.view_is in
     withdrawn_log state.settings state.log inv.settled.sound t held.number it.number c.args.now c.close_held.new.self.settings c.close_held.ensures.same.settings c.moment-moment.result c.moment-moment.ensures c.close_held.new.self.log c.close_held.ensures.log c.hand_on.new.state.log c.hand_on.ensures.log ∙ named
@@ -269,7 +256,6 @@ returns-clause-grew g c =
 pub returns-clause-freed : goal.returns-clause-freed
 returns-clause-freed g c =
     let state = c.self.inside.state in
-    let grants = c.self.inside.grants.items in
     let inv = c.self.invariant in
     let t = c.want-want.result.transfer in
     let held = c.unwrap-held.result in
@@ -286,11 +272,8 @@ returns-clause-mark g c =
 pub returns-in_default-clause-mark : goal.returns-in_default-clause-mark
 returns-in_default-clause-mark g c =
     let state = c.self.inside.state in
-    let grants = c.self.inside.grants.items in
     let inv = c.self.invariant in
     let t = c.want-want.result.transfer in
-    let test : c.is_valid_ticket.result ≡ true = grind (arith, c.if-not-is_valid_ticket.false) in
-    let stood = ap (λ (v : HostShown g.row.S.Denot). is_valid_ticket v c.want-want.result) c.self.view_is ∙ sym c.is_valid_ticket.ensures ∙ test in
-    let waits_here = stood_waits state.log grants c.want-want.result (sym c.in_default.ensures.grant) stood in
+    let waits_here = waited g c in
     let is = left_log state.settings state.log t c.args.now c.moment-moment.result c.leave.new.self.log waits_here c.moment-moment.ensures c.leave.ensures.log in
     unmarked_from state.settings c.args.self.now.settings c.leave.new.self.settings state.log c.args.self.now.log c.leave.new.self.log c.leave.ensures.same.settings (ap (λ (v : HostShown g.row.S.Denot). v.settings) c.self.view_is) (ap (λ (v : HostShown g.row.S.Denot). v.log) c.self.view_is) (λ unmarked. ap (is_queued state.settings) is ∙ mark_withdraw state.settings state.log t c.args.now inv.settled unmarked)
