@@ -46,7 +46,7 @@ was_listed : (order : List ℕ) (host other : ℕ) → is_listed (without_host o
 was_listed order host other listed = grind (arith, nat_tests, listed_without order host other, listed)
 
 -- a host that isn't listed is not taken out
-without_absent : (order : List ℕ) (host : ℕ) → is_listed order host ≡ false → without_host order host ≡ order
+pub without_absent : (order : List ℕ) (host : ℕ) → is_listed order host ≡ false → without_host order host ≡ order
 without_absent [] host out = refl
 without_absent (x ∷ order) host out = elim (eqb_tells x host) [
   | inl same ↦ absurd (grind (arith, nat_tests, same.0, out))

@@ -1,8 +1,8 @@
-ghost use Rattle.std.specs.Prelude.{◌≡◌, ◌<◌, length, IfOk, IfErr};
+ghost use Rattle.std.specs.Prelude.{◌≡◌, ◌<◌, ◌==◌, length, IfOk, IfErr};
 ghost use Rattle.budget.specs.Permits.{one_more_open, one_more_kept, if_got};
 ghost use Rattle.budget.specs.Permits.{one_less_open, one_less_kept};
 ghost use Rattle.budget.specs.Plain.{held_at_host, changed_at, nothing_held, IsWithin};
-ghost use Rattle.budget.specs.Plain.{TellsOfOpen, TellsOfKept};
+ghost use Rattle.budget.specs.Plain.{TellsOfOpen, TellsOfKept, alive_in, kept_in};
 
 use crate::limits::Limits;
 use crate::permits::{Held, Permits, Try};
@@ -67,6 +67,25 @@ impl PlainBudget {
             budget: self,
             host: host as usize,
         }
+    }
+
+    /// Whether as many connections are open as may be in total.
+    #[inline(always)]
+    pub fn is_full(&self) -> bool
+        ensures full { result ≡ (alive_in self.now.hosts == self.now.limits.total) }
+        ensures within { IsWithin self.now }
+    {
+        self.total == self.limits.total()
+    }
+
+    /// How many connections are kept over all hosts.
+    #[inline(always)]
+    pub fn kept(&self) -> u32
+        ensures kept { result ≡ kept_in self.now.hosts }
+        ensures within { IsWithin self.now }
+    {
+        let _ = &self.limits;
+        self.kept
     }
 
     fn held(&self, host: usize) -> Held
