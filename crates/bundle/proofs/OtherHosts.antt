@@ -5,13 +5,13 @@ use Rattle.budget.specs.Lobby.{Queue, is_listed}
 use Rattle.budget.proofs.Queues.{listed_last, listed_without, listed_turned}
 use Rattle.bundle.specs.Lobbies.{Lists, IsMarked, HadTurn, order_after, order_after_turn}
 
-still_listed : (host other : ℕ) (was is : Bool) (order : List ℕ) → (host == other) ≡ false → is_listed (order_after host was is order) other ≡ is_listed order other
+pub still_listed : (host other : ℕ) (was is : Bool) (order : List ℕ) → (host == other) ≡ false → is_listed (order_after host was is order) other ≡ is_listed order other
 still_listed host other false false order apart = refl
 still_listed host other false true order apart = grind (arith, nat_tests, listed_last order host other, apart)
 still_listed host other true false order apart = grind (arith, nat_tests, listed_without order host other, apart)
 still_listed host other true true order apart = refl
 
-listed_after_turn : (host other : ℕ) (is : Bool) (order : List ℕ) → (host == other) ≡ false → is_listed (order_after_turn host is order) other ≡ is_listed order other
+pub listed_after_turn : (host other : ℕ) (is : Bool) (order : List ℕ) → (host == other) ≡ false → is_listed (order_after_turn host is order) other ≡ is_listed order other
 listed_after_turn host other true order apart = listed_turned order other
 listed_after_turn host other false order apart = grind (arith, nat_tests, listed_without order host other, apart)
 

@@ -182,6 +182,14 @@ impl<S> Lease<S> {
         used.into_stream()
     }
 
+    /// The index of its host.
+    #[inline(always)]
+    pub fn site(&self) -> u32
+        ensures { result ≡ self.now.site }
+    {
+        self.used.host
+    }
+
     /// The key of its connection: its host's index, and its lane.
     pub fn key(&self) -> Key
         ensures { result ≡ record { site = self.now.site; lane = self.now.start.want.lane } }

@@ -1,6 +1,7 @@
 ghost use Rattle.std.specs.Prelude.{◌≡◌};
 ghost use Rattle.bundle.specs.Lease.{Ticketed};
 
+use crate::lease::Stray;
 use conn_log::Want;
 use std::marker::Model;
 
@@ -42,6 +43,13 @@ impl Ticket {
             wanted: _,
             began: _,
         } = self;
+    }
+
+    /// The ticket as a stranger, where a cache has no host of that index.
+    pub fn into_stray(self) -> Stray<Ticket>
+        ensures { result ≡ self }
+    {
+        Stray::new(self)
     }
 
     /// The index of its host.
