@@ -1,0 +1,138 @@
+use Rattle.std.proofs.Common.{◌≡◌, ◌+◌, ◌<◌, ℕ, true, length, slice_set, slice_get, Some, refl, sym, ap, subst, ◌∙◌, rules}
+use Rattle.budget.specs.Plain.{KeepsOtherHosts, held_at_host}
+use Rattle.budget.specs.Accounts.{spent_at}
+use Rattle.budget.proofs.Queues.{listed_first}
+use Rattle.bundle.specs.Calls.{is_queued, after_turn}
+use Rattle.bundle.specs.Laws.{IsSoundAndQuiet}
+use Rattle.bundle.specs.Lease.{HostShown, KeepsAll, held_by}
+use Rattle.bundle.specs.Replies.{answer_of}
+use Rattle.cache.specs.AllHosts.{has_room}
+use Rattle.cache.specs.Pools.{PoolShown, all_hosts, KeepsHost}
+use Rattle.cache.proofs.Calling.{kept_called, was_kept, tells_nothing}
+use Rattle.cache.proofs.Claims.{spent_where_one_changes}
+use Rattle.cache.proofs.Closing.{all_keep}
+use Rattle.cache.proofs.Opening.{marks_turn, notes_none, turn_given, served_turn, all_turned, still_none_idle, waits_less}
+use Rattle.cache.proofs.OneHost.{others_keep, read_is}
+use Rattle.cache.proofs.hosts.Hosts.open_at.Goals as goal
+
+pub serve_queued-given-requires-clause-queued : goal.serve_queued-given-requires-clause-queued
+serve_queued-given-requires-clause-queued g c =
+    let site = c.args.host in
+    let inside = c.self.inside in
+    let hosts = inside.bundles.items in
+    let was = c.index_mut-bundle.result.now in
+    let there : site < length hosts = search rules in
+    let it = was_kept site hosts was was inside.budget inside.budget inside.lobby inside.lobby inside.pass inside.pass inside.noted inside.noted c.self.invariant there c.index_mut-bundle.ensures.value in
+    let first : slice_get inside.lobby.order 0 ≡ Some site = ap (λ (p : PoolShown g.row.S.Denot). slice_get p.queue 0) c.self.view_is ∙ c.requires.first in
+    sym it.listed ∙ listed_first inside.lobby.order site first
+
+pub serve_queued-given-requires-clause-first : goal.serve_queued-given-requires-clause-first
+serve_queued-given-requires-clause-first g c =
+    let site = c.args.host in
+    let inside = c.self.inside in
+    let hosts = inside.bundles.items in
+    let was = c.index_mut-bundle.result.now in
+    let there : site < length hosts = search rules in
+    let it = was_kept site hosts was was inside.budget inside.budget inside.lobby inside.lobby inside.pass inside.pass inside.noted inside.noted c.self.invariant there c.index_mut-bundle.ensures.value in
+    ap (λ (p : PoolShown g.row.S.Denot). slice_get p.queue 0) c.self.view_is ∙ c.requires.first ∙ ap (λ (h : ℕ). Some h) (sym it.place)
+
+pub invariant_of-self : goal.invariant_of-self
+invariant_of-self g c =
+    let site = c.args.host in
+    let inside = c.self.inside in
+    let hosts = inside.bundles.items in
+    let was = c.index_mut-bundle.result.now in
+    let new = c.serve_queued-given.new.self in
+    let later = c.serve_queued-given.new.permits.budget.now in
+    let after = c.serve_queued-given.new.lobby in
+    let done = c.serve_queued-given.ensures in
+    let read = c.index_mut-bundle.ensures.value in
+    let there : site < length hosts = search rules in
+    let others : KeepsOtherHosts site inside.budget later = search rules in
+    let part : held_at_host later.hosts site ≡ held_by new.log = search rules in
+    let it = was_kept site hosts was new inside.budget later inside.lobby after inside.pass inside.pass inside.noted inside.noted c.self.invariant there read in
+    let settled : IsSoundAndQuiet new.settings new.log = record { sound = c.log-log.ensures.sound; quiet = c.log-log.ensures.quiet } in
+    let room = ap (λ (p : PoolShown g.row.S.Denot). has_room p.limits (all_hosts p)) c.self.view_is ∙ c.requires.room in
+    let got = turn_given hosts site was new inside.budget later there read c.self.invariant.parts others part done.told.0 c.args.now room done.told.1 done.told.3 in
+    let turn = served_turn was.host c.serve_queued-given.result (is_queued new.settings new.log) inside.lobby after (done.told.2 ∙ ap answer_of got) done.turned in
+    let queued : is_queued was.settings was.log ≡ true = sym it.listed ∙ listed_first inside.lobby.order site (ap (λ (p : PoolShown g.row.S.Denot). slice_get p.queue 0) c.self.view_is ∙ c.requires.first) in
+    let log = subst (λ t. new.log ≡ after_turn t was.settings was.log c.args.now) got done.told.3 in
+    let none = still_none_idle inside.budget.limits hosts site was new inside.lobby.order after.order c.args.now there read it.settings log it.settled queued in
+    kept_called site hosts was new inside.budget later inside.lobby after inside.pass inside.pass inside.noted inside.noted c.self.invariant there read done.same settled others part
+    (marks_turn was.host site (is_queued new.settings new.log) inside.lobby after it.place turn)
+    (tells_nothing was.host inside.pass) (λ host table seat. seat) (ap (λ (n : ℕ). n + spent_at inside.pass was.host) done.gone) (notes_none site inside.noted new.log none)
+
+pub returns-clause-all : goal.returns-clause-all
+returns-clause-all g c =
+    let site = c.args.host in
+    let inside = c.self.inside in
+    let hosts = inside.bundles.items in
+    let was = c.index_mut-bundle.result.now in
+    let new = c.serve_queued-given.new.self in
+    let later = c.serve_queued-given.new.permits.budget.now in
+    let after = c.serve_queued-given.new.lobby in
+    let done = c.serve_queued-given.ensures in
+    let read = c.index_mut-bundle.ensures.value in
+    let there : site < length hosts = search rules in
+    let others : KeepsOtherHosts site inside.budget later = search rules in
+    let part : held_at_host later.hosts site ≡ held_by new.log = search rules in
+    let it = was_kept site hosts was new inside.budget later inside.lobby after inside.pass inside.pass inside.noted inside.noted c.self.invariant there read in
+    let room = ap (λ (p : PoolShown g.row.S.Denot). has_room p.limits (all_hosts p)) c.self.view_is ∙ c.requires.room in
+    let got = turn_given hosts site was new inside.budget later there read c.self.invariant.parts others part done.told.0 c.args.now room done.told.1 done.told.3 in
+    let turn = served_turn was.host c.serve_queued-given.result (is_queued new.settings new.log) inside.lobby after (done.told.2 ∙ ap answer_of got) done.turned in
+    let log = subst (λ t. new.log ≡ after_turn t was.settings was.log c.args.now) got done.told.3 in
+    rw (sym c.self.view_is) (all_turned inside.budget.limits hosts site was new inside.lobby.order after.order c.args.now there read it.settings log it.place done.same.settings turn.order)
+
+pub returns-clause-one_waits_less : goal.returns-clause-one_waits_less
+returns-clause-one_waits_less g c =
+    let site = c.args.host in
+    let inside = c.self.inside in
+    let hosts = inside.bundles.items in
+    let was = c.index_mut-bundle.result.now in
+    let new = c.serve_queued-given.new.self in
+    let later = c.serve_queued-given.new.permits.budget.now in
+    let after = c.serve_queued-given.new.lobby in
+    let done = c.serve_queued-given.ensures in
+    let read = c.index_mut-bundle.ensures.value in
+    let there : site < length hosts = search rules in
+    let others : KeepsOtherHosts site inside.budget later = search rules in
+    let part : held_at_host later.hosts site ≡ held_by new.log = search rules in
+    let it = was_kept site hosts was new inside.budget later inside.lobby after inside.pass inside.pass inside.noted inside.noted c.self.invariant there read in
+    let room = ap (λ (p : PoolShown g.row.S.Denot). has_room p.limits (all_hosts p)) c.self.view_is ∙ c.requires.room in
+    let got = turn_given hosts site was new inside.budget later there read c.self.invariant.parts others part done.told.0 c.args.now room done.told.1 done.told.3 in
+    let queued : is_queued was.settings was.log ≡ true = sym it.listed ∙ listed_first inside.lobby.order site (ap (λ (p : PoolShown g.row.S.Denot). slice_get p.queue 0) c.self.view_is ∙ c.requires.first) in
+    let log = subst (λ t. new.log ≡ after_turn t was.settings was.log c.args.now) got done.told.3 in
+    rw (sym c.self.view_is) (waits_less inside.budget.limits hosts site was new inside.lobby.order after.order c.args.now there read it.settings log it.settled queued)
+
+pub returns-clause-keeps : goal.returns-clause-keeps
+returns-clause-keeps g c =
+    let site = c.args.host in
+    let inside = c.self.inside in
+    let hosts = inside.bundles.items in
+    let was = c.index_mut-bundle.result.now in
+    let new = c.serve_queued-given.new.self in
+    let after = c.serve_queued-given.new.lobby.order in
+    let done = c.serve_queued-given.ensures in
+    let there : site < length hosts = search rules in
+    let was_is = read_is hosts site was there c.index_mut-bundle.ensures.value in
+    let keeps : KeepsHost was new = record { stays = record { same = done.same; booked = done.booked; grew = done.grew }; keeps = done.keeps } in
+    let before : PoolShown g.row.S.Denot = record { limits = inside.budget.limits; hosts = hosts; queue = inside.lobby.order } in
+    let later : PoolShown g.row.S.Denot = record { limits = c.serve_queued-given.new.permits.budget.now.limits; hosts = slice_set hosts site new; queue = after } in
+    rw (sym c.self.view_is) (all_keep before later site new there refl
+    (others_keep inside.budget.limits inside.lobby.order after hosts site new)
+    (subst (λ (h : HostShown g.row.S.Denot). KeepsHost h new) was_is keeps))
+
+pub returns-clause-spent : goal.returns-clause-spent
+returns-clause-spent g c =
+    let site = c.args.host in
+    let inside = c.self.inside in
+    let hosts = inside.bundles.items in
+    let was = c.index_mut-bundle.result.now in
+    let new = c.serve_queued-given.new.self in
+    let done = c.serve_queued-given.ensures in
+    let there : site < length hosts = search rules in
+    let was_is = read_is hosts site was there c.index_mut-bundle.ensures.value in
+    let before : PoolShown g.row.S.Denot = record { limits = inside.budget.limits; hosts = hosts; queue = inside.lobby.order } in
+    let later : PoolShown g.row.S.Denot = record { limits = c.serve_queued-given.new.permits.budget.now.limits; hosts = slice_set hosts site new; queue = c.serve_queued-given.new.lobby.order } in
+    rw (sym c.self.view_is) (spent_where_one_changes before later site new there refl c.log-log.ensures.sound c.log-log.ensures.unclaimed
+    (subst (λ (h : HostShown g.row.S.Denot). KeepsAll h new) was_is done.keeps))

@@ -1,0 +1,94 @@
+use Rattle.std.proofs.Common.{◌≡◌, ◌-◌, ◌<◌, length, sym, ap, ◌∙◌, rules}
+use Rattle.std.specs.Prelude.{min}
+use Rattle.std.specs.List.{sum_by}
+use Rattle.budget.specs.Lobby.{Queue}
+use Rattle.budget.specs.Plain.{KeepsOtherHosts, held_at_host}
+use Rattle.conn_log.specs.Fit.{oldest_stamp}
+use Rattle.host_state.specs.Steps.{moment_at}
+use Rattle.bundle.specs.Calls.{after_limit, kept_limit, starts_due, is_queued}
+use Rattle.bundle.specs.Effects.{open_len}
+use Rattle.bundle.specs.Laws.{IsSoundAndQuiet}
+use Rattle.bundle.specs.Lease.{held_by}
+use Rattle.bundle.specs.Passes.{limit_did}
+use Rattle.cache.specs.AllHosts.{marked}
+use Rattle.cache.specs.Pools.{logs_of}
+use Rattle.cache.proofs.OneHost.{all_marked, stepped}
+use Rattle.cache.proofs.Calling.{kept_called, was_kept, told_so, notes_lower, marks_one}
+use Rattle.cache.proofs.Pruning.{all_keep}
+use Rattle.cache.proofs.Limiting.{limited_log, hosts_same}
+use Rattle.cache.proofs.hosts.Hosts.set_host_limit.Goals.{in-Ok-Done, in-Err}
+use Rattle.cache.proofs.hosts.Hosts.set_host_limit.Goals as goal
+
+pub set_host_limit-changed-requires-clause-enrolled : goal.set_host_limit-changed-requires-clause-enrolled
+set_host_limit-changed-requires-clause-enrolled g c =
+    let inside = c.self.inside in
+    let was = c.index_mut-bundle.result.now in
+    let there : c.args.site < length inside.bundles.items = search rules in
+    (was_kept c.args.site inside.bundles.items was was inside.budget inside.budget inside.lobby inside.lobby inside.pass inside.pass inside.noted inside.noted c.self.invariant there c.index_mut-bundle.ensures.value).enrolled
+
+pub invariant_of-self : goal.invariant_of-self
+invariant_of-self g c =
+    let site = c.args.site in
+    let inside = c.self.inside in
+    let hosts = inside.bundles.items in
+    let was = c.index_mut-bundle.result.now in
+    let new = c.set_host_limit-changed.new.self in
+    let later = c.set_host_limit-changed.new.permits.budget.now in
+    let after = c.set_host_limit-changed.new.lobby in
+    let told = c.set_host_limit-changed.new.pass in
+    let lowered = c.lower.new.self in
+    let done = c.set_host_limit-changed.ensures in
+    let read = c.index_mut-bundle.ensures.value in
+    let there : site < length hosts = search rules in
+    let others : KeepsOtherHosts site inside.budget later = search rules in
+    let part : held_at_host later.hosts site ≡ held_by new.log = search rules in
+    let it = was_kept site hosts was new inside.budget later inside.lobby after inside.pass told inside.noted lowered c.self.invariant there read in
+    let settled : IsSoundAndQuiet new.settings new.log = record { sound = c.log-log.ensures.sound; quiet = c.log-log.ensures.quiet } in
+    let marks = marks_one was.host site _ _ inside.lobby after it.place done.marked in
+    let tells = told_so was.host (limit_did (kept_limit c.args.limit) (moment_at was.log c.args.now) c.set_host_limit-changed.result) inside.pass told done.tells in
+    let notes = notes_lower site inside.noted lowered _ _ (rw c.self.invariant.stamps there) (c.oldest-oldest.ensures ∙ ap (oldest_stamp new.log) (done.same.host ∙ it.place)) c.lower.ensures in
+    kept_called site hosts was new inside.budget later inside.lobby after inside.pass told inside.noted lowered c.self.invariant there read done.same settled others part marks tells done.seats done.account notes
+
+pub returns-clause-all : goal.returns-clause-all
+returns-clause-all g c = elim c.match-changed.branch [
+  | in-Ok-Done w ↦
+      let site = c.args.site in
+      let n = c.args.limit in
+      let now = c.args.now in
+      let inside = c.self.inside in
+      let hosts = inside.bundles.items in
+      let limits = inside.budget.limits in
+      let was = c.index_mut-bundle.result.now in
+      let new = c.set_host_limit-changed.new.self in
+      let later = c.set_host_limit-changed.new.permits.budget.now in
+      let after = c.set_host_limit-changed.new.lobby in
+      let done = c.set_host_limit-changed.ensures in
+      let read = c.index_mut-bundle.ensures.value in
+      let there : site < length hosts = search rules in
+      let others : KeepsOtherHosts site inside.budget later = search rules in
+      let it = was_kept site hosts was new inside.budget later inside.lobby after inside.pass inside.pass inside.noted inside.noted c.self.invariant there read in
+      let log = limited_log n now limits hosts site was new later c.set_host_limit-changed.result w.in-Ok-Done.field-0 w.in-Ok-Done.is done.refused done.log done.contended it.settled there read (invariant_of-self g c).parts others.limits done.stands.1 in
+      let marked_is = all_marked limits hosts site was new inside.lobby.order after.order there it.place (done.same.settings ∙ it.settings) it.listed done.marked.order in
+      let total = sum_by open_len (logs_of hosts) in
+      let step = stepped (λ s l. after_limit (kept_limit n) (min (starts_due (is_queued s l) (kept_limit n) l) (limits.total - total)) s l now) limits hosts inside.lobby.order site was new.log there read it.settings log in
+      rw w.result-is (rw (sym c.self.view_is) (marked_is ∙ ap (marked limits site) step))
+  | in-Err w ↦ rw w.result-is tt
+]
+
+pub returns-clause-err : goal.returns-clause-err
+returns-clause-err g c = elim c.match-changed.branch [
+  | in-Ok-Done w ↦ rw w.result-is tt
+  | in-Err w ↦
+      let inside = c.self.inside in
+      let others : KeepsOtherHosts c.args.site inside.budget c.set_host_limit-changed.new.permits.budget.now = search rules in
+      let hosts = hosts_same inside.bundles.items c.args.site c.index_mut-bundle.result.now c.set_host_limit-changed.new.self c.index_mut-bundle.ensures.value w.in-Err.ensures.err.0 in
+      let queue = ap (λ (q : Queue). q.order) w.in-Err.ensures.err.1 in
+      rw w.result-is (rw hosts (rw queue (rw others.limits c.self.view_is)))
+]
+
+pub returns-clause-keeps : goal.returns-clause-keeps
+returns-clause-keeps g c =
+    let inside = c.self.inside in
+    let done = c.set_host_limit-changed.ensures in
+    let there : c.args.site < length inside.bundles.items = search rules in
+    rw (sym c.self.view_is) (all_keep inside.budget.limits inside.bundles.items c.args.site c.index_mut-bundle.result.now c.set_host_limit-changed.new.self inside.lobby.order c.set_host_limit-changed.new.lobby.order there c.index_mut-bundle.ensures.value (record { stays = record { same = done.same; booked = done.booked; grew = done.grew }; keeps = done.keeps }))

@@ -1,0 +1,159 @@
+use Rattle.bundle.specs.Effects.{idle_len}
+use Rattle.std.proofs.Common.{◌≡◌, ◌<◌, true, length, sym, ap, ◌∙◌, rules}
+use Rattle.budget.specs.Plain.{KeepsOtherHosts, held_at_host}
+use Rattle.bundle.specs.Calls.{after_give_back, becomes_idle}
+use Rattle.conn_log.specs.Fit.{oldest_stamp}
+use Rattle.bundle.specs.Laws.{IsSoundAndQuiet}
+use Rattle.bundle.specs.Lease.{held_by}
+use Rattle.cache.specs.AllHosts.{marked}
+use Rattle.cache.proofs.OneHost.{all_marked, others_keep, stepped, log_was}
+use Rattle.cache.proofs.Calling.{kept_called, was_kept, told_spending, tells_nothing, notes_lower, marks_one, TellsOne}
+use Rattle.cache.proofs.SameLog.{pool_same}
+use Rattle.cache.proofs.Sums.{settled_at}
+use Rattle.cache.proofs.Returning.{gave_log, gave_none, gave_again, gave_strange, one_more_idle, full_kept, room_kept}
+use Rattle.cache.proofs.hosts.Hosts.try_to_keep.Goals as goal
+use Rattle.cache.proofs.hosts.Hosts.try_to_keep.Goals.{in-Spent, in-NoKeep}
+
+pub unreachable-requires : goal.unreachable-requires
+unreachable-requires g c =
+    gave_again c.index_mut-bundle.result.now c.give_back-back.new.self c.give_back-back.new.permits.budget.now c.args.lease c.args.facts c.args.now c.in-Again._lease c.in-Again.ensures.told
+
+pub unreachable-requires-in-Strange : goal.unreachable-requires-in-Strange
+unreachable-requires-in-Strange g c =
+    gave_strange c.index_mut-bundle.result.now c.give_back-back.new.self c.give_back-back.new.permits.budget.now c.args.lease c.args.facts c.args.now c.in-Strange._stray c.in-Strange.ensures.told
+
+pub invariant_of-self : goal.invariant_of-self
+invariant_of-self g c =
+    let site = c.site-site.result in
+    let hosts = c.self.inside.bundles.items in
+    let was = c.index_mut-bundle.result.now in
+    let new = c.give_back-back.new.self in
+    let inside = c.self.inside in
+    let later = c.give_back-back.new.permits.budget.now in
+    let after = c.give_back-back.new.lobby.0 in
+    let told = c.give_back-back.new.pass in
+    let lowered = c.lower.new.self in
+    let done = c.give_back-back.ensures in
+    let read = c.index_mut-bundle.ensures.value in
+    let there : site < length hosts = search rules in
+    let others : KeepsOtherHosts site inside.budget later = search rules in
+    let part : held_at_host later.hosts site ≡ held_by new.log = search rules in
+    let it = was_kept site hosts was new inside.budget later inside.lobby after inside.pass told inside.noted lowered c.self.invariant there read in
+    let settled : IsSoundAndQuiet new.settings new.log = record { sound = c.log-log.ensures.sound; quiet = c.log-log.ensures.quiet } in
+    let marks = marks_one was.host site _ _ inside.lobby after it.place done.marked in
+    let tells : TellsOne was.host inside.pass told =
+    elim c.match-back.branch [
+      | in-Spent w ↦ told_spending was.host _ _ inside.pass told w.in-Spent.ensures.spent
+      | in-NoKeep w ↦ rw w.in-NoKeep.ensures.unspent (tells_nothing was.host inside.pass)
+    ] in
+    let notes = notes_lower site inside.noted lowered _ _ (rw c.self.invariant.stamps there) (c.oldest-oldest.ensures ∙ ap (oldest_stamp new.log) (done.same.host ∙ it.place)) c.lower.ensures in
+    kept_called site hosts was new inside.budget later inside.lobby after inside.pass told inside.noted lowered c.self.invariant there read done.same settled others part marks tells done.seats done.account notes
+
+pub returns-clause-back : goal.returns-clause-back
+returns-clause-back g c =
+    let site = c.site-site.result in
+    let inside = c.self.inside in
+    let was = c.index_mut-bundle.result.now in
+    let new = c.give_back-back.new.self in
+    let after = c.give_back-back.new.lobby.0 in
+    let later = c.give_back-back.new.permits.budget.now in
+    let others : KeepsOtherHosts site inside.budget later = search rules in
+    elim c.match-back.branch [
+      | in-Spent w ↦ rw w.result-is tt
+      | in-NoKeep w ↦
+          let none = gave_none was new later c.args.lease c.args.facts c.args.now _ w.in-NoKeep.ensures.told in
+          let same = pool_same inside.budget.limits later.limits site inside.bundles.items was new inside.lobby after others.limits c.index_mut-bundle.ensures.value none.same_host c.give_back-back.ensures.marked in
+          rw w.result-is (none.same_lease, same ∙ c.self.view_is)
+    ]
+
+pub returns-clause-idle : goal.returns-clause-idle
+returns-clause-idle g c =
+    let site = c.site-site.result in
+    let hosts = c.self.inside.bundles.items in
+    let was = c.index_mut-bundle.result.now in
+    let there : site < length hosts = search rules in
+    let log = log_was hosts site was there c.index_mut-bundle.ensures.value in
+    elim c.match-back.branch [
+      | in-Spent w ↦ rw w.result-is tt
+      | in-NoKeep w ↦
+          let none = gave_none was c.give_back-back.new.self c.give_back-back.new.permits.budget.now c.args.lease c.args.facts c.args.now _ w.in-NoKeep.ensures.told in
+          rw w.result-is (rw (sym c.self.view_is) (rw (sym c.site-site.ensures) (rw (sym log) none.is_idle)))
+    ]
+
+pub returns-clause-full : goal.returns-clause-full
+returns-clause-full g c =
+    let site = c.site-site.result in
+    let inside = c.self.inside in
+    let hosts = inside.bundles.items in
+    let was = c.index_mut-bundle.result.now in
+    let new = c.give_back-back.new.self in
+    let later = c.give_back-back.new.permits.budget.now in
+    let there : site < length hosts = search rules in
+    let others : KeepsOtherHosts site inside.budget later = search rules in
+    let part : held_at_host later.hosts site ≡ held_by new.log = search rules in
+    elim c.match-back.branch [
+      | in-Spent w ↦ rw w.result-is tt
+      | in-NoKeep w ↦
+          let none = gave_none was new later c.args.lease c.args.facts c.args.now _ w.in-NoKeep.ensures.told in
+          let full = full_kept site hosts was new inside.budget later there c.index_mut-bundle.ensures.value c.self.invariant.parts others part w.in-NoKeep.ensures.stands.1 none.same_host none.full in
+          rw w.result-is (rw (sym c.self.view_is) full)
+    ]
+
+pub returns-clause-room : goal.returns-clause-room
+returns-clause-room g c =
+    let site = c.site-site.result in
+    let inside = c.self.inside in
+    let hosts = inside.bundles.items in
+    let was = c.index_mut-bundle.result.now in
+    let new = c.give_back-back.new.self in
+    let later = c.give_back-back.new.permits.budget.now in
+    let read = c.index_mut-bundle.ensures.value in
+    let there : site < length hosts = search rules in
+    let others : KeepsOtherHosts site inside.budget later = search rules in
+    let part : held_at_host later.hosts site ≡ held_by new.log = search rules in
+    let it = was_kept site hosts was new inside.budget inside.budget inside.lobby inside.lobby inside.pass inside.pass inside.noted inside.noted c.self.invariant there read in
+    let log = log_was hosts site was there read in
+    let transfer = c.args.lease.start.want.transfer in
+    let number = c.args.lease.start.number in
+    elim c.match-back.branch [
+      | in-NoKeep w ↦ rw w.result-is tt
+      | in-Spent w ↦
+          let back = gave_log was new later c.args.lease c.args.facts c.args.now _ w.in-Spent.ensures.told in
+          let room = (λ (idle : becomes_idle was.log number c.args.facts c.args.now ≡ true).
+          room_kept site hosts was new inside.budget later there read c.self.invariant.parts others part w.in-Spent.ensures.stands.1
+          (ap idle_len back ∙ one_more_idle was.settings was.log transfer number c.args.facts c.args.now it.settled w.in-Spent.ensures.known idle)) in
+          rw w.result-is (rw (sym c.self.view_is) (rw (sym c.site-site.ensures) (rw (sym log) room)))
+    ]
+
+pub returns-clause-all : goal.returns-clause-all
+returns-clause-all g c =
+    let site = c.site-site.result in
+    let hosts = c.self.inside.bundles.items in
+    let was = c.index_mut-bundle.result.now in
+    let new = c.give_back-back.new.self in
+    let inside = c.self.inside in
+    let limits = inside.budget.limits in
+    let after = c.give_back-back.new.lobby.0 in
+    let done = c.give_back-back.ensures in
+    let read = c.index_mut-bundle.ensures.value in
+    let there : site < length hosts = search rules in
+    let it = was_kept site hosts was new inside.budget inside.budget inside.lobby after inside.pass inside.pass inside.noted inside.noted c.self.invariant there read in
+    let number = c.args.lease.start.number in
+    let marked_is = all_marked limits hosts site was new inside.lobby.order after.order there it.place (done.same.settings ∙ it.settings) it.listed done.marked.order in
+    elim c.match-back.branch [
+      | in-NoKeep w ↦ rw w.result-is tt
+      | in-Spent w ↦
+          let back = gave_log was new c.give_back-back.new.permits.budget.now c.args.lease c.args.facts c.args.now _ w.in-Spent.ensures.told in
+          let step = stepped (λ s l. after_give_back s l number c.args.facts c.args.now) limits hosts inside.lobby.order site was new.log there read it.settings back in
+          rw w.result-is (rw (sym c.self.view_is) (rw (sym c.site-site.ensures) (marked_is ∙ ap (marked limits site) step)))
+    ]
+
+pub returns-clause-settled : goal.returns-clause-settled
+returns-clause-settled g c =
+    let inside = c.self.inside in
+    rw (sym c.self.view_is) (λ site there. settled_at inside.bundles.items inside.budget inside.lobby inside.pass inside.noted site c.self.invariant there)
+
+pub returns-clause-others : goal.returns-clause-others
+returns-clause-others g c =
+    let inside = c.self.inside in
+    rw (sym c.self.view_is) (rw (sym c.site-site.ensures) (others_keep inside.budget.limits inside.lobby.order c.give_back-back.new.lobby.0.order inside.bundles.items c.site-site.result c.give_back-back.new.self))

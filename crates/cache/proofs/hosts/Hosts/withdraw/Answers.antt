@@ -1,0 +1,92 @@
+use Rattle.std.proofs.Common.{◌≡◌, ◌<◌, length, Some, sym, ap, ◌∙◌, rules}
+use Rattle.budget.specs.Plain.{KeepsOtherHosts, held_at_host}
+use Rattle.bundle.specs.declared.did.Did.TheVariants.{Stranger}
+use Rattle.bundle.specs.Calls.{after_withdraw}
+use Rattle.conn_log.specs.Fit.{oldest_stamp}
+use Rattle.bundle.specs.Laws.{IsSoundAndQuiet}
+use Rattle.bundle.specs.Lease.{held_by}
+use Rattle.cache.specs.AllHosts.{marked}
+use Rattle.cache.proofs.OneHost.{all_marked, others_keep, stepped}
+use Rattle.cache.proofs.Calling.{kept_called, was_kept, notes_lower, marks_one}
+use Rattle.cache.proofs.SameLog.{own_stamp, told_either, pool_same}
+use Rattle.cache.proofs.hosts.Hosts.withdraw.Goals as goal
+use Rattle.cache.proofs.hosts.Hosts.withdraw.Goals.{in-Ok, in-Err}
+
+pub lower-requires-clause-own : goal.lower-requires-clause-own
+lower-requires-clause-own g c =
+    let site = c.site-site.result in
+    let hosts = c.self.inside.bundles.items in
+    let was = c.index_mut-bundle.result.now in
+    let new = c.withdraw-withdrawn.new.self in
+    let inside = c.self.inside in
+    let read = c.index_mut-bundle.ensures.value in
+    let there : site < length hosts = search rules in
+    let it = was_kept site hosts was new inside.budget inside.budget inside.lobby inside.lobby inside.pass inside.pass inside.noted inside.noted c.self.invariant there read in
+    own_stamp new.log new.host site _ (c.withdraw-withdrawn.ensures.same.host ∙ it.place) c.oldest-oldest.ensures
+
+pub invariant_of-self : goal.invariant_of-self
+invariant_of-self g c =
+    let site = c.site-site.result in
+    let hosts = c.self.inside.bundles.items in
+    let was = c.index_mut-bundle.result.now in
+    let new = c.withdraw-withdrawn.new.self in
+    let inside = c.self.inside in
+    let later = c.withdraw-withdrawn.new.permits.budget.now in
+    let after = c.withdraw-withdrawn.new.lobby.0 in
+    let told = c.withdraw-withdrawn.new.pass in
+    let lowered = c.lower.new.self in
+    let done = c.withdraw-withdrawn.ensures in
+    let read = c.index_mut-bundle.ensures.value in
+    let there : site < length hosts = search rules in
+    let others : KeepsOtherHosts site inside.budget later = search rules in
+    let part : held_at_host later.hosts site ≡ held_by new.log = search rules in
+    let it = was_kept site hosts was new inside.budget later inside.lobby after inside.pass told inside.noted lowered c.self.invariant there read in
+    let settled : IsSoundAndQuiet new.settings new.log = record { sound = c.log-log.ensures.sound; quiet = c.log-log.ensures.quiet } in
+    let marks = marks_one was.host site _ _ inside.lobby after it.place done.marked in
+    let tells = told_either c.withdraw-withdrawn.result was.host _ _ _ (Some (Stranger c.args.ticket.wait.want.transfer)) inside.pass told done.withdrawn done.stranger in
+    let notes = notes_lower site inside.noted lowered _ _ (rw c.self.invariant.stamps there) (c.oldest-oldest.ensures ∙ ap (oldest_stamp new.log) (done.same.host ∙ it.place)) c.lower.ensures in
+    kept_called site hosts was new inside.budget later inside.lobby after inside.pass told inside.noted lowered c.self.invariant there read done.same settled others part marks tells done.seats done.account notes
+
+pub returns-clause-all : goal.returns-clause-all
+returns-clause-all g c =
+    let site = c.site-site.result in
+    let hosts = c.self.inside.bundles.items in
+    let was = c.index_mut-bundle.result.now in
+    let new = c.withdraw-withdrawn.new.self in
+    let inside = c.self.inside in
+    let limits = inside.budget.limits in
+    let after = c.withdraw-withdrawn.new.lobby.0 in
+    let done = c.withdraw-withdrawn.ensures in
+    let read = c.index_mut-bundle.ensures.value in
+    let there : site < length hosts = search rules in
+    let it = was_kept site hosts was new inside.budget inside.budget inside.lobby after inside.pass inside.pass inside.noted inside.noted c.self.invariant there read in
+    let transfer = c.args.ticket.wait.want.transfer in
+    let marked_is = all_marked limits hosts site was new inside.lobby.order after.order there it.place (done.same.settings ∙ it.settings) it.listed done.marked.order in
+    elim c.match-withdrawn.branch [
+      | in-Ok w ↦
+          let step = stepped (λ s l. after_withdraw s l transfer c.args.now) limits hosts inside.lobby.order site was new.log there read it.settings w.in-Ok.ensures.log in
+          rw w.result-is (rw (sym c.self.view_is) (rw (sym c.site-site.ensures) (marked_is ∙ ap (marked limits site) step)))
+      | in-Err w ↦ rw w.result-is tt
+    ]
+
+pub returns-clause-err : goal.returns-clause-err
+returns-clause-err g c =
+    let site = c.site-site.result in
+    let inside = c.self.inside in
+    let was = c.index_mut-bundle.result.now in
+    let new = c.withdraw-withdrawn.new.self in
+    let after = c.withdraw-withdrawn.new.lobby.0 in
+    let later = c.withdraw-withdrawn.new.permits.budget.now in
+    let done = c.withdraw-withdrawn.ensures in
+    elim c.match-withdrawn.branch [
+      | in-Ok w ↦ rw w.result-is tt
+      | in-Err w ↦
+          let others : KeepsOtherHosts site inside.budget later = search rules in
+          let same = pool_same inside.budget.limits later.limits site inside.bundles.items was new inside.lobby after others.limits c.index_mut-bundle.ensures.value w.in-Err.ensures.err done.marked in
+          rw w.result-is (rw (sym c.self.view_is) same)
+    ]
+
+pub returns-clause-others : goal.returns-clause-others
+returns-clause-others g c =
+    let inside = c.self.inside in
+    rw (sym c.self.view_is) (rw (sym c.site-site.ensures) (others_keep inside.budget.limits inside.lobby.order c.withdraw-withdrawn.new.lobby.0.order inside.bundles.items c.site-site.result c.withdraw-withdrawn.new.self))

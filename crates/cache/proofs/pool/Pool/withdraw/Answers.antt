@@ -1,0 +1,13 @@
+use Rattle.std.proofs.Common.{◌<◌, length, sym, rules}
+use Rattle.cache.proofs.Keeping.{site_on, others_on}
+use Rattle.cache.proofs.pool.Pool.withdraw.Goals as goal
+
+pub returns-clause-site : goal.returns-clause-site
+returns-clause-site g c =
+    let site = c.args.ticket.site in
+    let there : site < length c.self.inside.hosts.hosts = search rules in
+    rw (sym c.self.view_is) (site_on c.self.inside.hosts c.withdraw.new.self c.serve.new.self site c.withdraw.ensures.stays there c.withdraw.ensures.site c.serve.ensures.keeps)
+
+pub returns-clause-others : goal.returns-clause-others
+returns-clause-others g c =
+    rw (sym c.self.view_is) (others_on c.args.ticket.site c.self.inside.hosts c.withdraw.new.self c.serve.new.self c.withdraw.ensures.stays c.withdraw.ensures.others c.serve.ensures.keeps)

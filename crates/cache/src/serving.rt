@@ -1,0 +1,146 @@
+//! How hosts that are queued get room in total, and how room is made.
+
+ghost use Rattle.std.specs.Prelude.{◌≡◌, ◌+◌, ◌<◌, ◌||◌, true, false, nat_lt, length, is_some};
+ghost use Rattle.std.specs.Prelude.{slice_get, Some, if◌then◌else◌};
+ghost use Rattle.bundle.specs.Calls.{makes_room_for_others};
+ghost use Rattle.cache.specs.AllHosts.{without_oldest, oldest_of_all, has_room, with_room};
+ghost use Rattle.cache.specs.AllHosts.{may_turn, after_turn_of, turn_of_first, total, kept};
+ghost use Rattle.cache.specs.AllHosts.{served, total_waiting, IsServed};
+ghost use Rattle.cache.specs.Pools.{all_hosts, KeepsHosts, StaysPool};
+ghost use Rattle.cache.specs.Turns.{IsOneFewer, KeepsSpent, KeepStreams};
+
+use crate::hosts::Hosts;
+use conn_log::{Cause, Stamp};
+
+impl<S: Drop> Hosts<S> {
+    /// Closes the oldest idle connection of all for that cause, where there is one; it answers
+    /// whether there was. `now` is in seconds.
+    pub fn close_oldest(&mut self, cause: Cause, now: u64) -> bool
+        requires cause { makes_room_for_others cause ≡ true }
+        ensures all { all_hosts self.new ≡ without_oldest cause now (all_hosts self.old) }
+        ensures closed { result ≡ is_some (oldest_of_all (all_hosts self.old)) }
+        ensures any { result ≡ nat_lt 0 (kept (all_hosts self.old)) }
+        ensures fewer { result ≡ true → IsOneFewer (all_hosts self.old) (all_hosts self.new) }
+        ensures none { result ≡ false → self.new ≡ self.old }
+        ensures keeps { KeepsHosts self.old self.new }
+        ensures spent { KeepsSpent self.old self.new }
+        ensures streams { KeepStreams self.old self.new }
+        ensures stays { StaysPool self.old self.new }
+    {
+        let Some(stamp) = self.oldest() else {
+            return false;
+        };
+        self.close_at(stamp, cause, now);
+        true
+    }
+
+    // Closes the connection of that stamp, which is the oldest of all.
+    fn close_at(&mut self, stamp: Stamp, cause: Cause, now: u64)
+        requires cause { makes_room_for_others cause ≡ true }
+        requires there { stamp.host < length self.old.hosts }
+        requires oldest { oldest_of_all (all_hosts self.old) ≡ Some stamp }
+        ensures all { all_hosts self.new ≡ without_oldest cause now (all_hosts self.old) }
+        ensures fewer { IsOneFewer (all_hosts self.old) (all_hosts self.new) }
+        ensures keeps { KeepsHosts self.old self.new }
+        ensures spent { KeepsSpent self.old self.new }
+        ensures streams { KeepStreams self.old self.new }
+        ensures stays { StaysPool self.old self.new }
+    {
+        let bundle = &mut self.bundles[stamp.host as usize];
+        let mut permits = self.budget.at(stamp.host);
+        let _closed = bundle.evict_oldest(stamp, cause, now, &mut permits);
+        let _log = bundle.log();
+        let oldest = bundle.oldest();
+        self.noted.set(stamp.host as usize, oldest);
+    }
+
+    /// Takes turns until none is possible. `now` is in seconds.
+    #[inline(always)]
+    pub fn serve(&mut self, now: u64)
+        ensures all { all_hosts self.new ≡ served self.old.limits now (all_hosts self.old) }
+        ensures served { IsServed self.new.limits (all_hosts self.new) }
+        ensures keeps { KeepsHosts self.old self.new }
+        ensures spent { KeepsSpent self.old self.new }
+        ensures stays { StaysPool self.old self.new }
+    {
+        if self.lobby.first().is_some() {
+            self.take_turns(now);
+        }
+    }
+
+    // The same, where a host is queued.
+    #[inline(never)]
+    fn take_turns(&mut self, now: u64)
+        ensures all { all_hosts self.new ≡ served self.old.limits now (all_hosts self.old) }
+        ensures served { IsServed self.new.limits (all_hosts self.new) }
+        ensures keeps { KeepsHosts self.old self.new }
+        ensures spent { KeepsSpent self.old self.new }
+        ensures stays { StaysPool self.old self.new }
+    {
+        while self.take_turn(now) {}
+    }
+
+    // A turn of the first host that is queued, where one is possible; it answers whether it is.
+    fn take_turn(&mut self, now: u64) -> bool
+        ensures possible { result ≡ may_turn self.old.limits (all_hosts self.old) }
+        ensures all { let all = all_hosts self.old in
+            result ≡ true → all_hosts self.new ≡ turn_of_first all.queue self.old.limits now all }
+        ensures one_waits_less { result ≡ true →
+            total_waiting (all_hosts self.new) + 1 ≡ total_waiting (all_hosts self.old) }
+        ensures none { result ≡ false → self.new ≡ self.old }
+        ensures none_served { result ≡ false → IsServed self.new.limits (all_hosts self.new) }
+        ensures keeps { KeepsHosts self.old self.new }
+        ensures spent { KeepsSpent self.old self.new }
+        ensures stays { StaysPool self.old self.new }
+    {
+        let Some(host) = self.lobby.first() else {
+            return false;
+        };
+        if !self.make_room(now) {
+            return false;
+        }
+        self.open_at(host, now);
+        true
+    }
+
+    // Has the oldest of all make room where the total has none; it answers whether there is room.
+    fn make_room(&mut self, now: u64) -> bool
+        ensures any { let all = all_hosts self.old in
+            result ≡ (has_room self.old.limits all || nat_lt 0 (kept all)) }
+        ensures all { let all = all_hosts self.old in
+            result ≡ true → all_hosts self.new ≡ with_room self.old.limits now all }
+        ensures room { result ≡ true → has_room self.new.limits (all_hosts self.new) ≡ true }
+        ensures same_wait { let all = all_hosts self.old in
+            total_waiting (all_hosts self.new) ≡ total_waiting all }
+        ensures none { result ≡ false → self.new ≡ self.old }
+        ensures full { result ≡ false → total (all_hosts self.old) ≡ self.old.limits.total }
+        ensures none_kept { result ≡ false → kept (all_hosts self.old) ≡ 0 }
+        ensures keeps { KeepsHosts self.old self.new }
+        ensures spent { KeepsSpent self.old self.new }
+        ensures stays { StaysPool self.old self.new }
+    {
+        if !self.budget.is_full() {
+            return true;
+        }
+        self.close_oldest(Cause::TotalRoom, now)
+    }
+
+    // The turn of that host: one connection is opened for the first transfer that waits there.
+    fn open_at(&mut self, host: u32, now: u64)
+        requires there { host < length self.old.hosts }
+        requires first { slice_get self.old.queue 0 ≡ Some host }
+        requires room { has_room self.old.limits (all_hosts self.old) ≡ true }
+        ensures all { let all = all_hosts self.old in
+            all_hosts self.new ≡ after_turn_of host self.old.limits now all }
+        ensures one_waits_less { let all = all_hosts self.old in
+            total_waiting (all_hosts self.new) + 1 ≡ total_waiting all }
+        ensures keeps { KeepsHosts self.old self.new }
+        ensures spent { KeepsSpent self.old self.new }
+        ensures stays { StaysPool self.old self.new }
+    {
+        let bundle = &mut self.bundles[host as usize];
+        let mut permits = self.budget.at(host);
+        let _given = bundle.serve_queued(now, &mut permits, &mut self.lobby);
+        let _log = bundle.log();
+    }
+}

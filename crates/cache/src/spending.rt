@@ -1,0 +1,194 @@
+//! How a lease or a ticket ends.
+
+ghost use Rattle.std.specs.Prelude.{◌≡◌, ℕ, ◌<◌, true, false, length, is_some};
+ghost use Rattle.std.specs.Prelude.{IsSome, IfSome, IfNone, IfErr, OnOk, OnErr};
+ghost use Rattle.persistence.specs.declared.facts.Facts.{Facts};
+ghost use Rattle.bundle.specs.Calls.{becomes_idle, after_give_back};
+ghost use Rattle.bundle.specs.Laws.{IsSoundAndQuiet};
+ghost use Rattle.bundle.specs.Lease.{is_valid_ticket, is_unclaimed, WasGranted, HasItsStream};
+ghost use Rattle.bundle.specs.Lease.{GetsLease, Spends, is_held_lease};
+ghost use Rattle.bundle.specs.Replies.{IfClaimed, IfStill};
+ghost use Rattle.cache.specs.AllHosts.{log_at, with_log, terms, kept, can_keep, marked};
+ghost use Rattle.cache.specs.Calls.{given_back, abandoned, withdrawn};
+ghost use Rattle.cache.specs.Pools.{host_at, all_hosts, StaysHost, StaysPool, KeepsOtherHosts};
+
+use crate::hosts::Hosts;
+use bundle::{Back, Claimed, Lease, Stray, Ticket};
+use conn_log::Cause;
+use persistence::Facts;
+
+impl<S: Drop> Hosts<S> {
+    /// Gives the transfer the connection that it was granted; where it still waits, its ticket. A
+    /// ticket comes back in a [`Stray`] where its transfer neither waits with its want nor has yet
+    /// to claim what it was granted for that want.
+    pub fn claim(&mut self, ticket: Ticket) -> Result<Claimed<S>, Stray<Ticket>>
+        requires there { ticket.site < length self.old.hosts }
+        ensures ok { let host = host_at self.old ticket.site in
+            OnOk result (is_valid_ticket host ticket.wait.want ≡ true) }
+        ensures strange { let host = host_at self.old ticket.site in
+            IfErr result (λ stray.
+            (is_valid_ticket host ticket.wait.want ≡ false) × (stray ≡ ticket)) }
+        ensures all { all_hosts self.new ≡ all_hosts self.old }
+        ensures lease { let host = host_at self.old ticket.site in
+            IfClaimed result (WasGranted host ticket.wait.want.transfer) }
+        ensures want { IfClaimed result (λ lease. lease.start.want ≡ ticket.wait.want) }
+        ensures has_stream { IfClaimed result (λ lease. is_some lease.stream ≡ lease.start.reused) }
+        ensures stream { let host = host_at self.old ticket.site in
+            IfClaimed result (HasItsStream host.streams) }
+        ensures made_here { let host = host_at self.old ticket.site in
+            IfClaimed result (λ lease. lease.tables ≡ host.tables) }
+        ensures made_at { IfClaimed result (λ lease. lease.site ≡ ticket.site) }
+        ensures still { let host = host_at self.old ticket.site in
+            IfStill result (λ same. (is_unclaimed host ticket.wait.want.transfer ≡ false)
+            × (same ≡ ticket) × (self.new ≡ self.old)) }
+        ensures err { OnErr result (self.new ≡ self.old) }
+        ensures gets_lease { let old = host_at self.old ticket.site in
+            let new = host_at self.new ticket.site in
+            IfClaimed result (λ lease.
+            GetsLease old new ticket.wait.want.transfer lease.start.number) }
+        ensures site { StaysHost (host_at self.old ticket.site) (host_at self.new ticket.site) }
+        ensures others { KeepsOtherHosts ticket.site self.old self.new }
+        ensures stays { StaysPool self.old self.new }
+    {
+        let site = ticket.site();
+        self.bundles[site as usize].claim(ticket, &mut self.pass)
+    }
+
+    /// Takes a connection back with the facts of its response. Where it is to be idle and as many
+    /// are kept as may be, the oldest of all is closed first. `now` is in seconds.
+    #[inline(always)]
+    pub fn give_back(&mut self, lease: Lease<S>, facts: Facts, now: u64)
+        requires there { lease.site < length self.old.hosts }
+        requires here { lease.tables ≡ (host_at self.old lease.site).tables }
+        requires stream { IsSome lease.stream }
+        ensures all { let number = lease.start.number in all_hosts self.new
+            ≡ given_back self.old.limits lease.site number facts now (all_hosts self.old) }
+        ensures known { is_held_lease (host_at self.old lease.site) lease ≡ true }
+        ensures spends { let old = host_at self.old lease.site in
+            let new = host_at self.new lease.site in
+            Spends old new lease.start.want.transfer }
+        ensures site { StaysHost (host_at self.old lease.site) (host_at self.new lease.site) }
+        ensures others { KeepsOtherHosts lease.site self.old self.new }
+        ensures stays { StaysPool self.old self.new }
+    {
+        let Some(lease) = self.try_to_keep(lease, facts, now) else {
+            return;
+        };
+        self.close_oldest(Cause::CacheFull, now);
+        match self.try_to_keep(lease, facts, now) {
+            None => {}
+            // One fewer is kept than may be.
+            Some(_lease) => unreachable!(),
+        }
+    }
+
+    // The same; where it is to be idle and as many are kept as may be, the lease comes back.
+    #[inline(always)]
+    fn try_to_keep(&mut self, lease: Lease<S>, facts: Facts, now: u64) -> Option<Lease<S>>
+        requires there { lease.site < length self.old.hosts }
+        requires here { lease.tables ≡ (host_at self.old lease.site).tables }
+        requires stream { IsSome lease.stream }
+        ensures known { is_held_lease (host_at self.old lease.site) lease ≡ true }
+        ensures back { IfSome result (λ same. (same ≡ lease) × (self.new ≡ self.old)) }
+        ensures idle { let log = log_at (all_hosts self.old) lease.site in
+            IfSome result (λ same. becomes_idle log lease.start.number facts now ≡ true) }
+        ensures full { let kept = kept (all_hosts self.old) in
+            IfSome result (λ same. (kept ≡ self.old.limits.connects) × (0 < kept)) }
+        ensures room { let log = log_at (all_hosts self.old) lease.site in
+            IfNone result (becomes_idle log lease.start.number facts now ≡ true →
+            can_keep self.old.limits (all_hosts self.old) ≡ true) }
+        ensures all { let limits = self.old.limits in
+            let all = all_hosts self.old in
+            let log = log_at all lease.site in
+            let back = after_give_back (terms limits) log lease.start.number facts now in
+            IfNone result
+            (all_hosts self.new ≡ marked limits lease.site (with_log lease.site back all)) }
+        ensures spends { let old = host_at self.old lease.site in
+            let new = host_at self.new lease.site in
+            IfNone result (Spends old new lease.start.want.transfer) }
+        ensures settled { (site : ℕ) → site < length self.old.hosts →
+            IsSoundAndQuiet (terms self.old.limits) (log_at (all_hosts self.old) site) }
+        ensures site { StaysHost (host_at self.old lease.site) (host_at self.new lease.site) }
+        ensures others { KeepsOtherHosts lease.site self.old self.new }
+        ensures stays { StaysPool self.old self.new }
+    {
+        let site = lease.site();
+        let bundle = &mut self.bundles[site as usize];
+        let mut permits = self.budget.at(site);
+        let (pass, lobby) = (&mut self.pass, Some(&mut self.lobby));
+        let back = bundle.give_back(lease, facts, now, pass, &mut permits, lobby, false);
+        let _log = bundle.log();
+        let oldest = bundle.oldest();
+        self.noted.lower(site as usize, oldest);
+        match back {
+            Back::Spent { freed: _ } => None,
+            Back::NoKeep(lease) => Some(lease),
+            // The budget of one thread need not be asked again, and the lease was made here.
+            Back::Again(_lease) => unreachable!(),
+            Back::Strange(_stray) => unreachable!(),
+        }
+    }
+
+    /// Closes a leased connection without a response. `now` is in seconds.
+    pub fn abandon(&mut self, lease: Lease<S>, now: u64)
+        requires there { lease.site < length self.old.hosts }
+        requires here { lease.tables ≡ (host_at self.old lease.site).tables }
+        ensures all { let number = lease.start.number in all_hosts self.new
+            ≡ abandoned self.old.limits lease.site number now (all_hosts self.old) }
+        ensures known { is_held_lease (host_at self.old lease.site) lease ≡ true }
+        ensures spends { let old = host_at self.old lease.site in
+            let new = host_at self.new lease.site in
+            Spends old new lease.start.want.transfer }
+        ensures site { StaysHost (host_at self.old lease.site) (host_at self.new lease.site) }
+        ensures others { KeepsOtherHosts lease.site self.old self.new }
+        ensures stays { StaysPool self.old self.new }
+    {
+        let site = lease.site();
+        let bundle = &mut self.bundles[site as usize];
+        let mut permits = self.budget.at(site);
+        let (pass, lobby) = (&mut self.pass, Some(&mut self.lobby));
+        let abandoned = bundle.abandon(lease, now, pass, &mut permits, lobby);
+        let _log = bundle.log();
+        let oldest = bundle.oldest();
+        self.noted.lower(site as usize, oldest);
+        match abandoned {
+            Ok(_freed) => {}
+            // The lease was made here.
+            Err(_stray) => unreachable!(),
+        }
+    }
+
+    /// Takes a ticket back. `now` is in seconds. A ticket comes back in a [`Stray`] where its
+    /// transfer neither waits with its want nor has yet to claim what it was granted for that want;
+    /// nothing changed then.
+    pub fn withdraw(&mut self, ticket: Ticket, now: u64) -> Result<(), Stray<Ticket>>
+        requires there { ticket.site < length self.old.hosts }
+        ensures ok { let host = host_at self.old ticket.site in
+            OnOk result (is_valid_ticket host ticket.wait.want ≡ true) }
+        ensures strange { let host = host_at self.old ticket.site in
+            IfErr result (λ stray.
+            (is_valid_ticket host ticket.wait.want ≡ false) × (stray ≡ ticket)) }
+        ensures all { let transfer = ticket.wait.want.transfer in OnOk result (all_hosts self.new
+            ≡ withdrawn self.old.limits ticket.site transfer now (all_hosts self.old)) }
+        ensures err { OnErr result (self.new ≡ self.old) }
+        ensures spends { let old = host_at self.old ticket.site in
+            let new = host_at self.new ticket.site in
+            OnOk result (Spends old new ticket.wait.want.transfer) }
+        ensures site { StaysHost (host_at self.old ticket.site) (host_at self.new ticket.site) }
+        ensures others { KeepsOtherHosts ticket.site self.old self.new }
+        ensures stays { StaysPool self.old self.new }
+    {
+        let site = ticket.site();
+        let bundle = &mut self.bundles[site as usize];
+        let mut permits = self.budget.at(site);
+        let (pass, lobby) = (&mut self.pass, Some(&mut self.lobby));
+        let withdrawn = bundle.withdraw(ticket, now, pass, &mut permits, lobby);
+        let _log = bundle.log();
+        let oldest = bundle.oldest();
+        self.noted.lower(site as usize, oldest);
+        match withdrawn {
+            Ok(_freed) => Ok(()),
+            Err(stray) => Err(stray),
+        }
+    }
+}
