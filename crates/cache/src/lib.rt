@@ -3,13 +3,25 @@
 
 mod acquired;
 mod acquiring;
+#[cfg(test)]
+mod cost_tests;
+#[cfg(test)]
+mod desk;
+#[cfg(test)]
+mod drawn_tests;
 mod hosts;
 pub mod laws;
+#[cfg(test)]
+mod limit_tests;
 mod limits;
 mod oldest;
+#[cfg(test)]
+mod oldest_tests;
 mod pool;
 mod serving;
 mod spending;
+#[cfg(test)]
+mod tests;
 mod winner_tree;
 pub mod worked;
 

@@ -1,0 +1,118 @@
+//! What calls of a pool cost: valgrind's callgrind counts the instructions of each call of
+//! `uses_often`, in the order of the tables (docs/measurements.md).
+
+ghost use Rattle.std.specs.Prelude.{◌≡◌, IsSome};
+
+use crate::acquired::Acquired;
+use crate::desk::{KEEP, want_of};
+use crate::pool::Pool;
+use budget::{GREATEST_LIMIT, Limits, Refusal};
+use bundle::Lease;
+use conn_log::Want;
+use std::alloc::Global;
+use std::test::Fail;
+
+/// How many hosts there are, and how many idle connections each of them has.
+const WARM: [(u32, u64); 6] = [(1, 1), (1, 100), (8, 1), (8, 100), (1_024, 1), (1_024, 60)];
+
+/// How many hosts there are, with one idle connection each, in a pool that may have no more.
+const FULL: [u32; 3] = [8, 128, 1_024];
+
+/// How often each is done.
+const ROUNDS: u64 = 1_000;
+
+/// The lease with a stream.
+fn with_stream(lease: Lease<()>) -> Lease<()>
+    ensures site { result.site ≡ lease.site }
+    ensures tables { result.tables ≡ lease.tables }
+    ensures stream { IsSome result.stream }
+{
+    let mut lease = lease;
+    if !lease.has_stream() {
+        lease.attach(());
+    }
+    lease
+}
+
+/// Acquires a connection at the site and gives it back; whether there was one.
+#[inline(always)]
+fn is_used(pool: &mut Pool<()>, site: u32, want: Want, now: u64) -> bool {
+    match pool.acquire(site, want, now) {
+        Ok(Acquired::Lease(lease)) => {
+            pool.give_back(with_stream(lease), KEEP, now);
+            true
+        }
+        Ok(Acquired::Wait(ticket)) => {
+            if let Err(stray) = pool.withdraw(ticket, now) {
+                stray.scrap();
+            }
+            false
+        }
+        Err(_) => false,
+    }
+}
+
+/// Does so at so many sites in turn, so often; how often there was one.
+#[inline(never)]
+fn uses_often(pool: &mut Pool<()>, sites: u32, want: Want, rounds: u64) -> u64 {
+    let (mut used, mut site) = (0, 0);
+    for round in 0..rounds {
+        if is_used(pool, site, want, round) {
+            used += 1;
+        }
+        site = if site + 1 < sites { site + 1 } else { 0 };
+    }
+    used
+}
+
+/// Opens a connection at each of the sites, which is idle then; how many.
+#[inline(never)]
+fn opens_each(pool: &mut Pool<()>, sites: u32, want: Want) -> u64 {
+    let mut used = 0;
+    for site in 0..sites {
+        if is_used(pool, site, want, 0) {
+            used += 1;
+        }
+    }
+    used
+}
+
+/// A pool of so many hosts, in each of which so many connections are idle.
+fn warm(alloc: Global, hosts: u32, idle: u64, total: u32) -> Result<Pool<()>, Refusal> {
+    let Ok(limits) = Limits::new(0, total, GREATEST_LIMIT) else {
+        return Err(Refusal::BadLimit);
+    };
+    let mut pool = Pool::new(alloc, limits, hosts)?;
+    for _ in 0..idle {
+        opens_each(&mut pool, hosts, new_one());
+    }
+    Ok(pool)
+}
+
+/// What a transfer wants that must have a new connection.
+fn new_one() -> Want {
+    Want {
+        fresh: true,
+        ..want_of(1)
+    }
+}
+
+#[test]
+fn a_warm_connection_is_used_often(rt: HostRuntime) -> Result<(), Fail> {
+    for (hosts, idle) in WARM {
+        let mut pool = warm(rt.alloc(), hosts, idle, 0)?;
+        let used = uses_often(&mut pool, 1, want_of(1), ROUNDS);
+        assert_eq!(rt; used, ROUNDS);
+    }
+    Ok(())
+}
+
+#[test]
+fn the_oldest_of_all_is_closed_often(rt: HostRuntime) -> Result<(), Fail> {
+    for hosts in FULL {
+        let mut pool = warm(rt.alloc(), hosts, 1, hosts)?;
+        let used = uses_often(&mut pool, hosts, new_one(), ROUNDS);
+        assert_eq!(rt; used, ROUNDS);
+    }
+    Ok(())
+}

@@ -1,0 +1,338 @@
+//! What tests of a pool share: a pool with the leases and tickets of its transfers, and entries as
+//! transcripts have them.
+
+ghost use Rattle.std.specs.Prelude.{◌≡◌, IsSome};
+ghost use Rattle.std.specs.List.{All};
+ghost use Rattle.bundle.specs.Replies.{IfClaimed};
+ghost use Rattle.cache.specs.Pools.{IsMadeHere, IfAcquired, GivesLease, StaysHosts, StaysPool};
+
+use crate::acquired::Acquired;
+use crate::pool::Pool;
+use budget::{Limits, Refusal};
+use bundle::{Claimed, Lease, Stray, Ticket};
+use conn_log::{Cause, Entry, Event, Want};
+use persistence::{Facts, Framing, Version};
+use std::alloc::Global;
+use std::marker::Model;
+use std::process::Abort;
+
+/// A response that lets its connection persist.
+pub(crate) const KEEP: Facts = Facts {
+    version: Version::V11,
+    close: false,
+    keep_alive: false,
+    request_close: false,
+    framing: Framing::Counted,
+    both_lengths: false,
+    upgraded: false,
+    whole: true,
+    surplus: false,
+};
+
+/// What a transfer wants if nothing else is said.
+pub(crate) fn want_of(transfer: u64) -> Want {
+    Want {
+        transfer,
+        lane: 0,
+        max_age: 118,
+        max_life: 0,
+        fresh: false,
+        forbid_reuse: false,
+    }
+}
+
+pub(crate) fn opened(connection: u32, want: Want, moment: u64) -> Entry {
+    Entry {
+        moment,
+        event: Event::Opened { connection, want },
+    }
+}
+
+pub(crate) fn leased(connection: u32, want: Want, moment: u64) -> Entry {
+    Entry {
+        moment,
+        event: Event::Leased { connection, want },
+    }
+}
+
+pub(crate) fn returned(connection: u32, moment: u64) -> Entry {
+    Entry {
+        moment,
+        event: Event::Returned {
+            connection,
+            facts: KEEP,
+        },
+    }
+}
+
+pub(crate) fn closed(connection: u32, cause: Cause, moment: u64) -> Entry {
+    Entry {
+        moment,
+        event: Event::Closed { connection, cause },
+    }
+}
+
+pub(crate) fn waited(want: Want, moment: u64) -> Entry {
+    Entry {
+        moment,
+        event: Event::Waited { want },
+    }
+}
+
+pub(crate) fn limited(limit: u32, moment: u64) -> Entry {
+    Entry {
+        moment,
+        event: Event::Limit { limit },
+    }
+}
+
+/// A pool, with the leases and tickets that its transfers have; a transfer has one at most. It has
+/// to be closed.
+pub(crate) struct Desk {
+    pub pool: Pool<()>,
+    pub leases: Vec<Lease<()>>,
+    pub tickets: Vec<Ticket>,
+}
+
+impl Model for Desk {
+    ghost use Rattle.std.specs.List.{All};
+    ghost use Rattle.cache.specs.Pools.{PoolShown, IsMadeHere};
+
+    ghost Value = { PoolShown (Unit {0}) };
+
+    ghost view = { λ desk. desk.pool };
+
+    ghost invariant = { λ desk. All (IsMadeHere desk.pool) desk.leases.items };
+}
+
+impl Desk {
+    /// A pool of so many hosts under limits of a host, of the total and of those kept; 0 is none.
+    pub fn new(alloc: Global, limits: (u32, u32, u32), hosts: u32) -> Result<Desk, Refusal> {
+        let (host, total, connects) = limits;
+        let Ok(limits) = Limits::new(host, total, connects) else {
+            return Err(Refusal::BadLimit);
+        };
+        let pool = Pool::new(alloc, limits, hosts)?;
+        Ok(Desk {
+            pool,
+            leases: Vec::new(alloc),
+            tickets: Vec::new(alloc),
+        })
+    }
+
+    /// Acquires a connection; the lease or the ticket stays at the desk.
+    pub fn ask(&mut self, rt: &impl Abort, want: Want, site: u32, now: u64) -> Option<Refusal> {
+        match self.acquire(want, site, now) {
+            Ok(Acquired::Lease(lease)) => self.keep(rt, lease),
+            Ok(Acquired::Wait(ticket)) => self.keep_ticket(rt, ticket),
+            Err(refusal) => return Some(refusal),
+        }
+        None
+    }
+
+    /// The same, where nothing else is wanted and it is not refused.
+    pub fn get(&mut self, rt: &impl Abort, transfer: u64, site: u32, now: u64) {
+        let refused = self.ask(rt, want_of(transfer), site, now);
+        assert_eq!(rt; refused, None);
+    }
+
+    /// Gives back what the transfer has a lease of.
+    pub fn back(&mut self, rt: &impl Abort, transfer: u64, now: u64) {
+        let lease = self.take(rt, transfer);
+        self.pool.give_back(with_stream(lease), KEEP, now);
+    }
+
+    /// Abandons it.
+    pub fn abandon(&mut self, rt: &impl Abort, transfer: u64, now: u64) {
+        let lease = self.take(rt, transfer);
+        self.pool.abandon(lease, now);
+    }
+
+    /// Withdraws the transfer's ticket.
+    pub fn leave(&mut self, rt: &impl Abort, transfer: u64, now: u64) {
+        let place = place_of_ticket(&self.tickets, transfer);
+        assert!(rt; place < self.tickets.len());
+        let ticket = self.tickets.remove(place);
+        self.withdraw(rt, ticket, now);
+    }
+
+    /// Claims what the transfer was granted; whether it was granted anything.
+    pub fn claim(&mut self, rt: &impl Abort, transfer: u64) -> bool {
+        let place = place_of_ticket(&self.tickets, transfer);
+        assert!(rt; place < self.tickets.len());
+        let ticket = self.tickets.remove(place);
+        match self.redeem(ticket) {
+            Ok(Claimed::Lease(lease)) => {
+                self.keep(rt, lease);
+                true
+            }
+            Ok(Claimed::Still(ticket)) => {
+                self.keep_ticket(rt, ticket);
+                false
+            }
+            Err(stray) => {
+                stray.scrap();
+                panic!(rt; "the ticket is a stranger");
+            }
+        }
+    }
+
+    /// The number of the connection that the transfer has a lease of, and whether it was idle
+    /// before.
+    pub fn lease(&self, rt: &impl Abort, transfer: u64) -> (u32, bool) {
+        let place = place_of_lease(&self.leases, transfer);
+        assert!(rt; place < self.leases.len());
+        (self.leases[place].number(), self.leases[place].reused())
+    }
+
+    /// Abandons all leases and withdraws all tickets. What is left is the pool.
+    pub fn close(self, rt: &impl Abort, now: u64) -> Pool<()> {
+        let Desk {
+            mut pool,
+            leases,
+            tickets,
+        } = self;
+        abandon_all(&mut pool, leases, now);
+        withdraw_all(rt, &mut pool, tickets, now);
+        pool
+    }
+
+    /// Closes what is too old at all hosts; how many that were.
+    pub fn prune(&mut self, now: u64, max_age: u64, max_life: u64) -> u32 {
+        self.pool.prune(now, max_age, max_life)
+    }
+
+    pub fn set_host_limit(&mut self, site: u32, limit: u32, now: u64) -> Result<(), Refusal> {
+        self.pool.set_host_limit(site, limit, now)
+    }
+
+    pub fn withdraw(&mut self, rt: &impl Abort, ticket: Ticket, now: u64) {
+        withdraw(rt, &mut self.pool, ticket, now);
+    }
+
+    fn acquire(&mut self, want: Want, site: u32, now: u64) -> Result<Acquired<()>, Refusal>
+        ensures { IfAcquired result (λ got. GivesLease got (IsMadeHere self.new)) }
+    {
+        self.pool.acquire(site, want, now)
+    }
+
+    fn redeem(&mut self, ticket: Ticket) -> Result<Claimed<()>, Stray<Ticket>>
+        ensures { IfClaimed result (IsMadeHere self.new) }
+    {
+        self.pool.claim(ticket)
+    }
+
+    fn keep(&mut self, rt: &impl Abort, lease: Lease<()>)
+        requires here { IsMadeHere self.old lease }
+    {
+        if let Err(failed) = self.leases.push(lease) {
+            self.pool.abandon(failed.value, 0);
+            panic!(rt; "out of memory");
+        }
+    }
+
+    fn keep_ticket(&mut self, rt: &impl Abort, ticket: Ticket) {
+        if let Err(failed) = self.tickets.push(ticket) {
+            self.withdraw(rt, failed.value, 0);
+            panic!(rt; "out of memory");
+        }
+    }
+
+    fn take(&mut self, rt: &impl Abort, transfer: u64) -> Lease<()>
+        ensures here { IsMadeHere self.new result }
+    {
+        let place = place_of_lease(&self.leases, transfer);
+        assert!(rt; place < self.leases.len());
+        self.leases.remove(place)
+    }
+}
+
+fn abandon_all(pool: &mut Pool<()>, leases: Vec<Lease<()>>, now: u64)
+    requires here { All (IsMadeHere pool.old) leases.items }
+{
+    let mut leases = leases;
+    while let Some(lease) = leases.pop() {
+        pool.abandon(lease, now);
+    }
+    leases.destroy_empty();
+}
+
+fn withdraw_all(rt: &impl Abort, pool: &mut Pool<()>, tickets: Vec<Ticket>, now: u64) {
+    let mut tickets = tickets;
+    while let Some(ticket) = tickets.pop() {
+        withdraw(rt, pool, ticket, now);
+    }
+    tickets.destroy_empty();
+}
+
+// Withdraws a ticket that has to be known.
+fn withdraw(rt: &impl Abort, pool: &mut Pool<()>, ticket: Ticket, now: u64)
+    ensures hosts { StaysHosts pool.old pool.new }
+    ensures stays { StaysPool pool.old pool.new }
+{
+    if let Err(stray) = pool.withdraw(ticket, now) {
+        stray.scrap();
+        panic!(rt; "the ticket is a stranger");
+    }
+}
+
+// The place of the transfer's lease; past all where it has none.
+fn place_of_lease(leases: &[Lease<()>], transfer: u64) -> usize {
+    for place in 0..leases.len() {
+        if leases[place].transfer() == transfer {
+            return place;
+        }
+    }
+    leases.len()
+}
+
+// The same of its ticket.
+fn place_of_ticket(tickets: &[Ticket], transfer: u64) -> usize {
+    for place in 0..tickets.len() {
+        if tickets[place].transfer() == transfer {
+            return place;
+        }
+    }
+    tickets.len()
+}
+
+// The lease with a stream.
+fn with_stream(lease: Lease<()>) -> Lease<()>
+    ensures site { result.site ≡ lease.site }
+    ensures tables { result.tables ≡ lease.tables }
+    ensures stream { IsSome result.stream }
+{
+    let mut lease = lease;
+    if !lease.has_stream() {
+        lease.attach(());
+    }
+    lease
+}
+
+/// The ticket, which has to be a stranger to the pool.
+pub(crate) fn strange(rt: &impl Abort, pool: &mut Pool<()>, ticket: Ticket) -> Ticket {
+    match pool.claim(ticket) {
+        Err(stray) => stray.keep(),
+        Ok(Claimed::Still(ticket)) => {
+            ticket.into_stray().scrap();
+            panic!(rt; "the ticket is no stranger");
+        }
+        Ok(Claimed::Lease(lease)) => {
+            pool.abandon(lease, 0);
+            panic!(rt; "the ticket was taken");
+        }
+    }
+}
+
+/// The host's log has to have these entries, and no other.
+pub(crate) fn check_log(rt: &impl Abort, desk: &Desk, site: u32, entries: &[Entry]) {
+    let log = desk.pool.log(site).expect(rt, "a host");
+    for place in 0..entries.len() {
+        assert_eq!(rt;
+            log.get(place),
+            Some(entries[place]),
+            "entry {place} of host {site}"
+        );
+    }
+    assert_eq!(rt; log.len(), entries.len(), "entries of host {site}");
+}

@@ -1,0 +1,49 @@
+//! What no clause says: worked rows of the oldest of many, and of a tree of three hosts.
+
+ghost use Rattle.std.specs.Prelude.{◌≡◌, IfSome};
+
+use crate::oldest_of;
+use crate::winner_tree::WinnerTree;
+use conn_log::Stamp;
+
+fn stamp(since: u64, host: u32, number: u32) -> Option<Stamp>
+    ensures { IfSome result (λ s. s.host ≡ host) }
+{
+    Some(Stamp {
+        since,
+        host,
+        number,
+    })
+}
+
+#[test]
+fn the_oldest_is_the_first_place_of_the_earliest(rt: HostRuntime) {
+    assert_eq!(rt; oldest_of(&[]), None);
+    assert_eq!(rt; oldest_of(&[None, None]), None);
+    let later = [None, stamp(5, 1, 9), None, stamp(4, 3, 1), stamp(7, 4, 1)];
+    assert_eq!(rt; oldest_of(&later), Some(3));
+    // At one moment the lower host goes first, and at one host the lower number.
+    let hosts = [stamp(4, 2, 1), stamp(4, 1, 7), None];
+    assert_eq!(rt; oldest_of(&hosts), Some(1));
+    let numbers = [stamp(4, 1, 7), stamp(4, 1, 6), stamp(4, 1, 8)];
+    assert_eq!(rt; oldest_of(&numbers), Some(1));
+    // One stamp twice: the lower place.
+    let twice = [None, stamp(4, 1, 6), stamp(4, 1, 6)];
+    assert_eq!(rt; oldest_of(&twice), Some(1));
+}
+
+#[test]
+fn a_tree_of_three_hosts_tells_the_first(rt: HostRuntime) {
+    let mut tree = WinnerTree::new(rt.alloc(), 3).expect(&rt, "memory");
+    assert_eq!(rt; tree.first(), None);
+    tree.set(2, stamp(5, 2, 1));
+    assert_eq!(rt; tree.first(), stamp(5, 2, 1));
+    tree.lower(0, stamp(5, 0, 4));
+    tree.lower(0, stamp(6, 0, 3));
+    assert_eq!(rt; tree.first(), stamp(5, 0, 4));
+    tree.set(0, None);
+    assert_eq!(rt; tree.first(), stamp(5, 2, 1));
+    tree.set(1, stamp(9, 1, 1));
+    tree.set(2, stamp(10, 2, 1));
+    assert_eq!(rt; tree.first(), stamp(9, 1, 1));
+}
