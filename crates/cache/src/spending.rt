@@ -71,9 +71,33 @@ impl<S: Drop> Hosts<S> {
         ensures others { KeepsOtherHosts lease.site self.old self.new }
         ensures stays { StaysPool self.old self.new }
     {
-        let Some(lease) = self.try_to_keep(lease, facts, now) else {
-            return;
-        };
+        if let Some(lease) = self.try_to_keep(lease, facts, now) {
+            self.keep_in_place_of_oldest(lease, facts, now);
+        }
+    }
+
+    // The same, where as many are kept as may be: the oldest of all is closed.
+    // Out of line, so that the common give back stays small enough to be inlined.
+    #[inline(never)]
+    fn keep_in_place_of_oldest(&mut self, lease: Lease<S>, facts: Facts, now: u64)
+        requires there { lease.site < length self.old.hosts }
+        requires here { lease.tables ≡ (host_at self.old lease.site).tables }
+        requires stream { IsSome lease.stream }
+        requires idle { let log = log_at (all_hosts self.old) lease.site in
+            becomes_idle log lease.start.number facts now ≡ true }
+        requires full { let kept = kept (all_hosts self.old) in
+            (kept ≡ self.old.limits.connects) × (0 < kept) }
+        ensures all { let number = lease.start.number in all_hosts self.new
+            ≡ given_back self.old.limits lease.site number facts now (all_hosts self.old) }
+        ensures spends { let old = host_at self.old lease.site in
+            let new = host_at self.new lease.site in
+            Spends old new lease.start.want.transfer }
+        ensures site { StaysHost (host_at self.old lease.site) (host_at self.new lease.site) }
+        ensures others { KeepsOtherHosts lease.site self.old self.new }
+        ensures stays { StaysPool self.old self.new }
+    {
+        // Each host's log is sound.
+        let _host = self.log(lease.site());
         self.close_oldest(Cause::CacheFull, now);
         match self.try_to_keep(lease, facts, now) {
             None => {}
