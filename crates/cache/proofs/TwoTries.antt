@@ -1,42 +1,16 @@
 -- A give back that tries to keep its connection, and again once the oldest of all is closed.
-use Rattle.std.proofs.Common.{◌≡◌, ℕ, ◌+◌, ◌<◌, Bool, true, false, not, ◌&&◌, length, Option, Some, None, refl, sym, ap, subst, ◌∙◌, arith}
+use Rattle.std.proofs.Common.{◌≡◌, ℕ, ◌<◌, Bool, true, false, not, ◌&&◌, length, refl, sym, ap, subst, ◌∙◌, arith}
 use Rattle.std.specs.Prelude.{nat_lt, if◌then◌else◌}
 use Rattle.std.proofs.lemmas.Bool.Decides.{nat_tests}
-use Rattle.std.proofs.lemmas.List.{length-map}
 use Rattle.persistence.specs.declared.facts.Facts.{Facts}
 use Rattle.budget.specs.Limits.{Bounds}
-use Rattle.conn_log.specs.declared.stamp.Stamp.{Stamp}
-use Rattle.conn_log.specs.declared.entry.Cause.{Cause}
 use Rattle.conn_log.specs.declared.entry.Cause.TheVariants.{CacheFull}
-use Rattle.conn_log.specs.declared.entry.Event.TheVariants.{Closed}
-use Rattle.conn_log.specs.Sound.{is_of_idle}
-use Rattle.host_state.specs.Steps.{moment_at, add}
 use Rattle.bundle.specs.Calls.{becomes_idle, after_give_back}
-use Rattle.bundle.specs.Effects.{idle_len}
-use Rattle.bundle.specs.Laws.{IsSoundAndQuiet}
-use Rattle.bundle.specs.Lease.{HostShown, Leasing, Spends}
-use Rattle.bundle.proofs.Counts.{evict_closes}
-use Rattle.cache.specs.AllHosts.{AllHosts, log_at, with_log, terms, kept, can_keep, oldest_of_all, closed_of, without_oldest, marked}
+use Rattle.bundle.specs.Lease.{Leasing, Spends}
+use Rattle.cache.specs.AllHosts.{AllHosts, log_at, with_log, terms, kept, can_keep, without_oldest, marked}
 use Rattle.cache.specs.Calls.{with_room_to_keep, given_back}
 use Rattle.cache.specs.Pools.{PoolShown, host_at, all_hosts, StaysHost, StaysPool, KeepsHosts, KeepsOtherHosts}
-use Rattle.cache.proofs.Evicted.{none_kept, oldest_is}
 use Rattle.cache.proofs.Keeping.{stays_host_on, spends_after, keeps_others_on, keeps_others}
-use Rattle.cache.proofs.Lawful.{sum_moved}
-
--- where any are kept one fewer is once the oldest of all is closed
-pub one_fewer_kept : (cause : Cause) → is_of_idle cause ≡ true → (limits : Bounds) (now : ℕ) (all : AllHosts) → ((host : ℕ) → host < length all.logs → IsSoundAndQuiet (terms limits) (log_at all host))
-    → 0 < kept all → kept (without_oldest cause now all) + 1 ≡ kept all
-one_fewer_kept cause fits limits now all settled some = by_stamp (oldest_of_all all) refl
-  where
-    by_stamp : (first : Option Stamp) → oldest_of_all all ≡ first → kept (closed_of cause now first all) + 1 ≡ kept all
-    by_stamp None none = absurd (omega (arith, some, none_kept all none))
-    by_stamp (Some stamp) is =
-        let first = oldest_is all stamp is in
-        let log = log_at all stamp.host in
-        let new = add (moment_at log now) (Closed stamp.number cause) log in
-        let closes = evict_closes (terms limits) log stamp.number cause now (settled stamp.host first.there) first.here fits in
-        let idles = sum_moved idle_len all.logs stamp.host new first.there in
-        omega (arith, closes.number_idle, idles)
 
 -- where there is room at once none is closed
 pub kept_at_once : (limits : Bounds) (host c : ℕ) (facts : Facts) (now : ℕ) (all end : AllHosts) → (becomes_idle (log_at all host) c facts now ≡ true → can_keep limits all ≡ true)
@@ -70,20 +44,6 @@ module _ {S : Type 0} (start tried closed : PoolShown S) (same : tried ≡ start
 
   started_stays : StaysPool start closed
   started_stays = subst (λ (p : PoolShown S). StaysPool p closed) same stays
-
-  -- the second try has room
-  pub never_again : (now : ℕ) → ((site : ℕ) → site < length start.hosts → IsSoundAndQuiet (terms start.limits) (log_at (all_hosts start) site))
-      → (kept (all_hosts start) ≡ start.limits.connects) × (0 < kept (all_hosts start))
-      → all_hosts closed ≡ without_oldest CacheFull now (all_hosts tried)
-      → kept (all_hosts closed) ≡ closed.limits.connects → ⊥
-  never_again now settled full is again =
-      let all = all_hosts start in
-      let there : (host : ℕ) → host < length all.logs → IsSoundAndQuiet (terms start.limits) (log_at all host) =
-      (λ host lt. settled host (subst (λ (n : ℕ). host < n) (length-map start.hosts (λ (h : HostShown S). h.log)) lt)) in
-      let fewer = one_fewer_kept CacheFull refl start.limits now all there full.1 in
-      let kept_is : kept (all_hosts closed) ≡ kept (without_oldest CacheFull now all) = ap kept (is ∙ ap (λ (p : PoolShown S). without_oldest CacheFull now (all_hosts p)) same) in
-      let connects : closed.limits.connects ≡ start.limits.connects = ap (λ (b : Bounds). b.connects) started_stays.limits in
-      omega (arith, fewer, kept_is, connects, again, full.0, full.1)
 
   module _ (end : PoolShown S) (lease back : Leasing S) (same_lease : back ≡ lease) where
     pub site_stays : lease.site < length start.hosts → StaysHost (host_at closed back.site) (host_at end back.site) → StaysHost (host_at start lease.site) (host_at end lease.site)

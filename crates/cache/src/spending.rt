@@ -1,10 +1,9 @@
 //! How a lease or a ticket ends.
 
-ghost use Rattle.std.specs.Prelude.{◌≡◌, ℕ, ◌<◌, true, false, length, is_some};
+ghost use Rattle.std.specs.Prelude.{◌≡◌, ◌<◌, true, false, length, is_some};
 ghost use Rattle.std.specs.Prelude.{IsSome, IfSome, IfNone, IfErr, OnOk, OnErr};
 ghost use Rattle.persistence.specs.declared.facts.Facts.{Facts};
 ghost use Rattle.bundle.specs.Calls.{becomes_idle, after_give_back};
-ghost use Rattle.bundle.specs.Laws.{IsSoundAndQuiet};
 ghost use Rattle.bundle.specs.Lease.{is_valid_ticket, is_unclaimed, WasGranted, HasItsStream};
 ghost use Rattle.bundle.specs.Lease.{GetsLease, Spends, is_held_lease};
 ghost use Rattle.bundle.specs.Replies.{IfClaimed, IfStill};
@@ -96,8 +95,6 @@ impl<S: Drop> Hosts<S> {
         ensures others { KeepsOtherHosts lease.site self.old self.new }
         ensures stays { StaysPool self.old self.new }
     {
-        // Each host's log is sound.
-        let _host = self.log(lease.site());
         self.close_oldest(Cause::CacheFull, now);
         match self.try_to_keep(lease, facts, now) {
             None => {}
@@ -130,8 +127,6 @@ impl<S: Drop> Hosts<S> {
         ensures spends { let old = host_at self.old lease.site in
             let new = host_at self.new lease.site in
             IfNone result (Spends old new lease.start.want.transfer) }
-        ensures settled { (site : ℕ) → site < length self.old.hosts →
-            IsSoundAndQuiet (terms self.old.limits) (log_at (all_hosts self.old) site) }
         ensures site { StaysHost (host_at self.old lease.site) (host_at self.new lease.site) }
         ensures others { KeepsOtherHosts lease.site self.old self.new }
         ensures stays { StaysPool self.old self.new }

@@ -9,7 +9,6 @@ use Rattle.cache.specs.AllHosts.{marked}
 use Rattle.cache.proofs.OneHost.{all_marked, others_keep, stepped, log_was}
 use Rattle.cache.proofs.Calling.{kept_called, was_kept, told_spending, tells_nothing, notes_lower, marks_one, TellsOne}
 use Rattle.cache.proofs.SameLog.{pool_same}
-use Rattle.cache.proofs.Sums.{settled_at}
 use Rattle.cache.proofs.Returning.{gave_log, gave_none, gave_again, gave_strange, one_more_idle, full_kept, room_kept}
 use Rattle.cache.proofs.hosts.Hosts.try_to_keep.Goals as goal
 use Rattle.cache.proofs.hosts.Hosts.try_to_keep.Goals.{in-Spent, in-NoKeep}
@@ -147,11 +146,6 @@ returns-clause-all g c =
           let step = stepped (λ s l. after_give_back s l number c.args.facts c.args.now) limits hosts inside.lobby.order site was new.log there read it.settings back in
           rw w.result-is (rw (sym c.self.view_is) (rw (sym c.site-site.ensures) (marked_is ∙ ap (marked limits site) step)))
     ]
-
-pub returns-clause-settled : goal.returns-clause-settled
-returns-clause-settled g c =
-    let inside = c.self.inside in
-    rw (sym c.self.view_is) (λ site there. settled_at inside.bundles.items inside.budget inside.lobby inside.pass inside.noted site c.self.invariant there)
 
 pub returns-clause-others : goal.returns-clause-others
 returns-clause-others g c =
