@@ -129,6 +129,18 @@ impl ResponseReader {
         self.ended = true;
     }
 
+    /// Forgets the response: it is now as a new reader of the response to the same request, with
+    /// nothing fed and nothing ended. It keeps its memory and takes none.
+    pub fn clear(&mut self)
+        ensures { self.new ≡ new_reader self.old.method self.old.request_close }
+    {
+        self.buffer.clear();
+        self.stage = Stage::Heads { skipped: 0 };
+        self.ended = false;
+        self.any_byte = false;
+        self.fed = BytesFed::new();
+    }
+
     /// Whether `end` was called.
     pub fn ended(&self) -> bool
         ensures { result ≡ self.now.ended }

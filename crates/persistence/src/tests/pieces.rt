@@ -565,3 +565,64 @@ fn want_of_memory_refuses_a_reader(rt: HostRuntime) {
         Err(fault) => assert_eq!(rt; fault, ReadFault::Memory),
     }
 }
+
+/// Checks that the reader tells what a new one tells, before any byte and after the text.
+fn check_as_new(
+    rt: &impl Abort,
+    alloc: Global,
+    reader: &mut ResponseReader,
+    case: &str,
+    sent: Sent,
+) -> Result<(), ReadFault> {
+    let mut new = ResponseReader::new(alloc, sent.method, sent.request_close)?;
+    assert_eq!(rt;
+        (reader.ended(), reader.any_byte()),
+        (false, false),
+        "{case}"
+    );
+    assert_eq!(rt; response_of(reader), response_of(&new), "{case}");
+    let found = fed(rt, reader, sent.text);
+    assert_eq!(rt; found, fed(rt, &mut new, sent.text), "{case}");
+    assert_eq!(rt; response_of(reader), response_of(&new), "{case}");
+    Ok(())
+}
+
+#[test]
+fn a_cleared_reader_is_as_new(rt: HostRuntime) -> Result<(), Fail> {
+    // a fault in a head and one in a body, a part of a head, a whole response with surplus, one ended
+    let before = [
+        "HTTP/1.1 2x0 OK\r\n\r\n",
+        "HTTP/1.1 200 OK\r\nTransfer-Encoding: chunked\r\n\r\n2\r\nok\r\nz",
+        "\r\nHTTP/1.1 200 OK\r\nA: b\r\n",
+        "HTTP/1.1 200 OK\r\nContent-Length: 2\r\n\r\nokay",
+        "HTTP/1.1 200 OK\r\n\r\nok",
+    ];
+    for text in before {
+        for (case, body_len, framing) in WHOLE {
+            let sent = Sent {
+                method: Method::Get,
+                request_close: false,
+                text: text.as_bytes(),
+                ended: true,
+            };
+            let (mut reader, _) = reader_fed(&rt, rt.alloc(), sent, 3, 5)?;
+            reader.clear();
+            let next = Sent {
+                text: case.as_bytes(),
+                ..sent
+            };
+            check_as_new(&rt, rt.alloc(), &mut reader, case, next)?;
+            assert_eq!(rt;
+                (reader.status(), reader.body_len()),
+                (Some(200), body_len),
+                "{case}"
+            );
+            assert_eq!(rt;
+                (reader.facts().framing, reader.facts().whole),
+                (framing, true),
+                "{case}"
+            );
+        }
+    }
+    Ok(())
+}
