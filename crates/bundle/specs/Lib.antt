@@ -1,5 +1,6 @@
 pub mod Calls
 pub mod Lease
+pub mod Lends
 pub mod Seats
 pub mod Passes
 pub mod Grants

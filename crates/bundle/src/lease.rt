@@ -1,6 +1,8 @@
 ghost use Rattle.std.specs.Prelude.{◌≡◌, is_some, IsSome, None, Some, true, false};
+ghost use Rattle.std.specs.Option.{option_copied_mut};
 ghost use Rattle.bundle.specs.Lease.{Leasing, lease_at, new_use, reuse_of};
 ghost use Rattle.bundle.specs.Grants.{granted_use};
+ghost use Rattle.std.specs.Borrow.{sem};
 
 use crate::grant::Grant;
 use crate::seats::LeaseSeat;
@@ -57,6 +59,8 @@ impl<S> Model for Use<S> {
 }
 
 impl<S> Use<S> {
+    ghost use Rattle.bundle.specs.Lends.{use_lends_stream};
+
     // That of a new connection, which has no stream yet.
     #[inline(always)]
     pub(crate) fn opened(host: u32, number: u32, want: Want, moment: u64) -> Self
@@ -111,6 +115,15 @@ impl<S> Use<S> {
         self.stream.take().unwrap()
     }
 
+    // Its stream, to be read and written.
+    #[inline(always)]
+    pub(crate) fn stream_mut(&mut self) -> Option<&mut S>
+        ensures* writes_back { sem 𝓛 (use_lends_stream S.row self.entry result) }
+        ensures value { option_copied_mut result ≡ self.old.stream }
+    {
+        self.stream.as_mut()
+    }
+
     // The stream, once the lease is spent.
     #[inline(always)]
     pub(crate) fn into_stream(self) -> Option<S>
@@ -154,6 +167,8 @@ impl<S: Drop> Use<S> {
 }
 
 impl<S> Lease<S> {
+    ghost use Rattle.bundle.specs.Lends.{lends_stream};
+
     // The lease of that use, with the seat of its pair.
     #[inline(always)]
     pub(crate) fn new(used: Use<S>, seat: LeaseSeat) -> Self
@@ -240,6 +255,15 @@ impl<S> Lease<S> {
         ensures { result ≡ is_some self.now.stream }
     {
         self.used.stream.is_some()
+    }
+
+    /// The stream of its connection that it may have, to be read from and written to. Nothing else
+    /// of the lease can change.
+    pub fn stream_mut(&mut self) -> Option<&mut S>
+        ensures* writes_back { sem 𝓛 (lends_stream S.row self.entry result) }
+        ensures value { option_copied_mut result ≡ self.old.stream }
+    {
+        self.used.stream_mut()
     }
 }
 

@@ -13,8 +13,6 @@ mod desk;
 mod did;
 #[cfg(test)]
 mod drop_tests;
-#[cfg(test)]
-mod example_tests;
 mod grant;
 mod host;
 pub mod laws;

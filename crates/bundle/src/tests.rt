@@ -1,10 +1,13 @@
 //! What no clause says: that calls succeed in ample memory, and that streams come back with their
 //! own connections.
 
+ghost use Rattle.std.specs.Prelude.{◌≡◌, IsSome, None, Some};
+
 use crate::desk::{
-    Desk, Stream, claimed, closed, drop_lease, give_back, leased, leased_for, leave, refused,
-    spent, still, stray, stream_under, waits, waits_for, want_of,
+    Desk, Stream, asked, claimed, closed, drop_lease, give_back, lease_of, leased, leased_for,
+    leave, refused, spent, still, stray, stream_under, waits, waits_for, want_of,
 };
+use crate::lease::Lease;
 use crate::snapshot::Snapshot;
 use budget::Refusal;
 use conn_key::Key;
@@ -306,5 +309,47 @@ fn a_claimed_connection_comes_back(rt: HostRuntime) -> Result<(), Fail> {
             (number, Some(Stream(number)))
         );
     }
+    Ok(())
+}
+
+// Writes through the stream that the lease may have.
+fn put_stream(lease: &mut Lease<Stream>, stream: Stream)
+    ensures put { IsSome lease.old.stream → lease.new ≡ record lease.old { stream = Some stream } }
+    ensures none { lease.old.stream ≡ None → lease.new ≡ lease.old }
+{
+    if let Some(own) = lease.stream_mut() {
+        *own = stream;
+    }
+}
+
+// Reads through it.
+fn stream_of(lease: &mut Lease<Stream>) -> Option<Stream>
+    ensures same { lease.new ≡ lease.old }
+    ensures stream { result ≡ lease.old.stream }
+{
+    match lease.stream_mut() {
+        Some(own) => Some(*own),
+        None => None,
+    }
+}
+
+#[test]
+fn a_lease_lends_its_stream(rt: HostRuntime) -> Result<(), Fail> {
+    let mut desk = Desk::of_host(rt.alloc(), 1, 1)?;
+    let mut lease = lease_of(&rt, asked(&rt, &mut desk, want_of(1), 0));
+    assert_eq!(rt; stream_of(&mut lease), None);
+    lease.attach(Stream(1));
+    put_stream(&mut lease, Stream(9));
+    assert_eq!(rt; stream_of(&mut lease), Some(Stream(9)));
+    assert_eq!(rt;
+        (lease.site(), lease.number(), lease.want(), lease.reused()),
+        (7, 1, want_of(1), false)
+    );
+    give_back(&rt, &mut desk, lease, 5);
+    let again = leased(&rt, &mut desk, 2, 6);
+    assert_eq!(rt;
+        stream_under(&rt, &mut desk, again, 6),
+        (1, Some(Stream(9)))
+    );
     Ok(())
 }
