@@ -41,3 +41,4 @@ pub mod Rising
 pub mod LastTries
 pub mod Reused
 pub mod Booked
+pub mod NoneQueued

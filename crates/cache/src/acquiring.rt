@@ -67,7 +67,9 @@ impl<S: Drop> Hosts<S> {
     }
 
     // Closes the oldest idle connection of all, where there is one, and tries the acquire for the
-    // last time that found no room in total.
+    // last time that found no room in total. Inlined, so that the room for what it moves is cleared
+    // here, and not before each acquire.
+    #[inline(always)]
     fn start_with_room(&mut self, booking: Booking, now: u64) -> Acquired<S>
         requires there { booking.site < length self.old.hosts }
         requires here { IsBookedHere (host_at self.old booking.site) booking }

@@ -1,5 +1,5 @@
-//! What calls of a pool cost: valgrind's callgrind counts the instructions of each call of
-//! `uses_often`, in the order of the tables (docs/measurements.md).
+//! What calls of a pool cost: valgrind's callgrind counts the instructions of each second call of
+//! `uses_often` and of `opens_often`, in the order of the tables (docs/measurements.md).
 
 ghost use Rattle.std.specs.Prelude.{◌≡◌, IsSome};
 
@@ -7,7 +7,7 @@ use crate::acquired::Acquired;
 use crate::desk::{KEEP, want_of};
 use crate::pool::Pool;
 use budget::{GREATEST_LIMIT, Limits, Refusal};
-use bundle::Lease;
+use bundle::{Lease, Ticket};
 use conn_log::Want;
 use std::alloc::Global;
 use std::test::Fail;
@@ -18,8 +18,8 @@ const WARM: [(u32, u64); 6] = [(1, 1), (1, 100), (8, 1), (8, 100), (1_024, 1), (
 /// How many hosts there are, with one idle connection each, in a pool that may have no more.
 const FULL: [u32; 3] = [8, 128, 1_024];
 
-/// How often each is done.
-const ROUNDS: u64 = 1_000;
+/// How often each is done, and as often again.
+const ROUNDS: u64 = 20_000;
 
 /// The lease with a stream.
 fn with_stream(lease: Lease<()>) -> Lease<()>
@@ -34,6 +34,15 @@ fn with_stream(lease: Lease<()>) -> Lease<()>
     lease
 }
 
+/// Withdraws a ticket. Inlined, so that the room for what it moves is cleared here, and not before
+/// each acquire.
+#[inline(always)]
+fn leave(pool: &mut Pool<()>, ticket: Ticket, now: u64) {
+    if let Err(stray) = pool.withdraw(ticket, now) {
+        stray.scrap();
+    }
+}
+
 /// Acquires a connection at the site and gives it back; whether there was one.
 #[inline(always)]
 fn is_used(pool: &mut Pool<()>, site: u32, want: Want, now: u64) -> bool {
@@ -43,21 +52,36 @@ fn is_used(pool: &mut Pool<()>, site: u32, want: Want, now: u64) -> bool {
             true
         }
         Ok(Acquired::Wait(ticket)) => {
-            if let Err(stray) = pool.withdraw(ticket, now) {
-                stray.scrap();
-            }
+            leave(pool, ticket, now);
             false
         }
         Err(_) => false,
     }
 }
 
-/// Does so at so many sites in turn, so often; how often there was one.
+/// Does so at one site in each of these rounds, each for a transfer of its own, to which no
+/// connection is too old; how often there was one. Site and age are known only when it runs.
 #[inline(never)]
-fn uses_often(pool: &mut Pool<()>, sites: u32, want: Want, rounds: u64) -> u64 {
-    let (mut used, mut site) = (0, 0);
-    for round in 0..rounds {
+fn uses_often(pool: &mut Pool<()>, site: u32, first: u64, end: u64) -> u64 {
+    let mut used = 0;
+    for round in first..end {
+        let want = Want {
+            max_age: end,
+            ..want_of(round)
+        };
         if is_used(pool, site, want, round) {
+            used += 1;
+        }
+    }
+    used
+}
+
+/// The same at so many sites in turn, where each transfer must have a new connection.
+#[inline(never)]
+fn opens_often(pool: &mut Pool<()>, sites: u32, first: u64, end: u64) -> u64 {
+    let (mut used, mut site) = (0, 0);
+    for round in first..end {
+        if is_used(pool, site, new_one(round), round) {
             used += 1;
         }
         site = if site + 1 < sites { site + 1 } else { 0 };
@@ -84,16 +108,16 @@ fn warm(alloc: Global, hosts: u32, idle: u64, total: u32) -> Result<Pool<()>, Re
     };
     let mut pool = Pool::new(alloc, limits, hosts)?;
     for _ in 0..idle {
-        opens_each(&mut pool, hosts, new_one());
+        opens_each(&mut pool, hosts, new_one(1));
     }
     Ok(pool)
 }
 
 /// What a transfer wants that must have a new connection.
-fn new_one() -> Want {
+fn new_one(transfer: u64) -> Want {
     Want {
         fresh: true,
-        ..want_of(1)
+        ..want_of(transfer)
     }
 }
 
@@ -101,7 +125,8 @@ fn new_one() -> Want {
 fn a_warm_connection_is_used_often(rt: HostRuntime) -> Result<(), Fail> {
     for (hosts, idle) in WARM {
         let mut pool = warm(rt.alloc(), hosts, idle, 0)?;
-        let used = uses_often(&mut pool, 1, want_of(1), ROUNDS);
+        assert_eq!(rt; uses_often(&mut pool, hosts / 2, 0, ROUNDS), ROUNDS);
+        let used = uses_often(&mut pool, hosts / 2, ROUNDS, 2 * ROUNDS);
         assert_eq!(rt; used, ROUNDS);
     }
     Ok(())
@@ -111,7 +136,8 @@ fn a_warm_connection_is_used_often(rt: HostRuntime) -> Result<(), Fail> {
 fn the_oldest_of_all_is_closed_often(rt: HostRuntime) -> Result<(), Fail> {
     for hosts in FULL {
         let mut pool = warm(rt.alloc(), hosts, 1, hosts)?;
-        let used = uses_often(&mut pool, hosts, new_one(), ROUNDS);
+        assert_eq!(rt; opens_often(&mut pool, hosts, 0, ROUNDS), ROUNDS);
+        let used = opens_often(&mut pool, hosts, ROUNDS, 2 * ROUNDS);
         assert_eq!(rt; used, ROUNDS);
     }
     Ok(())

@@ -1,6 +1,6 @@
 //! How a lease or a ticket ends.
 
-ghost use Rattle.std.specs.Prelude.{◌≡◌, ◌<◌, true, false, length, is_some};
+ghost use Rattle.std.specs.Prelude.{◌≡◌, ◌<◌, true, false, [], length, is_some};
 ghost use Rattle.std.specs.Prelude.{IsSome, IfSome, IfNone, IfErr, OnOk, OnErr};
 ghost use Rattle.persistence.specs.declared.facts.Facts.{Facts};
 ghost use Rattle.bundle.specs.Calls.{becomes_idle, after_give_back};
@@ -70,14 +70,56 @@ impl<S: Drop> Hosts<S> {
         ensures others { KeepsOtherHosts lease.site self.old self.new }
         ensures stays { StaysPool self.old self.new }
     {
+        if self.lobby.first().is_some() {
+            self.give_back_otherwise(lease, facts, now);
+        } else if let Some(lease) = self.keep_at_once(lease, facts, now) {
+            self.give_back_otherwise(lease, facts, now);
+        }
+    }
+
+    // The same. Inlined, so that the room for the lease that it moves is cleared here, and not
+    // before each give back.
+    #[inline(always)]
+    fn give_back_otherwise(&mut self, lease: Lease<S>, facts: Facts, now: u64)
+        requires there { lease.site < length self.old.hosts }
+        requires here { lease.tables ≡ (host_at self.old lease.site).tables }
+        requires stream { IsSome lease.stream }
+        ensures all { let number = lease.start.number in all_hosts self.new
+            ≡ given_back self.old.limits lease.site number facts now (all_hosts self.old) }
+        ensures known { is_held_lease (host_at self.old lease.site) lease ≡ true }
+        ensures spends { let old = host_at self.old lease.site in
+            let new = host_at self.new lease.site in
+            Spends old new lease.start.want.transfer }
+        ensures site { StaysHost (host_at self.old lease.site) (host_at self.new lease.site) }
+        ensures others { KeepsOtherHosts lease.site self.old self.new }
+        ensures stays { StaysPool self.old self.new }
+    {
+        self.give_back_in_any_case(lease, facts, now);
+    }
+
+    // The same, also where a host is queued, or as many are kept as may be. Out of line, so that
+    // the common give back stays small enough to be inlined.
+    #[inline(never)]
+    fn give_back_in_any_case(&mut self, lease: Lease<S>, facts: Facts, now: u64)
+        requires there { lease.site < length self.old.hosts }
+        requires here { lease.tables ≡ (host_at self.old lease.site).tables }
+        requires stream { IsSome lease.stream }
+        ensures all { let number = lease.start.number in all_hosts self.new
+            ≡ given_back self.old.limits lease.site number facts now (all_hosts self.old) }
+        ensures known { is_held_lease (host_at self.old lease.site) lease ≡ true }
+        ensures spends { let old = host_at self.old lease.site in
+            let new = host_at self.new lease.site in
+            Spends old new lease.start.want.transfer }
+        ensures site { StaysHost (host_at self.old lease.site) (host_at self.new lease.site) }
+        ensures others { KeepsOtherHosts lease.site self.old self.new }
+        ensures stays { StaysPool self.old self.new }
+    {
         if let Some(lease) = self.try_to_keep(lease, facts, now) {
             self.keep_in_place_of_oldest(lease, facts, now);
         }
     }
 
     // The same, where as many are kept as may be: the oldest of all is closed.
-    // Out of line, so that the common give back stays small enough to be inlined.
-    #[inline(never)]
     fn keep_in_place_of_oldest(&mut self, lease: Lease<S>, facts: Facts, now: u64)
         requires there { lease.site < length self.old.hosts }
         requires here { lease.tables ≡ (host_at self.old lease.site).tables }
@@ -103,8 +145,51 @@ impl<S: Drop> Hosts<S> {
         }
     }
 
-    // The same; where it is to be idle and as many are kept as may be, the lease comes back.
+    // The same where no host is queued; where as many are kept as may be, the lease comes back.
     #[inline(always)]
+    fn keep_at_once(&mut self, lease: Lease<S>, facts: Facts, now: u64) -> Option<Lease<S>>
+        requires there { lease.site < length self.old.hosts }
+        requires here { lease.tables ≡ (host_at self.old lease.site).tables }
+        requires stream { IsSome lease.stream }
+        requires none_queued { self.old.queue ≡ [] }
+        ensures known { is_held_lease (host_at self.old lease.site) lease ≡ true }
+        ensures back { IfSome result (λ same. (same ≡ lease) × (self.new ≡ self.old)) }
+        ensures room { let log = log_at (all_hosts self.old) lease.site in
+            IfNone result (becomes_idle log lease.start.number facts now ≡ true →
+            can_keep self.old.limits (all_hosts self.old) ≡ true) }
+        ensures all { let limits = self.old.limits in
+            let all = all_hosts self.old in
+            let log = log_at all lease.site in
+            let back = after_give_back (terms limits) log lease.start.number facts now in
+            IfNone result
+            (all_hosts self.new ≡ marked limits lease.site (with_log lease.site back all)) }
+        ensures spends { let old = host_at self.old lease.site in
+            let new = host_at self.new lease.site in
+            IfNone result (Spends old new lease.start.want.transfer) }
+        ensures site { StaysHost (host_at self.old lease.site) (host_at self.new lease.site) }
+        ensures others { KeepsOtherHosts lease.site self.old self.new }
+        ensures stays { StaysPool self.old self.new }
+    {
+        let site = lease.site();
+        let bundle = &mut self.bundles[site as usize];
+        let mut permits = self.budget.at(site);
+        let pass = &mut self.pass;
+        let back = bundle.give_back(lease, facts, now, pass, &mut permits, None, false);
+        let _log = bundle.log();
+        match back {
+            Back::Spent { freed: _ } => {
+                let oldest = bundle.oldest();
+                self.noted.lower(site as usize, oldest);
+                None
+            }
+            Back::NoKeep(lease) => Some(lease),
+            // The budget of one thread need not be asked again, and the lease was made here.
+            Back::Again(_lease) => unreachable!(),
+            Back::Strange(_stray) => unreachable!(),
+        }
+    }
+
+    // The same; where it is to be idle and as many are kept as may be, the lease comes back.
     fn try_to_keep(&mut self, lease: Lease<S>, facts: Facts, now: u64) -> Option<Lease<S>>
         requires there { lease.site < length self.old.hosts }
         requires here { lease.tables ≡ (host_at self.old lease.site).tables }

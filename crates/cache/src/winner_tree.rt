@@ -93,8 +93,18 @@ impl WinnerTree {
     {
         let noted = self.nodes[self.hosts + host];
         if is_before(stamp, noted) {
-            self.set(host, stamp);
+            self.set_lower(host, stamp);
         }
+    }
+
+    // The same. Inlined, so that the stamp is moved into memory here, and not before each `lower`.
+    #[inline(always)]
+    fn set_lower(&mut self, host: usize, stamp: Option<Stamp>)
+        requires there { host < length self.old }
+        requires own { IfSome stamp (λ s. s.host ≡ host) }
+        ensures { self.new ≡ slice_set self.old host stamp }
+    {
+        self.set(host, stamp);
     }
 }
 

@@ -1,0 +1,133 @@
+use Rattle.bundle.specs.Effects.{idle_len}
+use Rattle.std.proofs.Common.{◌≡◌, ◌<◌, true, false, length, refl, sym, ap, ◌∙◌, rules}
+use Rattle.budget.specs.Plain.{KeepsOtherHosts, held_at_host}
+use Rattle.bundle.specs.Calls.{after_give_back, becomes_idle, is_queued}
+use Rattle.conn_log.specs.Fit.{oldest_stamp}
+use Rattle.bundle.specs.Laws.{IsSoundAndQuiet}
+use Rattle.bundle.specs.Lease.{held_by}
+use Rattle.cache.specs.AllHosts.{marked}
+use Rattle.cache.proofs.OneHost.{all_marked, others_keep, stepped, log_was}
+use Rattle.cache.proofs.Calling.{kept_called, was_kept, told_spending, tells_nothing, notes_lower, marks_nothing, NotesOne, TellsOne}
+use Rattle.cache.proofs.NoneQueued.{none_in, not_queued, same_order, pool_stays}
+use Rattle.cache.specs.Oldest.{is_before, stamp_at}
+use Rattle.budget.specs.Lobby.{is_listed}
+use Rattle.cache.proofs.Returning.{gave_log, gave_none, gave_again, gave_strange, one_more_idle, full_kept, room_kept}
+use Rattle.cache.proofs.hosts.Hosts.keep_at_once.Goals as goal
+
+pub unreachable-requires : goal.unreachable-requires
+unreachable-requires g c =
+    gave_again c.index_mut-bundle.result.now c.give_back-back.new.self c.give_back-back.new.permits.budget.now c.args.lease c.args.facts c.args.now c.in-Again._lease c.in-Again.ensures.told
+
+pub unreachable-requires-in-Strange : goal.unreachable-requires-in-Strange
+unreachable-requires-in-Strange g c =
+    gave_strange c.index_mut-bundle.result.now c.give_back-back.new.self c.give_back-back.new.permits.budget.now c.args.lease c.args.facts c.args.now c.in-Strange._stray c.in-Strange.ensures.told
+
+pub invariant_of-self : goal.invariant_of-self
+invariant_of-self g c =
+    let site = c.site-site.result in
+    let hosts = c.self.inside.bundles.items in
+    let was = c.index_mut-bundle.result.now in
+    let new = c.give_back-back.new.self in
+    let inside = c.self.inside in
+    let later = c.give_back-back.new.permits.budget.now in
+    let told = c.give_back-back.new.pass in
+    let done = c.give_back-back.ensures in
+    let read = c.index_mut-bundle.ensures.value in
+    let there : site < length hosts = search rules in
+    let others : KeepsOtherHosts site inside.budget later = search rules in
+    let part : held_at_host later.hosts site ≡ held_by new.log = search rules in
+    let it = was_kept site hosts was new inside.budget later inside.lobby inside.lobby inside.pass told inside.noted inside.noted c.self.invariant there read in
+    let settled : IsSoundAndQuiet new.settings new.log = record { sound = c.log-log.ensures.sound; quiet = c.log-log.ensures.quiet } in
+    let not_was = not_queued inside.lobby.order site (is_queued was.settings was.log) (none_in _ _ c.self.view_is c.requires.none_queued) it.listed in
+    let marks = marks_nothing site (is_queued was.settings was.log) (is_queued new.settings new.log) inside.lobby it.listed (done.mark not_was ∙ sym not_was) in
+    let tells = told_spending was.host _ _ inside.pass told c.in-Spent.ensures.spent in
+    let notes = notes_lower site inside.noted c.lower.new.self _ _ (rw c.self.invariant.stamps there) (c.oldest-oldest.ensures ∙ ap (oldest_stamp new.log) (done.same.host ∙ it.place)) c.lower.ensures in
+    kept_called site hosts was new inside.budget later inside.lobby inside.lobby inside.pass told inside.noted c.lower.new.self c.self.invariant there read done.same settled others part marks tells done.seats done.account notes
+
+pub invariant_of-self-in-NoKeep : goal.invariant_of-self-in-NoKeep
+invariant_of-self-in-NoKeep g c =
+    let site = c.site-site.result in
+    let hosts = c.self.inside.bundles.items in
+    let was = c.index_mut-bundle.result.now in
+    let new = c.give_back-back.new.self in
+    let inside = c.self.inside in
+    let later = c.give_back-back.new.permits.budget.now in
+    let told = c.give_back-back.new.pass in
+    let done = c.give_back-back.ensures in
+    let read = c.index_mut-bundle.ensures.value in
+    let there : site < length hosts = search rules in
+    let others : KeepsOtherHosts site inside.budget later = search rules in
+    let part : held_at_host later.hosts site ≡ held_by new.log = search rules in
+    let it = was_kept site hosts was new inside.budget later inside.lobby inside.lobby inside.pass told inside.noted inside.noted c.self.invariant there read in
+    let settled : IsSoundAndQuiet new.settings new.log = record { sound = c.log-log.ensures.sound; quiet = c.log-log.ensures.quiet } in
+    let not_was = not_queued inside.lobby.order site (is_queued was.settings was.log) (none_in _ _ c.self.view_is c.requires.none_queued) it.listed in
+    let marks = marks_nothing site (is_queued was.settings was.log) (is_queued new.settings new.log) inside.lobby it.listed (done.mark not_was ∙ sym not_was) in
+    let tells : TellsOne was.host inside.pass told = rw c.in-NoKeep.ensures.unspent (tells_nothing was.host inside.pass) in
+    let none = gave_none was new later c.args.lease c.args.facts c.args.now _ c.in-NoKeep.ensures.told in
+    let notes : NotesOne site inside.noted inside.noted (oldest_stamp new.log site) = record { stamps = refl; other_stamps = λ other apart. refl; not_later = rw none.same_host it.not_later } in
+    kept_called site hosts was new inside.budget later inside.lobby inside.lobby inside.pass told inside.noted inside.noted c.self.invariant there read done.same settled others part marks tells done.seats done.account notes
+
+pub returns-in-NoKeep-clause-back : goal.returns-in-NoKeep-clause-back
+returns-in-NoKeep-clause-back g c =
+    let site = c.site-site.result in
+    let inside = c.self.inside in
+    let was = c.index_mut-bundle.result.now in
+    let new = c.give_back-back.new.self in
+    let later = c.give_back-back.new.permits.budget.now in
+    let others : KeepsOtherHosts site inside.budget later = search rules in
+    let there : site < length inside.bundles.items = search rules in
+    let it = was_kept site inside.bundles.items was new inside.budget later inside.lobby inside.lobby inside.pass inside.pass inside.noted inside.noted c.self.invariant there c.index_mut-bundle.ensures.value in
+    let none = gave_none was new later c.args.lease c.args.facts c.args.now _ c.in-NoKeep.ensures.told in
+    let same = pool_stays inside.budget.limits later.limits site inside.bundles.items was new inside.lobby.order others.limits c.index_mut-bundle.ensures.value none.same_host in
+    (none.same_lease, same ∙ c.self.view_is)
+
+pub returns-in-Spent-clause-room : goal.returns-in-Spent-clause-room
+returns-in-Spent-clause-room g c =
+    let site = c.site-site.result in
+    let inside = c.self.inside in
+    let hosts = inside.bundles.items in
+    let was = c.index_mut-bundle.result.now in
+    let new = c.give_back-back.new.self in
+    let later = c.give_back-back.new.permits.budget.now in
+    let read = c.index_mut-bundle.ensures.value in
+    let there : site < length hosts = search rules in
+    let others : KeepsOtherHosts site inside.budget later = search rules in
+    let part : held_at_host later.hosts site ≡ held_by new.log = search rules in
+    let it = was_kept site hosts was new inside.budget inside.budget inside.lobby inside.lobby inside.pass inside.pass inside.noted inside.noted c.self.invariant there read in
+    let log = log_was hosts site was there read in
+    let transfer = c.args.lease.start.want.transfer in
+    let number = c.args.lease.start.number in
+    let back = gave_log was new later c.args.lease c.args.facts c.args.now _ c.in-Spent.ensures.told in
+    let room = (λ (idle : becomes_idle was.log number c.args.facts c.args.now ≡ true).
+    room_kept site hosts was new inside.budget later there read c.self.invariant.parts others part c.in-Spent.ensures.stands.1
+    (ap idle_len back ∙ one_more_idle was.settings was.log transfer number c.args.facts c.args.now it.settled c.in-Spent.ensures.known idle)) in
+    rw (sym c.self.view_is) (rw (sym c.site-site.ensures) (rw (sym log) room))
+
+pub returns-in-Spent-clause-all : goal.returns-in-Spent-clause-all
+returns-in-Spent-clause-all g c =
+    let site = c.site-site.result in
+    let hosts = c.self.inside.bundles.items in
+    let was = c.index_mut-bundle.result.now in
+    let new = c.give_back-back.new.self in
+    let inside = c.self.inside in
+    let limits = inside.budget.limits in
+    let done = c.give_back-back.ensures in
+    let read = c.index_mut-bundle.ensures.value in
+    let there : site < length hosts = search rules in
+    let it = was_kept site hosts was new inside.budget inside.budget inside.lobby inside.lobby inside.pass inside.pass inside.noted inside.noted c.self.invariant there read in
+    let not_was = not_queued inside.lobby.order site (is_queued was.settings was.log) (none_in _ _ c.self.view_is c.requires.none_queued) it.listed in
+    let number = c.args.lease.start.number in
+    let marked_is = all_marked limits hosts site was new inside.lobby.order inside.lobby.order there it.place (done.same.settings ∙ it.settings) it.listed (same_order was.host _ _ inside.lobby.order not_was (done.mark not_was)) in
+    let back = gave_log was new c.give_back-back.new.permits.budget.now c.args.lease c.args.facts c.args.now _ c.in-Spent.ensures.told in
+    let step = stepped (λ s l. after_give_back s l number c.args.facts c.args.now) limits hosts inside.lobby.order site was new.log there read it.settings back in
+    rw (sym c.self.view_is) (rw (sym c.site-site.ensures) (marked_is ∙ ap (marked limits site) step))
+
+pub returns-in-Spent-clause-others : goal.returns-in-Spent-clause-others
+returns-in-Spent-clause-others g c =
+    let inside = c.self.inside in
+    rw (sym c.self.view_is) (rw (sym c.site-site.ensures) (others_keep inside.budget.limits inside.lobby.order inside.lobby.order inside.bundles.items c.site-site.result c.give_back-back.new.self))
+
+pub returns-in-NoKeep-clause-others : goal.returns-in-NoKeep-clause-others
+returns-in-NoKeep-clause-others g c =
+    let inside = c.self.inside in
+    rw (sym c.self.view_is) (rw (sym c.site-site.ensures) (others_keep inside.budget.limits inside.lobby.order inside.lobby.order inside.bundles.items c.site-site.result c.give_back-back.new.self))
