@@ -9,6 +9,8 @@ mod cost_tests;
 mod desk;
 #[cfg(test)]
 mod drawn_tests;
+#[cfg(test)]
+mod example_tests;
 mod hosts;
 pub mod laws;
 #[cfg(test)]
