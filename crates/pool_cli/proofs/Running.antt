@@ -5,16 +5,15 @@ use Rattle.std.proofs.KnownBytes.{Appends-nil, Appends-trans}
 use Rattle.script_text.specs.declared.fault.FaultKind.{FaultKind}
 use Rattle.script_text.specs.declared.fault.FaultKind.TheVariants.{Memory, Read, Write, ScriptTooLong, LineTooLong, Unknown, Form, Place, BadLimits, BadSite, TooManySites}
 use Rattle.script_text.specs.declared.fault.ScriptFault.{ScriptFault}
-use Rattle.script_text.specs.declared.command.Action.{Action}
 use Rattle.script_text.specs.declared.command.Command.{Command}
 use Rattle.script_text.specs.declared.command.Command.TheVariants as commands
 use Rattle.script_text.specs.declared.command.Limits.{Limits}
 use Rattle.script_text.specs.Words.{words}
-use Rattle.script_text.specs.Grammar.{reading, reading_of, present, command_of, formed, limits_form, site_form, get_form, claim_form, back_form, drop_form, leave_form, look_form}
+use Rattle.script_text.specs.Grammar.{reading, reading_of, present, command_of, formed, limits_form, site_form, get_form, claim_form, back_form, drop_form, leave_form, limit_form, prune_form, upkeep_form, look_form}
 use Rattle.std.specs.Str.{bytes_eq}
 use Rattle.std.specs.Prelude.{codes}
 use Rattle.script_text.specs.Lines.{lines}
-use Rattle.script_engine.specs.Meaning.{Run, start, step, with_limits, add_site, with_url, with_action}
+use Rattle.script_engine.specs.Meaning.{Run, start, step, with_limits, add_site, with_url, with_answer, answer_of, prune_all, upkeep_all}
 use Rattle.script_text.specs.Site.{site_named}
 use Rattle.conn_key.specs.declared.site.Site.{Site}
 use Rattle.script_engine.specs.Transcript.{Transcript, whole_text, text_up_to, text_before, IsRun, told, before_others, line_step, line_step_of, Ends, EndsByFault, FailsBy, transcript}
@@ -59,7 +58,7 @@ formed-of (Some c) = ok-of c
 
 command-of : (name : List ℕ) (rest : List (List ℕ)) → OfLine (command_of name rest)
 unfolding command_of is_of_line
-command-of name rest = either-of (bytes_eq name (codes "limits")) (formed (limits_form rest)) _ (formed-of (limits_form rest)) (either-of (bytes_eq name (codes "site")) (formed (site_form rest)) _ (formed-of (site_form rest)) (either-of (bytes_eq name (codes "get")) (formed (get_form rest)) _ (formed-of (get_form rest)) (either-of (bytes_eq name (codes "claim")) (formed (claim_form rest)) _ (formed-of (claim_form rest)) (either-of (bytes_eq name (codes "back")) (formed (back_form rest)) _ (formed-of (back_form rest)) (either-of (bytes_eq name (codes "drop")) (formed (drop_form rest)) _ (formed-of (drop_form rest)) (either-of (bytes_eq name (codes "leave")) (formed (leave_form rest)) _ (formed-of (leave_form rest)) (either-of (bytes_eq name (codes "look")) (formed (look_form rest)) _ (formed-of (look_form rest)) (err-of Unknown refl))))))))
+command-of name rest = either-of (bytes_eq name (codes "limits")) (formed (limits_form rest)) _ (formed-of (limits_form rest)) (either-of (bytes_eq name (codes "site")) (formed (site_form rest)) _ (formed-of (site_form rest)) (either-of (bytes_eq name (codes "get")) (formed (get_form rest)) _ (formed-of (get_form rest)) (either-of (bytes_eq name (codes "claim")) (formed (claim_form rest)) _ (formed-of (claim_form rest)) (either-of (bytes_eq name (codes "back")) (formed (back_form rest)) _ (formed-of (back_form rest)) (either-of (bytes_eq name (codes "drop")) (formed (drop_form rest)) _ (formed-of (drop_form rest)) (either-of (bytes_eq name (codes "leave")) (formed (leave_form rest)) _ (formed-of (leave_form rest)) (either-of (bytes_eq name (codes "limit")) (formed (limit_form rest)) _ (formed-of (limit_form rest)) (either-of (bytes_eq name (codes "prune")) (formed (prune_form rest)) _ (formed-of (prune_form rest)) (either-of (bytes_eq name (codes "upkeep")) (formed (upkeep_form rest)) _ (formed-of (upkeep_form rest)) (either-of (bytes_eq name (codes "look")) (formed (look_form rest)) _ (formed-of (look_form rest)) (err-of Unknown refl)))))))))))
 
 present-of : (r : Result Command FaultKind) → OfLine r → OfLine (present r)
 present-of (Ok c) h = ok-of (Some c)
@@ -88,16 +87,18 @@ unfolding is_of_line
 site-of run word None = err-of Place refl
 site-of run word (Some limits) = either-of _ _ _ (err-of Place refl) (named-of run (site_named word))
 
-asked-of : (run : Run) (site : ℕ) (action : Action) (before : Option Limits) → OfLine (with_action run site action before)
+answered-of : (run : Run) (answer : _) (before : Option Limits) → OfLine (with_answer run answer before)
 unfolding is_of_line
-asked-of run site action None = err-of Place refl
-asked-of run site action (Some limits) = ok-of _
+answered-of run answer None = err-of Place refl
+answered-of run answer (Some limits) = ok-of _
 
 step-of : (run : Run) (command : Command) → OfLine (step run command)
 unfolding step
 step-of run (commands.Limits limits) = limits-of run limits run.limits
 step-of run (commands.Site word) = site-of run word run.limits
-step-of run (commands.At site action) = asked-of run site action run.limits
+step-of run (commands.At site action) = answered-of run (λ limits hosts. answer_of limits hosts site action) run.limits
+step-of run (commands.Prune max_age max_life moment) = answered-of run (λ limits hosts. prune_all limits max_age max_life moment hosts) run.limits
+step-of run commands.Upkeep = answered-of run (λ limits hosts. upkeep_all hosts) run.limits
 
 line-step-of : (run : Run) (r : Result (Option Command) FaultKind) → OfLine r → OfLine (line_step_of run r)
 line-step-of run (Err of) h = err-of of (h of refl)

@@ -1,4 +1,4 @@
-//! The program curlpool: it runs a script of connection events through a bundle and writes the
+//! The program curlpool: it runs a script of connection events through a pool and writes the
 //! transcript.
 #![tactic(auto)]
 
@@ -10,6 +10,8 @@ mod request;
 mod script;
 mod streams;
 #[cfg(test)]
+mod test_scripts;
+#[cfg(test)]
 mod tests;
 mod watched;
 mod worked;
@@ -18,7 +20,7 @@ use command_line::Words;
 use memory::CountedWordsMemory;
 use program::run_program;
 use std::env;
-use std::io::ErrorKind;
+use std::io::{ErrorKind, IsTerminal};
 use std::process::ExitCode;
 use watched::Watched;
 
@@ -42,13 +44,16 @@ fn given_words(rt: &HostRuntime) -> Words {
 fn main(rt: HostRuntime) -> ExitCode {
     let words = given_words(&rt);
     let mut memory = CountedWordsMemory::new(rt.alloc());
-    let mut input = Watched::new(rt.stdin());
+    let stdin = rt.stdin();
+    let is_typed = stdin.is_terminal();
+    let mut input = Watched::new(stdin);
     let mut output = Watched::new(rt.stdout());
     let mut errors = rt.stderr();
     let status = run_program(
         rt.alloc(),
         &mut memory,
         words,
+        is_typed,
         &mut input,
         &mut output,
         &mut errors,

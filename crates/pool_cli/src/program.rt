@@ -24,14 +24,19 @@ const BAD_SCRIPT: u8 = 3;
 /// Memory ran out while reading words.
 const NO_MEMORY: u8 = 4;
 
+/// How a script on a terminal ends, for the person who writes it.
+const HOW_TO_END: &str = "Write a script, and end it with Ctrl-D on an empty line.\n";
+
 /// Does what the words ask for, and answers the status with which the program ends: 0 where it did
 /// so, 2 where the words are refused, 3 where the script has a fault, and 4 where memory ran out
-/// while reading words. What goes wrong is told on `errors`; on `output` stands the transcript or
-/// the help that was asked for, and nothing else.
+/// while reading words. What goes wrong is told on `errors`, and there too how to end a script
+/// that `is_typed` on a terminal, since it is read whole; on `output` stands the transcript or the
+/// help that was asked for, and nothing else.
 pub fn run_program<M: WordsMemory, R: Source, W: Sink, E: Write>(
     alloc: Global,
     memory: &mut M,
     words: Words,
+    is_typed: bool,
     input: &mut R,
     output: &mut W,
     errors: &mut E,
@@ -42,7 +47,15 @@ pub fn run_program<M: WordsMemory, R: Source, W: Sink, E: Write>(
         (R.source input.old) (R.source input.new) (W.sink output.old) (W.sink output.new) result }
 {
     let request = asked_by(memory, words);
+    if is_typed && asks_for_script(&request) {
+        say(errors, HOW_TO_END);
+    }
     answer_request(alloc, request, input, output, errors)
+}
+
+/// Whether a script is to be run.
+fn asks_for_script(request: &Request) -> bool {
+    matches!(request, Request::Script)
 }
 
 /// Does what is asked for, and answers the status: runs the script, tells help or the version on

@@ -1,5 +1,5 @@
 -- The transfers that have a lease or a ticket in one list, and what is left once the first of them has spent it.
-use Rattle.std.proofs.Common.{◌≡◌, ℕ, Bool, true, false, cond, ◌||◌, List, [], ◌∷◌, length, Option, Some, None, is_some, refl, ap, sym, ◌∙◌, arith, subst, Less}
+use Rattle.std.proofs.Common.{◌≡◌, ◌<◌, ℕ, length, IfNone, Bool, true, false, cond, ◌||◌, List, [], ◌∷◌, Option, Some, None, is_some, refl, ap, sym, ◌∙◌, arith, subst, Less}
 use Rattle.std.specs.Prelude.{◌==◌, nat_lt}
 use Rattle.std.specs.List.{AllByRecursion}
 use Rattle.std.specs.List.Sorted.{IsStrictlySortedBy}
@@ -9,12 +9,14 @@ use Rattle.std.specs.Map.{keys_of, lookup}
 use Rattle.std.specs.BTreeMap.{is_at}
 use Rattle.std.proofs.lemmas.Bool.Decides.{nat_tests}
 use Rattle.conn_log.specs.Connections.{is_among, held_number}
-use Rattle.conn_log.specs.Legal.{LimitAndFirst}
 use Rattle.conn_log.specs.Sound.{IsSound}
-use Rattle.bundle.specs.Lease.{HostShown, Leasing, Ticketed, lease_number, ticket_want}
-use Rattle.script_engine.specs.Meaning.{ScriptHost, with_ticket}
-use Rattle.script_engine.specs.Hosted.{kept_host, KeepsLeases, KeepsTickets, lease_facts, kept_facts, leases_of, is_ticket_first, merged}
-use Rattle.script_engine.specs.Ending.{has_either, after_all}
+use Rattle.budget.specs.Limits.{Bounds}
+use Rattle.bundle.specs.Lease.{HostShown, Leasing, Ticketed, lease_number}
+use Rattle.cache.specs.AllHosts.{AllHosts, log_at}
+use Rattle.cache.specs.Calls.{after_withdrawing}
+use Rattle.script_engine.specs.Meaning.{AtSite, with_ticket, without_ticket}
+use Rattle.script_engine.specs.Hosted.{KeepsLeases, KeepsTickets, lease_facts, whereabouts, kept_facts, leases_of, tickets_of, is_ticket_first, merged}
+use Rattle.script_engine.specs.Ending.{has_either, after_dropping, after_giving_up, after_all_at}
 use Rattle.script_engine.proofs.Tickets.{among-keys}
 use Rattle.script_engine.proofs.Spending.{leased-by-keys}
 use Rattle.script_engine.proofs.TicketLists.{among-with}
@@ -127,32 +129,61 @@ holder-first t holders rest waiters is w first apart =
     ap (λ keys. merged keys waiters) is
     ∙ lease-first t rest waiters (below-waiters t rest waiters w (ap (λ keys. is_ticket_first keys waiters) (sym is) ∙ first) apart)
 
-module _ {S : Type 0} (host : HostShown S) (sound : IsSound host.settings host.log) (t : ℕ) where
+module _ {S : Type 0} (host : HostShown S) (sound : IsSound host.settings host.log) (site : ℕ) (all : AllHosts) (log : log_at all site ≡ host.log) (t : ℕ) where
   -- those that are left: who has a ticket, or holds a connection
-  pub each-left : (leases : List (ℕ × Leasing S)) (tickets : List (ℕ × Ticketed)) → KeepsLeases (leases_of host) (λ q. lookup (is_at (nat_cmp q)) leases) → KeepsTickets (ticket_want host) (λ q. lookup (is_at (nat_cmp q)) tickets)
-      → is_among t (merged (keys_of leases) (keys_of tickets)) ≡ has_either (kept_host host (keys_of tickets)) t
+  pub each-left : (leases : List (ℕ × Leasing S)) (tickets : List (ℕ × Ticketed)) → KeepsLeases (leases_of host) (λ q. lookup (is_at (nat_cmp q)) leases) → KeepsTickets (tickets_of host) (λ q. lookup (is_at (nat_cmp q)) tickets)
+      → is_among t (merged (keys_of leases) (keys_of tickets)) ≡ has_either site (record { all = all; tickets = keys_of tickets }) t
   each-left leases tickets keeps_leases keeps_tickets =
       among-merged t (keys_of leases) (keys_of tickets) ∙ ap (λ b. is_among t (keys_of tickets) || b) leased ∙ by_ticket (is_among t (keys_of tickets))
     where
-      any-kept : (lease : Option (Leasing S)) (number : Option ℕ) → option_map lease_facts lease ≡ option_map (kept_facts host.tables t) number → is_some lease ≡ is_some number
+      any-kept : (lease : Option (Leasing S)) (number : Option ℕ) → option_map lease_facts lease ≡ option_map (kept_facts (whereabouts host) t) number → is_some lease ≡ is_some number
       any-kept None None e = refl
       any-kept (Some lease) (Some c) e = refl
       any-kept None (Some c) e = absurd (cc)
       any-kept (Some lease) None e = absurd (cc)
 
-      leased : is_among t (keys_of leases) ≡ is_some (cond (is_among t (keys_of tickets)) None (held_number host.log t))
+      leased : is_among t (keys_of leases) ≡ is_some (cond (is_among t (keys_of tickets)) None (held_number (log_at all site) t))
       leased =
           among-keys leases t
           ∙ any-kept (lookup (is_at (nat_cmp t)) leases) (lease_number host t) (keeps_leases t)
-          ∙ ap is_some (sym (leased-by-keys host sound tickets keeps_tickets t))
+          ∙ ap is_some (sym (leased-by-keys host sound tickets keeps_tickets site all log t))
 
-      by_ticket : (ticketed : Bool) → (ticketed || is_some (cond ticketed None (held_number host.log t))) ≡ (ticketed || is_some (held_number host.log t))
+      by_ticket : (ticketed : Bool) → (ticketed || is_some (cond ticketed None (held_number (log_at all site) t))) ≡ (ticketed || is_some (held_number (log_at all site) t))
       by_ticket true = refl
       by_ticket false = refl
 
 -- none is left
-pub none-left : {A B : Type 0} (settings : LimitAndFirst) (host : ScriptHost) (leases : List (ℕ × A)) (tickets : List (ℕ × B)) → length leases ≡ 0 → length tickets ≡ 0
-    → after_all settings host (merged (keys_of leases) (keys_of tickets)) ≡ host
-none-left settings host [] [] no_lease no_ticket = refl
-none-left settings host (lease ∷ leases) tickets no_lease no_ticket = absurd (grind (arith, nat_tests))
-none-left settings host [] (ticket ∷ tickets) no_lease no_ticket = absurd (grind (arith, nat_tests))
+pub none-left : {A B : Type 0} (limits : Bounds) (site : ℕ) (here : AtSite) (leases : List (ℕ × A)) (tickets : List (ℕ × B)) → leases ≡ [] → tickets ≡ []
+    → after_all_at limits site here (merged (keys_of leases) (keys_of tickets)) ≡ here
+none-left limits site here [] [] no_lease no_ticket = refl
+none-left limits site here (lease ∷ leases) tickets no_lease no_ticket = cc
+none-left limits site here [] (ticket ∷ tickets) no_lease no_ticket = cc
+
+-- the first has no ticket, and no lease is there: there is none
+none-there : {A : Type 0} (entries : List A) → (0 < length entries → false ≡ true) → entries ≡ []
+none-there [] never = refl
+none-there (e ∷ others) never = let both : false ≡ true = never (grind (arith)) in absurd (cc)
+
+none-first : {A B : Type 0} (leases : List (ℕ × A)) (tickets : List (ℕ × B)) → is_ticket_first (keys_of leases) (keys_of tickets) ≡ false → leases ≡ [] → (leases ≡ []) × (tickets ≡ [])
+none-first [] [] first none = (refl, refl)
+none-first [] (ticket ∷ tickets) first none = cc
+none-first (lease ∷ leases) tickets first none = cc
+
+pub none-at-all : {A B P : Type 0} (leases : List (ℕ × A)) (tickets : List (ℕ × B)) (first : Option ℕ) → is_ticket_first (keys_of leases) (keys_of tickets) ≡ false → (0 < length leases → false ≡ true) → P
+    → IfNone first ((leases ≡ []) × (tickets ≡ []) × P)
+none-at-all leases tickets (Some t) first never p = tt
+none-at-all leases tickets None first never p = let none = none-first leases tickets first (none-there leases never) in (none.0, none.1, p)
+
+-- a transfer gives up its ticket, or without one what it holds
+module _ (limits : Bounds) (site : ℕ) (here : AtSite) (t : ℕ) (all : AllHosts) where
+  pub gave-up-ticket : (rest : List ℕ) → is_among t here.tickets ≡ true → rest ≡ without_ticket t here.tickets → all ≡ after_withdrawing limits site t 0 here.all
+      → ◌≡◌ {A = AtSite} (record { all = all; tickets = rest }) (after_giving_up limits site here t)
+  gave-up-ticket rest among left same = rw (same, among, left) refl
+
+  pub gave-up-lease : is_among t here.tickets ≡ false → all ≡ after_dropping limits site here.all (held_number (log_at here.all site) t) → ◌≡◌ {A = AtSite} (record here { all = all }) (after_giving_up limits site here t)
+  gave-up-lease apart same = rw (same, apart) refl
+
+-- the first gives up what it has, and then the others do
+pub next-gives-up : (limits : Bounds) (site : ℕ) (here next : AtSite) (t : ℕ) (transfers others : List ℕ) → transfers ≡ t ∷ others → next ≡ after_giving_up limits site here t
+    → after_all_at limits site next others ≡ after_all_at limits site here transfers
+next-gives-up limits site here next t transfers others is gave = rw (is, gave) refl

@@ -1,74 +1,55 @@
--- The lines of the entries that a call appends.
-use Rattle.std.proofs.Common.{◌≡◌, ℕ, ◌-◌, ◌≤◌, Bool, true, false, cond, List, [], ◌∷◌, ◌++◌, length, drop, reverse, flat_map, refl, ap, sym, subst, ◌∙◌, arith, Option, Some, None, append-nil}
-use Rattle.std.proofs.lemmas.Grind.{flat_map-append}
-use Rattle.std.proofs.lemmas.List.{reverse-append, length-reverse, length-append, drop_at}
+-- How the log of one host grows after a transfer, and the lines of the entries that it grew by.
+use Rattle.std.proofs.Common.{◌≡◌, ℕ, zero, suc, ◌-◌, Bool, true, false, List, [], ◌∷◌, ◌++◌, length, drop, reverse, flat_map, refl, ap, sym, subst, ◌∙◌, arith, Option, Some, None, append-nil}
+use Rattle.std.specs.Prelude.{if◌then◌else◌, ◌==◌}
 use Rattle.std.specs.Option.{option_map, option_map_or}
-use Rattle.std.specs.Prelude.{◌==◌}
 use Rattle.std.proofs.lemmas.Bool.{eqb-true}
+use Rattle.std.proofs.lemmas.Grind.{flat_map-append}
+use Rattle.std.proofs.lemmas.List.{reverse-append, length-reverse, length-append, drop_at, append_assoc}
 use Rattle.persistence.specs.declared.facts.Facts.{Facts}
+use Rattle.budget.specs.declared.permits.Try.{Try}
+use Rattle.budget.specs.declared.permits.Try.TheVariants.{Got, Full, Contended}
 use Rattle.conn_log.specs.declared.entry.Want.{Want}
 use Rattle.conn_log.specs.declared.entry.Cause.{Cause}
-use Rattle.conn_log.specs.declared.entry.Cause.TheVariants as cause
+use Rattle.conn_log.specs.declared.entry.Cause.TheVariants.{HostRoom, TotalRoom, Dropped, Withdrawn}
 use Rattle.conn_log.specs.declared.entry.Event.{Event}
 use Rattle.conn_log.specs.declared.entry.Event.TheVariants.{Opened, Leased, Returned, Closed, Waited, Left, Limit}
 use Rattle.conn_log.specs.declared.entry.Entry.{Entry}
 use Rattle.conn_log.specs.Connections.{holder, is_held_by, holder_want, held_number}
 use Rattle.conn_log.specs.Waiting.{waiting, waits}
-use Rattle.conn_log.specs.Legal.{LimitAndFirst, limit_after, limit_in_force, owed}
+use Rattle.conn_log.specs.Legal.{LimitAndFirst, owed}
 use Rattle.conn_log.specs.Fit.{is_fit, newest_fit, oldest}
-use Rattle.host_state.specs.declared.closing.Closing.TheVariants.{TooOld}
-use Rattle.host_state.specs.Steps.{add, moment_at, close_each, picked, without_picked, is_full}
-use Rattle.budget.specs.declared.permits.Try.{Try}
-use Rattle.budget.specs.declared.permits.Try.TheVariants.{Got, Full, Contended}
-use Rattle.bundle.specs.Calls.{Acquired, acquired, start_as_told, after_give_back, after_close, after_abandon, after_withdraw, start_new, start_in_place, start_in_place_of, start_on, start_behind, open_for, unfit_cause, grant_to, settle, close_granted, GrowsBy}
+use Rattle.host_state.specs.declared.closing.Closing.{Closing}
+use Rattle.host_state.specs.declared.closing.Closing.TheVariants.{TooOld, Pruned, Above}
+use Rattle.host_state.specs.Steps.{add, moment_at, close_each, cause_of, picked, without_picked, is_full}
+use Rattle.bundle.specs.Calls.{acquired, start_new, start_in_place_of, start_in_place, start_as_told, start_on, start_behind, open_for, open_for_head, open_for_first, unfit_cause, grant_to, settle, returned, after_give_back, after_close, after_abandon, close_granted, after_withdraw, after_turn, after_limit, GrowsBy}
 use Rattle.script_text.specs.Printing.{entry_line, event_text, returned_by, newest_lines, lines_since}
-use Rattle.script_engine.specs.Meaning.{begun}
+use Rattle.script_engine.specs.Telling.{SaysAll, IsReturnedBy, GrowsAfter}
 
--- the new log has entries in front of the old one, and of each this is said
-abbrev pub SaysAll : (Event → List Entry → Type 0) → List Entry → List Entry → Type 0
-SaysAll Says [] old = Unit {0}
-SaysAll Says (e ∷ added) old = Says e.event (added ++ old) × SaysAll Says added old
+-- the lines of the new entries: each names the transfer that the connection comes back from
+event-says : (host by : ℕ) (event : Event) (before : List Entry) → IsReturnedBy by event before → event_text host (returned_by before event) event ≡ event_text host by event
+event-says host by (Opened c want) before says = refl
+event-says host by (Leased c want) before says = refl
+event-says host by (Returned c facts) before says = rw says refl
+event-says host by (Closed c cause) before says = refl
+event-says host by (Waited want) before says = refl
+event-says host by (Left transfer) before says = refl
+event-says host by (Limit n) before says = refl
 
-pub record Adds (Says : Event → List Entry → Type 0) (old new : List Entry) : Type 0 where
-  pub added : List Entry
-  pub whole : new ≡ added ++ old
-  pub says : SaysAll Says added old
+entry-says : (host by : ℕ) (e : Entry) (before : List Entry) → IsReturnedBy by e.event before → entry_line host (returned_by before e.event) e ≡ entry_line host by e
+entry-says host by e before says = rw (event-says host by e.event before says) refl
 
--- a Returned among the new entries is of a connection that the transfer held
-abbrev pub SaysIt : ℕ → Event → List Entry → Type 0
-SaysIt by (Returned c facts) before = holder before c ≡ Some by
-SaysIt by _ before = Unit {0}
+turned : (host by : ℕ) (e : Entry) (added : List Entry) → flat_map (entry_line host by) (reverse (e ∷ added)) ≡ flat_map (entry_line host by) (reverse added) ++ entry_line host by e
+turned host by e added =
+    ap (flat_map (entry_line host by)) (reverse-append (e ∷ []) added)
+    ∙ flat_map-append (entry_line host by) (reverse added) (e ∷ [])
+    ∙ ap (λ l. flat_map (entry_line host by) (reverse added) ++ l) (append-nil (entry_line host by e))
 
-abbrev pub SaysBy : ℕ → List Entry → List Entry → Type 0
-SaysBy by added old = SaysAll (SaysIt by) added old
-
-abbrev pub Grows : ℕ → List Entry → List Entry → Type 0
-Grows by old new = Adds (SaysIt by) old new
-
-event-says : (by : ℕ) (event : Event) (before : List Entry) → SaysIt by event before → event_text 0 (returned_by before event) event ≡ event_text 0 by event
-event-says by (Opened c want) before says = refl
-event-says by (Leased c want) before says = refl
-event-says by (Returned c facts) before says = rw says refl
-event-says by (Closed c cause) before says = refl
-event-says by (Waited want) before says = refl
-event-says by (Left transfer) before says = refl
-event-says by (Limit n) before says = refl
-
-entry-says : (by : ℕ) (e : Entry) (before : List Entry) → SaysIt by e.event before → entry_line 0 (returned_by before e.event) e ≡ entry_line 0 by e
-entry-says by e before says = rw (event-says by e.event before says) refl
-
-turned : (by : ℕ) (e : Entry) (added : List Entry) → flat_map (entry_line 0 by) (reverse (e ∷ added)) ≡ flat_map (entry_line 0 by) (reverse added) ++ entry_line 0 by e
-turned by e added =
-    ap (flat_map (entry_line 0 by)) (reverse-append (e ∷ []) added)
-    ∙ flat_map-append (entry_line 0 by) (reverse added) (e ∷ [])
-    ∙ ap (λ l. flat_map (entry_line 0 by) (reverse added) ++ l) (append-nil (entry_line 0 by e))
-
-newest : (by : ℕ) (added old : List Entry) → SaysBy by added old → newest_lines (length added) (added ++ old) ≡ flat_map (entry_line 0 by) (reverse added)
-newest by [] old says = refl
-newest by (e ∷ added) old says =
-    ap (λ l. newest_lines (length added) (added ++ old) ++ l) (entry-says by e (added ++ old) says.0)
-    ∙ ap (λ l. l ++ entry_line 0 by e) (newest by added old says.1)
-    ∙ sym (turned by e added)
+newest : (host by : ℕ) (added old : List Entry) → SaysAll (IsReturnedBy by) added old → newest_lines host (length added) (added ++ old) ≡ flat_map (entry_line host by) (reverse added)
+newest host by [] old says = refl
+newest host by (e ∷ added) old says =
+    ap (λ l. newest_lines host (length added) (added ++ old) ++ l) (entry-says host by e (added ++ old) says.0)
+    ∙ ap (λ l. l ++ entry_line host by e) (newest host by added old says.1)
+    ∙ sym (turned host by e added)
 
 pub count-added : (added old : List Entry) → length (added ++ old) - length old ≡ length added
 count-added added old = simp length-append (omega arith)
@@ -76,195 +57,151 @@ count-added added old = simp length-append (omega arith)
 oldest-first : (added old : List Entry) → drop (length old) (reverse (added ++ old)) ≡ reverse added
 oldest-first added old = rw (reverse-append added old) (drop_at (reverse old) (reverse added) (length old) (length-reverse old))
 
-grown-lines : (by : ℕ) (added old : List Entry) → SaysBy by added old
-    → flat_map (entry_line 0 by) (drop (length old) (reverse (added ++ old))) ≡ newest_lines (length (added ++ old) - length old) (added ++ old)
-grown-lines by added old says =
-    ap (flat_map (entry_line 0 by)) (oldest-first added old)
-    ∙ sym (newest by added old says)
-    ∙ ap (λ n. newest_lines n (added ++ old)) (sym (count-added added old))
+grown-lines : (host by : ℕ) (added old : List Entry) → SaysAll (IsReturnedBy by) added old
+    → flat_map (entry_line host by) (drop (length old) (reverse (added ++ old))) ≡ newest_lines host (length (added ++ old) - length old) (added ++ old)
+grown-lines host by added old says =
+    ap (flat_map (entry_line host by)) (oldest-first added old)
+    ∙ sym (newest host by added old says)
+    ∙ ap (λ n. newest_lines host n (added ++ old)) (sym (count-added added old))
 
 -- what is written of the entries from a place on is what the definition says of the new ones
-pub lines-grown : (by : ℕ) (old new : List Entry) → Grows by old new
-    → flat_map (entry_line 0 by) (drop (length old) (reverse new)) ≡ lines_since old new
+pub lines-grown : (host by : ℕ) (old new : List Entry) → GrowsAfter by old new
+    → flat_map (entry_line host by) (drop (length old) (reverse new)) ≡ lines_since host old new
 unfolding lines_since
-lines-grown by old new grows = rw grows.whole (grown-lines by grows.added old grows.says)
+lines-grown host by old new grows = rw grows.whole (grown-lines host by grows.added old grows.says)
 
--- what the calls append: what is said of each entry is said of all but a Returned, and no limit changes
-abbrev pub is_telling : Event → Bool
-is_telling (Returned c facts) = true
-is_telling (Limit n) = true
-is_telling _ = false
+pub grown-by : (by : ℕ) (old new : List Entry) → GrowsAfter by old new → GrowsBy old new
+grown-by by old new grows = (grows.added, grows.whole)
 
-module _ (Says : Event → List Entry → Type 0) (silent : (event : Event) (before : List Entry) → is_telling event ≡ false → Says event before) (old : List Entry) where
-  nothing : Adds Says old old
-  nothing = record { added = []; whole = refl; says = tt }
+-- one growth after another
+both-say : (by : ℕ) (added sooner old : List Entry) → SaysAll (IsReturnedBy by) added (sooner ++ old) → SaysAll (IsReturnedBy by) sooner old → SaysAll (IsReturnedBy by) (added ++ sooner) old
+both-say by [] sooner old later says = says
+both-say by (e ∷ added) sooner old later says =
+    (subst (IsReturnedBy by e.event) (sym (append_assoc added sooner old)) later.0, both-say by added sooner old later.1 says)
 
-  adds : (moment : ℕ) (event : Event) (log : List Entry) → Says event log → Adds Says old log → Adds Says old (add moment event log)
-  adds moment event log says so_far = record {
+pub grows-on : (by : ℕ) (first second third : List Entry) → GrowsAfter by first second → GrowsAfter by second third → GrowsAfter by first third
+grows-on by first second third grew more = record {
+  added = more.added ++ grew.added;
+  whole = more.whole ∙ ap (λ (log : List Entry). more.added ++ log) grew.whole ∙ sym (append_assoc more.added grew.added first);
+  says = both-say by more.added grew.added first (subst (SaysAll (IsReturnedBy by) more.added) grew.whole more.says) grew.says;
+}
+
+pub grows-none : (by : ℕ) (log : List Entry) → GrowsAfter by log log
+grows-none by log = record { added = []; whole = refl; says = tt }
+
+module _ (by : ℕ) (old : List Entry) where
+  pub grows-one : (moment : ℕ) (event : Event) (log : List Entry) → IsReturnedBy by event log → GrowsAfter by old log → GrowsAfter by old (add moment event log)
+  grows-one moment event log says so_far = record {
     added = record { moment = moment; event = event } ∷ so_far.added;
     whole = ap (add moment event) so_far.whole;
-    says = (subst (Says event) so_far.whole says, so_far.says);
+    says = (subst (IsReturnedBy by event) so_far.whole says, so_far.says);
   }
 
-  adds_other : (moment : ℕ) (event : Event) (log : List Entry) → is_telling event ≡ false → Adds Says old log → Adds Says old (add moment event log)
-  adds_other moment event log other = adds moment event log (silent event log other)
-
-  either : (b : Bool) (x y : List Entry) → Adds Says old x → Adds Says old y → Adds Says old (cond b x y)
+  either : (first : Bool) (x y : List Entry) → GrowsAfter by old x → GrowsAfter by old y → GrowsAfter by old (if first then x else y)
   either true x y p q = p
   either false x y p q = q
 
-  adds_closes : (why : Cause) (moment : ℕ) (numbers : List ℕ) (log : List Entry) → Adds Says old log → Adds Says old (close_each why moment numbers log)
-  adds_closes why moment [] log so_far = so_far
-  adds_closes why moment (c ∷ numbers) log so_far = adds_closes why moment numbers (add moment (Closed c why) log) (adds_other moment (Closed c why) log refl so_far)
+  closes : (cause : Cause) (moment : ℕ) (numbers : List ℕ) (log : List Entry) → GrowsAfter by old log → GrowsAfter by old (close_each cause moment numbers log)
+  closes cause moment [] log so_far = so_far
+  closes cause moment (c ∷ numbers) log so_far = closes cause moment numbers (add moment (Closed c cause) log) (grows-one moment (Closed c cause) log tt so_far)
 
-  adds_new : (settings : LimitAndFirst) (want : Want) (moment : ℕ) (log : List Entry) → Adds Says old log → Adds Says old (start_new settings want moment log)
-  adds_new settings want moment log so_far = adds_other moment (Opened _ want) log refl so_far
+  in_place : (cause : Cause) (settings : LimitAndFirst) (want : Want) (moment : ℕ) (log : List Entry) (first : Option ℕ) → GrowsAfter by old log → GrowsAfter by old (start_in_place_of first cause settings want moment log).log
+  in_place cause settings want moment log None so_far = grows-one moment (Waited want) log tt so_far
+  in_place cause settings want moment log (Some c) so_far = grows-one moment _ _ tt (grows-one moment (Closed c cause) log tt so_far)
 
-  either_begun : (b : Bool) (x y : Acquired) → Adds Says old x.log → Adds Says old y.log → Adds Says old (cond b x y).log
-  either_begun true x y p q = p
-  either_begun false x y p q = q
+  as_told : (is_last : Bool) (told : Try) (settings : LimitAndFirst) (want : Want) (moment : ℕ) (log : List Entry) → GrowsAfter by old log → GrowsAfter by old (start_as_told is_last told settings want moment log).log
+  as_told is_last Got settings want moment log so_far = grows-one moment _ log tt so_far
+  as_told is_last Contended settings want moment log so_far = so_far
+  as_told false Full settings want moment log so_far = so_far
+  as_told true Full settings want moment log so_far = in_place TotalRoom settings want moment log (oldest log) so_far
 
-  adds_in_place : (why : Cause) (settings : LimitAndFirst) (want : Want) (moment : ℕ) (log : List Entry) (first : Option ℕ) → Adds Says old log → Adds Says old (start_in_place_of first why settings want moment log).log
-  adds_in_place why settings want moment log None so_far = adds_other moment (Waited want) log refl so_far
-  adds_in_place why settings want moment log (Some c) so_far = adds_new settings want moment (add moment (Closed c why) log) (adds_other moment (Closed c why) log refl so_far)
-
-  adds_as_told : (told : Try) (settings : LimitAndFirst) (want : Want) (moment : ℕ) (log : List Entry) → Adds Says old log → Adds Says old (start_as_told false told settings want moment log).log
-  adds_as_told Got settings want moment log so_far = adds_new settings want moment log so_far
-  adds_as_told Full settings want moment log so_far = so_far
-  adds_as_told Contended settings want moment log so_far = so_far
-
-  adds_start_on : (told : Try) (settings : LimitAndFirst) (want : Want) (moment : ℕ) (log : List Entry) (fit : Option ℕ) → Adds Says old log → Adds Says old (start_on fit false told settings want moment log).log
-  adds_start_on told settings want moment log None so_far =
-      either_begun (is_full settings log) (start_in_place cause.HostRoom settings want moment log) (start_as_told false told settings want moment log)
-      (adds_in_place cause.HostRoom settings want moment log (oldest log) so_far) (adds_as_told told settings want moment log so_far)
-  adds_start_on told settings want moment log (Some c) so_far = adds_other moment (Leased c want) log refl so_far
-
-  adds_start_behind : (told : Try) (settings : LimitAndFirst) (want : Want) (moment : ℕ) (wants : List Want) → Adds Says old (start_behind wants false told settings want moment old).log
-  adds_start_behind told settings want moment [] =
-      let closed = without_picked (TooOld want) moment old in
-      adds_start_on told settings want moment closed (newest_fit closed want moment) (adds_closes cause.TooOld moment (picked (TooOld want) moment old) old nothing)
-  adds_start_behind told settings want moment (head ∷ others) = adds_other moment (Waited want) old refl nothing
-
-  pub adds_acquired : (told : Try) (settings : LimitAndFirst) (want : Want) (now : ℕ) → Adds Says old (acquired false told settings old want now).log
-  adds_acquired told settings want now = adds_start_behind told settings want (moment_at old now) (waiting old)
-
-  adds_open_for : (settings : LimitAndFirst) (moment : ℕ) (log : List Entry) (wants : List Want) → Adds Says old log → Adds Says old (open_for settings moment log wants)
-  adds_open_for settings moment log [] so_far = so_far
-  adds_open_for settings moment log (head ∷ others) so_far = adds_new settings head moment log so_far
-
-  adds_pass : (settings : LimitAndFirst) (c moment : ℕ) (log : List Entry) (wants : List Want) → Adds Says old log → Adds Says old (grant_to settings c moment log wants)
-  adds_pass settings c moment log [] so_far = so_far
-  adds_pass settings c moment log (head ∷ others) so_far =
-      let cause = unfit_cause settings log head moment c in
-      either (is_fit log head moment c) _ _ (adds_other moment (Leased c head) log refl so_far)
-      (adds_new settings head moment (add moment (Closed c cause) log) (adds_other moment (Closed c cause) log refl so_far))
-
-  adds_settle : (settings : LimitAndFirst) (c moment : ℕ) (log : List Entry) (close : Option (ℕ × Cause)) → Adds Says old log → Adds Says old (settle settings c moment log close)
-  adds_settle settings c moment log None so_far = adds_pass settings c moment log (waiting log) so_far
-  adds_settle settings c moment log (Some close) so_far =
-      let closed = add moment (Closed close.0 close.1) log in
-      adds_open_for settings moment closed (waiting closed) (adds_other moment (Closed close.0 close.1) log refl so_far)
-
-  pub adds_give_back : (settings : LimitAndFirst) (c : ℕ) (facts : Facts) (now : ℕ) → Says (Returned c facts) old → Adds Says old (after_give_back settings old c facts now)
-  adds_give_back settings c facts now says =
-      let moment = moment_at old now in
-      let returned = add moment (Returned c facts) old in
-      adds_settle settings c moment returned (owed returned) (adds moment (Returned c facts) old says nothing)
-
-  adds_close : (settings : LimitAndFirst) (c : ℕ) (cause : Cause) (now : ℕ) → Adds Says old (after_close settings old c cause now)
-  adds_close settings c cause now =
-      let moment = moment_at old now in
-      let closed = add moment (Closed c cause) old in
-      adds_open_for settings moment closed (waiting closed) (adds_other moment (Closed c cause) old refl nothing)
-
-  pub adds_abandon : (settings : LimitAndFirst) (c now : ℕ) → Adds Says old (after_abandon settings old c now)
-  adds_abandon settings c now = adds_close settings c cause.Dropped now
-
-  pub adds_withdraw : (settings : LimitAndFirst) (transfer now : ℕ) → Adds Says old (after_withdraw settings old transfer now)
-  adds_withdraw settings transfer now = either (waits old transfer) _ _ (adds_other (moment_at old now) (Left transfer) old refl nothing) (by_held (held_number old transfer))
+  starts_on : (is_last : Bool) (told : Try) (settings : LimitAndFirst) (want : Want) (moment : ℕ) (log : List Entry) (fit : Option ℕ) → GrowsAfter by old log → GrowsAfter by old (start_on fit is_last told settings want moment log).log
+  starts_on is_last told settings want moment log (Some c) so_far = grows-one moment (Leased c want) log tt so_far
+  starts_on is_last told settings want moment log None so_far = by_room (is_full settings log)
     where
-      by_held : (held : Option ℕ) → Adds Says old (close_granted settings old held now)
-      by_held None = nothing
-      by_held (Some c) = adds_close settings c cause.Withdrawn now
+      by_room : (full : Bool) → GrowsAfter by old (if full then start_in_place HostRoom settings want moment log else start_as_told is_last told settings want moment log).log
+      by_room true = in_place HostRoom settings want moment log (oldest log) so_far
+      by_room false = as_told is_last told settings want moment log so_far
 
--- which transfer a connection comes back from
-silent-by : (by : ℕ) (event : Event) (before : List Entry) → is_telling event ≡ false → SaysIt by event before
-silent-by by (Opened c want) before other = tt
-silent-by by (Leased c want) before other = tt
-silent-by by (Returned c facts) before other = absurd (cc)
-silent-by by (Closed c cause) before other = tt
-silent-by by (Waited want) before other = tt
-silent-by by (Left transfer) before other = tt
-silent-by by (Limit n) before other = tt
+  opens_for : (settings : LimitAndFirst) (moment : ℕ) (log : List Entry) (wants : List Want) → GrowsAfter by old log → GrowsAfter by old (open_for settings moment log wants)
+  opens_for settings moment log [] so_far = so_far
+  opens_for settings moment log (head ∷ others) so_far = grows-one moment _ log tt so_far
 
-held-holder : (by : ℕ) (want : Option Want) → option_map_or (λ (w : Want). w.transfer == by) want false ≡ true → option_map (λ (w : Want). w.transfer) want ≡ Some by
-held-holder by None h = cc
-held-holder by (Some want) h = ap Some (eqb-true want.transfer by h)
+  opens_for_first : (given : ℕ) (settings : LimitAndFirst) (moment : ℕ) (log : List Entry) → GrowsAfter by old log → GrowsAfter by old (open_for_first given settings moment log)
+  opens_for_first zero settings moment log so_far = so_far
+  opens_for_first (suc n) settings moment log so_far = opens_for_first n settings moment (open_for_head settings moment log) (opens_for settings moment log (waiting log) so_far)
 
-pub begun-grows : (by : ℕ) (settings : LimitAndFirst) (log : List Entry) (want : Want) (now : ℕ) → Grows by log (begun settings log want now).log
-begun-grows by settings log want now = adds_acquired (SaysIt by) (silent-by by) log Got settings want now
+  grants : (settings : LimitAndFirst) (c moment : ℕ) (log : List Entry) (wants : List Want) → GrowsAfter by old log → GrowsAfter by old (grant_to settings c moment log wants)
+  grants settings c moment log [] so_far = so_far
+  grants settings c moment log (head ∷ others) so_far =
+      let closed = add moment (Closed c (unfit_cause settings log head moment c)) log in
+      either (is_fit log head moment c) (add moment (Leased c head) log) (start_new settings head moment closed) (grows-one moment (Leased c head) log tt so_far)
+      (grows-one moment _ closed tt (grows-one moment _ log tt so_far))
 
-pub given_back-grows : (by : ℕ) (settings : LimitAndFirst) (log : List Entry) (c : ℕ) (facts : Facts) (now : ℕ) → is_held_by log by c ≡ true → Grows by log (after_give_back settings log c facts now)
-given_back-grows by settings log c facts now held = adds_give_back (SaysIt by) (silent-by by) log settings c facts now (held-holder by (holder_want log c) held)
+  settles : (settings : LimitAndFirst) (c moment : ℕ) (log : List Entry) (owes : Option (ℕ × Cause)) → GrowsAfter by old log → GrowsAfter by old (settle settings c moment log owes)
+  settles settings c moment log None so_far = grants settings c moment log (waiting log) so_far
+  settles settings c moment log (Some close) so_far =
+      let closed = add moment (Closed close.0 close.1) log in
+      opens_for settings moment closed (waiting closed) (grows-one moment (Closed close.0 close.1) log tt so_far)
 
-pub abandoned-grows : (by : ℕ) (settings : LimitAndFirst) (log : List Entry) (c now : ℕ) → Grows by log (after_abandon settings log c now)
-abandoned-grows by settings log c now = adds_abandon (SaysIt by) (silent-by by) log settings c now
+-- each step of a call at one host
+pub closed-grows : (by : ℕ) (log : List Entry) (c : ℕ) (cause : Cause) (now : ℕ) → GrowsAfter by log (add (moment_at log now) (Closed c cause) log)
+closed-grows by log c cause now = grows-one by log (moment_at log now) (Closed c cause) log tt (grows-none by log)
 
-pub withdrawn-grows : (by : ℕ) (settings : LimitAndFirst) (log : List Entry) (transfer now : ℕ) → Grows by log (after_withdraw settings log transfer now)
-withdrawn-grows by settings log transfer now = adds_withdraw (SaysIt by) (silent-by by) log settings transfer now
+pub without-grows : (by : ℕ) (closing : Closing) (moment : ℕ) (log : List Entry) → GrowsAfter by log (without_picked closing moment log)
+without-grows by closing moment log = closes by log (cause_of closing) moment (picked closing moment log) log (grows-none by log)
 
--- that it grew, whatever is said
-abbrev SaysNothing : Event → List Entry → Type 0
-SaysNothing event before = Unit {0}
+pub acquired-grows : (by : ℕ) (is_last : Bool) (told : Try) (settings : LimitAndFirst) (log : List Entry) (want : Want) (now : ℕ) → GrowsAfter by log (acquired is_last told settings log want now).log
+acquired-grows by is_last told settings log want now = by_queue (waiting log)
+  where
+    by_queue : (wants : List Want) → GrowsAfter by log (start_behind wants is_last told settings want (moment_at log now) log).log
+    by_queue [] =
+        let moment = moment_at log now in
+        let young = without_picked (TooOld want) moment log in
+        starts_on by log is_last told settings want moment young (newest_fit young want moment) (without-grows by (TooOld want) moment log)
+    by_queue (head ∷ others) = grows-one by log (moment_at log now) (Waited want) log tt (grows-none by log)
 
-grew : (old new : List Entry) → Adds SaysNothing old new → GrowsBy old new
-grew old new adds = (adds.added, adds.whole)
+pub given_back-grows : (by : ℕ) (settings : LimitAndFirst) (log : List Entry) (c : ℕ) (facts : Facts) (now : ℕ) → holder log c ≡ Some by → GrowsAfter by log (after_give_back settings log c facts now)
+given_back-grows by settings log c facts now held =
+    let back = returned log c facts now in
+    settles by log settings c (moment_at log now) back (owed back) (grows-one by log (moment_at log now) (Returned c facts) log held (grows-none by log))
 
-module _ (settings : LimitAndFirst) (log : List Entry) where
-  pub grows-begun : (want : Want) (now : ℕ) → GrowsBy log (begun settings log want now).log
-  grows-begun want now = grew log _ (adds_acquired SaysNothing (λ event before other. tt) log Got settings want now)
+closed_by-grows : (by : ℕ) (settings : LimitAndFirst) (log : List Entry) (c : ℕ) (cause : Cause) (now : ℕ) → GrowsAfter by log (after_close settings log c cause now)
+closed_by-grows by settings log c cause now =
+    let moment = moment_at log now in
+    let closed = add moment (Closed c cause) log in
+    opens_for by log settings moment closed (waiting closed) (closed-grows by log c cause now)
 
-  pub grows-give_back : (c : ℕ) (facts : Facts) (now : ℕ) → GrowsBy log (after_give_back settings log c facts now)
-  grows-give_back c facts now = grew log _ (adds_give_back SaysNothing (λ event before other. tt) log settings c facts now tt)
+pub abandoned-grows : (by : ℕ) (settings : LimitAndFirst) (log : List Entry) (c now : ℕ) → GrowsAfter by log (after_abandon settings log c now)
+abandoned-grows by settings log c now = closed_by-grows by settings log c Dropped now
 
-  pub grows-abandon : (c now : ℕ) → GrowsBy log (after_abandon settings log c now)
-  grows-abandon c now = grew log _ (adds_abandon SaysNothing (λ event before other. tt) log settings c now)
+pub withdrawn-grows : (by : ℕ) (settings : LimitAndFirst) (log : List Entry) (transfer now : ℕ) → GrowsAfter by log (after_withdraw settings log transfer now)
+withdrawn-grows by settings log transfer now =
+    either by log (waits log transfer) (add (moment_at log now) (Left transfer) log) (close_granted settings log (held_number log transfer) now)
+    (grows-one by log (moment_at log now) (Left transfer) log tt (grows-none by log)) (by_number (held_number log transfer))
+  where
+    by_number : (held : Option ℕ) → GrowsAfter by log (close_granted settings log held now)
+    by_number None = grows-none by log
+    by_number (Some c) = closed_by-grows by settings log c Withdrawn now
 
-  pub grows-withdraw : (transfer now : ℕ) → GrowsBy log (after_withdraw settings log transfer now)
-  grows-withdraw transfer now = grew log _ (adds_withdraw SaysNothing (λ event before other. tt) log settings transfer now)
+pub turn-grows : (by : ℕ) (told : Try) (settings : LimitAndFirst) (log : List Entry) (now : ℕ) → GrowsAfter by log (after_turn told settings log now)
+turn-grows by Got settings log now = opens_for by log settings (moment_at log now) log (waiting log) (grows-none by log)
+turn-grows by Full settings log now = grows-none by log
+turn-grows by Contended settings log now = grows-none by log
 
--- that the limit stays
-abbrev SaysNoLimit : Event → List Entry → Type 0
-SaysNoLimit event before = (limit : ℕ) → limit_after event limit ≡ limit
+pub pruned-grows : (by : ℕ) (log : List Entry) (max_age max_life now : ℕ) → GrowsAfter by log (without_picked (Pruned max_age max_life) (moment_at log now) log)
+pruned-grows by log max_age max_life now = without-grows by (Pruned max_age max_life) (moment_at log now) log
 
-no-limit : (event : Event) (before : List Entry) → is_telling event ≡ false → SaysNoLimit event before
-no-limit (Opened c want) before other = λ limit. refl
-no-limit (Leased c want) before other = λ limit. refl
-no-limit (Returned c facts) before other = λ limit. refl
-no-limit (Closed c cause) before other = λ limit. refl
-no-limit (Waited want) before other = λ limit. refl
-no-limit (Left transfer) before other = λ limit. refl
-no-limit (Limit n) before other = absurd (cc)
+pub limited-grows : (by most given : ℕ) (settings : LimitAndFirst) (log : List Entry) (now : ℕ) → GrowsAfter by log (after_limit most given settings log now)
+limited-grows by most given settings log now =
+    let moment = moment_at log now in
+    let young = without_picked (Above most) moment log in
+    opens_for_first by log given settings moment (add moment (Limit most) young) (grows-one by log moment (Limit most) young tt (without-grows by (Above most) moment log))
 
-limit-added : (settings : LimitAndFirst) (added old : List Entry) → SaysAll SaysNoLimit added old → limit_in_force settings (added ++ old) ≡ limit_in_force settings old
-limit-added settings [] old says = refl
-limit-added settings (e ∷ added) old says = says.0 (limit_in_force settings (added ++ old)) ∙ limit-added settings added old says.1
-
-limit-stays : (settings : LimitAndFirst) (old new : List Entry) → Adds SaysNoLimit old new → limit_in_force settings new ≡ limit_in_force settings old
-limit-stays settings old new adds = ap (limit_in_force settings) adds.whole ∙ limit-added settings adds.added old adds.says
-
-module _ (settings : LimitAndFirst) (log : List Entry) where
-  pub limit-acquired : (told : Try) (want : Want) (now : ℕ) → limit_in_force settings (acquired false told settings log want now).log ≡ limit_in_force settings log
-  limit-acquired told want now = limit-stays settings log _ (adds_acquired SaysNoLimit no-limit log told settings want now)
-
-  pub limit-give_back : (c : ℕ) (facts : Facts) (now : ℕ) → limit_in_force settings (after_give_back settings log c facts now) ≡ limit_in_force settings log
-  limit-give_back c facts now = limit-stays settings log _ (adds_give_back SaysNoLimit no-limit log settings c facts now (λ limit. refl))
-
-  pub limit-abandon : (c now : ℕ) → limit_in_force settings (after_abandon settings log c now) ≡ limit_in_force settings log
-  limit-abandon c now = limit-stays settings log _ (adds_abandon SaysNoLimit no-limit log settings c now)
-
-  pub limit-withdraw : (transfer now : ℕ) → limit_in_force settings (after_withdraw settings log transfer now) ≡ limit_in_force settings log
-  limit-withdraw transfer now = limit-stays settings log _ (adds_withdraw SaysNoLimit no-limit log settings transfer now)
-
-pub grows-length : (by : ℕ) (old new : List Entry) → Grows by old new → length old ≤ length new
-grows-length by old new grows = rw grows.whole (omega (arith, length-append grows.added old))
+-- who holds it, as one Bool tells
+pub holder-is : (log : List Entry) (by c : ℕ) → is_held_by log by c ≡ true → holder log c ≡ Some by
+holder-is log by c held = by_want (holder_want log c) held
+  where
+    by_want : (want : Option Want) → option_map_or (λ (w : Want). w.transfer == by) want false ≡ true → option_map (λ (w : Want). w.transfer) want ≡ Some by
+    by_want None h = cc
+    by_want (Some want) h = ap Some (eqb-true want.transfer by h)

@@ -1,8 +1,8 @@
--- Each command keeps the log sound and quiet, so the log behind a script is legal.
-use Rattle.std.proofs.Common.{◌≡◌, ℕ, Bool, true, false, ◌&&◌, List, [], ◌∷◌, Option, Some, None, Result, Ok, Err, is_none, refl, sym, subst, ◌∙◌}
-use Rattle.std.specs.Prelude.{◌==◌, nat_lt, if◌then◌else◌, cond, length}
+-- Each command leaves all hosts at rest, so the logs behind a script are legal, and nobody waits beside room.
+use Rattle.std.proofs.Common.{◌≡◌, ℕ, zero, suc, ◌<◌, Bool, true, false, ◌==◌, ◌&&◌, List, [], ◌∷◌, Option, Some, None, Result, Ok, Err, is_none, refl, sym, subst, ap, ◌∙◌, arith}
+use Rattle.std.specs.Prelude.{nat_lt, if◌then◌else◌, cond, length, replicate, slice_index_or}
 use Rattle.std.specs.Option.{option_map}
-use mathlib.Core.Bool.{false≢true}
+use Rattle.std.proofs.lemmas.Bool.Decides.{nat_tests}
 use Rattle.conn_log.specs.declared.entry.Event.{Event}
 use Rattle.conn_log.specs.declared.entry.Event.TheVariants.{Opened, Leased, Returned, Closed, Waited, Left, Limit}
 use Rattle.conn_log.specs.declared.entry.Want.{Want}
@@ -10,23 +10,24 @@ use Rattle.conn_log.specs.declared.entry.Entry.{Entry}
 use Rattle.conn_log.specs.Connections.{is_among, is_idle, holder_want, held_number, holds, came_back_persistent}
 use Rattle.conn_log.specs.Waiting.{waiting}
 use Rattle.conn_log.specs.Fit.{suits}
-use Rattle.conn_log.specs.Legal.{LimitAndFirst, IsLegal, IsQuiet, Allows, MayStartAmong}
+use Rattle.conn_log.specs.Legal.{LimitAndFirst, IsLegal, Allows, MayStartAmong}
 use Rattle.conn_log.proofs.Steps.{idle_open_unheld}
-use Rattle.conn_log.proofs.Soundness.{and_left, and_right, sound_empty}
-use Rattle.budget.specs.declared.permits.Try.TheVariants.{Got}
+use Rattle.conn_log.proofs.Soundness.{and_left, and_right}
+use Rattle.budget.specs.Limits.{Bounds, AreLimits}
 use Rattle.budget.specs.declared.refusal.Refusal.{Refusal}
-use Rattle.bundle.specs.Calls.{refusal, is_queued, after_give_back}
-use Rattle.bundle.proofs.Marks.{mark_acquired, mark_give_back, mark_abandon, mark_withdraw}
-use Rattle.bundle.specs.Laws.{IsSoundAndQuiet, AcquireKeepsSoundAndQuiet, GiveBackKeepsSoundAndQuiet, AbandonKeepsSoundAndQuiet, WithdrawKeepsSoundAndQuiet}
+use Rattle.budget.specs.declared.refusal.Refusal.TheVariants as refusals
+use Rattle.bundle.specs.Calls.{refusal, limit_refusal, is_busy}
+use Rattle.host_state.specs.Steps.{is_exhausted}
+use Rattle.cache.specs.AllHosts.{AllHosts, log_at, terms, IsAtRest}
+use Rattle.cache.specs.Laws.{NewIsAtRest, AcquireEndsAtRest, GiveBackEndsAtRest, AbandonEndsAtRest, WithdrawEndsAtRest, PruneEndsAtRest, LimitEndsAtRest, NobodyWaitsBesideRoom}
 use Rattle.script_text.specs.Lines.{lines}
 use Rattle.script_text.specs.Grammar.{reading}
-use Rattle.script_engine.specs.Meaning.{ScriptHost, Run, start, step, settings_of, facts_of_ending, claimed_number, replied, stranger, grown, get_at, get_unless, claim_at, claim_of, back_at, back_of, drop_at, drop_of, leave_at, after_leaving, look_at, at_host, at_no_host, answer_of, with_limits, add_site, with_url, with_action, are_good}
+use Rattle.script_text.specs.Site.{site_named}
+use Rattle.script_engine.specs.Meaning.{ScriptHosts, AtSite, at_site, new_hosts, Answer, Run, start, begun, step, bounds_given, facts_of_ending, claimed_number, stranger, grown, get_at, get_unless, claim_at, claim_of, back_at, back_of, drop_at, drop_of, leave_at, after_leaving, limit_at, limit_unless, look_at, act_at, at_no_host, put_back_at, answer_of, prune_all, upkeep_all, with_limits, add_site, is_one_too_many, with_url, with_answer, are_good}
 use Rattle.conn_key.specs.declared.site.Site.{Site}
 use Rattle.conn_key.specs.Sites.{with_site}
-use Rattle.script_text.specs.Site.{site_named}
-use Rattle.script_engine.specs.Meaning.{has_site, is_one_too_many}
 use Rattle.script_engine.specs.Transcript.{line_step, line_step_of, LONGEST_SCRIPT}
-use Rattle.script_engine.specs.Law.{run_after, after_line, run_behind, log_behind, limits_of, IsLegalUnder, IsQuietUnder, WasFree, LeasesFree, EachLeaseWasFree, IsHead, StartsTheHead, EachStartIsOfTheHead, EveryLogIsLegal, EveryLogIsQuiet, EveryLeaseWasFree, EveryStartIsOfTheHead}
+use Rattle.script_engine.specs.Law.{run_after, after_line, run_behind, all_behind, limits_of, AreLegalUnder, AreAtRestUnder, WaitForRoomUnder, WasFree, LeasesFree, EachLeaseWasFree, IsHead, StartsTheHead, EachStartIsOfTheHead, EveryLogIsLegal, EveryScriptEndsAtRest, EveryWaitIsForRoom, EveryLeaseWasFree, EveryStartIsOfTheHead}
 use Rattle.script_text.specs.declared.command.Limits.{Limits}
 use Rattle.script_text.specs.declared.command.Action.{Action}
 use Rattle.script_text.specs.declared.command.Action.TheVariants as actions
@@ -35,197 +36,278 @@ use Rattle.script_text.specs.declared.command.Command.TheVariants as commands
 use Rattle.script_text.specs.declared.command.Ending.{Ending}
 use Rattle.script_text.specs.declared.fault.FaultKind.{FaultKind}
 use Rattle.script_text.specs.declared.fault.FaultKind.TheVariants.{Place, BadLimits, TooManySites}
-use Rattle.script_engine.proofs.OneBudget.{kept-back}
-use Rattle.script_engine.proofs.Leases.{accepted-idle, accepted-free}
 
--- what the calls keep of a log
+-- what the calls keep of all hosts
 pub record CallsKeep : Type 0 where
-  pub acquire : AcquireKeepsSoundAndQuiet
-  pub give_back : GiveBackKeepsSoundAndQuiet
-  pub abandon : AbandonKeepsSoundAndQuiet
-  pub withdraw : WithdrawKeepsSoundAndQuiet
+  pub at_first : NewIsAtRest
+  pub acquire : AcquireEndsAtRest
+  pub give_back : GiveBackEndsAtRest
+  pub abandon : AbandonEndsAtRest
+  pub withdraw : WithdrawEndsAtRest
+  pub prune : PruneEndsAtRest
+  pub limit : LimitEndsAtRest
 
--- a log that is sound and quiet, of a host that is not queued
-pub record IsUnmarked (settings : LimitAndFirst) (log : List Entry) : Type 0 where
-  pub kept : IsSoundAndQuiet settings log
-  pub unqueued : is_queued settings log ≡ false
+-- all hosts are at rest, under limits that can be kept; without limits there are none
+pub record Rests (limits : Bounds) (all : AllHosts) : Type 0 where
+  pub some : AreLimits limits
+  pub rest : IsAtRest limits all
 
--- sound and quiet under these limits, without a mark; without limits nothing happened
-abbrev pub SoundUnder : Option Limits → List Entry → Type 0
-SoundUnder None log = log ≡ []
-SoundUnder (Some limits) log = IsUnmarked (settings_of limits) log
+abbrev pub RestUnder : Option Limits → ScriptHosts → Type 0
+RestUnder None hosts = hosts ≡ new_hosts 0
+RestUnder (Some limits) hosts = Rests (bounds_given limits) hosts.all
 
-abbrev pub SoundRun : Run → Type 0
-SoundRun run = SoundUnder run.limits run.host.log
+abbrev pub RestRun : Run → Type 0
+RestRun run = RestUnder run.limits run.hosts
 
 -- what a step makes, if it makes anything
-abbrev pub SoundStep : Result (Run × List ℕ) FaultKind → Type 0
-SoundStep (Err kind) = Unit {0}
-SoundStep (Ok next) = SoundRun next.0
+abbrev pub RestStep : Result (Run × List ℕ) FaultKind → Type 0
+RestStep (Err kind) = Unit {0}
+RestStep (Ok next) = RestRun next.0
 
-empty : (settings : LimitAndFirst) → IsUnmarked settings []
-empty settings = record {
-  kept = record {
-    sound = sound_empty settings;
-    quiet = record {
-      none_idle = λ anyone. absurd anyone;
-      no_room = λ anyone. absurd anyone;
-      queued_for = λ never. absurd (false≢true never);
-      settled = refl;
-    };
-  };
-  unqueued = refl;
-}
+-- limits that are not refused can be kept
+good_limits : (limits : Limits) → are_good limits ≡ true → AreLimits (bounds_given limits)
+good_limits limits good = by_zeros (limits.host == 0) refl (limits.total == 0) refl
+  where
+    by_zeros : (none_here : Bool) → (limits.host == 0) ≡ none_here → (none_in_all : Bool) → (limits.total == 0) ≡ none_in_all → AreLimits (bounds_given limits)
+    by_zeros none_here here none_in_all in_all = record {
+      some_at_a_host = grind (arith, nat_tests, good, here, in_all);
+      some_open = grind (arith, nat_tests, good, here, in_all);
+      some_kept = grind (arith, nat_tests, good, here, in_all);
+      host_fits = grind (arith, nat_tests, good, here, in_all);
+      total_fits = grind (arith, nat_tests, good, here, in_all);
+      kept_fits = grind (arith, nat_tests, good, here, in_all);
+    }
 
-pub held-where-leased : (waits : Bool) (held : Option ℕ) (c : ℕ) → cond waits None held ≡ Some c → held ≡ Some c
-held-where-leased true held c leased = cc
-held-where-leased false held c leased = leased
+-- new hosts have empty logs
+pub none_yet : (n host : ℕ) → (let nothing : List Entry = [] in slice_index_or (replicate n nothing) host nothing ≡ nothing)
+none_yet zero host = refl
+none_yet (suc n) zero = refl
+none_yet (suc n) (suc host) = none_yet n host
 
-module _ (keep : CallsKeep) (settings : LimitAndFirst) (host : ScriptHost) (sound : IsUnmarked settings host.log) where
-  sound_get : (want : Want) (moment : ℕ) → IsUnmarked settings (get_at settings want moment host).host.log
+-- a transfer that is not refused is not busy
+pub accepted_idle : (settings : LimitAndFirst) (log : List Entry) (want : Want) → refusal settings log [] want ≡ None → is_busy log [] want.transfer ≡ false
+accepted_idle settings log want e = not_busy (is_busy log [] want.transfer) (is_exhausted settings log 0) e
+  where
+    not_busy : (busy exhausted : Bool) → cond busy (Some refusals.TransferBusy) (cond exhausted (Some refusals.Exhausted) None) ≡ None → busy ≡ false
+    not_busy true exhausted e = cc
+    not_busy false exhausted e = refl
+
+-- what a transfer has a lease of, it holds
+pub held_where_leased : (ticketed : Bool) (held : Option ℕ) (c : ℕ) → cond ticketed None held ≡ Some c → held ≡ Some c
+held_where_leased true held c leased = cc
+held_where_leased false held c leased = leased
+
+-- a site that is there
+pub is_there : (site hosts : ℕ) → nat_lt site hosts ≡ true → site < hosts
+is_there site hosts is = grind (arith, nat_tests, is)
+
+module _ (keep : CallsKeep) (limits : Bounds) (site : ℕ) (here : AtSite) (rests : Rests limits here.all) (there : site < length here.all.logs) where
+  rest_get : (want : Want) (moment : ℕ) → IsAtRest limits (get_at limits site want moment here).here.all
   unfolding get_at
-  sound_get want moment = by_refusal (refusal settings host.log [] want) refl
+  rest_get want moment = by_refusal (refusal (terms limits) (log_at here.all site) [] want) refl
     where
-      by_refusal : (reason : Option Refusal) → refusal settings host.log [] want ≡ reason → IsUnmarked settings (get_unless settings want moment host reason).host.log
-      by_refusal (Some r) is = sound
-      by_refusal None is =
-          let free = accepted-free settings host.log sound.kept.sound want is in
-          record { kept = keep.acquire false Got settings host.log want moment sound.kept (accepted-idle settings host.log want is); unqueued = mark_acquired false Got settings host.log want moment sound.kept free.0 free.1 refl ∙ sound.unqueued }
+      by_refusal : (reason : Option Refusal) → refusal (terms limits) (log_at here.all site) [] want ≡ reason → IsAtRest limits (get_unless limits site want moment here reason).here.all
+      by_refusal (Some r) is = rests.rest
+      by_refusal None is = keep.acquire limits site want moment here.all rests.rest.lawful there (accepted_idle (terms limits) (log_at here.all site) want is)
 
-  sound_claim : (transfer : ℕ) → IsUnmarked settings (claim_at transfer host).host.log
+  rest_claim : (transfer : ℕ) → IsAtRest limits (claim_at site transfer here).here.all
   unfolding claim_at
-  sound_claim transfer = by_ticket (is_among transfer host.tickets)
+  rest_claim transfer = by_ticket (is_among transfer here.tickets)
     where
-      by_held : (held : Option ℕ) → IsUnmarked settings (claim_of transfer host held).host.log
-      by_held None = sound
-      by_held (Some c) = sound
+      by_held : (held : Option ℕ) → IsAtRest limits (claim_of site transfer here held).here.all
+      by_held None = rests.rest
+      by_held (Some c) = rests.rest
 
-      by_ticket : (ticketed : Bool) → IsUnmarked settings (if ticketed then claim_of transfer host (held_number host.log transfer) else stranger host).host.log
-      by_ticket true = by_held (held_number host.log transfer)
-      by_ticket false = sound
+      by_ticket : (ticketed : Bool) → IsAtRest limits (if ticketed then claim_of site transfer here (held_number (log_at here.all site) transfer) else stranger here).here.all
+      by_ticket true = by_held (held_number (log_at here.all site) transfer)
+      by_ticket false = rests.rest
 
-  sound_back : (transfer : ℕ) (ending : Ending) (moment : ℕ) → IsUnmarked settings (back_at settings transfer ending moment host).host.log
+  rest_back : (transfer : ℕ) (ending : Ending) (moment : ℕ) → IsAtRest limits (back_at limits site transfer ending moment here).here.all
   unfolding back_at
-  sound_back transfer ending moment = by_leased (claimed_number host transfer) refl
+  rest_back transfer ending moment = by_leased (claimed_number site here transfer) refl
     where
-      by_leased : (leased : Option ℕ) → claimed_number host transfer ≡ leased → IsUnmarked settings (back_of settings ending moment host leased).host.log
-      by_leased None is = sound
+      by_leased : (leased : Option ℕ) → claimed_number site here transfer ≡ leased → IsAtRest limits (back_of limits site ending moment here leased).here.all
+      by_leased None is = rests.rest
       by_leased (Some c) is =
-          let facts = facts_of_ending ending in
-          let held = held-where-leased (is_among transfer host.tickets) (held_number host.log transfer) c is in
-          record { kept = keep.give_back false Got settings host.log (after_give_back settings host.log c facts moment) transfer c facts moment sound.kept held (kept-back settings host.log c facts moment); unqueued = mark_give_back settings host.log transfer c facts moment sound.kept held sound.unqueued }
+          let held = held_where_leased (is_among transfer here.tickets) (held_number (log_at here.all site) transfer) c is in
+          keep.give_back limits site transfer c (facts_of_ending ending) moment here.all rests.some rests.rest.lawful there held
 
-  sound_drop : (transfer moment : ℕ) → IsUnmarked settings (drop_at settings transfer moment host).host.log
+  rest_drop : (transfer moment : ℕ) → IsAtRest limits (drop_at limits site transfer moment here).here.all
   unfolding drop_at
-  sound_drop transfer moment = by_leased (claimed_number host transfer) refl
+  rest_drop transfer moment = by_leased (claimed_number site here transfer) refl
     where
-      by_leased : (leased : Option ℕ) → claimed_number host transfer ≡ leased → IsUnmarked settings (drop_of settings moment host leased).host.log
-      by_leased None is = sound
+      by_leased : (leased : Option ℕ) → claimed_number site here transfer ≡ leased → IsAtRest limits (drop_of limits site moment here leased).here.all
+      by_leased None is = rests.rest
       by_leased (Some c) is =
-          let held = held-where-leased (is_among transfer host.tickets) (held_number host.log transfer) c is in
-          record { kept = keep.abandon settings host.log transfer c moment sound.kept held; unqueued = mark_abandon settings host.log transfer c moment sound.kept held sound.unqueued }
+          let held = held_where_leased (is_among transfer here.tickets) (held_number (log_at here.all site) transfer) c is in
+          keep.abandon limits site transfer c moment here.all rests.rest.lawful there held
 
-  sound_leave : (transfer moment : ℕ) → IsUnmarked settings (leave_at settings transfer moment host).host.log
+  rest_leave : (transfer moment : ℕ) → IsAtRest limits (leave_at limits site transfer moment here).here.all
   unfolding leave_at
-  sound_leave transfer moment = by_ticket (is_among transfer host.tickets)
+  rest_leave transfer moment = by_ticket (is_among transfer here.tickets)
     where
-      by_ticket : (ticketed : Bool) → IsUnmarked settings (if ticketed then grown host (after_leaving settings transfer moment host) else stranger host).host.log
-      by_ticket true = record { kept = keep.withdraw settings host.log transfer moment sound.kept; unqueued = mark_withdraw settings host.log transfer moment sound.kept sound.unqueued }
-      by_ticket false = sound
+      by_ticket : (ticketed : Bool) → IsAtRest limits (if ticketed then grown here (after_leaving limits site transfer moment here) else stranger here).here.all
+      by_ticket true = keep.withdraw limits site transfer moment here.all rests.rest.lawful there
+      by_ticket false = rests.rest
 
-  sound_look : IsUnmarked settings (look_at host).host.log
+  rest_limit : (n moment : ℕ) → IsAtRest limits (limit_at limits site n moment here).here.all
+  unfolding limit_at
+  rest_limit n moment = by_refusal (limit_refusal n (log_at here.all site)) refl
+    where
+      by_refusal : (reason : Option Refusal) → limit_refusal n (log_at here.all site) ≡ reason → IsAtRest limits (limit_unless limits site n moment here reason).here.all
+      by_refusal (Some r) is = rests.rest
+      by_refusal None is = keep.limit limits site n moment here.all rests.rest.lawful there is
+
+  rest_look : IsAtRest limits (look_at limits site here).here.all
   unfolding look_at
-  sound_look = sound
+  rest_look = rests.rest
 
-  sound_at_host : (action : Action) → IsUnmarked settings (at_host settings host action).host.log
-  sound_at_host (actions.Get want moment) = sound_get want moment
-  sound_at_host (actions.Claim transfer) = sound_claim transfer
-  sound_at_host (actions.Back transfer ending moment) = sound_back transfer ending moment
-  sound_at_host (actions.Drop transfer moment) = sound_drop transfer moment
-  sound_at_host (actions.Leave transfer moment) = sound_leave transfer moment
-  sound_at_host actions.Look = sound_look
+  rest_act : (action : Action) → IsAtRest limits (act_at limits site here action).here.all
+  rest_act (actions.Get want moment) = rest_get want moment
+  rest_act (actions.Claim transfer) = rest_claim transfer
+  rest_act (actions.Back transfer ending moment) = rest_back transfer ending moment
+  rest_act (actions.Drop transfer moment) = rest_drop transfer moment
+  rest_act (actions.Leave transfer moment) = rest_leave transfer moment
+  rest_act (actions.Limit n moment) = rest_limit n moment
+  rest_act actions.Look = rest_look
 
 module _ (keep : CallsKeep) where
-  sound_answer : (limits : Limits) (there : Bool) (host : ScriptHost) (site : ℕ) (action : Action) → IsUnmarked (settings_of limits) host.log → IsUnmarked (settings_of limits) (answer_of limits there host site action).host.log
-  sound_answer limits there host site action sound = by_test (there && (site == 0))
+  rest_answer : (limits : Bounds) (hosts : ScriptHosts) (site : ℕ) (action : Action) → Rests limits hosts.all → IsAtRest limits (answer_of limits hosts site action).hosts.all
+  rest_answer limits hosts site action rests = by_test (nat_lt site (length hosts.all.logs)) refl
     where
-      by_test : (here : Bool) → IsUnmarked (settings_of limits) (if here then at_host (settings_of limits) host action else replied host (at_no_host action)).host.log
-      by_test true = sound_at_host keep (settings_of limits) host sound action
-      by_test false = sound
+      by_test : (there : Bool) → nat_lt site (length hosts.all.logs) ≡ there
+          → IsAtRest limits (if there then put_back_at site hosts (act_at limits site (at_site hosts site) action) else record { hosts = hosts; text = at_no_host action }).hosts.all
+      by_test true is = rest_act keep limits site (at_site hosts site) rests (is_there site (length hosts.all.logs) is) action
+      by_test false is = rests.rest
 
-  sound_limits : (run : Run) (limits : Limits) (old : Option Limits) → SoundUnder old run.host.log → SoundStep (with_limits run limits old)
-  sound_limits run limits (Some others) sound = tt
-  sound_limits run limits None nothing = by_good (are_good limits)
-    where
-      by_good : (good : Bool) → SoundStep (if good then Ok (record run { limits = Some limits }, []) else Err BadLimits)
-      by_good true = subst (IsUnmarked (settings_of limits)) (sym nothing) (empty (settings_of limits))
-      by_good false = tt
+  rest_prune : (limits : Bounds) (max_age max_life moment : ℕ) (hosts : ScriptHosts) → Rests limits hosts.all → IsAtRest limits (prune_all limits max_age max_life moment hosts).hosts.all
+  unfolding prune_all
+  rest_prune limits max_age max_life moment hosts rests = keep.prune limits moment max_age max_life hosts.all rests.rest.lawful
 
-  sound_named : (run : Run) (site : Option Site) → SoundRun run → SoundStep (add_site run site)
-  sound_named run None sound = tt
-  sound_named run (Some site) sound = by_test (is_one_too_many run.sites site)
+  rest_upkeep : (limits : Bounds) (hosts : ScriptHosts) → Rests limits hosts.all → IsAtRest limits (upkeep_all hosts).hosts.all
+  unfolding upkeep_all
+  rest_upkeep limits hosts rests = rests.rest
+
+  rest_new : (limits : Bounds) (n : ℕ) → IsAtRest limits (new_hosts n).all
+  rest_new limits n = keep.at_first limits (new_hosts n).all (none_yet n) refl
+
+  rest_limits : (run : Run) (limits : Limits) (old : Option Limits) → RestUnder old run.hosts → RestStep (with_limits run limits old)
+  rest_limits run limits (Some others) rests = tt
+  rest_limits run limits None nothing = by_good (are_good limits) refl
     where
-      by_test : (too_many : Bool) → SoundStep (if too_many then Err TooManySites else Ok (record run { sites = with_site run.sites site }, []))
+      by_good : (good : Bool) → are_good limits ≡ good → RestStep (if good then Ok (record run { limits = Some limits }, []) else Err BadLimits)
+      by_good true is = record { some = good_limits limits is; rest = subst (λ (hosts : ScriptHosts). IsAtRest (bounds_given limits) hosts.all) (sym nothing) (rest_new (bounds_given limits) 0) }
+      by_good false is = tt
+
+  rest_named : (run : Run) (site : Option Site) → RestRun run → RestStep (add_site run site)
+  rest_named run None rests = tt
+  rest_named run (Some site) rests = by_test (is_one_too_many run.sites site)
+    where
+      by_test : (too_many : Bool) → RestStep (if too_many then Err TooManySites else Ok (record run { sites = with_site run.sites site }, []))
       by_test true = tt
-      by_test false = sound
+      by_test false = rests
 
-  sound_site : (run : Run) (word : List ℕ) (old : Option Limits) → SoundRun run → SoundStep (with_url run word old)
-  sound_site run word None sound = tt
-  sound_site run word (Some limits) sound = by_test run.has_begun
+  rest_site : (run : Run) (word : List ℕ) (old : Option Limits) → RestRun run → RestStep (with_url run word old)
+  rest_site run word None rests = tt
+  rest_site run word (Some limits) rests = by_test run.has_begun
     where
-      by_test : (begun : Bool) → SoundStep (if begun then Err Place else add_site run (site_named word))
+      by_test : (begun_already : Bool) → RestStep (if begun_already then Err Place else add_site run (site_named word))
       by_test true = tt
-      by_test false = sound_named run (site_named word) sound
+      by_test false = rest_named run (site_named word) rests
 
-  sound_command : (run : Run) (site : ℕ) (action : Action) (old : Option Limits) → run.limits ≡ old → SoundUnder old run.host.log → SoundStep (with_action run site action old)
-  sound_command run site action None same sound = tt
-  sound_command run site action (Some limits) same sound =
-      subst (λ l. SoundUnder l (answer_of limits (has_site run.sites) run.host site action).host.log) (sym same)
-      (sound_answer limits (has_site run.sites) run.host site action sound)
+  -- as the first command comes the hosts are made
+  pub rest_begun : (run : Run) (limits : Limits) → Rests (bounds_given limits) run.hosts.all → Rests (bounds_given limits) (begun run).hosts.all
+  rest_begun run limits rests = by_begun run.has_begun
+    where
+      by_begun : (begun_already : Bool) → Rests (bounds_given limits) (if begun_already then run else record run { has_begun = true; hosts = new_hosts (length run.sites) }).hosts.all
+      by_begun true = rests
+      by_begun false = record { some = rests.some; rest = rest_new (bounds_given limits) (length run.sites) }
 
-  sound_step : (run : Run) (command : Command) → SoundRun run → SoundStep (step run command)
+  same_limits : (run : Run) → (begun run).limits ≡ run.limits
+  same_limits run = by_begun run.has_begun
+    where
+      by_begun : (begun_already : Bool) → (if begun_already then run else record run { has_begun = true; hosts = new_hosts (length run.sites) }).limits ≡ run.limits
+      by_begun true = refl
+      by_begun false = refl
+
+  rest_command : (answer : Bounds → ScriptHosts → Answer) → ((limits : Bounds) (hosts : ScriptHosts) → Rests limits hosts.all → IsAtRest limits (answer limits hosts).hosts.all)
+      → (run : Run) (old : Option Limits) → run.limits ≡ old → RestUnder old run.hosts → RestStep (with_answer run answer old)
+  rest_command answer keeps run None same rests = tt
+  rest_command answer keeps run (Some limits) same rests =
+      let before = rest_begun run limits rests in
+      subst (λ l. RestUnder l (answer (bounds_given limits) (begun run).hosts).hosts) (sym (same_limits run ∙ same))
+      (record { some = rests.some; rest = keeps (bounds_given limits) (begun run).hosts before })
+
+  rest_step : (run : Run) (command : Command) → RestRun run → RestStep (step run command)
   unfolding step
-  sound_step run (commands.Limits limits) sound = sound_limits run limits run.limits sound
-  sound_step run (commands.Site word) sound = sound_site run word run.limits sound
-  sound_step run (commands.At site action) sound = sound_command run site action run.limits refl sound
+  rest_step run (commands.Limits limits) rests = rest_limits run limits run.limits rests
+  rest_step run (commands.Site word) rests = rest_site run word run.limits rests
+  rest_step run (commands.At site action) rests = rest_command (λ limits hosts. answer_of limits hosts site action) (λ limits hosts before. rest_answer limits hosts site action before) run run.limits refl rests
+  rest_step run (commands.Prune max_age max_life moment) rests = rest_command (λ limits hosts. prune_all limits max_age max_life moment hosts) (λ limits hosts before. rest_prune limits max_age max_life moment hosts before) run run.limits refl rests
+  rest_step run commands.Upkeep rests = rest_command (λ limits hosts. upkeep_all hosts) rest_upkeep run run.limits refl rests
 
-  pub sound_line : (run : Run) (line : List ℕ) → SoundRun run → SoundStep (line_step run line)
+  pub rest_line : (run : Run) (line : List ℕ) → RestRun run → RestStep (line_step run line)
   unfolding line_step
-  sound_line run line sound = by_reading (reading line)
+  rest_line run line rests = by_reading (reading line)
     where
-      by_reading : (read : Result (Option Command) FaultKind) → SoundStep (line_step_of run read)
+      by_reading : (read : Result (Option Command) FaultKind) → RestStep (line_step_of run read)
       by_reading (Err kind) = tt
-      by_reading (Ok None) = sound
-      by_reading (Ok (Some command)) = sound_step run command sound
+      by_reading (Ok None) = rests
+      by_reading (Ok (Some command)) = rest_step run command rests
 
-  sound_after : (run : Run) (lines : List (List ℕ)) → SoundRun run → SoundRun (run_after run lines)
-  sound_after run [] sound = sound
-  sound_after run (line ∷ others) sound = by_step (line_step run line) (sound_line run line sound) (λ next next_sound. sound_after next others next_sound)
+  rest_after : (run : Run) (lines : List (List ℕ)) → RestRun run → RestRun (run_after run lines)
+  rest_after run [] rests = rests
+  rest_after run (line ∷ others) rests = by_step (line_step run line) (rest_line run line rests) (λ next next_rests. rest_after next others next_rests)
     where
-      by_step : (made : Result (Run × List ℕ) FaultKind) → SoundStep made → ((next : Run) → SoundRun next → SoundRun (run_after next others)) → SoundRun (after_line run made (λ next. run_after next others))
-      by_step (Err kind) made_sound rest = sound
-      by_step (Ok next) made_sound rest = rest next.0 made_sound
+      by_step : (made : Result (Run × List ℕ) FaultKind) → RestStep made → ((next : Run) → RestRun next → RestRun (run_after next others)) → RestRun (after_line run made (λ next. run_after next others))
+      by_step (Err kind) made_rests rest = rests
+      by_step (Ok next) made_rests rest = rest next.0 made_rests
 
-  sound_behind : (script : List ℕ) → SoundRun (run_behind script)
-  sound_behind script = by_length (nat_lt LONGEST_SCRIPT (length script))
+  rest_behind : (script : List ℕ) → RestRun (run_behind script)
+  rest_behind script = by_length (nat_lt LONGEST_SCRIPT (length script))
     where
-      by_length : (too_long : Bool) → SoundRun (if too_long then start else run_after start (lines script))
+      by_length : (too_long : Bool) → RestRun (if too_long then start else run_after start (lines script))
       by_length true = refl
-      by_length false = sound_after start (lines script) refl
+      by_length false = rest_after start (lines script) refl
 
-  pub every_log_is_legal : EveryLogIsLegal
-  every_log_is_legal script = legal_under (limits_of script) (log_behind script) (sound_behind script)
+  pub every_script_ends_at_rest : EveryScriptEndsAtRest
+  every_script_ends_at_rest script = under (limits_of script) (run_behind script).hosts (rest_behind script)
     where
-      legal_under : (limits : Option Limits) (log : List Entry) → SoundUnder limits log → IsLegalUnder limits log
-      legal_under None log nothing = nothing
-      legal_under (Some limits) log stands = stands.kept.sound.legal
+      under : (limits : Option Limits) (hosts : ScriptHosts) → RestUnder limits hosts → AreAtRestUnder limits hosts.all
+      under None hosts nothing = ap (λ (h : ScriptHosts). h.all) nothing
+      under (Some limits) hosts rests = rests.rest
 
-  pub every_log_is_quiet : EveryLogIsQuiet
-  every_log_is_quiet script = quiet_under (limits_of script) (log_behind script) (sound_behind script)
-    where
-      quiet_under : (limits : Option Limits) (log : List Entry) → SoundUnder limits log → IsQuietUnder limits log
-      quiet_under None log nothing = nothing
-      quiet_under (Some limits) log stands = subst (λ queued. IsQuiet (settings_of limits) queued log) stands.unqueued stands.kept.quiet
+-- at rest each log is legal
+pub every_log_is_legal : EveryScriptEndsAtRest → EveryLogIsLegal
+every_log_is_legal rests script = under (limits_of script) (all_behind script) (rests script)
+  where
+    under : (limits : Option Limits) (all : AllHosts) → AreAtRestUnder limits all → AreLegalUnder limits all
+    under None all nothing = λ host. ap (λ (a : AllHosts). log_at a host) nothing
+    under (Some limits) all rest = λ host there. (rest.lawful.settled host there).sound.legal
+
+-- and nobody waits beside room
+pub every_wait_is_for_room : NobodyWaitsBesideRoom → EveryScriptEndsAtRest → EveryWaitIsForRoom
+every_wait_is_for_room for_room rests script = under (limits_of script) (all_behind script) (rests script)
+  where
+    under : (limits : Option Limits) (all : AllHosts) → AreAtRestUnder limits all → WaitForRoomUnder limits all
+    under None all nothing = tt
+    under (Some limits) all rest = λ host there anyone. for_room (bounds_given limits) all host rest there anyone
+
+-- past the last host there is nothing
+pub past_the_last : {A : Type 0} (items : List (List A)) (host : ℕ) → nat_lt host (length items) ≡ false → slice_index_or items host [] ≡ []
+past_the_last [] host past = refl
+past_the_last (item ∷ items) zero past = grind (arith, nat_tests, past)
+past_the_last (item ∷ items) (suc host) past = past_the_last items host (grind (arith, nat_tests, past))
+
+-- what holds of every legal log, and of none, holds of each behind a script
+of_each : (Says : List Entry → Type 0) → Says [] → ((settings : LimitAndFirst) (log : List Entry) → IsLegal settings log → Says log)
+    → (limits : Option Limits) (all : AllHosts) → AreLegalUnder limits all → (host : ℕ) → Says (log_at all host)
+of_each Says none legally None all nothing host = subst Says (sym (nothing host)) none
+of_each Says none legally (Some limits) all legal host = by_place (nat_lt host (length all.logs)) refl
+  where
+    by_place : (there : Bool) → nat_lt host (length all.logs) ≡ there → Says (log_at all host)
+    by_place true is = legally (terms (bounds_given limits)) (log_at all host) (legal host (is_there host (length all.logs) is))
+    by_place false is = subst Says (sym (past_the_last all.logs host is)) none
 
 -- what may be leased was free
 free_if_fit : (before : List Entry) (want : Want) (moment c : ℕ) → (is_idle before c && suits before want moment c) ≡ true → WasFree before c
@@ -257,11 +339,7 @@ each_lease settings [] legal = tt
 each_lease settings (e ∷ before) legal = (leases_free settings before e.moment e.event legal.1, each_lease settings before legal.2)
 
 pub every_lease_was_free : EveryLogIsLegal → EveryLeaseWasFree
-every_lease_was_free each_legal script = under (limits_of script) (log_behind script) (each_legal script)
-  where
-    under : (limits : Option Limits) (log : List Entry) → IsLegalUnder limits log → EachLeaseWasFree log
-    under None log nothing = subst EachLeaseWasFree (sym nothing) tt
-    under (Some limits) log legal = each_lease (settings_of limits) log legal
+every_lease_was_free each_legal script host = of_each EachLeaseWasFree tt each_lease (limits_of script) (all_behind script) (each_legal script) host
 
 -- what may start is the head
 head-starts : (wants : List Want) (is_holding : Bool) (want : Want) → MayStartAmong wants is_holding want → IsHead wants want
@@ -282,8 +360,4 @@ each_start settings [] legal = tt
 each_start settings (e ∷ before) legal = (starts_the_head settings before e.moment e.event legal.1, each_start settings before legal.2)
 
 pub every_start_is_of_the_head : EveryLogIsLegal → EveryStartIsOfTheHead
-every_start_is_of_the_head each_legal script = under (limits_of script) (log_behind script) (each_legal script)
-  where
-    under : (limits : Option Limits) (log : List Entry) → IsLegalUnder limits log → EachStartIsOfTheHead log
-    under None log nothing = subst EachStartIsOfTheHead (sym nothing) tt
-    under (Some limits) log legal = each_start (settings_of limits) log legal
+every_start_is_of_the_head each_legal script host = of_each EachStartIsOfTheHead tt each_start (limits_of script) (all_behind script) (each_legal script) host

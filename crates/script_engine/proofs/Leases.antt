@@ -18,9 +18,10 @@ use Rattle.budget.specs.declared.refusal.Refusal.TheVariants as refusals
 use Rattle.host_state.specs.Steps.{is_exhausted}
 use Rattle.bundle.specs.Calls.{refusal, is_busy}
 use Rattle.host_state.specs.Queue.{waiting_want}
-use Rattle.bundle.specs.Lease.{HostShown, is_unclaimed, lease_number, granted_want, ticket_want, is_same_want, is_valid_ticket}
-use Rattle.script_engine.specs.Meaning.{claimed_number}
-use Rattle.script_engine.specs.Hosted.{kept_host, kept_facts, leases_of, due_others}
+use Rattle.bundle.specs.Lease.{HostShown, StaysThere, is_unclaimed, lease_number, granted_want, ticket_want, is_same_want, is_valid_ticket}
+use Rattle.cache.specs.AllHosts.{log_at}
+use Rattle.script_engine.specs.Meaning.{AtSite, claimed_number}
+use Rattle.script_engine.specs.Hosted.{whereabouts, kept_facts, leases_of, wanted_at, tickets_of, due_others}
 use Rattle.script_engine.proofs.Tickets.{at-key}
 
 pub itself : (c : ℕ) → (c == c) ≡ true
@@ -146,8 +147,8 @@ module _ {S : Type 0} (host : HostShown S) (sound : IsSound host.settings host.l
       by_claim false = (unheld, none-held (waiting_want (waiting host.log) t) (waits-want (waiting host.log) t ∙ waits_not))
 
   -- what a transfer has a lease of, by the list of those that have a ticket
-  pub leased-by-tickets : (tickets : List ℕ) → is_among t tickets ≡ is_some (ticket_want host t) → claimed_number (kept_host host tickets) t ≡ lease_number host t
-  leased-by-tickets tickets same = ap (λ b. cond b None (held_number host.log t)) same ∙ by_claim (is_unclaimed host t)
+  pub leased-by-tickets : (site : ℕ) (here : AtSite) → log_at here.all site ≡ host.log → is_among t here.tickets ≡ is_some (ticket_want host t) → claimed_number site here t ≡ lease_number host t
+  leased-by-tickets site here log same = ap (λ b. cond b None (held_number (log_at here.all site) t)) same ∙ ap (λ l. cond (is_some (ticket_want host t)) None (held_number l t)) log ∙ by_claim (is_unclaimed host t)
     where
       by_held : (held : Option ℕ) → held_number host.log t ≡ held → cond (is_some (option_and_then (holder_want host.log) held)) None held ≡ None
       by_held None is = refl
@@ -217,24 +218,59 @@ none-stays t due other none left q = by_key (t == q) refl (left q)
     by_key true is e = e ∙ sym none ∙ ap due (eqb-true t q is)
     by_key false is e = e
 
--- the leases that are due, by the numbers that are leased
-module _ {S : Type 0} (old new : HostShown S) (here : new.tables ≡ old.tables) (t : ℕ) where
-  there : (q : ℕ) → leases_of new q ≡ option_map (kept_facts old.tables q) (lease_number new q)
-  there q = ap (λ tables. option_map (kept_facts tables q) (lease_number new q)) here
+-- where leases are made stays, and so do the sites of tickets
+pub same-whereabouts : {S : Type 0} (old new : HostShown S) → StaysThere old new → whereabouts new ≡ whereabouts old
+same-whereabouts old new stays = ap (λ host. (host, new.tables)) stays.host ∙ ap (λ tables. (old.host, tables)) stays.tables
+
+pub same-site : {S : Type 0} (old new : HostShown S) → whereabouts new ≡ whereabouts old → new.host ≡ old.host
+same-site old new here = ap (λ made. made.0) here
+
+-- the leases and tickets that are due, by the numbers that are leased and by the wants of tickets
+module _ {S : Type 0} (old new : HostShown S) (here : whereabouts new ≡ whereabouts old) (t : ℕ) where
+  lease_facts-there : (q : ℕ) → leases_of new q ≡ option_map (kept_facts (whereabouts old) q) (lease_number new q)
+  lease_facts-there q = ap (λ made. option_map (kept_facts made q) (lease_number new q)) here
 
   pub leases-left : ((q : ℕ) → lease_number new q ≡ cond (t == q) None (lease_number old q)) → (q : ℕ) → leases_of new q ≡ due_others t (leases_of old) q
-  leases-left left q = there q ∙ ap (option_map (kept_facts old.tables q)) (left q) ∙ by_key (t == q)
+  leases-left left q = lease_facts-there q ∙ ap (option_map (kept_facts (whereabouts old) q)) (left q) ∙ by_key (t == q)
     where
-      by_key : (at : Bool) → option_map (kept_facts old.tables q) (cond at None (lease_number old q)) ≡ cond at None (leases_of old q)
+      by_key : (at : Bool) → option_map (kept_facts (whereabouts old) q) (cond at None (lease_number old q)) ≡ cond at None (leases_of old q)
       by_key true = refl
       by_key false = refl
 
-  pub leases-started : (c : ℕ) → ((q : ℕ) → lease_number new q ≡ cond (t == q) (Some c) (lease_number old q)) → (q : ℕ) → leases_of new q ≡ cond (t == q) (Some (kept_facts old.tables t c)) (leases_of old q)
-  leases-started c started q = there q ∙ ap (option_map (kept_facts old.tables q)) (started q) ∙ by_key (t == q) refl
+  pub leases-started : (c : ℕ) → ((q : ℕ) → lease_number new q ≡ cond (t == q) (Some c) (lease_number old q)) → (q : ℕ) → leases_of new q ≡ cond (t == q) (Some (kept_facts (whereabouts old) t c)) (leases_of old q)
+  leases-started c started q = lease_facts-there q ∙ ap (option_map (kept_facts (whereabouts old) q)) (started q) ∙ by_key (t == q) refl
     where
-      by_key : (at : Bool) → (t == q) ≡ at → option_map (kept_facts old.tables q) (cond at (Some c) (lease_number old q)) ≡ cond at (Some (kept_facts old.tables t c)) (leases_of old q)
-      by_key true is = ap (λ k. Some (kept_facts old.tables k c)) (sym (eqb-true t q is))
+      by_key : (at : Bool) → (t == q) ≡ at → option_map (kept_facts (whereabouts old) q) (cond at (Some c) (lease_number old q)) ≡ cond at (Some (kept_facts (whereabouts old) t c)) (leases_of old q)
+      by_key true is = ap (λ k. Some (kept_facts (whereabouts old) k c)) (sym (eqb-true t q is))
       by_key false is = refl
 
   pub leases-same : ((q : ℕ) → lease_number new q ≡ lease_number old q) → (q : ℕ) → leases_of new q ≡ leases_of old q
-  leases-same same q = there q ∙ ap (option_map (kept_facts old.tables q)) (same q)
+  leases-same same q = lease_facts-there q ∙ ap (option_map (kept_facts (whereabouts old) q)) (same q)
+
+  tickets-there : (q : ℕ) → tickets_of new q ≡ option_map (wanted_at old.host) (ticket_want new q)
+  tickets-there q = ap (λ site. option_map (wanted_at site) (ticket_want new q)) (same-site old new here)
+
+  pub tickets-left : ((q : ℕ) → ticket_want new q ≡ cond (t == q) None (ticket_want old q)) → (q : ℕ) → tickets_of new q ≡ due_others t (tickets_of old) q
+  tickets-left left q = tickets-there q ∙ ap (option_map (wanted_at old.host)) (left q) ∙ by_key (t == q)
+    where
+      by_key : (at : Bool) → option_map (wanted_at old.host) (cond at None (ticket_want old q)) ≡ cond at None (tickets_of old q)
+      by_key true = refl
+      by_key false = refl
+
+  pub tickets-started : (want : Want) → ((q : ℕ) → ticket_want new q ≡ cond (t == q) (Some want) (ticket_want old q)) → (q : ℕ) → tickets_of new q ≡ cond (t == q) (Some (old.host, want)) (tickets_of old q)
+  tickets-started want started q = tickets-there q ∙ ap (option_map (wanted_at old.host)) (started q) ∙ by_key (t == q)
+    where
+      by_key : (at : Bool) → option_map (wanted_at old.host) (cond at (Some want) (ticket_want old q)) ≡ cond at (Some (old.host, want)) (tickets_of old q)
+      by_key true = refl
+      by_key false = refl
+
+  pub tickets-same : ((q : ℕ) → ticket_want new q ≡ ticket_want old q) → (q : ℕ) → tickets_of new q ≡ tickets_of old q
+  tickets-same same q = tickets-there q ∙ ap (option_map (wanted_at old.host)) (same q)
+
+-- a ticket that is due is of the host, and of its transfer's want
+pub due-ticket : {S : Type 0} (host : HostShown S) (t site : ℕ) (w : Want) → tickets_of host t ≡ Some (site, w) → (ticket_want host t ≡ Some w) × (site ≡ host.host)
+due-ticket host t site w e = by_want (ticket_want host t) e
+  where
+    by_want : (want : Option Want) → option_map (wanted_at host.host) want ≡ Some (site, w) → (want ≡ Some w) × (site ≡ host.host)
+    by_want None e' = absurd (cc)
+    by_want (Some v) e' = let same : wanted_at host.host v ≡ wanted_at site w = cc in (ap (λ (p : ℕ × Want). Some p.1) same, sym (ap (λ (p : ℕ × Want). p.0) same))

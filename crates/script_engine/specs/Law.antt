@@ -1,14 +1,16 @@
--- The log behind a script's transcript, and what holds of it.
-use Rattle.std.specs.Prelude.{◌≡◌, ℕ, Bool, false, ◌||◌, is_some, nat_lt, if◌then◌else◌, true, IsTrue, List, [], ◌∷◌, length, Option, Some, None, Result, Ok, Err}
+-- The hosts behind a script's transcript, and what holds of them.
+use Rattle.std.specs.Prelude.{◌≡◌, ℕ, ◌<◌, Bool, ◌||◌, is_some, nat_lt, if◌then◌else◌, true, IsTrue, List, [], ◌∷◌, length, Option, Some, None, Result, Ok, Err}
 use Rattle.conn_log.specs.declared.entry.Want.{Want}
 use Rattle.conn_log.specs.declared.entry.Event.{Event}
 use Rattle.conn_log.specs.declared.entry.Event.TheVariants.{Opened, Leased}
 use Rattle.conn_log.specs.declared.entry.Entry.{Entry}
 use Rattle.conn_log.specs.Connections.{is_among, is_open, holder, held_number, came_back_persistent}
 use Rattle.conn_log.specs.Waiting.{waiting, waits}
-use Rattle.conn_log.specs.Legal.{IsLegal, IsQuiet}
+use Rattle.conn_log.specs.Legal.{IsLegal, IsAnyone}
+use Rattle.cache.specs.AllHosts.{AllHosts, log_at, terms, IsAtRest}
+use Rattle.cache.specs.Laws.{WaitsForRoom}
 use Rattle.script_text.specs.Lines.{lines}
-use Rattle.script_engine.specs.Meaning.{ScriptHost, Run, start, settings_of}
+use Rattle.script_engine.specs.Meaning.{AtSite, at_site, new_hosts, bounds_given, Run, start}
 use Rattle.script_engine.specs.Transcript.{line_step, LONGEST_SCRIPT}
 use Rattle.script_text.specs.declared.command.Limits.{Limits}
 use Rattle.script_text.specs.declared.fault.FaultKind.{FaultKind}
@@ -26,23 +28,29 @@ run_after run (line ∷ others) = after_line run (line_step run line) (λ next. 
 abbrev pub run_behind : List ℕ → Run
 run_behind script = if nat_lt LONGEST_SCRIPT (length script) then start else run_after start (lines script)
 
--- the log behind a transcript
-abbrev pub log_behind : List ℕ → List Entry
-log_behind script = (run_behind script).host.log
+-- all hosts behind a transcript
+abbrev pub all_behind : List ℕ → AllHosts
+all_behind script = (run_behind script).hosts.all
 
 -- the limits that a script gives
 abbrev pub limits_of : List ℕ → Option Limits
 limits_of script = (run_behind script).limits
 
--- legal under these limits; without limits nothing happened
-abbrev pub IsLegalUnder : Option Limits → List Entry → Type 0
-IsLegalUnder None log = log ≡ []
-IsLegalUnder (Some limits) log = IsLegal (settings_of limits) log
+-- each log is legal under these limits; without limits nothing happened
+abbrev pub AreLegalUnder : Option Limits → AllHosts → Type 0
+AreLegalUnder None all = (host : ℕ) → log_at all host ≡ []
+AreLegalUnder (Some limits) all = (host : ℕ) → host < length all.logs → IsLegal (terms (bounds_given limits)) (log_at all host)
 
--- quiet under these limits: where anyone waits nothing is idle, and the host is at its limit
-abbrev pub IsQuietUnder : Option Limits → List Entry → Type 0
-IsQuietUnder None log = log ≡ []
-IsQuietUnder (Some limits) log = IsQuiet (settings_of limits) false log
+-- all are at rest under these limits
+abbrev pub AreAtRestUnder : Option Limits → AllHosts → Type 0
+AreAtRestUnder None all = all ≡ (new_hosts 0).all
+AreAtRestUnder (Some limits) all = IsAtRest (bounds_given limits) all
+
+-- where a transfer waits there is no room for it: nothing is idle there, and its host is at its limit, or the total is
+-- and nothing is idle at any host
+abbrev pub WaitForRoomUnder : Option Limits → AllHosts → Type 0
+WaitForRoomUnder None all = Unit {0}
+WaitForRoomUnder (Some limits) all = (host : ℕ) → host < length all.logs → IsAnyone (waiting (log_at all host)) → WaitsForRoom (bounds_given limits) host all
 
 -- what a leased connection was: open, held by nobody, and last given back whole and persistent
 pub record WasFree (before : List Entry) (c : ℕ) : Type 0 where
@@ -76,24 +84,28 @@ EachStartIsOfTheHead (e ∷ before) = StartsTheHead before e.event × EachStartI
 abbrev pub is_served : List Entry → ℕ → Bool
 is_served log transfer = waits log transfer || is_some (held_number log transfer)
 
-pub record TicketsStand (host : ScriptHost) : Type 0 where
-  pub ticketed : (transfer : ℕ) → waits host.log transfer ≡ true → is_among transfer host.tickets ≡ true
-  pub served : (transfer : ℕ) → is_among transfer host.tickets ≡ true → is_served host.log transfer ≡ true
+pub record TicketsStand (site : ℕ) (here : AtSite) : Type 0 where
+  pub ticketed : (transfer : ℕ) → waits (log_at here.all site) transfer ≡ true → is_among transfer here.tickets ≡ true
+  pub served : (transfer : ℕ) → is_among transfer here.tickets ≡ true → is_served (log_at here.all site) transfer ≡ true
 
--- for every script, the log behind its transcript is legal and quiet; each lease in it is of a connection that was
--- opened before, came back whole and persistent, and is held by nobody at that place; the transfers are
--- served in the order in which they began to wait; and the tickets after it stand
+-- for every script, the logs behind its transcript are legal, and all its hosts are at rest: each log is quiet by its
+-- mark, no sum passes its limit, and whoever waits does so for want of room; each lease in a log is of a connection that
+-- was opened before, came back whole and persistent, and is held by nobody at that place; at each host the transfers
+-- are served in the order in which they began to wait; and the tickets after it stand
 abbrev pub EveryLogIsLegal : Type 0
-EveryLogIsLegal = (script : List ℕ) → IsLegalUnder (limits_of script) (log_behind script)
+EveryLogIsLegal = (script : List ℕ) → AreLegalUnder (limits_of script) (all_behind script)
 
-abbrev pub EveryLogIsQuiet : Type 0
-EveryLogIsQuiet = (script : List ℕ) → IsQuietUnder (limits_of script) (log_behind script)
+abbrev pub EveryScriptEndsAtRest : Type 0
+EveryScriptEndsAtRest = (script : List ℕ) → AreAtRestUnder (limits_of script) (all_behind script)
+
+abbrev pub EveryWaitIsForRoom : Type 0
+EveryWaitIsForRoom = (script : List ℕ) → WaitForRoomUnder (limits_of script) (all_behind script)
 
 abbrev pub EveryLeaseWasFree : Type 0
-EveryLeaseWasFree = (script : List ℕ) → EachLeaseWasFree (log_behind script)
+EveryLeaseWasFree = (script : List ℕ) (host : ℕ) → EachLeaseWasFree (log_at (all_behind script) host)
 
 abbrev pub EveryStartIsOfTheHead : Type 0
-EveryStartIsOfTheHead = (script : List ℕ) → EachStartIsOfTheHead (log_behind script)
+EveryStartIsOfTheHead = (script : List ℕ) (host : ℕ) → EachStartIsOfTheHead (log_at (all_behind script) host)
 
 abbrev pub EveryTicketStands : Type 0
-EveryTicketStands = (script : List ℕ) → TicketsStand (run_behind script).host
+EveryTicketStands = (script : List ℕ) (site : ℕ) → TicketsStand site (at_site (run_behind script).hosts site)

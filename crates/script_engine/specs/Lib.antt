@@ -1,6 +1,6 @@
 pub mod Meaning
 pub mod Hosted
-pub mod Sole
+pub mod Telling
 pub mod Ending
 pub mod Transcript
 pub mod Law

@@ -1,42 +1,317 @@
-//! The leases and tickets that a host keeps for its transfers, until they are spent.
+//! The leases and tickets that are kept of a site for its transfers, until they are spent.
 
-ghost use Rattle.std.specs.Prelude.{◌≡◌, ◌+◌, ℕ, OnOk, OnErr, IfErr, IfSome, IfNone, IsSome};
-ghost use Rattle.std.specs.Prelude.{is_some, Some, None, true, ◌∷◌, if◌then◌else◌};
+ghost use Rattle.std.specs.Prelude.{◌≡◌, ◌<◌, ◌+◌, ◌⊎◌, ℕ, true, false, length, string_bytes};
+ghost use Rattle.std.specs.Prelude.{OnOk, OnErr, IfOk, IfErr, IfSome, IfNone, Some, None, is_some};
+ghost use Rattle.std.specs.Prelude.{[], ◌∷◌, if◌then◌else◌};
 ghost use Rattle.std.specs.Ordering.{nat_cmp};
-ghost use Rattle.std.specs.BTreeMap.{get, keys, btree_map_len, IsOrdered};
-ghost use Rattle.bundle.specs.Calls.{after_abandon, after_withdraw};
-ghost use Rattle.bundle.specs.Lease.{Spends, StaysThere, lease_number, ticket_want};
-ghost use Rattle.bundle.specs.Lease.{is_valid_ticket};
-ghost use Rattle.script_engine.specs.Meaning.{with_ticket};
-ghost use Rattle.script_engine.specs.Ending.{after_giving_up, IsEnding};
-ghost use Rattle.script_engine.specs.Hosted.{Keeps, KeepsLeases, KeepsTickets, leases_of};
-ghost use Rattle.script_engine.specs.Hosted.{due_others, lease_facts, kept_host, is_ticket_first};
-ghost use Rattle.script_engine.specs.Hosted.{merged};
+ghost use Rattle.std.specs.BTreeMap.{get, keys, btree_map_len, IsEmpty};
+ghost use Rattle.std.specs.BTreeMap.{IsOrdered};
+ghost use Rattle.persistence.specs.declared.facts.Facts.{Facts};
+ghost use Rattle.bundle.specs.Calls.{refusal};
+ghost use Rattle.bundle.specs.Lease.{lease_number, ticket_want, is_valid_ticket, Spends};
+ghost use Rattle.cache.specs.AllHosts.{terms, log_at};
+ghost use Rattle.cache.specs.Calls.{after_abandoning, after_withdrawing};
+ghost use Rattle.cache.specs.Pools.{all_hosts, host_at, StaysHost, StaysPool, KeepsOtherHosts};
+ghost use Rattle.cache.specs.Pools.{IsMadeHere};
+ghost use Rattle.script_text.specs.declared.command.Action.TheVariants as actions;
+ghost use Rattle.script_engine.specs.Meaning.{facts_of_ending, with_ticket, get_at, back_at};
+ghost use Rattle.script_engine.specs.Meaning.{drop_at, leave_at, grown, stranger};
+ghost use Rattle.script_engine.specs.Ending.{after_giving_up, after_all_at, AreThoseLeft};
+ghost use Rattle.script_engine.specs.Hosted.{Gives, IsUntold, kept_at, KeepsDue, merged};
+ghost use Rattle.script_engine.specs.Hosted.{KeepsLeases, KeepsTickets, leases_of, tickets_of};
+ghost use Rattle.script_engine.specs.Hosted.{due_others, lease_facts, whereabouts};
+ghost use Rattle.script_engine.specs.Hosted.{is_ticket_first};
+ghost use Rattle.script_engine.specs.Telling.{AllGrowAfter};
 
-use crate::sole::SoleHost;
-use bundle::{Lease, Ticket};
-use script_text::FaultKind;
-use std::alloc::AllocError;
+use crate::facts::facts_of_ending;
+use budget::Refusal;
+use bundle::{Claimed, Lease, Ticket};
+use cache::{Acquired, Pool};
+use conn_log::Want;
+use script_text::{Ending, FaultKind, claimed, reply, still_waiting};
+use std::alloc::Global;
 use std::collections::BTreeMap;
 
-/// Withdraws a ticket. A ticket that is not the bundle's own is scrapped.
-pub fn withdraw(bundle: &mut SoleHost, ticket: Ticket, moment: u64)
-    ensures log { is_valid_ticket bundle.old ticket.wait.want ≡ true
-        → bundle.new.log ≡ after_withdraw bundle.old.settings bundle.old.log
-        ticket.wait.want.transfer moment }
-    ensures spends { is_valid_ticket bundle.old ticket.wait.want ≡ true
-        → Spends bundle.old bundle.new ticket.wait.want.transfer }
-    ensures same { StaysThere bundle.old bundle.new }
+/// The lease or ticket of each transfer of a site that has one. It has to be empty in the end.
+pub struct Kept {
+    pub leases: BTreeMap<u64, Lease<()>>,
+    pub tickets: BTreeMap<u64, Ticket>,
+}
+
+impl Kept {
+    /// Nobody has anything.
+    pub fn new(alloc: Global) -> Kept
+        ensures leases { IsEmpty result.leases }
+        ensures tickets { IsEmpty result.tickets }
+    {
+        Kept {
+            leases: BTreeMap::new(alloc),
+            tickets: BTreeMap::new(alloc),
+        }
+    }
+
+    /// Gives it up, where nobody has anything.
+    pub fn destroy(self)
+        requires leases { IsEmpty self.leases }
+        requires tickets { IsEmpty self.tickets }
+    {
+        let Kept { leases, tickets } = self;
+        leases.destroy_empty();
+        tickets.destroy_empty();
+    }
+
+    /// The transfer acquires a connection of the site, or begins to wait for one; what it gets is
+    /// kept. Where memory is short for that, it is given up at moment 0.
+    pub fn acquire(
+        &mut self,
+        pool: &mut Pool<()>,
+        site: u32,
+        want: Want,
+        moment: u64,
+    ) -> Result<(), Refusal>
+        requires there { site < length pool.old.hosts }
+        requires keeps { KeepsDue (host_at pool.old site) self.old }
+        ensures ok { let old = kept_at pool.old self.old in
+            let new = kept_at pool.new self.new in
+            OnOk result (get_at pool.old.limits site want moment old ≡ grown old new) }
+        ensures untold { let old = kept_at pool.old self.old in
+            let new = kept_at pool.new self.new in
+            OnErr result (IsUntold pool.old.limits site old (actions.Get want moment) new) }
+        ensures refused { let due = refusal (terms pool.old.limits) (host_at pool.old site).log
+            [] want in
+            IfErr result (λ reason. ((due ≡ Some reason)
+            × (kept_at pool.new self.new ≡ kept_at pool.old self.old))
+            ⊎ (reason ≡ Refusal.Memory)) }
+        ensures grow { AllGrowAfter want.transfer (all_hosts pool.old) (all_hosts pool.new) }
+        ensures keeps { KeepsDue (host_at pool.new site) self.new }
+        ensures others { KeepsOtherHosts site pool.old pool.new }
+        ensures stays { StaysPool pool.old pool.new }
+    {
+        // For the proof: all hosts are at rest, each in its place.
+        let _log = pool.log(site);
+        match pool.acquire(site, want, moment)? {
+            Acquired::Lease(lease) => keep_lease(pool, &mut self.leases, lease),
+            Acquired::Wait(ticket) => keep_ticket(pool, &mut self.tickets, ticket),
+        }
+    }
+
+    /// The transfer claims the connection that it waits for. Where memory is short to keep what it
+    /// gets, that is given up at moment 0.
+    pub fn claim(
+        &mut self,
+        alloc: Global,
+        pool: &mut Pool<()>,
+        site: u32,
+        transfer: u64,
+    ) -> Result<String, FaultKind>
+        requires there { site < length pool.old.hosts }
+        requires keeps { KeepsDue (host_at pool.old site) self.old }
+        ensures answer { Gives string_bytes pool.old.limits site (kept_at pool.old self.old)
+            (actions.Claim transfer) result (kept_at pool.new self.new) }
+        ensures site { StaysHost (host_at pool.old site) (host_at pool.new site) }
+        ensures keeps { KeepsDue (host_at pool.new site) self.new }
+        ensures others { KeepsOtherHosts site pool.old pool.new }
+        ensures stays { StaysPool pool.old pool.new }
+    {
+        // For the proof: all hosts are at rest, each in its place.
+        let _log = pool.log(site);
+        let Some(ticket) = self.tickets.remove(&transfer) else {
+            return reply(alloc, "stranger");
+        };
+        match pool.claim(ticket) {
+            Ok(Claimed::Lease(lease)) => {
+                let number = lease.number();
+                match keep_lease(pool, &mut self.leases, lease) {
+                    Ok(()) => claimed(alloc, site, number),
+                    Err(_) => Err(FaultKind::Memory),
+                }
+            }
+            Ok(Claimed::Still(ticket)) => match keep_ticket(pool, &mut self.tickets, ticket) {
+                Ok(()) => still_waiting(alloc),
+                Err(_) => Err(FaultKind::Memory),
+            },
+            Err(stray) => {
+                // Each ticket that is kept is the pool's own.
+                stray.scrap();
+                reply(alloc, "stranger")
+            }
+        }
+    }
+
+    /// The transfer gives its connection back after a response that ended so; whether it has one.
+    pub fn give_back(
+        &mut self,
+        pool: &mut Pool<()>,
+        site: u32,
+        transfer: u64,
+        ending: Ending,
+        moment: u64,
+    ) -> bool
+        requires there { site < length pool.old.hosts }
+        requires keeps { KeepsDue (host_at pool.old site) self.old }
+        ensures answer { let old = kept_at pool.old self.old in
+            let new = kept_at pool.new self.new in
+            back_at pool.old.limits site transfer ending moment old
+            ≡ (if result then grown old new else stranger new) }
+        ensures none { result ≡ false → kept_at pool.new self.new ≡ kept_at pool.old self.old }
+        ensures grow { AllGrowAfter transfer (all_hosts pool.old) (all_hosts pool.new) }
+        ensures keeps { KeepsDue (host_at pool.new site) self.new }
+        ensures others { KeepsOtherHosts site pool.old pool.new }
+        ensures stays { StaysPool pool.old pool.new }
+    {
+        // For the proof: all hosts are at rest, each in its place.
+        let _log = pool.log(site);
+        match self.leases.remove(&transfer) {
+            Some(lease) => {
+                pool.give_back(lease, facts_of_ending(ending), moment);
+                true
+            }
+            None => false,
+        }
+    }
+
+    /// The transfer abandons its connection; whether it has one.
+    pub fn abandon(&mut self, pool: &mut Pool<()>, site: u32, transfer: u64, moment: u64) -> bool
+        requires there { site < length pool.old.hosts }
+        requires keeps { KeepsDue (host_at pool.old site) self.old }
+        ensures answer { let old = kept_at pool.old self.old in
+            let new = kept_at pool.new self.new in
+            drop_at pool.old.limits site transfer moment old
+            ≡ (if result then grown old new else stranger new) }
+        ensures none { result ≡ false → kept_at pool.new self.new ≡ kept_at pool.old self.old }
+        ensures grow { AllGrowAfter transfer (all_hosts pool.old) (all_hosts pool.new) }
+        ensures keeps { KeepsDue (host_at pool.new site) self.new }
+        ensures others { KeepsOtherHosts site pool.old pool.new }
+        ensures stays { StaysPool pool.old pool.new }
+    {
+        // For the proof: all hosts are at rest, each in its place.
+        let _log = pool.log(site);
+        match self.leases.remove(&transfer) {
+            Some(lease) => {
+                pool.abandon(lease, moment);
+                true
+            }
+            None => false,
+        }
+    }
+
+    /// The transfer withdraws its ticket; whether it has one.
+    pub fn withdraw(&mut self, pool: &mut Pool<()>, site: u32, transfer: u64, moment: u64) -> bool
+        requires there { site < length pool.old.hosts }
+        requires keeps { KeepsDue (host_at pool.old site) self.old }
+        ensures answer { let old = kept_at pool.old self.old in
+            let new = kept_at pool.new self.new in
+            leave_at pool.old.limits site transfer moment old
+            ≡ (if result then grown old new else stranger new) }
+        ensures none { result ≡ false → kept_at pool.new self.new ≡ kept_at pool.old self.old }
+        ensures grow { AllGrowAfter transfer (all_hosts pool.old) (all_hosts pool.new) }
+        ensures keeps { KeepsDue (host_at pool.new site) self.new }
+        ensures others { KeepsOtherHosts site pool.old pool.new }
+        ensures stays { StaysPool pool.old pool.new }
+    {
+        // For the proof: all hosts are at rest, each in its place.
+        let _log = pool.log(site);
+        match self.tickets.remove(&transfer) {
+            Some(ticket) => {
+                withdraw_ticket(pool, ticket, moment);
+                true
+            }
+            None => false,
+        }
+    }
+
+    /// Abandons the leases and withdraws the tickets, by transfer, at moment 0.
+    pub fn spend_all(&mut self, pool: &mut Pool<()>, site: u32)
+        requires there { site < length pool.old.hosts }
+        requires keeps { KeepsDue (host_at pool.old site) self.old }
+        ensures those { AreThoseLeft site (kept_at pool.old self.old)
+            (merged (keys self.old.leases) (keys self.old.tickets)) }
+        ensures all { kept_at pool.new self.new
+            ≡ after_all_at pool.old.limits site (kept_at pool.old self.old)
+            (merged (keys self.old.leases) (keys self.old.tickets)) }
+        ensures leases { IsEmpty self.new.leases }
+        ensures tickets { IsEmpty self.new.tickets }
+        ensures keeps { KeepsDue (host_at pool.new site) self.new }
+        ensures others { KeepsOtherHosts site pool.old pool.new }
+        ensures stays { StaysPool pool.old pool.new }
+    {
+        // For the proof: all hosts are at rest, each in its place.
+        let _log = pool.log(site);
+        while let Some(_) = self.spend_first(pool, site) {}
+    }
+
+    /// Spends the lease or the ticket of the first transfer that has one, at moment 0. Tells which
+    /// transfer that is; `None` where none has one.
+    fn spend_first(&mut self, pool: &mut Pool<()>, site: u32) -> Option<u64>
+        requires there { site < length pool.old.hosts }
+        requires keeps { KeepsDue (host_at pool.old site) self.old }
+        ensures none { IfNone result ((IsEmpty self.old.leases) × (IsEmpty self.old.tickets)
+            × (pool.new ≡ pool.old)) }
+        ensures first { IfSome result (λ transfer.
+            merged (keys self.old.leases) (keys self.old.tickets)
+            ≡ transfer ∷ merged (keys self.new.leases) (keys self.new.tickets)) }
+        ensures less { btree_map_len self.new.leases + btree_map_len self.new.tickets
+            + (if is_some result then 1 else 0)
+            ≡ btree_map_len self.old.leases + btree_map_len self.old.tickets }
+        ensures all { IfSome result (λ transfer. kept_at pool.new self.new
+            ≡ after_giving_up pool.old.limits site (kept_at pool.old self.old) transfer) }
+        ensures keeps { KeepsDue (host_at pool.new site) self.new }
+        ensures others { KeepsOtherHosts site pool.old pool.new }
+        ensures stays { StaysPool pool.old pool.new }
+    {
+        // For the proof: all hosts are at rest, each in its place.
+        let _log = pool.log(site);
+        if self.is_ticket_first() {
+            let (transfer, first) = self.tickets.pop_first()?;
+            withdraw_ticket(pool, first, 0);
+            Some(transfer)
+        } else {
+            let (transfer, first) = self.leases.pop_first()?;
+            pool.abandon(first, 0);
+            Some(transfer)
+        }
+    }
+
+    /// Whether the first transfer that has a lease or a ticket has a ticket.
+    fn is_ticket_first(&self) -> bool
+        ensures { result ≡ is_ticket_first (keys self.now.leases) (keys self.now.tickets) }
+    {
+        let Some((waiter, _)) = self.tickets.first_key_value() else {
+            return false;
+        };
+        match self.leases.first_key_value() {
+            Some((holder, _)) => waiter < holder,
+            None => true,
+        }
+    }
+}
+
+/// Withdraws a ticket of the pool's own.
+fn withdraw_ticket(pool: &mut Pool<()>, ticket: Ticket, moment: u64)
+    requires there { ticket.site < length pool.old.hosts }
+    requires own { is_valid_ticket (host_at pool.old ticket.site) ticket.wait.want ≡ true }
+    ensures all { all_hosts pool.new ≡ after_withdrawing pool.old.limits ticket.site
+        ticket.wait.want.transfer moment (all_hosts pool.old) }
+    ensures spends { Spends (host_at pool.old ticket.site) (host_at pool.new ticket.site)
+        ticket.wait.want.transfer }
+    ensures site { StaysHost (host_at pool.old ticket.site) (host_at pool.new ticket.site) }
+    ensures others { KeepsOtherHosts ticket.site pool.old pool.new }
+    ensures stays { StaysPool pool.old pool.new }
 {
-    if let Err(stray) = bundle.withdraw(ticket, moment) {
+    if let Err(stray) = pool.withdraw(ticket, moment) {
+        // It is the pool's own.
         stray.scrap();
     }
 }
 
 /// The lease with a stream; where it has none, an empty one.
 fn with_stream(lease: Lease<()>) -> Lease<()>
-    ensures same { lease_facts result
-        ≡ (lease.start.number, lease.start.want.transfer, true, lease.tables) }
+    ensures same { lease_facts result ≡ (
+      lease.start.number,
+      lease.start.want.transfer,
+      true,
+      (lease.site, lease.tables),
+    ) }
 {
     let mut lease = lease;
     if !lease.has_stream() {
@@ -47,145 +322,88 @@ fn with_stream(lease: Lease<()>) -> Lease<()>
 
 /// Keeps a lease for its transfer, with an empty stream. Where memory is short, it is abandoned at
 /// moment 0.
-pub fn keep_lease(
-    bundle: &mut SoleHost,
+fn keep_lease(
+    pool: &mut Pool<()>,
     leases: &mut BTreeMap<u64, Lease<()>>,
     lease: Lease<()>,
-) -> Result<(), FaultKind>
-    requires here { lease.tables ≡ bundle.old.tables }
-    requires own { lease_number bundle.old lease.start.want.transfer ≡ Some lease.start.number }
-    requires spent { ticket_want bundle.old lease.start.want.transfer ≡ None }
-    requires others { KeepsLeases (due_others lease.start.want.transfer (leases_of bundle.old))
-        (get nat_cmp leases.old) }
-    ensures ok { OnOk result (bundle.new ≡ bundle.old) }
-    ensures err { IfErr result (λ kind. kind ≡ FaultKind.Memory) }
-    ensures abandoned { OnErr result (bundle.new.log
-        ≡ after_abandon bundle.old.settings bundle.old.log lease.start.number 0) }
-    ensures same { StaysThere bundle.old bundle.new }
-    ensures leases { KeepsLeases (leases_of bundle.new) (get nat_cmp leases.new) }
-    ensures tickets { (t : ℕ) → ticket_want bundle.new t ≡ ticket_want bundle.old t }
+) -> Result<(), Refusal>
+    requires here { IsMadeHere pool.old lease }
+    requires place { (host_at pool.old lease.site).host ≡ lease.site }
+    requires own { lease_number (host_at pool.old lease.site) lease.start.want.transfer
+        ≡ Some lease.start.number }
+    requires spent { ticket_want (host_at pool.old lease.site) lease.start.want.transfer ≡ None }
+    requires others { KeepsLeases (due_others lease.start.want.transfer
+        (leases_of (host_at pool.old lease.site))) (get nat_cmp leases.old) }
+    ensures ok { OnOk result (pool.new ≡ pool.old) }
+    ensures err { IfErr result (λ refusal. refusal ≡ Refusal.Memory) }
+    ensures abandoned { OnErr result (all_hosts pool.new ≡ after_abandoning pool.old.limits
+        lease.site lease.start.number 0 (all_hosts pool.old)) }
+    ensures leases { KeepsLeases (leases_of (host_at pool.new lease.site)) (get nat_cmp leases.new) }
+    ensures tickets { (t : ℕ) → ticket_want (host_at pool.new lease.site) t
+        ≡ ticket_want (host_at pool.old lease.site) t }
+    ensures ordered { IsOrdered nat_cmp leases.new }
+    ensures site { StaysHost (host_at pool.old lease.site) (host_at pool.new lease.site) }
+    ensures others { KeepsOtherHosts lease.site pool.old pool.new }
+    ensures stays { StaysPool pool.old pool.new }
 {
     let transfer = lease.transfer();
     match leases.insert(transfer, with_stream(lease)) {
         Ok(None) => Ok(()),
         Ok(Some(other)) => {
-            bundle.abandon(other, 0);
-            Err(FaultKind::Memory)
+            // The transfer had no lease here.
+            pool.abandon(other, 0);
+            Err(Refusal::Memory)
         }
         Err(failed) => {
             let (_, lease) = failed.value;
-            bundle.abandon(lease, 0);
-            Err(FaultKind::Memory)
+            pool.abandon(lease, 0);
+            Err(Refusal::Memory)
         }
     }
 }
 
 /// Keeps a ticket for its transfer. Where memory is short, it is withdrawn at moment 0.
-pub fn keep_ticket(
-    bundle: &mut SoleHost,
+fn keep_ticket(
+    pool: &mut Pool<()>,
     tickets: &mut BTreeMap<u64, Ticket>,
     ticket: Ticket,
-) -> Result<(), FaultKind>
-    requires own { ticket_want bundle.old ticket.wait.want.transfer ≡ Some ticket.wait.want }
-    requires unleased { lease_number bundle.old ticket.wait.want.transfer ≡ None }
-    requires others { KeepsTickets (due_others ticket.wait.want.transfer (ticket_want bundle.old))
-        (get nat_cmp tickets.old) }
-    ensures ok { OnOk result (bundle.new ≡ bundle.old) }
+) -> Result<(), Refusal>
+    requires there { ticket.site < length pool.old.hosts }
+    requires place { (host_at pool.old ticket.site).host ≡ ticket.site }
+    requires own { ticket_want (host_at pool.old ticket.site) ticket.wait.want.transfer
+        ≡ Some ticket.wait.want }
+    requires unleased { lease_number (host_at pool.old ticket.site) ticket.wait.want.transfer
+        ≡ None }
+    requires others { KeepsTickets (due_others ticket.wait.want.transfer
+        (tickets_of (host_at pool.old ticket.site))) (get nat_cmp tickets.old) }
+    ensures ok { OnOk result (pool.new ≡ pool.old) }
     ensures transfers { OnOk result (keys tickets.new
         ≡ with_ticket ticket.wait.want.transfer (keys tickets.old)) }
     ensures put_back { OnErr result (keys tickets.new ≡ keys tickets.old) }
-    ensures err { IfErr result (λ kind. kind ≡ FaultKind.Memory) }
-    ensures withdrawn { OnErr result (bundle.new.log
-        ≡ after_withdraw bundle.old.settings bundle.old.log ticket.wait.want.transfer 0) }
-    ensures same { StaysThere bundle.old bundle.new }
-    ensures leases { (t : ℕ) → lease_number bundle.new t ≡ lease_number bundle.old t }
-    ensures tickets { KeepsTickets (ticket_want bundle.new) (get nat_cmp tickets.new) }
+    ensures err { IfErr result (λ refusal. refusal ≡ Refusal.Memory) }
+    ensures withdrawn { OnErr result (all_hosts pool.new ≡ after_withdrawing pool.old.limits
+        ticket.site ticket.wait.want.transfer 0 (all_hosts pool.old)) }
+    ensures leases { (t : ℕ) → lease_number (host_at pool.new ticket.site) t
+        ≡ lease_number (host_at pool.old ticket.site) t }
+    ensures tickets { KeepsTickets (tickets_of (host_at pool.new ticket.site))
+        (get nat_cmp tickets.new) }
     ensures ordered { IsOrdered nat_cmp tickets.new }
+    ensures site { StaysHost (host_at pool.old ticket.site) (host_at pool.new ticket.site) }
+    ensures others { KeepsOtherHosts ticket.site pool.old pool.new }
+    ensures stays { StaysPool pool.old pool.new }
 {
     let transfer = ticket.transfer();
     match tickets.insert(transfer, ticket) {
         Ok(None) => Ok(()),
         Ok(Some(other)) => {
-            withdraw(bundle, other, 0);
-            Err(FaultKind::Memory)
+            // The transfer had no ticket here.
+            withdraw_ticket(pool, other, 0);
+            Err(Refusal::Memory)
         }
         Err(failed) => {
             let (_, ticket) = failed.value;
-            withdraw(bundle, ticket, 0);
-            Err(FaultKind::Memory)
+            withdraw_ticket(pool, ticket, 0);
+            Err(Refusal::Memory)
         }
-    }
-}
-
-/// Abandons the leases and withdraws the tickets, by transfer, at moment 0.
-pub fn spend_all(
-    bundle: &mut SoleHost,
-    leases: BTreeMap<u64, Lease<()>>,
-    tickets: BTreeMap<u64, Ticket>,
-)
-    requires keeps { Keeps bundle.old (get nat_cmp leases) (get nat_cmp tickets) }
-    ensures log { IsEnding bundle.old.settings (kept_host bundle.old (keys tickets))
-        bundle.new.log }
-    ensures leases { (t : ℕ) → lease_number bundle.new t ≡ None }
-    ensures tickets { (t : ℕ) → ticket_want bundle.new t ≡ None }
-    ensures settings { bundle.new.settings ≡ bundle.old.settings }
-{
-    // The log is sound, and the keys of a map ascend.
-    let _log = bundle.log();
-    let _holders = leases.len();
-    let _waiters = tickets.len();
-    let mut leases = leases;
-    let mut tickets = tickets;
-    while let Some(_) = spend_first(bundle, &mut leases, &mut tickets) {}
-    leases.destroy_empty();
-    tickets.destroy_empty();
-}
-
-/// Spends the lease or the ticket of the first transfer that has one, at moment 0. Tells which
-/// transfer that is; `None` where none has one.
-fn spend_first(
-    bundle: &mut SoleHost,
-    leases: &mut BTreeMap<u64, Lease<()>>,
-    tickets: &mut BTreeMap<u64, Ticket>,
-) -> Option<u64>
-    requires keeps { Keeps bundle.old (get nat_cmp leases.old) (get nat_cmp tickets.old) }
-    requires holders { IsOrdered nat_cmp leases.old }
-    requires waiters { IsOrdered nat_cmp tickets.old }
-    ensures none { IfNone result ((btree_map_len leases.old ≡ 0)
-        × (btree_map_len tickets.old ≡ 0) × (bundle.new ≡ bundle.old)) }
-    ensures first { IfSome result (λ transfer. merged (keys leases.old) (keys tickets.old)
-        ≡ transfer ∷ merged (keys leases.new) (keys tickets.new)) }
-    ensures less { btree_map_len leases.new + btree_map_len tickets.new
-        + (if is_some result then 1 else 0) ≡ btree_map_len leases.old + btree_map_len tickets.old }
-    ensures host { IfSome result (λ transfer. kept_host bundle.new (keys tickets.new)
-        ≡ after_giving_up bundle.old.settings (kept_host bundle.old (keys tickets.old)) transfer) }
-    ensures settings { bundle.new.settings ≡ bundle.old.settings }
-    ensures keeps { Keeps bundle.new (get nat_cmp leases.new) (get nat_cmp tickets.new) }
-    ensures ordered { IsOrdered nat_cmp leases.new × IsOrdered nat_cmp tickets.new }
-{
-    // The log is sound: a ticket is of its transfer, which has no lease; what a transfer has a
-    // lease of, it holds.
-    let _log = bundle.log();
-    if is_ticket_first(leases, tickets) {
-        let (transfer, first) = tickets.pop_first()?;
-        withdraw(bundle, first, 0);
-        Some(transfer)
-    } else {
-        let (transfer, first) = leases.pop_first()?;
-        bundle.abandon(first, 0);
-        Some(transfer)
-    }
-}
-
-/// Whether the first transfer that has a lease or a ticket has a ticket.
-fn is_ticket_first(leases: &BTreeMap<u64, Lease<()>>, tickets: &BTreeMap<u64, Ticket>) -> bool
-    ensures { result ≡ is_ticket_first (keys leases.now) (keys tickets.now) }
-{
-    let Some((waiter, _)) = tickets.first_key_value() else {
-        return false;
-    };
-    match leases.first_key_value() {
-        Some((holder, _)) => waiter < holder,
-        None => true,
     }
 }

@@ -1,14 +1,15 @@
-//! What a script's commands do: the engine that runs them over a bundle, and the laws of every
+//! What a script's commands do: the engine that runs them over a pool, and the laws of every
 //! script.
 #![tactic(auto)]
 
+mod asked;
 mod facts;
-mod host;
+mod hosts;
 mod kept;
 pub mod law;
 mod line;
 mod machine;
-mod sole;
+mod telling;
 pub mod worked;
 
 pub use line::line_text;

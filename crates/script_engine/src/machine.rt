@@ -1,19 +1,21 @@
 //! What a script's commands do, one after another.
 
-ghost use Rattle.std.specs.Prelude.{◌≡◌, IfErr, IfOk, OnOk, IfSome};
-ghost use Rattle.std.specs.Prelude.{IsSome, Some, None, true, ◌&&◌, string_bytes};
-ghost use Rattle.script_engine.specs.Meaning.{Run, start, step, with_limits, with_url, with_action};
-ghost use Rattle.script_engine.specs.Meaning.{at_script_end, at_no_host, are_good, settings_of};
-ghost use Rattle.script_engine.specs.Meaning.{has_site};
-ghost use Rattle.script_engine.specs.Ending.{IsEnding};
-ghost use Rattle.script_engine.specs.Transcript.{Answers};
-ghost use Rattle.script_engine.specs.Hosted.{Gives};
+ghost use Rattle.std.specs.Prelude.{◌≡◌, ◌<◌, ◌⊎◌, IfErr, IfOk, OnOk, IfSome, length};
+ghost use Rattle.std.specs.Prelude.{IsSome, Some, None, true, string_bytes};
+ghost use Rattle.cache.specs.Pools.{all_hosts};
 ghost use Rattle.script_text.specs.Printing.{GivesText};
 ghost use Rattle.script_text.specs.declared.command.Limits.{Limits};
+ghost use Rattle.script_engine.specs.Meaning.{Run, start, step, begun, with_limits, with_url};
+ghost use Rattle.script_engine.specs.Meaning.{with_answer, at_script_end, at_no_host, are_good};
+ghost use Rattle.script_engine.specs.Meaning.{bounds_given};
+ghost use Rattle.script_engine.specs.Ending.{IsEnding};
+ghost use Rattle.script_engine.specs.Transcript.{Answers};
+ghost use Rattle.script_engine.specs.Hosted.{GivesAt, AnswersAsked, asked_answer};
 
-use crate::host::OneHost;
-use bundle::Bundle;
-use conn_key::{CountedMemory, Sites};
+use crate::asked::Asked;
+use crate::hosts::PooledHosts;
+use cache::Pool;
+use conn_key::{CountedMemory, Sites, SitesFault};
 use script_text::{Action, Command, FaultKind, Limits, SiteWord, reply};
 use std::alloc::Global;
 use std::marker::Model;
@@ -26,32 +28,36 @@ pub trait Machine {
     /// What the commands so far came to.
     ghost run: { Self → Run };
 
-    /// Does what a command says, and gives the lines that tell of it.
+    /// Does what a command says, and gives the lines that tell of it. Nothing changes where that
+    /// is refused, but for want of memory.
     fn answer(&mut self, command: Command<'_>) -> Result<String, FaultKind>
-        ensures { Answers string_bytes (step (run self.old) command.entry) result (run self.new) };
+        ensures meant { Answers string_bytes (step (run self.old) command.entry) result
+            (run self.new) }
+        ensures same { IfErr result (λ kind.
+            (kind ≡ FaultKind.Memory) ⊎ (run self.new ≡ run self.old)) };
 
-    /// What is due at the script's end: where limits are given the host is made by then, also where
-    /// no command came. The only error is `Memory`.
+    /// What is due at the script's end: where limits are given the hosts are made by then, also
+    /// where no command came. The only error is `Memory`.
     fn end_of_script(&mut self) -> Result<(), FaultKind>
         ensures ok { OnOk result (run self.new ≡ at_script_end (run self.old)
             (run self.old).limits) }
         ensures err { IfErr result (λ kind. kind ≡ FaultKind.Memory) };
 }
 
-/// A run of a script over at most one host.
+/// A run of a script.
 pub struct Engine {
     alloc: Global,
     limits: Option<Limits>,
     sites: Sites,
     has_begun: bool,
-    host: Option<OneHost>,
+    hosts: Option<PooledHosts>,
 }
 
 impl Model for Engine {
-    ghost use Rattle.std.specs.Prelude.{◌≡◌, None, true, false, ◌&&◌, if◌then◌else◌, IfSome};
+    ghost use Rattle.std.specs.Prelude.{◌≡◌, None, true, false, if◌then◌else◌, IfSome};
     ghost use Rattle.std.specs.Option.{option_map, option_map_or};
     ghost use Rattle.script_engine.specs.Hosted.{Hosted};
-    ghost use Rattle.script_engine.specs.Meaning.{Run, new_host, settings_of, has_site, are_good};
+    ghost use Rattle.script_engine.specs.Meaning.{Run, new_hosts, bounds_given, are_good};
 
     ghost Value = { Run };
 
@@ -59,11 +65,11 @@ impl Model for Engine {
       limits = e.limits;
       sites = e.sites;
       has_begun = e.has_begun;
-      host = option_map_or (λ (h : Hosted). h.host) e.host new_host;
+      hosts = option_map_or (λ (h : Hosted). h.hosts) e.hosts (new_hosts 0);
     } };
 
-    ghost invariant = { λ e. (option_map (λ (h : Hosted). h.settings) e.host
-        ≡ (if e.has_begun && has_site e.sites then option_map settings_of e.limits else None))
+    ghost invariant = { λ e. (option_map (λ (h : Hosted). h.limits) e.hosts
+        ≡ (if e.has_begun then option_map bounds_given e.limits else None))
         × (e.limits ≡ None → e.has_begun ≡ false)
         × IfSome e.limits (λ limits. are_good limits ≡ true) };
 }
@@ -76,7 +82,17 @@ impl Machine for Engine {
         match command {
             Command::Limits(limits) => self.set_limits(limits),
             Command::Site(word) => self.add_site(&word),
-            Command::At { site, action } => self.ask(site, action),
+            Command::At { site, action } => self.ask(Asked::At { site, action }),
+            Command::Prune {
+                max_age,
+                max_life,
+                moment,
+            } => self.ask(Asked::Prune {
+                max_age,
+                max_life,
+                moment,
+            }),
+            Command::Upkeep => self.ask(Asked::Upkeep),
         }
     }
 
@@ -100,35 +116,36 @@ impl Engine {
                 limits: None,
                 sites,
                 has_begun: false,
-                host: None,
+                hosts: None,
             }),
             Err(_) => Err(FaultKind::Memory),
         }
     }
 
-    /// Abandons the leases that are left, and withdraws the tickets, by transfer, at moment 0;
-    /// gives the bundle that is left, where a host was made.
-    pub fn end(self) -> Option<Bundle<()>>
-        ensures ending { IfSome result (λ bundle. IsEnding bundle.settings self.host bundle.log) }
-        ensures settings { (limits : Limits) → self.limits ≡ Some limits
-            → IfSome result (λ bundle. bundle.settings ≡ settings_of limits) }
-        ensures host { (self.has_begun && has_site self.sites) ≡ true → IsSome self.limits
-            → IsSome result }
+    /// Abandons the leases that are left, and withdraws the tickets, by site and then by transfer,
+    /// at moment 0; gives the pool that is left, where one was made.
+    pub fn end(self) -> Option<Pool<()>>
+        ensures ending { IfSome result (λ pool. IsEnding pool.limits self.hosts (all_hosts pool)) }
+        ensures limits { (limits : Limits) → self.limits ≡ Some limits
+            → IfSome result (λ pool. pool.limits ≡ bounds_given limits) }
+        ensures made { self.has_begun ≡ true → IsSome result }
     {
         let Engine {
             alloc: _,
             limits: _,
             sites: _,
             has_begun: _,
-            host,
+            hosts,
         } = self;
-        end_host(host)
+        end_hosts(hosts)
     }
 
     /// `limits`: once, before all others.
     fn set_limits(&mut self, limits: Limits) -> Result<String, FaultKind>
-        ensures { Answers string_bytes (with_limits self.old limits self.old.limits) result
+        ensures meant { Answers string_bytes (with_limits self.old limits self.old.limits) result
             self.new }
+        ensures same { IfErr result (λ kind.
+            (kind ≡ FaultKind.Memory) ⊎ (self.new ≡ self.old)) }
     {
         if self.limits.is_some() {
             return Err(FaultKind::Place);
@@ -142,94 +159,112 @@ impl Engine {
 
     /// `site`: after the limits, before all others.
     fn add_site(&mut self, word: &SiteWord<'_>) -> Result<String, FaultKind>
-        ensures { Answers string_bytes (with_url self.old word.now self.old.limits) result
+        ensures meant { Answers string_bytes (with_url self.old word.now self.old.limits) result
             self.new }
+        ensures same { IfErr result (λ kind.
+            (kind ≡ FaultKind.Memory) ⊎ (self.new ≡ self.old)) }
     {
         if self.limits.is_none() || self.has_begun {
             return Err(FaultKind::Place);
         }
         let target = word.target(&mut CountedMemory::new(self.alloc))?;
-        if !self.sites.is_empty() && self.sites.find(&target).is_none() {
-            return Err(FaultKind::TooManySites);
-        }
-        // The site is there, or it is the first: only memory can be short.
         match self.sites.add(&target) {
             Ok(_) => Ok(String::new(self.alloc)),
-            Err(_) => Err(FaultKind::Memory),
+            Err(SitesFault::TooMany) => Err(FaultKind::TooManySites),
+            Err(SitesFault::Memory) => Err(FaultKind::Memory),
         }
     }
 
-    /// An action at a site: after the limits.
-    fn ask(&mut self, site: u32, action: Action) -> Result<String, FaultKind>
-        ensures { Answers string_bytes (with_action self.old site action self.old.limits) result
-            self.new }
+    /// What comes after the limits and the sites.
+    fn ask(&mut self, asked: Asked) -> Result<String, FaultKind>
+        ensures meant { Answers string_bytes
+            (with_answer self.old (asked_answer asked) self.old.limits) result self.new }
+        ensures same { IfErr result (λ kind.
+            (kind ≡ FaultKind.Memory) ⊎ (self.new ≡ self.old)) }
     {
         let Some(limits) = self.limits else {
             return Err(FaultKind::Place);
         };
         self.begin(limits)?;
-        self.ask_host(limits, site, action)
+        let alloc = self.alloc;
+        match &mut self.hosts {
+            Some(hosts) => answer_asked(hosts, alloc, asked),
+            // They were made.
+            None => unreachable!(),
+        }
     }
 
-    /// Makes the host, where there is a site, at the first command after the sites.
+    /// Makes the hosts, at the first command after the sites. The only error is `Memory`.
     fn begin(&mut self, limits: Limits) -> Result<(), FaultKind>
         requires limits { self.old.limits ≡ Some limits }
-        ensures ok { OnOk result (self.new ≡ record self.old { has_begun = true }) }
+        ensures ok { OnOk result (self.new ≡ begun self.old) }
         ensures err { IfErr result (λ kind. kind ≡ FaultKind.Memory) }
     {
         if self.has_begun {
             return Ok(());
         }
-        if !self.sites.is_empty() {
-            let host = OneHost::new(self.alloc, limits)?;
-            put_host(&mut self.host, host);
-        }
+        let Ok(bounds) = budget::Limits::new(limits.host, limits.total, limits.kept) else {
+            // They were good when they were given.
+            unreachable!()
+        };
+        let hosts = PooledHosts::new(self.alloc, bounds, self.sites.len() as u32)?;
+        put_hosts(&mut self.hosts, hosts);
         self.has_begun = true;
         Ok(())
     }
-
-    /// Hands the action to the host, where the site is there.
-    fn ask_host(&mut self, limits: Limits, site: u32, action: Action) -> Result<String, FaultKind>
-        requires begun { self.old.has_begun ≡ true }
-        requires limits { self.old.limits ≡ Some limits }
-        ensures { Answers string_bytes (with_action self.old site action
-            (Some limits)) result self.new }
-    {
-        let alloc = self.alloc;
-        if site != 0 {
-            return answer_without_host(alloc, action);
-        }
-        let Some(host) = &mut self.host else {
-            return answer_without_host(alloc, action);
-        };
-        answer_at(host, alloc, action)
-    }
 }
 
-/// Whether these limits can be kept: no limit on all hosts yet, and a host's of one or more, and no
-/// more than are kept idle.
+/// Whether these limits can be kept: at least one connection may be kept after use, and no number
+/// is above 65,535.
 fn are_good(limits: Limits) -> bool
     ensures { result ≡ are_good limits }
 {
-    limits.total == 0 && 1 <= limits.host && limits.host <= limits.kept && limits.kept <= 65_535
+    budget::Limits::new(limits.host, limits.total, limits.kept).is_ok()
 }
 
-/// What the host answers.
-fn answer_at(host: &mut OneHost, alloc: Global, action: Action) -> Result<String, FaultKind>
-    ensures answer { Gives string_bytes host.old action result host.new.host }
-    ensures settings { host.new.settings ≡ host.old.settings }
+/// What the hosts answer to that.
+fn answer_asked(hosts: &mut PooledHosts, alloc: Global, asked: Asked) -> Result<String, FaultKind>
+    ensures { AnswersAsked string_bytes hosts.old (asked_answer asked) result hosts.new }
+{
+    match asked {
+        Asked::At { site, action } => {
+            if site < hosts.sites() {
+                answer_at(hosts, alloc, site, action)
+            } else {
+                answer_without_host(alloc, action)
+            }
+        }
+        Asked::Prune {
+            max_age,
+            max_life,
+            moment,
+        } => hosts.prune(alloc, max_age, max_life, moment),
+        Asked::Upkeep => hosts.upkeep(alloc),
+    }
+}
+
+/// What the hosts answer at a site that is there.
+fn answer_at(
+    hosts: &mut PooledHosts,
+    alloc: Global,
+    site: u32,
+    action: Action,
+) -> Result<String, FaultKind>
+    requires there { site < length hosts.old.hosts.all.logs }
+    ensures { GivesAt string_bytes hosts.old site action result hosts.new }
 {
     match action {
-        Action::Get { want, moment } => host.get(alloc, want, moment),
-        Action::Claim { transfer } => host.claim(alloc, transfer),
+        Action::Get { want, moment } => hosts.get(alloc, site, want, moment),
+        Action::Claim { transfer } => hosts.claim(alloc, site, transfer),
         Action::Back {
             transfer,
             ending,
             moment,
-        } => host.back(alloc, transfer, ending, moment),
-        Action::Drop { transfer, moment } => host.abandon(alloc, transfer, moment),
-        Action::Leave { transfer, moment } => host.leave(alloc, transfer, moment),
-        Action::Look => host.look(alloc),
+        } => hosts.back(alloc, site, transfer, ending, moment),
+        Action::Drop { transfer, moment } => hosts.abandon(alloc, site, transfer, moment),
+        Action::Leave { transfer, moment } => hosts.leave(alloc, site, transfer, moment),
+        Action::Limit { limit, moment } => hosts.limit(alloc, site, limit, moment),
+        Action::Look => hosts.look(alloc, site),
     }
 }
 
@@ -243,27 +278,27 @@ fn answer_without_host(alloc: Global, action: Action) -> Result<String, FaultKin
         Action::Back { .. } => reply(alloc, "stranger"),
         Action::Drop { .. } => reply(alloc, "stranger"),
         Action::Leave { .. } => reply(alloc, "stranger"),
+        Action::Limit { .. } => reply(alloc, "bad-site"),
         Action::Look => reply(alloc, "bad-site"),
     }
 }
 
-/// Puts the host in its place; one that was there is ended.
-fn put_host(place: &mut Option<OneHost>, host: OneHost)
-    ensures { place.new ≡ Some host }
+/// Puts the hosts in their place, where none were; others would be ended.
+fn put_hosts(place: &mut Option<PooledHosts>, hosts: PooledHosts)
+    ensures { place.new ≡ Some hosts }
 {
-    let _ = end_host(mem::replace(place, Some(host)));
+    let _ = end_hosts(mem::replace(place, Some(hosts)));
 }
 
-/// Ends a host, where there is one; gives its bundle.
-fn end_host(host: Option<OneHost>) -> Option<Bundle<()>>
-    ensures none { host ≡ None → result ≡ None }
-    ensures ending { IfSome host (λ h. IfSome result
-        (λ bundle. IsEnding h.settings h.host bundle.log
-        × (bundle.settings ≡ h.settings))) }
-    ensures some { IsSome host → IsSome result }
+/// Ends the hosts, where there are some; gives their pool.
+fn end_hosts(hosts: Option<PooledHosts>) -> Option<Pool<()>>
+    ensures some { IfSome hosts (λ h. IfSome result (λ pool.
+        IsEnding h.limits h.hosts (all_hosts pool) × (pool.limits ≡ h.limits))) }
+    ensures there { IsSome hosts → IsSome result }
+    ensures none { hosts ≡ None → result ≡ None }
 {
-    match host {
-        Some(host) => Some(host.end()),
+    match hosts {
+        Some(hosts) => Some(hosts.end()),
         None => None,
     }
 }

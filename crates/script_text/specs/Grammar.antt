@@ -149,6 +149,28 @@ leave_form rest = do
   moment ← number_first (2 ^ 64) at
   if_none_left moment.1 (commands.At site.0 (actions.Leave transfer.0 moment.0))
 
+-- limit S N at M
+unfoldable pub limit_form : List (List ℕ) → Option Command
+limit_form rest = do
+  site ← number_first (2 ^ 32) rest
+  limit ← number_first (2 ^ 32) site.1
+  at ← text_first (codes "at") limit.1
+  moment ← number_first (2 ^ 64) at
+  if_none_left moment.1 (commands.At site.0 (actions.Limit limit.0 moment.0))
+
+-- prune A F at M
+unfoldable pub prune_form : List (List ℕ) → Option Command
+prune_form rest = do
+  max_age ← number_first (2 ^ 64) rest
+  max_life ← number_first (2 ^ 64) max_age.1
+  at ← text_first (codes "at") max_life.1
+  moment ← number_first (2 ^ 64) at
+  if_none_left moment.1 (commands.Prune max_age.0 max_life.0 moment.0)
+
+-- upkeep
+unfoldable pub upkeep_form : List (List ℕ) → Option Command
+upkeep_form rest = if_none_left rest commands.Upkeep
+
 -- look S
 unfoldable pub look_form : List (List ℕ) → Option Command
 look_form rest = do
@@ -169,7 +191,10 @@ command_of name rest =
     if bytes_eq name (codes "back") then formed (back_form rest) else (
     if bytes_eq name (codes "drop") then formed (drop_form rest) else (
     if bytes_eq name (codes "leave") then formed (leave_form rest) else (
-    if bytes_eq name (codes "look") then formed (look_form rest) else Err Unknown)))))))
+    if bytes_eq name (codes "limit") then formed (limit_form rest) else (
+    if bytes_eq name (codes "prune") then formed (prune_form rest) else (
+    if bytes_eq name (codes "upkeep") then formed (upkeep_form rest) else (
+    if bytes_eq name (codes "look") then formed (look_form rest) else Err Unknown))))))))))
 
 -- a line holds so many bytes at most, without its line end
 abbrev pub LONGEST_LINE : ℕ

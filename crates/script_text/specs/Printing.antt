@@ -41,15 +41,15 @@ abbrev pub returned_by : List Entry → Event → ℕ
 returned_by before (Returned c facts) = unwrap_or (holder before c) 0
 returned_by before _ = 0
 
--- the lines of the newest entries, oldest first
-abbrev pub newest_lines : ℕ → List Entry → List ℕ
-newest_lines zero log = []
-newest_lines (suc n) [] = []
-newest_lines (suc n) (e ∷ before) = newest_lines n before ++ entry_line 0 (returned_by before e.event) e
+-- the lines of a host's newest entries, oldest first
+abbrev pub newest_lines : ℕ → ℕ → List Entry → List ℕ
+newest_lines host zero log = []
+newest_lines host (suc n) [] = []
+newest_lines host (suc n) (e ∷ before) = newest_lines host n before ++ entry_line host (returned_by before e.event) e
 
--- the lines of the entries that were added
-unfoldable pub lines_since : List Entry → List Entry → List ℕ
-lines_since old new = newest_lines (length new - length old) new
+-- the lines of the entries that were added to a host's log
+unfoldable pub lines_since : ℕ → List Entry → List Entry → List ℕ
+lines_since host old new = newest_lines host (length new - length old) new
 
 -- a reply to what is refused
 abbrev pub refused : List ℕ → List ℕ
@@ -61,6 +61,13 @@ claimed_line host c = codes "claimed " ++ (decimal host ++ (codes "." ++ (decima
 
 abbrev pub still_line : List ℕ
 still_line = codes "still waiting\n"
+
+-- the reply to an upkeep, and to a new limit where more connections are held than it allows
+abbrev pub upkeep_line : ℕ → List ℕ
+upkeep_line kept = codes "upkeep " ++ (decimal kept ++ codes "\n")
+
+abbrev pub too_many_leased_line : ℕ → List ℕ
+too_many_leased_line held = codes "refused leased " ++ (decimal held ++ codes "\n")
 
 abbrev pub yes_or_no : Bool → List ℕ
 yes_or_no answer = if answer then codes "yes" else codes "no"

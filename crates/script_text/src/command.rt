@@ -4,7 +4,7 @@ use conn_log::Want;
 /// The limits of a run.
 #[derive(Clone, Copy, Debug, PartialEq, Eq)]
 pub struct Limits {
-    /// The most open connections of one host.
+    /// The most open connections of one host; 0 for no limit.
     pub host: u32,
     /// The most open connections of all hosts; 0 for no limit.
     pub total: u32,
@@ -39,7 +39,19 @@ pub enum Command<'a> {
     /// Adds a host, which the word names.
     Site(SiteWord<'a>),
     /// Asks that of the site's host. Sites are counted from 0.
-    At { site: u32, action: Action },
+    At {
+        site: u32,
+        action: Action,
+    },
+    /// Closes what is idle at all hosts for longer than `max_age`, or open for longer than
+    /// `max_life` where that is not 0, in seconds.
+    Prune {
+        max_age: u64,
+        max_life: u64,
+        moment: u64,
+    },
+    /// Keeps connections alive where their protocol has a way to.
+    Upkeep,
 }
 
 /// What a command asks of one host.
@@ -68,6 +80,11 @@ pub enum Action {
     /// A transfer leaves where it waits.
     Leave {
         transfer: u64,
+        moment: u64,
+    },
+    /// Changes the most open connections of the host; 0 for no limit.
+    Limit {
+        limit: u32,
         moment: u64,
     },
     /// Asks what the host's connections do.

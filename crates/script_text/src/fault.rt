@@ -33,7 +33,7 @@ pub enum FaultKind {
     /// The site is not UTF-8, or not an `http` URL of at most 2,048 bytes.
     #[error("bad site")]
     BadSite,
-    /// There is another site already.
+    /// There are 1,024 other sites already.
     #[error("too many sites")]
     TooManySites,
 }

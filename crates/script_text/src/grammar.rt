@@ -3,6 +3,7 @@ ghost use Rattle.script_text.specs.Words.{words};
 ghost use Rattle.script_text.specs.Grammar.{ending_of, ending_first, if_none_left, limits_form};
 ghost use Rattle.script_text.specs.Grammar.{site_form, get_form, claim_form, back_form, drop_form};
 ghost use Rattle.script_text.specs.Grammar.{leave_form, look_form, command_of, reading};
+ghost use Rattle.script_text.specs.Grammar.{limit_form, prune_form, upkeep_form};
 ghost use Rattle.std.specs.Option.{option_map};
 
 use crate::command::{Action, Command, Ending, Limits};
@@ -136,6 +137,44 @@ fn leave_form(line: &[u8]) -> Option<Command<'_>>
     if_none_left(line, Command::At { site, action })
 }
 
+/// `limit S N at M`.
+#[tactic(auto, unfolding(crate::specs::Grammar::limit_form))]
+fn limit_form(line: &[u8]) -> Option<Command<'_>>
+    ensures { result ≡ limit_form (words line.now) }
+{
+    let (site, line) = u32_first(line)?;
+    let (limit, line) = u32_first(line)?;
+    let line = text_first("at", line)?;
+    let (moment, line) = u64_first(line)?;
+    let action = Action::Limit { limit, moment };
+    if_none_left(line, Command::At { site, action })
+}
+
+/// `prune A F at M`.
+#[tactic(auto, unfolding(crate::specs::Grammar::prune_form))]
+fn prune_form(line: &[u8]) -> Option<Command<'_>>
+    ensures { result ≡ prune_form (words line.now) }
+{
+    let (max_age, line) = u64_first(line)?;
+    let (max_life, line) = u64_first(line)?;
+    let line = text_first("at", line)?;
+    let (moment, line) = u64_first(line)?;
+    let command = Command::Prune {
+        max_age,
+        max_life,
+        moment,
+    };
+    if_none_left(line, command)
+}
+
+/// `upkeep`.
+#[tactic(auto, unfolding(crate::specs::Grammar::upkeep_form))]
+fn upkeep_form(line: &[u8]) -> Option<Command<'_>>
+    ensures { result ≡ upkeep_form (words line.now) }
+{
+    if_none_left(line, Command::Upkeep)
+}
+
 /// `look S`.
 #[tactic(auto, unfolding(crate::specs::Grammar::look_form))]
 fn look_form(line: &[u8]) -> Option<Command<'_>>
@@ -172,6 +211,12 @@ fn command_of<'a>(name: &[u8], line: &'a [u8]) -> Result<Command<'a>, FaultKind>
         drop_form(line).ok_or(FaultKind::Form)
     } else if is_word(name, "leave") {
         leave_form(line).ok_or(FaultKind::Form)
+    } else if is_word(name, "limit") {
+        limit_form(line).ok_or(FaultKind::Form)
+    } else if is_word(name, "prune") {
+        prune_form(line).ok_or(FaultKind::Form)
+    } else if is_word(name, "upkeep") {
+        upkeep_form(line).ok_or(FaultKind::Form)
     } else if is_word(name, "look") {
         look_form(line).ok_or(FaultKind::Form)
     } else {

@@ -17,5 +17,5 @@ pub use fault::{FaultKind, ScriptFault};
 pub use grammar::read_line;
 pub use lines::first_line;
 pub use printing::LookLine;
-pub use replies::{claimed, lines_since, reply, still_waiting};
+pub use replies::{claimed, lines_since, reply, still_waiting, too_many_leased, upkeep};
 pub use site::SiteWord;

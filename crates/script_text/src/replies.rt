@@ -2,7 +2,7 @@
 
 ghost use Rattle.std.specs.Prelude.{◌≤◌, flat_map, string_bytes, length, reverse, drop};
 ghost use Rattle.script_text.specs.Printing.{entry_line, refused, claimed_line, still_line};
-ghost use Rattle.script_text.specs.Printing.{GivesText};
+ghost use Rattle.script_text.specs.Printing.{GivesText, upkeep_line, too_many_leased_line};
 
 use crate::fault::FaultKind;
 use crate::printing::EntryLine;
@@ -34,6 +34,26 @@ pub fn still_waiting(alloc: Global) -> Result<String, FaultKind>
     ensures { GivesText string_bytes still_line result }
 {
     match format!(in alloc; "still waiting\n") {
+        Ok(text) => Ok(text),
+        Err(_) => Err(FaultKind::Memory),
+    }
+}
+
+/// The reply to an upkeep.
+pub fn upkeep(alloc: Global, kept: u32) -> Result<String, FaultKind>
+    ensures { GivesText string_bytes (upkeep_line kept) result }
+{
+    match format!(in alloc; "upkeep {kept}\n") {
+        Ok(text) => Ok(text),
+        Err(_) => Err(FaultKind::Memory),
+    }
+}
+
+/// The reply to a new limit where so many connections are held, more than it allows.
+pub fn too_many_leased(alloc: Global, held: u64) -> Result<String, FaultKind>
+    ensures { GivesText string_bytes (too_many_leased_line held) result }
+{
+    match format!(in alloc; "refused leased {held}\n") {
         Ok(text) => Ok(text),
         Err(_) => Err(FaultKind::Memory),
     }

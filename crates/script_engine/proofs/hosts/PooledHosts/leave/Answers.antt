@@ -1,0 +1,45 @@
+use Rattle.std.proofs.Common.{◌<◌, sym, subst, length, slice_set, string_bytes}
+use Rattle.script_text.specs.declared.command.Action.TheVariants as actions
+use Rattle.script_engine.specs.Hosted.{Hosted, GivesAt}
+use Rattle.script_engine.proofs.PooledSites.{shown, due-at, kept-there}
+use Rattle.script_engine.proofs.SpentAtSite.{hosted-told, hosted-same, lines-due, gives-spent, gives-stranger}
+use Rattle.script_engine.proofs.hosts.PooledHosts.leave.Goals as goal
+
+pub withdraw-requires-clause-keeps : goal.withdraw-requires-clause-keeps
+withdraw-requires-clause-keeps c =
+    let there = subst (λ (h : Hosted). c.args.site < length h.hosts.all.logs) (sym c.self.view_is) c.requires.there in
+    due-at c.self.inside.pool c.self.inside.kept.items c.self.invariant.due_kept c.args.site c.index_mut.result.now (kept-there c.self.inside.pool c.self.inside.kept.items c.self.invariant.due_kept c.args.site there) c.index_mut.ensures.value
+
+pub lines-requires : goal.lines-requires
+lines-requires c =
+    let there = subst (λ (h : Hosted). c.args.site < length h.hosts.all.logs) (sym c.self.view_is) c.requires.there in
+    lines-due c.self.inside.pool c.withdraw.new.pool c.self.inside.kept.items c.self.inside.told.items c.self.invariant c.args.site there c.index_mut.result.now c.withdraw.new.self c.index_mut.ensures.value c.args.transfer
+    c.withdraw.ensures.grow c.withdraw.ensures.keeps c.withdraw.ensures.others c.withdraw.ensures.stays
+
+pub invariant_of-self : goal.invariant_of-self
+invariant_of-self c =
+    let there = subst (λ (h : Hosted). c.args.site < length h.hosts.all.logs) (sym c.self.view_is) c.requires.there in
+    hosted-told c.self.inside.pool c.withdraw.new.pool c.self.inside.kept.items c.self.inside.told.items c.self.invariant c.args.site there c.index_mut.result.now c.withdraw.new.self c.index_mut.ensures.value c.args.transfer
+    c.withdraw.ensures.grow c.withdraw.ensures.keeps c.withdraw.ensures.others c.withdraw.ensures.stays c.lines.new.told.items c.lines.ensures.told
+
+pub invariant_of-self-else-withdraw : goal.invariant_of-self-else-withdraw
+invariant_of-self-else-withdraw c =
+    let there = subst (λ (h : Hosted). c.args.site < length h.hosts.all.logs) (sym c.self.view_is) c.requires.there in
+    hosted-same c.self.inside.pool c.withdraw.new.pool c.self.inside.kept.items c.self.inside.told.items c.self.invariant c.args.site there c.index_mut.result.now c.withdraw.new.self c.index_mut.ensures.value c.args.transfer
+    c.withdraw.ensures.grow c.withdraw.ensures.keeps c.withdraw.ensures.others c.withdraw.ensures.stays (c.withdraw.ensures.none c.if-withdraw.false)
+
+pub returns-then-withdraw : goal.returns-then-withdraw
+returns-then-withdraw c =
+    let there = subst (λ (h : Hosted). c.args.site < length h.hosts.all.logs) (sym c.self.view_is) c.requires.there in
+    let after = shown c.withdraw.new.pool (slice_set c.self.inside.kept.items c.args.site c.withdraw.new.self) in
+    subst (λ (h : Hosted). GivesAt string_bytes h c.args.site (actions.Leave c.args.transfer c.args.moment) c.lines.result after) c.self.view_is
+    (gives-spent c.self.inside.pool c.withdraw.new.pool c.self.inside.kept.items c.self.inside.told.items c.self.invariant c.args.site there c.index_mut.result.now c.withdraw.new.self c.index_mut.ensures.value c.args.transfer
+    c.withdraw.ensures.grow c.withdraw.ensures.keeps c.withdraw.ensures.others c.withdraw.ensures.stays string_bytes (actions.Leave c.args.transfer c.args.moment) c.withdraw.result c.withdraw.ensures.answer c.lines.result c.if-withdraw.true c.lines.ensures.text)
+
+pub returns-else-withdraw : goal.returns-else-withdraw
+returns-else-withdraw c =
+    let there = subst (λ (h : Hosted). c.args.site < length h.hosts.all.logs) (sym c.self.view_is) c.requires.there in
+    let after = shown c.withdraw.new.pool (slice_set c.self.inside.kept.items c.args.site c.withdraw.new.self) in
+    subst (λ (h : Hosted). GivesAt string_bytes h c.args.site (actions.Leave c.args.transfer c.args.moment) c.reply.result after) c.self.view_is
+    (gives-stranger c.self.inside.pool c.withdraw.new.pool c.self.inside.kept.items c.self.inside.told.items c.self.invariant c.args.site there c.index_mut.result.now c.withdraw.new.self c.index_mut.ensures.value c.args.transfer
+    c.withdraw.ensures.grow c.withdraw.ensures.keeps c.withdraw.ensures.others c.withdraw.ensures.stays string_bytes (actions.Leave c.args.transfer c.args.moment) c.withdraw.result c.withdraw.ensures.answer c.reply.result c.if-withdraw.false c.reply.ensures)

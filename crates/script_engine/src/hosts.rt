@@ -1,0 +1,291 @@
+//! The hosts of a script: their pool, and what the transfers have at each of them.
+
+ghost use Rattle.std.specs.Prelude.{◌≡◌, ◌<◌, ◌≤◌, length, string_bytes, IfOk, IfErr};
+ghost use Rattle.budget.specs.Limits.{Bounds};
+ghost use Rattle.cache.specs.Pools.{all_hosts, StaysPool};
+ghost use Rattle.script_text.specs.declared.command.Action.TheVariants as actions;
+ghost use Rattle.script_engine.specs.Meaning.{new_hosts, at_site};
+ghost use Rattle.script_engine.specs.Ending.{IsEnding};
+ghost use Rattle.script_engine.specs.Hosted.{GivesAt, GivesAll, asked_answer};
+ghost use Rattle.script_engine.specs.Hosted.{KeepsAllDue, NothingIsKept, tickets_kept};
+ghost use Rattle.script_engine.specs.declared.asked.Asked.TheVariants as asks;
+
+use crate::kept::Kept;
+use crate::telling::lines;
+use budget::{Limits, Refusal};
+use bundle::Snapshot;
+use cache::Pool;
+use conn_log::Want;
+use script_text::{Ending, FaultKind, LookLine, reply, too_many_leased, upkeep};
+use std::alloc::Global;
+use std::marker::Model;
+
+/// The pool of the hosts, of each site the leases and tickets of its transfers, and how many
+/// entries of its log were told. No stream is behind a lease. It must be ended.
+pub struct PooledHosts {
+    pool: Pool<()>,
+    kept: Vec<Kept>,
+    told: Vec<usize>,
+}
+
+impl Model for PooledHosts {
+    ghost use Rattle.cache.specs.Pools.{all_hosts};
+    ghost use Rattle.script_engine.specs.Hosted.{Hosted, AreHosted, tickets_kept};
+
+    ghost Value = { Hosted };
+
+    ghost view = { λ h. record {
+      limits = h.pool.limits;
+      hosts = record { all = all_hosts h.pool; tickets = tickets_kept h.kept.items };
+    } };
+
+    ghost invariant = { λ h. AreHosted h.pool h.kept.items h.told.items };
+}
+
+impl PooledHosts {
+    /// So many hosts without connections under these limits.
+    pub fn new(alloc: Global, limits: Limits, sites: u32) -> Result<PooledHosts, FaultKind>
+        requires few { sites ≤ 1024 }
+        ensures ok { IfOk result (λ h. h ≡ record { limits = limits; hosts = new_hosts sites }) }
+        ensures err { IfErr result (λ kind. kind ≡ FaultKind.Memory) }
+    {
+        let Ok(pool) = Pool::new(alloc, limits, sites) else {
+            return Err(FaultKind::Memory);
+        };
+        let Ok(mut told) = Vec::with_capacity(alloc, sites as usize) else {
+            return Err(FaultKind::Memory);
+        };
+        let Ok(mut kept) = Vec::with_capacity(alloc, sites as usize) else {
+            return Err(FaultKind::Memory);
+        };
+        while told.len() < sites as usize {
+            told.push_reserved(0);
+            kept.push_reserved(Kept::new(alloc));
+        }
+        Ok(PooledHosts { pool, kept, told })
+    }
+
+    /// How many sites there are.
+    pub fn sites(&self) -> u32
+        ensures { result ≡ length self.now.hosts.all.logs }
+    {
+        self.pool.hosts()
+    }
+
+    /// The transfer acquires a connection of the site, or begins to wait for one.
+    pub fn get(
+        &mut self,
+        alloc: Global,
+        site: u32,
+        want: Want,
+        moment: u64,
+    ) -> Result<String, FaultKind>
+        requires there { site < length self.old.hosts.all.logs }
+        ensures { GivesAt string_bytes self.old site (actions.Get want moment) result self.new }
+    {
+        let begun = self.kept[site as usize].acquire(&mut self.pool, site, want, moment);
+        // What happened counts as told, also where what was acquired could not be kept.
+        let text = lines(alloc, &self.pool, &mut self.told, want.transfer);
+        match begun {
+            Ok(()) => text,
+            Err(Refusal::TransferBusy) => reply(alloc, "busy"),
+            Err(Refusal::Exhausted) => reply(alloc, "exhausted"),
+            // The one other reason is want of memory.
+            Err(_) => Err(FaultKind::Memory),
+        }
+    }
+
+    /// The transfer claims the connection that it waits for.
+    pub fn claim(&mut self, alloc: Global, site: u32, transfer: u64) -> Result<String, FaultKind>
+        requires there { site < length self.old.hosts.all.logs }
+        ensures { GivesAt string_bytes self.old site (actions.Claim transfer) result self.new }
+    {
+        match self.kept[site as usize].claim(alloc, &mut self.pool, site, transfer) {
+            Ok(text) => Ok(text),
+            Err(kind) => {
+                // What is given up then is told to nobody.
+                let _untold = lines(alloc, &self.pool, &mut self.told, transfer);
+                Err(kind)
+            }
+        }
+    }
+
+    /// The transfer gives its connection back.
+    pub fn back(
+        &mut self,
+        alloc: Global,
+        site: u32,
+        transfer: u64,
+        ending: Ending,
+        moment: u64,
+    ) -> Result<String, FaultKind>
+        requires there { site < length self.old.hosts.all.logs }
+        ensures { GivesAt string_bytes self.old site (actions.Back transfer ending moment) result
+            self.new }
+    {
+        let kept = &mut self.kept[site as usize];
+        if kept.give_back(&mut self.pool, site, transfer, ending, moment) {
+            lines(alloc, &self.pool, &mut self.told, transfer)
+        } else {
+            reply(alloc, "stranger")
+        }
+    }
+
+    /// The transfer abandons its connection.
+    pub fn abandon(
+        &mut self,
+        alloc: Global,
+        site: u32,
+        transfer: u64,
+        moment: u64,
+    ) -> Result<String, FaultKind>
+        requires there { site < length self.old.hosts.all.logs }
+        ensures { GivesAt string_bytes self.old site (actions.Drop transfer moment) result
+            self.new }
+    {
+        if self.kept[site as usize].abandon(&mut self.pool, site, transfer, moment) {
+            lines(alloc, &self.pool, &mut self.told, transfer)
+        } else {
+            reply(alloc, "stranger")
+        }
+    }
+
+    /// The transfer leaves where it waits.
+    pub fn leave(
+        &mut self,
+        alloc: Global,
+        site: u32,
+        transfer: u64,
+        moment: u64,
+    ) -> Result<String, FaultKind>
+        requires there { site < length self.old.hosts.all.logs }
+        ensures { GivesAt string_bytes self.old site (actions.Leave transfer moment) result
+            self.new }
+    {
+        if self.kept[site as usize].withdraw(&mut self.pool, site, transfer, moment) {
+            lines(alloc, &self.pool, &mut self.told, transfer)
+        } else {
+            reply(alloc, "stranger")
+        }
+    }
+
+    /// The site's host may have so many open connections from now on.
+    pub fn limit(
+        &mut self,
+        alloc: Global,
+        site: u32,
+        limit: u32,
+        moment: u64,
+    ) -> Result<String, FaultKind>
+        requires there { site < length self.old.hosts.all.logs }
+        ensures { GivesAt string_bytes self.old site (actions.Limit limit moment) result self.new }
+    {
+        match self.pool.set_host_limit(site, limit, moment) {
+            // No connection comes back.
+            Ok(()) => lines(alloc, &self.pool, &mut self.told, 0),
+            Err(Refusal::BadLimit) => reply(alloc, "bad-limit"),
+            Err(Refusal::Busy(held)) => too_many_leased(alloc, held),
+            // The one other reason is want of memory.
+            Err(_) => Err(FaultKind::Memory),
+        }
+    }
+
+    /// What the site's connections do.
+    pub fn look(&self, alloc: Global, site: u32) -> Result<String, FaultKind>
+        requires there { site < length self.now.hosts.all.logs }
+        ensures { GivesAt string_bytes self.now site actions.Look result self.now }
+    {
+        // For the proof: each host has the pool's limits.
+        let _log = self.pool.log(site);
+        let Ok(counts) = self.pool.look(site) else {
+            unreachable!()
+        };
+        let Snapshot {
+            alive,
+            idle,
+            leased,
+            waiting,
+            queued,
+        } = counts;
+        let line = LookLine {
+            host: site,
+            alive,
+            idle,
+            leased,
+            waiting,
+            queued,
+        };
+        match line.to_string(alloc) {
+            Ok(text) => Ok(text),
+            Err(_) => Err(FaultKind::Memory),
+        }
+    }
+
+    /// Closes, at all hosts, each idle connection that is idle for longer than `max_age`, or open
+    /// for longer than `max_life`.
+    pub fn prune(
+        &mut self,
+        alloc: Global,
+        max_age: u64,
+        max_life: u64,
+        moment: u64,
+    ) -> Result<String, FaultKind>
+        ensures { GivesAll string_bytes self.old
+            (asked_answer (asks.Prune max_age max_life moment)) result self.new }
+    {
+        self.pool.prune(moment, max_age, max_life);
+        // No connection comes back.
+        lines(alloc, &self.pool, &mut self.told, 0)
+    }
+
+    /// Keeps connections alive.
+    pub fn upkeep(&mut self, alloc: Global) -> Result<String, FaultKind>
+        ensures { GivesAll string_bytes self.old (asked_answer asks.Upkeep) result self.new }
+    {
+        upkeep(alloc, self.pool.upkeep())
+    }
+
+    /// Abandons the leases and withdraws the tickets, by site and then by transfer, at moment 0;
+    /// gives the pool that is left.
+    pub fn end(self) -> Pool<()>
+        ensures ending { IsEnding self.limits self.hosts (all_hosts result) }
+        ensures limits { result.limits ≡ self.limits }
+    {
+        let PooledHosts {
+            mut pool,
+            kept,
+            told: _,
+        } = self;
+        let mut kept = kept;
+        spend_all(&mut pool, &mut kept);
+        destroy_all(kept);
+        pool
+    }
+}
+
+/// Abandons the leases and withdraws the tickets, by site and then by transfer, at moment 0.
+fn spend_all(pool: &mut Pool<()>, kept: &mut Vec<Kept>)
+    requires keeps { KeepsAllDue pool.old kept.old.items }
+    ensures ending { IsEnding pool.old.limits
+        (record { all = all_hosts pool.old; tickets = tickets_kept kept.old.items })
+        (all_hosts pool.new) }
+    ensures nothing { NothingIsKept kept.new.items }
+    ensures stays { StaysPool pool.old pool.new }
+{
+    // For the proof: all hosts are at rest, each in its place.
+    let _log = pool.log(0);
+    for site in 0..pool.hosts() {
+        kept[site as usize].spend_all(pool, site);
+    }
+}
+
+/// Gives all of them up, where nobody has anything.
+fn destroy_all(kept: Vec<Kept>)
+    requires { NothingIsKept kept.items }
+{
+    let mut kept = kept;
+    while let Some(here) = kept.pop() {
+        here.destroy();
+    }
+    kept.destroy_empty();
+}
