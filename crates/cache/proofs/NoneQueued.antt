@@ -20,6 +20,10 @@ none_in {S} inside shown is none = ap (λ (p : PoolShown S). p.queue) is ∙ non
 pub not_queued : (order : List ℕ) (host : ℕ) (queued : Bool) → order ≡ [] → is_listed order host ≡ queued → queued ≡ false
 not_queued order host queued none listed = sym listed ∙ ap (λ l. is_listed l host) none
 
+-- nor is it once more
+pub stays_so : (was is : Bool) → was ≡ false → (was ≡ false → is ≡ false) → is ≡ was
+stays_so was is not_was stays = stays not_was ∙ sym not_was
+
 -- nor is one enlisted
 pub same_order : (host : ℕ) (was is : Bool) (order : List ℕ) → was ≡ false → is ≡ false → order ≡ order_after host was is order
 same_order host was is order not_was is_not = rw not_was (rw is_not refl)

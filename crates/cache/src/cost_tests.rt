@@ -18,8 +18,11 @@ const WARM: [(u32, u64); 6] = [(1, 1), (1, 100), (8, 1), (8, 100), (1_024, 1), (
 /// How many hosts there are, with one idle connection each, in a pool that may have no more.
 const FULL: [u32; 3] = [8, 128, 1_024];
 
-/// How often each is done, and as often again.
-const ROUNDS: u64 = 20_000;
+/// How often each is done before it is counted, and how often then: the logs of the warm hosts
+/// double before, and not while it is counted.
+const BEFORE: u64 = 20_000;
+
+const ROUNDS: u64 = 10_000;
 
 /// The lease with a stream.
 fn with_stream(lease: Lease<()>) -> Lease<()>
@@ -125,8 +128,8 @@ fn new_one(transfer: u64) -> Want {
 fn a_warm_connection_is_used_often(rt: HostRuntime) -> Result<(), Fail> {
     for (hosts, idle) in WARM {
         let mut pool = warm(rt.alloc(), hosts, idle, 0)?;
-        assert_eq!(rt; uses_often(&mut pool, hosts / 2, 0, ROUNDS), ROUNDS);
-        let used = uses_often(&mut pool, hosts / 2, ROUNDS, 2 * ROUNDS);
+        assert_eq!(rt; uses_often(&mut pool, hosts / 2, 0, BEFORE), BEFORE);
+        let used = uses_often(&mut pool, hosts / 2, BEFORE, BEFORE + ROUNDS);
         assert_eq!(rt; used, ROUNDS);
     }
     Ok(())
@@ -136,8 +139,8 @@ fn a_warm_connection_is_used_often(rt: HostRuntime) -> Result<(), Fail> {
 fn the_oldest_of_all_is_closed_often(rt: HostRuntime) -> Result<(), Fail> {
     for hosts in FULL {
         let mut pool = warm(rt.alloc(), hosts, 1, hosts)?;
-        assert_eq!(rt; opens_often(&mut pool, hosts, 0, ROUNDS), ROUNDS);
-        let used = opens_often(&mut pool, hosts, ROUNDS, 2 * ROUNDS);
+        assert_eq!(rt; opens_often(&mut pool, hosts, 0, BEFORE), BEFORE);
+        let used = opens_often(&mut pool, hosts, BEFORE, BEFORE + ROUNDS);
         assert_eq!(rt; used, ROUNDS);
     }
     Ok(())

@@ -1,5 +1,5 @@
 use Rattle.bundle.specs.Effects.{idle_len}
-use Rattle.std.proofs.Common.{◌≡◌, ◌<◌, true, false, length, refl, sym, ap, ◌∙◌, rules}
+use Rattle.std.proofs.Common.{◌≡◌, ◌<◌, true, length, refl, sym, ap, ◌∙◌, rules}
 use Rattle.budget.specs.Plain.{KeepsOtherHosts, held_at_host}
 use Rattle.bundle.specs.Calls.{after_give_back, becomes_idle, is_queued}
 use Rattle.conn_log.specs.Fit.{oldest_stamp}
@@ -8,10 +8,8 @@ use Rattle.bundle.specs.Lease.{held_by}
 use Rattle.cache.specs.AllHosts.{marked}
 use Rattle.cache.proofs.OneHost.{all_marked, others_keep, stepped, log_was}
 use Rattle.cache.proofs.Calling.{kept_called, was_kept, told_spending, tells_nothing, notes_lower, marks_nothing, NotesOne, TellsOne}
-use Rattle.cache.proofs.NoneQueued.{none_in, not_queued, same_order, pool_stays}
-use Rattle.cache.specs.Oldest.{is_before, stamp_at}
-use Rattle.budget.specs.Lobby.{is_listed}
-use Rattle.cache.proofs.Returning.{gave_log, gave_none, gave_again, gave_strange, one_more_idle, full_kept, room_kept}
+use Rattle.cache.proofs.NoneQueued.{none_in, not_queued, stays_so, same_order, pool_stays}
+use Rattle.cache.proofs.Returning.{gave_log, gave_none, gave_again, gave_strange, one_more_idle, room_kept}
 use Rattle.cache.proofs.hosts.Hosts.keep_at_once.Goals as goal
 
 pub unreachable-requires : goal.unreachable-requires
@@ -39,7 +37,7 @@ invariant_of-self g c =
     let it = was_kept site hosts was new inside.budget later inside.lobby inside.lobby inside.pass told inside.noted inside.noted c.self.invariant there read in
     let settled : IsSoundAndQuiet new.settings new.log = record { sound = c.log-log.ensures.sound; quiet = c.log-log.ensures.quiet } in
     let not_was = not_queued inside.lobby.order site (is_queued was.settings was.log) (none_in _ _ c.self.view_is c.requires.none_queued) it.listed in
-    let marks = marks_nothing site (is_queued was.settings was.log) (is_queued new.settings new.log) inside.lobby it.listed (done.mark not_was ∙ sym not_was) in
+    let marks = marks_nothing site (is_queued was.settings was.log) (is_queued new.settings new.log) inside.lobby it.listed (stays_so _ _ not_was done.mark) in
     let tells = told_spending was.host _ _ inside.pass told c.in-Spent.ensures.spent in
     let notes = notes_lower site inside.noted c.lower.new.self _ _ (rw c.self.invariant.stamps there) (c.oldest-oldest.ensures ∙ ap (oldest_stamp new.log) (done.same.host ∙ it.place)) c.lower.ensures in
     kept_called site hosts was new inside.budget later inside.lobby inside.lobby inside.pass told inside.noted c.lower.new.self c.self.invariant there read done.same settled others part marks tells done.seats done.account notes
@@ -61,7 +59,7 @@ invariant_of-self-in-NoKeep g c =
     let it = was_kept site hosts was new inside.budget later inside.lobby inside.lobby inside.pass told inside.noted inside.noted c.self.invariant there read in
     let settled : IsSoundAndQuiet new.settings new.log = record { sound = c.log-log.ensures.sound; quiet = c.log-log.ensures.quiet } in
     let not_was = not_queued inside.lobby.order site (is_queued was.settings was.log) (none_in _ _ c.self.view_is c.requires.none_queued) it.listed in
-    let marks = marks_nothing site (is_queued was.settings was.log) (is_queued new.settings new.log) inside.lobby it.listed (done.mark not_was ∙ sym not_was) in
+    let marks = marks_nothing site (is_queued was.settings was.log) (is_queued new.settings new.log) inside.lobby it.listed (stays_so _ _ not_was done.mark) in
     let tells : TellsOne was.host inside.pass told = rw c.in-NoKeep.ensures.unspent (tells_nothing was.host inside.pass) in
     let none = gave_none was new later c.args.lease c.args.facts c.args.now _ c.in-NoKeep.ensures.told in
     let notes : NotesOne site inside.noted inside.noted (oldest_stamp new.log site) = record { stamps = refl; other_stamps = λ other apart. refl; not_later = rw none.same_host it.not_later } in
@@ -117,7 +115,7 @@ returns-in-Spent-clause-all g c =
     let it = was_kept site hosts was new inside.budget inside.budget inside.lobby inside.lobby inside.pass inside.pass inside.noted inside.noted c.self.invariant there read in
     let not_was = not_queued inside.lobby.order site (is_queued was.settings was.log) (none_in _ _ c.self.view_is c.requires.none_queued) it.listed in
     let number = c.args.lease.start.number in
-    let marked_is = all_marked limits hosts site was new inside.lobby.order inside.lobby.order there it.place (done.same.settings ∙ it.settings) it.listed (same_order was.host _ _ inside.lobby.order not_was (done.mark not_was)) in
+    let marked_is = all_marked limits hosts site was new inside.lobby.order inside.lobby.order there it.place (done.same.settings ∙ it.settings) it.listed (same_order was.host (is_queued was.settings was.log) (is_queued new.settings new.log) inside.lobby.order not_was (done.mark not_was)) in
     let back = gave_log was new c.give_back-back.new.permits.budget.now c.args.lease c.args.facts c.args.now _ c.in-Spent.ensures.told in
     let step = stepped (λ s l. after_give_back s l number c.args.facts c.args.now) limits hosts inside.lobby.order site was new.log there read it.settings back in
     rw (sym c.self.view_is) (rw (sym c.site-site.ensures) (marked_is ∙ ap (marked limits site) step))
