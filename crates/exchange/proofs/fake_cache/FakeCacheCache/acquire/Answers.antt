@@ -1,0 +1,38 @@
+use Rattle.std.proofs.Common.{rules, ◌≡◌, is_some}
+use Rattle.cache.specs.declared.acquired.Acquired.TheVariants.{Lease, Wait}
+use Rattle.cache.specs.Calls.{reply_of}
+use Rattle.cache.specs.Pools.{IsMadeHere, IsAcquired, all_hosts}
+use Rattle.cache.proofs.Replying.{acquire_starts_or_waits}
+use Rattle.exchange.specs.Deeds.{none_out}
+use Rattle.exchange.specs.FakeCaches.{out_of}
+use Rattle.exchange.proofs.AcquiredFor.{lease_for, ticket_for}
+use Rattle.exchange.proofs.CountedOut.{given_out, ticketed_out}
+use Rattle.exchange.proofs.fake_cache.FakeCacheCache.acquire.Goals as goal
+
+pub returns-in-Lease-clause-given : goal.returns-in-Lease-clause-given
+returns-in-Lease-clause-given g c =
+    let lease = c.in-Lease.lease in
+    let old = c.args.self.now.pool in
+    let reply = reply_of old.limits c.args.site c.args.want c.args.now (all_hosts old) in
+    let out : out_of c.self.inside.leases c.self.inside.tickets ≡ none_out = search rules in
+    let is : IsAcquired {S = g.row.W.Denot} c.args.site reply (Lease lease) = search rules in
+    let here : IsMadeHere {S = g.row.W.Denot} c.acquire.new.self lease = search rules in
+    let wire : is_some lease.stream ≡ lease.start.reused = search rules in
+    let its = lease_for {S = g.row.W.Denot} c.args.site c.args.want reply lease (acquire_starts_or_waits old.limits c.args.site c.args.want c.args.now (all_hosts old)) is in
+    record {
+      out_is = given_out c.self.inside.leases c.self.inside.tickets out;
+      here = record { there = here.there; tables_are = here.tables };
+      site_is = its.0;
+      want_is = its.1;
+      wire = wire;
+    }
+
+pub returns-in-Wait-clause-given : goal.returns-in-Wait-clause-given
+returns-in-Wait-clause-given g c =
+    let ticket = c.in-Wait.ticket in
+    let old = c.args.self.now.pool in
+    let reply = reply_of old.limits c.args.site c.args.want c.args.now (all_hosts old) in
+    let out : out_of c.self.inside.leases c.self.inside.tickets ≡ none_out = search rules in
+    let is : IsAcquired {S = g.row.W.Denot} c.args.site reply (Wait ticket) = search rules in
+    let its = ticket_for g.row.W.Denot c.args.site c.args.want reply ticket (acquire_starts_or_waits old.limits c.args.site c.args.want c.args.now (all_hosts old)) is in
+    record { out_is = ticketed_out c.self.inside.leases c.self.inside.tickets out; site_is = its.0; want_is = its.1 }

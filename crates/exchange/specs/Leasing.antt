@@ -1,0 +1,35 @@
+-- What a cache gives out.
+use Rattle.std.specs.Prelude.{◌≡◌, ℕ, is_some}
+use Rattle.conn_log.specs.declared.entry.Want.{Want}
+use Rattle.bundle.specs.Seats.{Tables}
+use Rattle.bundle.specs.Lease.{Leasing, Ticketed}
+use Rattle.bundle.specs.declared.answers.Claimed.{Claimed}
+use Rattle.bundle.specs.declared.answers.Claimed.TheVariants.{Lease as Granted, Still}
+use Rattle.cache.specs.declared.acquired.Acquired.{Acquired}
+use Rattle.cache.specs.declared.acquired.Acquired.TheVariants.{Lease, Wait}
+use Rattle.exchange.specs.Deeds.{Out, lease_out, ticket_out}
+
+-- a lease of that site for that want, made here, is the one thing that is out; a reused connection has its wire, and a
+-- new one has none
+pub record IsLeaseOut {W : Type 0} (out : Out) (owns : ℕ → Tables → Type 0) (site : ℕ) (want : Want) (lease : Leasing W) : Type 0 where
+  pub out_is : out ≡ lease_out
+  pub here : owns lease.site lease.tables
+  pub site_is : lease.site ≡ site
+  pub want_is : lease.start.want ≡ want
+  pub wire : is_some lease.stream ≡ lease.start.reused
+
+-- a ticket of that site for that want is
+pub record IsTicketOut (out : Out) (site : ℕ) (want : Want) (ticket : Ticketed) : Type 0 where
+  pub out_is : out ≡ ticket_out
+  pub site_is : ticket.site ≡ site
+  pub want_is : ticket.wait.want ≡ want
+
+-- what an acquire gives
+abbrev pub GivesOut : {W : Type 0} → Out → (ℕ → Tables → Type 0) → ℕ → Want → Acquired W → Type 0
+GivesOut out owns site want (Lease lease) = IsLeaseOut out owns site want lease
+GivesOut out owns site want (Wait ticket) = IsTicketOut out site want ticket
+
+-- what a claim gives for a ticket
+abbrev pub Claims : {W : Type 0} → Out → (ℕ → Tables → Type 0) → Ticketed → Claimed W → Type 0
+Claims out owns ticket (Granted lease) = IsLeaseOut out owns ticket.site ticket.wait.want lease
+Claims out owns ticket (Still same) = (out ≡ ticket_out) × (same ≡ ticket)

@@ -1,0 +1,13 @@
+pub mod Request
+pub mod Wires
+pub mod Dialling
+pub mod Deeds
+pub mod Leasing
+pub mod Answers
+pub mod Standing
+pub mod Steps
+pub mod Waiting
+pub mod Exchanging
+pub mod Spending
+pub mod Memory
+pub mod FakeCaches

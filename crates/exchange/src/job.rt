@@ -1,0 +1,116 @@
+//! What an exchange is to do, and the memory that it needs.
+
+ghost use Rattle.std.specs.Prelude.{◌≡◌, IfOk, string_bytes};
+ghost use Rattle.exchange.specs.Request.{request_text, method_word, close_line};
+ghost use Rattle.exchange.specs.Answers.{IsPrepared, wanted};
+
+use conn_key::Target;
+use conn_log::Want;
+use persistence::{Method, ResponseReader};
+use std::alloc::{AllocError, Global};
+use std::fmt::Write;
+
+/// The most bytes that one read takes.
+const READ_BYTES: usize = 4_096;
+
+/// One request: which transfer wants what of which site, and what it asks for there.
+#[derive(Debug, Drop)]
+pub struct Job {
+    /// The index of its host in the cache.
+    pub site: u32,
+    pub want: Want,
+    pub method: Method,
+    pub target: Target,
+}
+
+/// A job with all the memory that its exchange needs: the text of its request, the reader of its
+/// response, and a buffer for what is read.
+#[derive(Drop)]
+pub struct Prepared {
+    pub(crate) site: u32,
+    pub(crate) want: Want,
+    pub(crate) method: Method,
+    pub(crate) text: String,
+    pub(crate) reader: ResponseReader,
+    pub(crate) buffer: Vec<u8>,
+    pub(crate) retried: bool,
+}
+
+impl Prepared {
+    /// Makes the request's text and takes all memory. The request line names the target's path,
+    /// the Host field its host, with the port where that is not 80, and where the want forbids
+    /// reuse the request has the connection option `close` (RFC 9112, sections 3 and 3.2; RFC
+    /// 9110, section 7.6.1).
+    ///
+    /// # Errors
+    ///
+    /// There is no memory for it.
+    pub fn new(alloc: Global, job: &Job) -> Result<Prepared, AllocError>
+        ensures { IfOk result (IsPrepared job.now) }
+    {
+        let close = job.want.forbid_reuse;
+        let text = request(alloc, job.method, &job.target, close)?;
+        let Ok(reader) = ResponseReader::new(alloc, job.method, close) else {
+            return Err(AllocError);
+        };
+        let buffer = vec![in alloc; 0; READ_BYTES]?;
+        Ok(Prepared {
+            site: job.site,
+            want: job.want,
+            method: job.method,
+            text,
+            reader,
+            buffer,
+            retried: false,
+        })
+    }
+
+    // What the transfer wants of the cache: once the request is sent again, a new connection.
+    pub(crate) fn wanted(&self) -> Want
+        ensures { result ≡ wanted self.now }
+    {
+        Want {
+            fresh: self.want.fresh || self.retried,
+            ..self.want
+        }
+    }
+}
+
+// The word of a method.
+fn method_word(method: Method) -> &'static str
+    ensures { result.now ≡ method_word method }
+{
+    match method {
+        Method::Get => "GET",
+        Method::Head => "HEAD",
+    }
+}
+
+// The line of the connection option `close`, where it is asked for.
+fn close_line(close: bool) -> &'static str
+    ensures { result.now ≡ close_line close }
+{
+    if close { "Connection: close\r\n" } else { "" }
+}
+
+// The text of a request.
+fn request(
+    alloc: Global,
+    method: Method,
+    target: &Target,
+    close: bool,
+) -> Result<String, AllocError>
+    ensures { IfOk result (λ text. string_bytes text ≡ request_text method
+        (string_bytes target.now.path) (string_bytes target.now.host) target.now.port close) }
+{
+    let word = method_word(method);
+    let path = target.path.as_str();
+    let host = target.host.as_str();
+    let option = close_line(close);
+    let port = target.port;
+    if port == 80 {
+        format!(in alloc; "{word} {path} HTTP/1.1\r\nHost: {host}\r\n{option}\r\n")
+    } else {
+        format!(in alloc; "{word} {path} HTTP/1.1\r\nHost: {host}:{port}\r\n{option}\r\n")
+    }
+}
