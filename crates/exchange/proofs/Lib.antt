@@ -5,3 +5,4 @@ pub mod RequestText
 pub mod Received
 pub mod CountedOut
 pub mod AcquiredFor
+pub mod FakeWorld

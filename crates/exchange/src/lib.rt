@@ -1,9 +1,15 @@
 //! One transfer as an exchange: one request and its response over a connection of a cache.
 #![tactic(auto)]
 
+#[cfg(test)]
+mod cancel_tests;
 mod connecting;
 mod done;
+#[cfg(test)]
+mod driving;
 mod ending;
+#[cfg(test)]
+mod example_tests;
 mod exchange;
 mod fake_cache;
 mod job;
@@ -12,6 +18,8 @@ mod memory;
 mod polled;
 mod returned;
 mod state;
+#[cfg(test)]
+mod tests;
 mod transferring;
 mod wire;
 

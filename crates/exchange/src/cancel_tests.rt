@@ -1,0 +1,119 @@
+//! What a cancel does, by where its exchange stands; and how an exchange waits for a connection.
+
+use crate::done::{Answer, Done, Stage};
+use crate::driving::{
+    BEFORE, KEEP, NOW, OK, cache_of, cache_with_other, cancel_polled, cancel_unpolled, check_log,
+    close, closed, dial_of, leased, left, opened, prepared, returned, run, waited, want_of,
+    wire_of,
+};
+use crate::memory::{Halt, MemoryDial};
+use conn_log::Cause;
+use std::test::Fail;
+
+#[test]
+fn a_cancel_abandons_a_lease(rt: HostRuntime) -> Result<(), Fail> {
+    for stage in [Stage::Dialling, Stage::Sending, Stage::Reading, Stage::Turn] {
+        let mut wire = wire_of(&rt, OK);
+        match stage {
+            Stage::Sending => wire.halt_write(1, Halt::NotYet),
+            Stage::Reading => wire.halt_read(1, Halt::NotYet),
+            _ => {
+                wire.set_most_written(1);
+                wire.set_most_read(1);
+            }
+        }
+        let mut dial = dial_of(&rt, wire);
+        if stage == Stage::Dialling {
+            dial.halt_dial(1, Halt::NotYet);
+        }
+        let mut cache = cache_of(&rt);
+        let waits_on = cancel_polled(&rt, &mut cache, &mut dial);
+        assert_eq!(rt; waits_on, stage);
+        check_log(
+            &rt,
+            &cache,
+            &[opened(1, want_of(1), NOW), closed(1, Cause::Dropped, NOW)],
+        );
+        let _ = close(&rt, cache);
+    }
+    Ok(())
+}
+
+#[test]
+fn a_cancel_changes_nothing_where_nothing_is_out(rt: HostRuntime) -> Result<(), Fail> {
+    let mut dial = dial_of(&rt, wire_of(&rt, OK));
+    let mut cache = cache_of(&rt);
+    cancel_unpolled(&rt, &mut cache, &mut dial);
+    check_log(&rt, &cache, &[]);
+    assert_eq!(rt; dial.left(), 1);
+    let _ = close(&rt, cache);
+    // and where the first poll was ready
+    let mut cache = cache_of(&rt);
+    let _ = cancel_polled(&rt, &mut cache, &mut dial);
+    check_log(
+        &rt,
+        &cache,
+        &[opened(1, want_of(1), NOW), returned(1, KEEP, NOW)],
+    );
+    let _ = close(&rt, cache);
+    Ok(())
+}
+
+#[test]
+fn a_cancel_ends_a_wait(rt: HostRuntime) -> Result<(), Fail> {
+    let mut dial = MemoryDial::new(rt.alloc());
+    let mut cache = cache_with_other(&rt, 1, wire_of(&rt, OK));
+    let waits_on = cancel_polled(&rt, &mut cache, &mut dial);
+    assert_eq!(rt; waits_on, Stage::Grant);
+    check_log(
+        &rt,
+        &cache,
+        &[
+            opened(1, want_of(BEFORE), 0),
+            waited(want_of(1), NOW),
+            left(1, NOW),
+        ],
+    );
+    let _ = close(&rt, cache);
+    Ok(())
+}
+
+#[test]
+fn a_cancel_closes_what_was_granted(rt: HostRuntime) -> Result<(), Fail> {
+    let mut dial = MemoryDial::new(rt.alloc());
+    let mut cache = cache_with_other(&rt, 1, wire_of(&rt, OK));
+    cache.release_after(1);
+    let waits_on = cancel_polled(&rt, &mut cache, &mut dial);
+    assert_eq!(rt; waits_on, Stage::Grant);
+    check_log(
+        &rt,
+        &cache,
+        &[
+            opened(1, want_of(BEFORE), 0),
+            waited(want_of(1), NOW),
+            returned(1, KEEP, NOW),
+            leased(1, want_of(1), NOW),
+            closed(1, Cause::Withdrawn, NOW),
+        ],
+    );
+    let _ = close(&rt, cache);
+    Ok(())
+}
+
+#[test]
+fn an_exchange_waits_for_a_connection(rt: HostRuntime) -> Result<(), Fail> {
+    let mut dial = MemoryDial::new(rt.alloc());
+    let mut cache = cache_with_other(&rt, 1, wire_of(&rt, OK));
+    cache.release_after(1);
+    let ended = run(&rt, prepared(&rt), &mut cache, &mut dial, Stage::Grant);
+    let answer = Answer {
+        status: 200,
+        body_len: 2,
+        facts: KEEP,
+        reused: true,
+        retried: false,
+    };
+    assert_eq!(rt; ended, (Done::Good(answer), 1));
+    let _ = close(&rt, cache);
+    Ok(())
+}

@@ -1,0 +1,317 @@
+//! What tests of exchanges share: what they prepare, and how they poll.
+
+ghost use Rattle.std.specs.Prelude.{◌≡◌, IsSome};
+ghost use Rattle.cache.specs.Pools.{IsMadeHere};
+ghost use Rattle.exchange.specs.Answers.{IsUnused};
+
+use crate::done::{Done, Stage};
+use crate::exchange::Exchange;
+use crate::fake_cache::FakeCache;
+use crate::job::{Job, Prepared};
+use crate::memory::{FixedClock, MemoryDial, MemoryWire};
+use budget::Limits;
+use bundle::Lease;
+use cache::{Acquired, Pool};
+use conn_key::{CountedMemory, read_target};
+use conn_log::{Cause, Entry, Event, Want};
+use futures::task::{Doorbell, Solo};
+use persistence::{Facts, Framing, Method, Version};
+use std::alloc::AllocGlobal;
+use std::process::Abort;
+use std::random::RandomSource;
+
+/// The facts of a counted response that lets its connection persist.
+pub(crate) const KEEP: Facts = Facts {
+    version: Version::V11,
+    close: false,
+    keep_alive: false,
+    request_close: false,
+    framing: Framing::Counted,
+    both_lengths: false,
+    upgraded: false,
+    whole: true,
+    surplus: false,
+};
+
+/// A response with a body of two bytes.
+pub(crate) const OK: &[u8] = b"HTTP/1.1 200 OK\r\nContent-Length: 2\r\n\r\nok";
+
+/// The moment at which exchanges are polled.
+pub(crate) const NOW: u64 = 7;
+
+/// The transfer that had a connection before.
+pub(crate) const BEFORE: u64 = 99;
+
+/// The room of a wire for what is sent.
+const ROOM: usize = 200;
+
+/// More polls than any exchange here takes.
+const MOST_POLLS: u32 = 1_000;
+
+/// What a transfer wants if nothing else is said.
+pub(crate) fn want_of(transfer: u64) -> Want {
+    Want {
+        transfer,
+        lane: 0,
+        max_age: 118,
+        max_life: 0,
+        fresh: false,
+        forbid_reuse: false,
+    }
+}
+
+/// What transfer 1 asks of the first host, or of another.
+pub(crate) fn prepared_at<R: Abort + AllocGlobal>(
+    rt: &R,
+    site: u32,
+    method: Method,
+    url: &str,
+    want: Want,
+) -> Prepared
+    ensures { IsUnused result }
+{
+    let mut memory = CountedMemory::new(rt.alloc());
+    let target = read_target(&mut memory, url).expect(rt, "a target");
+    let job = Job {
+        site,
+        want,
+        method,
+        target,
+    };
+    Prepared::new(rt.alloc(), &job).expect(rt, "memory")
+}
+
+/// A GET by transfer 1 of the first host.
+pub(crate) fn prepared<R: Abort + AllocGlobal>(rt: &R) -> Prepared
+    ensures { IsUnused result }
+{
+    prepared_at(rt, 0, Method::Get, "http://example.com/", want_of(1))
+}
+
+/// A wire whose peer answers that.
+pub(crate) fn wire_of<R: Abort + AllocGlobal>(rt: &R, response: &[u8]) -> MemoryWire {
+    MemoryWire::new(rt.alloc(), response, ROOM).expect(rt, "memory")
+}
+
+/// A dial that will give that wire.
+pub(crate) fn dial_of<R: Abort + AllocGlobal>(rt: &R, wire: MemoryWire) -> MemoryDial {
+    let mut dial = MemoryDial::new(rt.alloc());
+    dial.add(wire).expect(rt, "memory");
+    dial
+}
+
+/// A pool of one host, which may have so many connections.
+pub(crate) fn pool_of<R: Abort + AllocGlobal>(rt: &R, most: u32) -> Pool<MemoryWire> {
+    let limits = Limits::new(most, 0, 4).expect(rt, "limits");
+    Pool::new(rt.alloc(), limits, 1).expect(rt, "memory")
+}
+
+/// A cache of one host without connections.
+pub(crate) fn cache_of<R: Abort + AllocGlobal>(rt: &R) -> FakeCache<MemoryWire>
+    ensures { (result.leases ≡ 0) × (result.tickets ≡ 0) }
+{
+    FakeCache::over(pool_of(rt, 0))
+}
+
+/// A lease that the transfer gets at once.
+pub(crate) fn lease_of<R: Abort>(
+    rt: &R,
+    pool: &mut Pool<MemoryWire>,
+    transfer: u64,
+    now: u64,
+) -> Lease<MemoryWire>
+    ensures { IsMadeHere pool.new result }
+{
+    match pool.acquire(0, want_of(transfer), now) {
+        Ok(Acquired::Lease(lease)) => lease,
+        Ok(Acquired::Wait(ticket)) => {
+            ticket.into_stray().scrap();
+            panic!(rt; "it has to wait");
+        }
+        Err(refusal) => panic!(rt; "{refusal:?}"),
+    }
+}
+
+/// A lease of the transfer that was there before, with that wire.
+pub(crate) fn lease_with<R: Abort>(
+    rt: &R,
+    pool: &mut Pool<MemoryWire>,
+    wire: MemoryWire,
+) -> Lease<MemoryWire>
+    ensures here { IsMadeHere pool.new result }
+    ensures stream { IsSome result.stream }
+{
+    let mut lease = lease_of(rt, pool, BEFORE, 0);
+    assert!(rt; !lease.has_stream());
+    lease.attach(wire);
+    lease
+}
+
+/// A cache of one host, with an idle connection that has that wire.
+pub(crate) fn cache_with_idle<R: Abort + AllocGlobal>(
+    rt: &R,
+    wire: MemoryWire,
+) -> FakeCache<MemoryWire>
+    ensures { (result.leases ≡ 0) × (result.tickets ≡ 0) }
+{
+    let mut pool = pool_of(rt, 0);
+    let lease = lease_with(rt, &mut pool, wire);
+    pool.give_back(lease, KEEP, 0);
+    FakeCache::over(pool)
+}
+
+/// A cache of one host, which may have so many connections, where another transfer has one with
+/// that wire.
+pub(crate) fn cache_with_other<R: Abort + AllocGlobal>(
+    rt: &R,
+    most: u32,
+    wire: MemoryWire,
+) -> FakeCache<MemoryWire>
+    ensures { (result.leases ≡ 0) × (result.tickets ≡ 0) }
+{
+    let mut pool = pool_of(rt, most);
+    let lease = lease_with(rt, &mut pool, wire);
+    FakeCache::with_other(pool, lease, KEEP, NOW)
+}
+
+/// Polls an exchange until it is ready: how it ended, and how often it was pending before, which
+/// has to be for that.
+pub(crate) fn run<R: Abort + AllocGlobal + RandomSource>(
+    rt: &R,
+    parts: Prepared,
+    cache: &mut FakeCache<MemoryWire>,
+    dial: &mut MemoryDial,
+    stage: Stage,
+) -> (Done, u32)
+    requires none { (cache.old.leases ≡ 0) × (cache.old.tickets ≡ 0) }
+    requires unused { IsUnused parts }
+{
+    let solo = Solo::new(rt, Doorbell::spinning()).expect(rt, "a task");
+    let clock = FixedClock { now: NOW };
+    let mut exchange = Exchange::new(parts, cache, dial, &clock);
+    for pending in 0..MOST_POLLS {
+        let mut cx = solo.begin();
+        let polled = exchange.poll(&mut cx);
+        cx.end(&polled);
+        if polled.is_ready() {
+            let (done, _) = exchange.finish();
+            return (done, pending);
+        }
+        assert_eq!(rt; exchange.waits_on(), stage);
+    }
+    let _ = exchange.cancel(NOW);
+    panic!(rt; "it does not end");
+}
+
+/// The same, where it is never pending.
+pub(crate) fn run_at_once<R: Abort + AllocGlobal + RandomSource>(
+    rt: &R,
+    parts: Prepared,
+    cache: &mut FakeCache<MemoryWire>,
+    dial: &mut MemoryDial,
+) -> Done
+    requires none { (cache.old.leases ≡ 0) × (cache.old.tickets ≡ 0) }
+    requires unused { IsUnused parts }
+{
+    let (done, pending) = run(rt, parts, cache, dial, Stage::Turn);
+    assert_eq!(rt; pending, 0);
+    done
+}
+
+/// Cancels an exchange before its first poll.
+pub(crate) fn cancel_unpolled<R: Abort + AllocGlobal>(
+    rt: &R,
+    cache: &mut FakeCache<MemoryWire>,
+    dial: &mut MemoryDial,
+)
+    requires { (cache.old.leases ≡ 0) × (cache.old.tickets ≡ 0) }
+{
+    let clock = FixedClock { now: NOW };
+    let exchange = Exchange::new(prepared(rt), cache, dial, &clock);
+    let _ = exchange.cancel(NOW);
+}
+
+/// Polls an exchange once and cancels it; what it waited for.
+pub(crate) fn cancel_polled<R: Abort + AllocGlobal + RandomSource>(
+    rt: &R,
+    cache: &mut FakeCache<MemoryWire>,
+    dial: &mut MemoryDial,
+) -> Stage
+    requires { (cache.old.leases ≡ 0) × (cache.old.tickets ≡ 0) }
+{
+    let solo = Solo::new(rt, Doorbell::spinning()).expect(rt, "a task");
+    let clock = FixedClock { now: NOW };
+    let mut exchange = Exchange::new(prepared(rt), cache, dial, &clock);
+    let mut cx = solo.begin();
+    let polled = exchange.poll(&mut cx);
+    cx.end(&polled);
+    let waits_on = exchange.waits_on();
+    let _ = exchange.cancel(NOW);
+    waits_on
+}
+
+pub(crate) fn opened(connection: u32, want: Want, moment: u64) -> Entry {
+    Entry {
+        moment,
+        event: Event::Opened { connection, want },
+    }
+}
+
+pub(crate) fn leased(connection: u32, want: Want, moment: u64) -> Entry {
+    Entry {
+        moment,
+        event: Event::Leased { connection, want },
+    }
+}
+
+pub(crate) fn returned(connection: u32, facts: Facts, moment: u64) -> Entry {
+    Entry {
+        moment,
+        event: Event::Returned { connection, facts },
+    }
+}
+
+pub(crate) fn closed(connection: u32, cause: Cause, moment: u64) -> Entry {
+    Entry {
+        moment,
+        event: Event::Closed { connection, cause },
+    }
+}
+
+pub(crate) fn waited(want: Want, moment: u64) -> Entry {
+    Entry {
+        moment,
+        event: Event::Waited { want },
+    }
+}
+
+pub(crate) fn left(transfer: u64, moment: u64) -> Entry {
+    Entry {
+        moment,
+        event: Event::Left { transfer },
+    }
+}
+
+/// The first host's log has to have these entries, and no other.
+pub(crate) fn check_log<R: Abort>(rt: &R, cache: &FakeCache<MemoryWire>, entries: &[Entry]) {
+    let log = cache.pool().log(0).expect(rt, "a host");
+    for place in 0..entries.len() {
+        assert_eq!(rt; log.get(place), Some(entries[place]), "entry {place}");
+    }
+    assert_eq!(rt; log.len(), entries.len(), "entries");
+}
+
+/// The first host's log has to end so.
+pub(crate) fn check_last<R: Abort>(rt: &R, cache: &FakeCache<MemoryWire>, entry: Entry) {
+    let log = cache.pool().log(0).expect(rt, "a host");
+    assert!(rt; log.len() > 0);
+    assert_eq!(rt; log.get(log.len() - 1), Some(entry));
+}
+
+/// No lease and no ticket is out; what is left is the pool.
+pub(crate) fn close<R: Abort>(rt: &R, cache: FakeCache<MemoryWire>) -> Pool<MemoryWire> {
+    let out = (cache.leases(), cache.tickets());
+    let pool = cache.close();
+    assert_eq!(rt; out, (0, 0));
+    pool
+}

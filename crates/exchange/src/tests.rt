@@ -1,0 +1,361 @@
+//! Exchanges over wires in memory: what was expected was read off the standards by hand.
+
+use crate::done::{Answer, Done, Fault, Stage};
+use crate::driving::{
+    BEFORE, KEEP, NOW, OK, cache_of, cache_with_idle, cache_with_other, check_last, check_log,
+    close, closed, dial_of, lease_of, leased, opened, prepared, prepared_at, returned, run,
+    run_at_once, want_of, wire_of,
+};
+use crate::memory::{Halt, MemoryDial};
+use crate::returned::Returned;
+use budget::Refusal;
+use conn_log::{Cause, Want};
+use persistence::{Facts, Framing, Method};
+use std::alloc::AllocGlobal;
+use std::test::Fail;
+
+/// What a whole response over a new connection answers.
+const GOOD: Answer = Answer {
+    status: 200,
+    body_len: 2,
+    facts: KEEP,
+    reused: false,
+    retried: false,
+};
+
+#[test]
+fn a_request_has_its_text(rt: HostRuntime) -> Result<(), Fail> {
+    let plain = "http://Example.COM/a?b=1";
+    let other = "http://Example.COM:8080/a?b=1";
+    for (method, url, forbid_reuse, text) in [
+        (
+            Method::Get,
+            plain,
+            false,
+            "GET /a?b=1 HTTP/1.1\r\nHost: example.com\r\n\r\n",
+        ),
+        (
+            Method::Get,
+            plain,
+            true,
+            "GET /a?b=1 HTTP/1.1\r\nHost: example.com\r\nConnection: close\r\n\r\n",
+        ),
+        (
+            Method::Get,
+            other,
+            false,
+            "GET /a?b=1 HTTP/1.1\r\nHost: example.com:8080\r\n\r\n",
+        ),
+        (
+            Method::Head,
+            plain,
+            false,
+            "HEAD /a?b=1 HTTP/1.1\r\nHost: example.com\r\n\r\n",
+        ),
+    ] {
+        let want = Want {
+            forbid_reuse,
+            ..want_of(1)
+        };
+        let parts = prepared_at(&rt, 0, method, url, want);
+        assert_eq!(rt; parts.text.as_str(), text);
+    }
+    Ok(())
+}
+
+#[test]
+fn the_wire_gets_the_request(rt: HostRuntime) -> Result<(), Fail> {
+    let text: &[u8] = b"GET /a?b=1 HTTP/1.1\r\nHost: example.com\r\n\r\n";
+    for most in 1..=text.len() {
+        let want = want_of(1);
+        let parts = prepared_at(&rt, 0, Method::Get, "http://Example.COM/a?b=1", want);
+        let mut wire = wire_of(&rt, OK);
+        wire.set_most_written(most);
+        let mut dial = dial_of(&rt, wire);
+        let mut cache = cache_of(&rt);
+        let done = run_at_once(&rt, parts, &mut cache, &mut dial);
+        assert_eq!(rt; done, Done::Good(GOOD), "{most} bytes a write");
+        let back = Returned {
+            site: 0,
+            facts: KEEP,
+        };
+        assert_eq!(rt; cache.last_return(), Some(back));
+        check_log(
+            &rt,
+            &cache,
+            &[opened(1, want_of(1), NOW), returned(1, KEEP, NOW)],
+        );
+        let mut pool = close(&rt, cache);
+        let mut lease = lease_of(&rt, &mut pool, 2, NOW);
+        let wire = lease.stream_mut().expect(&rt, "the wire");
+        assert_eq!(rt; wire.sent(), text);
+        assert_eq!(rt; wire.unread(), 0);
+        pool.abandon(lease, NOW);
+    }
+    Ok(())
+}
+
+#[test]
+fn a_response_to_head_has_no_body(rt: HostRuntime) -> Result<(), Fail> {
+    let parts = prepared_at(&rt, 0, Method::Head, "http://example.com/", want_of(1));
+    let mut dial = dial_of(
+        &rt,
+        wire_of(&rt, b"HTTP/1.1 200 OK\r\nContent-Length: 2\r\n\r\n"),
+    );
+    let mut cache = cache_of(&rt);
+    let done = run_at_once(&rt, parts, &mut cache, &mut dial);
+    let facts = Facts {
+        framing: Framing::NoBody,
+        ..KEEP
+    };
+    let answer = Answer {
+        body_len: 0,
+        facts,
+        ..GOOD
+    };
+    assert_eq!(rt; done, Done::Good(answer));
+    check_last(&rt, &cache, returned(1, facts, NOW));
+    let _ = close(&rt, cache);
+    Ok(())
+}
+
+#[test]
+fn a_poll_takes_64_steps(rt: HostRuntime) -> Result<(), Fail> {
+    // 140 bytes: the first poll asks, dials, sends and reads 61 of them, and the second reads 64
+    let mut response = b"HTTP/1.1 200 OK\r\nContent-Length: 100\r\n\r\n".to_vec(rt.alloc())?;
+    for _ in 0..100 {
+        response.push(b'x')?;
+    }
+    let mut wire = wire_of(&rt, &response);
+    wire.set_most_read(1);
+    let mut dial = dial_of(&rt, wire);
+    let mut cache = cache_of(&rt);
+    let ended = run(&rt, prepared(&rt), &mut cache, &mut dial, Stage::Turn);
+    let answer = Answer {
+        body_len: 100,
+        ..GOOD
+    };
+    assert_eq!(rt; ended, (Done::Good(answer), 2));
+    let _ = close(&rt, cache);
+    Ok(())
+}
+
+#[test]
+fn a_pending_exchange_goes_on(rt: HostRuntime) -> Result<(), Fail> {
+    for stage in [Stage::Dialling, Stage::Sending, Stage::Reading] {
+        let mut wire = wire_of(&rt, OK);
+        if stage == Stage::Sending {
+            wire.halt_write(1, Halt::NotYet);
+        }
+        if stage == Stage::Reading {
+            wire.halt_read(1, Halt::NotYet);
+        }
+        let mut dial = dial_of(&rt, wire);
+        if stage == Stage::Dialling {
+            dial.halt_dial(1, Halt::NotYet);
+        }
+        let mut cache = cache_of(&rt);
+        let ended = run(&rt, prepared(&rt), &mut cache, &mut dial, stage);
+        assert_eq!(rt; ended, (Done::Good(GOOD), 1));
+        let _ = close(&rt, cache);
+    }
+    Ok(())
+}
+
+#[test]
+fn a_dial_fails(rt: HostRuntime) -> Result<(), Fail> {
+    let mut dial = MemoryDial::new(rt.alloc());
+    let mut cache = cache_of(&rt);
+    let done = run_at_once(&rt, prepared(&rt), &mut cache, &mut dial);
+    assert_eq!(rt; done, Done::Bad(Fault::Dial));
+    check_log(
+        &rt,
+        &cache,
+        &[opened(1, want_of(1), NOW), closed(1, Cause::Dropped, NOW)],
+    );
+    let _ = close(&rt, cache);
+    Ok(())
+}
+
+#[test]
+fn a_connection_is_reused(rt: HostRuntime) -> Result<(), Fail> {
+    let mut dial = MemoryDial::new(rt.alloc());
+    let mut cache = cache_with_idle(&rt, wire_of(&rt, OK));
+    let done = run_at_once(&rt, prepared(&rt), &mut cache, &mut dial);
+    let answer = Answer {
+        reused: true,
+        ..GOOD
+    };
+    assert_eq!(rt; done, Done::Good(answer));
+    let _ = close(&rt, cache);
+    Ok(())
+}
+
+#[test]
+fn a_reused_connection_that_ended_is_tried_again(rt: HostRuntime) -> Result<(), Fail> {
+    let answer = Answer {
+        retried: true,
+        ..GOOD
+    };
+    for (second, done) in [(OK, Done::Good(answer)), (&[], Done::Bad(Fault::Cut))] {
+        let mut dial = dial_of(&rt, wire_of(&rt, second));
+        let mut cache = cache_with_idle(&rt, wire_of(&rt, &[]));
+        let ended = run_at_once(&rt, prepared(&rt), &mut cache, &mut dial);
+        assert_eq!(rt; ended, done);
+        let fresh = Want {
+            fresh: true,
+            ..want_of(1)
+        };
+        let log = cache.pool().log(0).expect(&rt, "a host");
+        for (place, entry) in [
+            (0, opened(1, want_of(BEFORE), 0)),
+            (1, returned(1, KEEP, 0)),
+            (2, leased(1, want_of(1), NOW)),
+            (3, closed(1, Cause::Dropped, NOW)),
+            (4, opened(2, fresh, NOW)),
+        ] {
+            assert_eq!(rt; log.get(place), Some(entry));
+        }
+        assert_eq!(rt; dial.left(), 0);
+        let _ = close(&rt, cache);
+    }
+    Ok(())
+}
+
+#[test]
+fn a_failed_wire_is_tried_again_before_any_byte(rt: HostRuntime) -> Result<(), Fail> {
+    let retried = Done::Good(Answer {
+        retried: true,
+        ..GOOD
+    });
+    let (read, write) = (Done::Bad(Fault::Read), Done::Bad(Fault::Write));
+    for (reused, is_read, nth, done) in [
+        (false, false, 1, write),
+        (false, false, 2, write),
+        (false, false, 20, write),
+        (false, true, 1, read),
+        (false, true, 2, read),
+        (false, true, 20, read),
+        (true, false, 1, retried),
+        (true, false, 20, retried),
+        (true, true, 1, retried),
+        (true, true, 2, read),
+        (true, true, 20, read),
+    ] {
+        let mut wire = wire_of(&rt, OK);
+        wire.set_most_read(1);
+        wire.set_most_written(1);
+        if is_read {
+            wire.halt_read(nth, Halt::Fault);
+        } else {
+            wire.halt_write(nth, Halt::Fault);
+        }
+        let (mut cache, mut dial) = if reused {
+            (cache_with_idle(&rt, wire), dial_of(&rt, wire_of(&rt, OK)))
+        } else {
+            (cache_of(&rt), dial_of(&rt, wire))
+        };
+        let (ended, _) = run(&rt, prepared(&rt), &mut cache, &mut dial, Stage::Turn);
+        assert_eq!(rt; ended, done, "{reused} {is_read} {nth}");
+        let _ = close(&rt, cache);
+    }
+    Ok(())
+}
+
+#[test]
+fn a_response_that_is_cut(rt: HostRuntime) -> Result<(), Fail> {
+    for len in 0..OK.len() {
+        let mut dial = dial_of(&rt, wire_of(&rt, &OK[..len]));
+        let mut cache = cache_of(&rt);
+        let done = run_at_once(&rt, prepared(&rt), &mut cache, &mut dial);
+        assert_eq!(rt; done, Done::Bad(Fault::Cut), "{len} bytes");
+        check_last(&rt, &cache, closed(1, Cause::Cut, NOW));
+        let _ = close(&rt, cache);
+    }
+    Ok(())
+}
+
+// A front, and so often the same bytes behind it.
+fn repeated<R: AllocGlobal>(
+    rt: &R,
+    front: &[u8],
+    bytes: &[u8],
+    times: u32,
+) -> Result<Vec<u8>, Fail> {
+    let mut all = front.to_vec(rt.alloc())?;
+    for _ in 0..times {
+        all.extend_from_slice(bytes)?;
+    }
+    Ok(all)
+}
+
+#[test]
+fn a_response_that_is_bad(rt: HostRuntime) -> Result<(), Fail> {
+    let head = b"HTTP/1.1 200 OK\r\n";
+    let chunked = b"HTTP/1.1 200 OK\r\nTransfer-Encoding: chunked\r\n\r\n";
+    let chunk = repeated(&rt, chunked, b"1;", 1)?;
+    let size = repeated(&rt, chunked, b"10000000000000000\r\n", 1)?;
+    for response in [
+        // a head of 16,384 bytes that does not end there
+        repeated(&rt, &repeated(&rt, head, b"A: ", 1)?, b"x", 16_364)?,
+        // a 101st field
+        repeated(&rt, head, b"A: b\r\n", 101)?,
+        // a ninth interim head
+        repeated(&rt, &[], b"HTTP/1.1 100 Continue\r\n\r\n", 9)?,
+        // a chunk line of 1,025 bytes that does not end there
+        repeated(&rt, &chunk, b"x", 1_023)?,
+        // a chunk of 2^64 bytes
+        size,
+    ] {
+        let mut dial = dial_of(&rt, wire_of(&rt, &response));
+        let mut cache = cache_of(&rt);
+        let done = run_at_once(&rt, prepared(&rt), &mut cache, &mut dial);
+        assert_eq!(rt;
+            done,
+            Done::Bad(Fault::BadResponse),
+            "{} bytes",
+            response.len()
+        );
+        check_last(&rt, &cache, closed(1, Cause::Cut, NOW));
+        let _ = close(&rt, cache);
+    }
+    Ok(())
+}
+
+#[test]
+fn a_cache_refuses(rt: HostRuntime) -> Result<(), Fail> {
+    for (site, transfer, refusal) in [
+        (1, 1, Refusal::BadSite),
+        (0, BEFORE, Refusal::TransferBusy),
+    ] {
+        let url = "http://example.com/";
+        let parts = prepared_at(&rt, site, Method::Get, url, want_of(transfer));
+        let mut dial = MemoryDial::new(rt.alloc());
+        let mut cache = cache_with_other(&rt, 0, wire_of(&rt, OK));
+        let done = run_at_once(&rt, parts, &mut cache, &mut dial);
+        assert_eq!(rt; done, Done::Bad(Fault::Refused(refusal)));
+        check_log(&rt, &cache, &[opened(1, want_of(BEFORE), 0)]);
+        let _ = close(&rt, cache);
+    }
+    Ok(())
+}
+
+#[test]
+fn a_response_that_forbids_reuse(rt: HostRuntime) -> Result<(), Fail> {
+    let want = Want {
+        forbid_reuse: true,
+        ..want_of(1)
+    };
+    let parts = prepared_at(&rt, 0, Method::Get, "http://example.com/", want);
+    let mut dial = dial_of(&rt, wire_of(&rt, OK));
+    let mut cache = cache_of(&rt);
+    let done = run_at_once(&rt, parts, &mut cache, &mut dial);
+    let facts = Facts {
+        request_close: true,
+        ..KEEP
+    };
+    assert_eq!(rt; done, Done::Good(Answer { facts, ..GOOD }));
+    check_last(&rt, &cache, closed(1, Cause::Forbidden, NOW));
+    let _ = close(&rt, cache);
+    Ok(())
+}
