@@ -246,7 +246,9 @@ pub(crate) fn cancel_polled<R: Abort + AllocGlobal + RandomSource>(
     let polled = exchange.poll(&mut cx);
     cx.end(&polled);
     let waits_on = exchange.waits_on();
-    let _ = exchange.cancel(NOW);
+    let cache = exchange.cancel(NOW);
+    let entries = cache.pool().log(0).expect(rt, "a host").len();
+    assert!(rt; entries > 0, "out of memory");
     waits_on
 }
 

@@ -50,7 +50,7 @@ fn one_transfer(rt: HostRuntime) -> Result<(), Fail> {
             let (done, _) = exchange.finish();
             let pool = cache.close();
             let Done::Good(answer) = done else {
-                return Err(Fail::from("no response"));
+                return Err(Fail::from("no response, or no memory"));
             };
             assert_eq!(rt; (answer.status, answer.body_len), (200, 2));
             assert_eq!(rt; pool.look(0)?.idle, 1);

@@ -15,6 +15,8 @@ mod fake_cache;
 mod job;
 mod leasing;
 mod memory;
+#[cfg(test)]
+mod memory_tests;
 mod polled;
 mod returned;
 mod state;
