@@ -1,5 +1,5 @@
 -- What holds from one step of a poll to the next.
-use Rattle.std.proofs.Common.{◌≡◌, ℕ, ◌≤◌, ◌⊎◌, inl, inr, arith, IsSomeAnd, Option, Some, None, true, sym, subst, ◌∙◌}
+use Rattle.std.proofs.Common.{◌≡◌, Bool, false, refl, ℕ, ◌≤◌, ◌⊎◌, inl, inr, arith, IsSomeAnd, Option, Some, None, true, sym, subst, ◌∙◌}
 use Rattle.bundle.specs.Calls.{Start}
 use Rattle.exchange.specs.declared.job.Prepared.{Prepared}
 use Rattle.exchange.specs.declared.state.State.{State}
@@ -42,15 +42,21 @@ keeps_more (at.Sending lease sent) state next keeps more = goes_on_more lease.st
 keeps_more (at.Reading lease) state next keeps more = goes_on_more lease.start state next keeps more
 keeps_more {W} (at.Finished done) state next keeps more = subst (λ (s : State W). KeepsStart s next) keeps more
 
+-- what only rises, and is the same after two steps, was the same after each
+said_by_both : (first middle last : Bool) → (first ≡ true → middle ≡ true) → (middle ≡ true → last ≡ true) → last ≡ first → (middle ≡ first) × (last ≡ middle)
+said_by_both true middle last rises more same = let said = rises refl in (said, more said ∙ sym said)
+said_by_both false true last rises more same = (sym (more refl) ∙ same, more refl)
+said_by_both false false last rises more same = (refl, same)
+
 -- where each of two steps tries only the first connection again, so do both
 pub tries_once_more : {W : Type 0} → (first middle last : Prepared) (start state next : Option (State W)) → TriesOnceOn first middle start state → TriesOnceOn middle last state next → TriesOnceOn first last start next
 tries_once_more first middle last None state next once more = absurd once
 tries_once_more first middle last (Some start) None next once more = absurd once
 tries_once_more first middle last (Some start) (Some state) None once more = absurd more
-tries_once_more first middle last (Some start) (Some state) (Some next) once more = λ retried.
-    let kept = once retried in
-    let kept_on = more kept.0 in
-    (kept_on.0, keeps_more start state next kept.1 kept_on.1)
+tries_once_more first middle last (Some start) (Some state) (Some next) once more =
+    (λ retried. more.0 (once.0 retried), λ same.
+    let flags = said_by_both first.retried middle.retried last.retried once.0 more.0 same in
+    keeps_more start state next (once.1 flags.0) (more.1 flags.1))
 
 -- what has ended stays so over each of two steps, and so over both
 pub ended_more : {W : Type 0} → (first middle last : Option (State W)) → (IsFinished first → middle ≡ first) → (IsFinished middle → last ≡ middle) → IsFinished first → last ≡ first

@@ -168,6 +168,7 @@ abbrev pub StaysEnded : {W : Type 0} → State W → State W → Type 0
 StaysEnded (Finished done) new = new ≡ Finished done
 StaysEnded _ new = Unit {0}
 
--- only the first connection is tried again, and what was tried again stays so
+-- only the first connection is tried again, and an exchange that was tried again says so from then on: unless it says so
+-- newly, no lease is tried again
 abbrev pub TriesOnce : {W : Type 0} → Prepared → Prepared → State W → State W → Type 0
-TriesOnce old new before after = old.retried ≡ true → (new.retried ≡ true) × KeepsStart before after
+TriesOnce old new before after = (old.retried ≡ true → new.retried ≡ true) × (new.retried ≡ old.retried → KeepsStart before after)

@@ -82,6 +82,7 @@ fn retry<W: Wire, C: Cache<W>>(
 ) -> State<W>
     requires leased { HasLease (world_of C.out C.owns C.did W.carried) parts.old cache.old lease }
     requires ready { IsReady (world_of C.out C.owns C.did W.carried) parts.old }
+    requires first { parts.old.retried ≡ false }
     requires reused { lease.start.reused ≡ true }
     requires wire { OnWire W.carried lease (λ wire. wire.received ≡ []) }
     requires reader { (parts.old.reader.method ≡ parts.old.method)
@@ -90,6 +91,7 @@ fn retry<W: Wire, C: Cache<W>>(
         cache.new failures result }
     ensures ready { IsReady (world_of C.out C.owns C.did W.carried) parts.new }
     ensures same { IsSameJob parts.old parts.new }
+    ensures once { parts.new.retried ≡ parts.old.retried → GoesOn lease.start result }
 {
     match cache.abandon(lease, now) {
         Ok(()) => {
@@ -123,8 +125,8 @@ pub(crate) fn fail<W: Wire, C: Cache<W>>(
         cache.new failures result }
     ensures ready { IsReady (world_of C.out C.owns C.did W.carried) parts.new }
     ensures same { IsSameJob parts.old parts.new }
-    ensures once { parts.old.retried ≡ true → (parts.new.retried ≡ true)
-        × GoesOn lease.start result }
+    ensures marked { parts.old.retried ≡ true → parts.new.retried ≡ true }
+    ensures once { parts.new.retried ≡ parts.old.retried → GoesOn lease.start result }
 {
     if may_retry(parts, &lease) {
         return retry(parts, cache, lease, now);
@@ -147,8 +149,8 @@ pub(crate) fn end<W: Wire, C: Cache<W>>(
         cache.new failures result }
     ensures ready { IsReady (world_of C.out C.owns C.did W.carried) parts.new }
     ensures same { IsSameJob parts.old parts.new }
-    ensures once { parts.old.retried ≡ true → (parts.new.retried ≡ true)
-        × GoesOn lease.start result }
+    ensures marked { parts.old.retried ≡ true → parts.new.retried ≡ true }
+    ensures once { parts.new.retried ≡ parts.old.retried → GoesOn lease.start result }
 {
     if may_retry(parts, &lease) {
         return retry(parts, cache, lease, now);
