@@ -53,10 +53,12 @@ pub tries_once_more : {W : Type 0} → (first middle last : Prepared) (start sta
 tries_once_more first middle last None state next once more = absurd once
 tries_once_more first middle last (Some start) None next once more = absurd once
 tries_once_more first middle last (Some start) (Some state) None once more = absurd more
-tries_once_more first middle last (Some start) (Some state) (Some next) once more =
-    (λ retried. more.0 (once.0 retried), λ same.
-    let flags = said_by_both first.retried middle.retried last.retried once.0 more.0 same in
-    keeps_more start state next (once.1 flags.0) (more.1 flags.1))
+tries_once_more first middle last (Some start) (Some state) (Some next) once more = (
+  λ retried. more.0 (once.0 retried),
+  λ same.
+      let flags = said_by_both first.retried middle.retried last.retried once.0 more.0 same in
+      keeps_more start state next (once.1 flags.0) (more.1 flags.1),
+)
 
 -- what has ended stays so over each of two steps, and so over both
 pub ended_more : {W : Type 0} → (first middle last : Option (State W)) → (IsFinished first → middle ≡ first) → (IsFinished middle → last ≡ middle) → IsFinished first → last ≡ first

@@ -4,7 +4,8 @@
 ghost use Rattle.std.specs.Prelude.{◌≡◌, ◌<◌, true, false, IsSome, [], ℕ};
 ghost use Rattle.exchange.specs.Deeds.{none_out, lease_out, ticket_out};
 ghost use Rattle.exchange.specs.Answers.{IsSameJob};
-ghost use Rattle.exchange.specs.Standing.{world_of, OnWire, StandsAt, IsReady, HasFailed, Drops, Withdraws};
+ghost use Rattle.exchange.specs.Standing.{world_of, OnWire, StandsAt, IsReady, HasFailed, Drops};
+ghost use Rattle.exchange.specs.Standing.{Withdraws};
 ghost use Rattle.exchange.specs.Standing.{GoesOn};
 ghost use Rattle.exchange.specs.Steps.{HasLease, IsGivenBack, may_retry, IsFed, CanSettle};
 ghost use Rattle.exchange.specs.Steps.{IsWireFault, IsAtEnd};

@@ -16,7 +16,8 @@ use persistence::Facts;
 /// another.
 pub trait Cache<W: Wire> {
     ghost use Rattle.bundle.specs.Seats.{Tables};
-    ghost use Rattle.budget.specs.declared.refusal.Refusal.TheVariants.{StrangeLease, StrangeTicket};
+    ghost use Rattle.budget.specs.declared.refusal.Refusal.TheVariants.{StrangeLease};
+    ghost use Rattle.budget.specs.declared.refusal.Refusal.TheVariants.{StrangeTicket};
     ghost use Rattle.exchange.specs.Deeds.{Out, none_out, lease_out, ticket_out, Deed};
     ghost use Rattle.exchange.specs.Deeds.Deed.{gives_back, abandons, withdraws, refuses};
     ghost use Rattle.exchange.specs.Leasing.{GivesOut, Claims};
