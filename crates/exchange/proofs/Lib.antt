@@ -1,8 +1,12 @@
+pub mod OnWires
+pub mod FirstSteps
 pub mod Sending
+pub mod Retold
+pub mod Spending
 pub mod Settling
-pub mod Polling
+pub mod Retrying
+pub mod Receiving
 pub mod RequestText
-pub mod Received
 pub mod CountedOut
 pub mod AcquiredFor
-pub mod FakeWorld
+pub mod Answered

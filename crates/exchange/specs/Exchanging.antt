@@ -10,58 +10,80 @@ use Rattle.exchange.specs.declared.state.State.{State}
 use Rattle.exchange.specs.declared.state.State.TheVariants.{Asking, Waiting, Dialling, Sending, Reading, Finished}
 use Rattle.exchange.specs.declared.exchange.Pace.{Pace}
 use Rattle.exchange.specs.declared.exchange.Pace.TheVariants.{Goes, Waits, Ended}
-use Rattle.exchange.specs.Wires.{Carried}
-use Rattle.exchange.specs.Standing.{World, StandsAt, IsReady, OnWire, TriesOnce, Drops, Withdraws}
-use Rattle.exchange.specs.Waiting.{LeavesAt}
+use Rattle.bundle.specs.Seats.{Tables}
+use Rattle.exchange.specs.Deeds.{Out, Deed}
+use Rattle.exchange.specs.Leasing.{DropsBy, WithdrawsBy}
+use Rattle.exchange.specs.Worlds.{World}
+use Rattle.exchange.specs.Standing.{StandsFrom}
+use Rattle.exchange.specs.Steps.{DialFails, Opens}
+use Rattle.exchange.specs.Waiting.{LeavesAt, OnSource}
+use Rattle.exchange.specs.Owning.{IsReady, Owns}
 
--- it stands somewhere
-abbrev pub Stands : {C W : Type 0} → World C W → Prepared → C → ℕ → Option (State W) → Type 0
-Stands world p cache dial_failures state = IsSomeAnd state (StandsAt world p cache dial_failures)
+-- all that was done since that first time led to where it stands
+abbrev pub Stands : {C W : Type 0} → World C W → Prepared → C → C → Option (State W) → Type 0
+Stands world p first cache state = IsSomeAnd state (StandsFrom world p first cache)
+
+-- whenever it began, it goes on from where it stood
+abbrev pub Continues : {C W : Type 0} → World C W → Prepared → Prepared → C → C → Option (State W) → Option (State W) → Type 0
+Continues {C} world old new before after state next = (first : C) → Stands world old first before state → Stands world new first after next
 
 abbrev pub IsFinished : {W : Type 0} → Option (State W) → Type 0
 IsFinished state = (done : Done) × (state ≡ Some (Finished done))
 
 -- what a pending exchange left
-abbrev pub Leaves : {W : Type 0} → (W → Carried) → ℕ → Context → Context → Option Waker → Stage → Option (State W) → Type 0
-Leaves carried dial old new waker stage state = IsSomeAnd state (LeavesAt carried dial old new waker stage)
+abbrev pub Leaves : {W : Type 0} → (W → ℕ) → ℕ → Context → Context → Option Waker → Stage → Option (State W) → Type 0
+Leaves name dial old new waker stage state = IsSomeAnd state (LeavesAt name dial old new waker stage)
 
--- only the first connection is tried again
-abbrev pub TriesOnceOn : {W : Type 0} → Prepared → Prepared → Option (State W) → Option (State W) → Type 0
-TriesOnceOn old new before after = IsSomeAnd before (λ first. IsSomeAnd after (TriesOnce old new first))
+-- a dial has failed where that is what came of it since, and only there
+abbrev pub DialFailsSince : {W : Type 0} → State W → ℕ → ℕ → State W → Type 0
+DialFailsSince (Finished done) old new next = new ≡ old
+DialFailsSince _ old new next = DialFails old new next
 
--- what a cancel does: a wait ends, a lease is abandoned, and nothing happens where there is neither
-abbrev pub CancelsAt : {C W : Type 0} → World C W → C → C → State W → Type 0
-CancelsAt world before after Asking = after ≡ before
-CancelsAt world before after (Waiting ticket) = Withdraws world before after ticket
-CancelsAt world before after (Dialling lease) = Drops world before after lease
-CancelsAt world before after (Sending lease sent) = Drops world before after lease
-CancelsAt world before after (Reading lease) = Drops world before after lease
-CancelsAt world before after (Finished done) = after ≡ before
+abbrev pub DialFailed : {W : Type 0} → Option (State W) → Option (State W) → ℕ → ℕ → Type 0
+DialFailed state next old new = IsSomeAnd state (λ first. IsSomeAnd next (DialFailsSince first old new))
 
-abbrev pub Cancels : {C W : Type 0} → World C W → C → C → Option (State W) → Type 0
-Cancels world before after state = IsSomeAnd state (CancelsAt world before after)
+-- it opens no more connections than it may
+abbrev pub OpensFew : {W : Type 0} → Prepared → Prepared → Option (State W) → Option (State W) → ℕ → ℕ → Type 0
+OpensFew p q state next old new = IsSomeAnd state (λ first. IsSomeAnd next (Opens p q first old new))
+
+-- what a cancel does at that moment: a wait ends, a lease is abandoned, and nothing happens where there is neither
+abbrev pub CancelsAt : {C W : Type 0} → (C → C → Deed W → Type 0) → C → C → ℕ → State W → Type 0
+CancelsAt did before after now Asking = after ≡ before
+CancelsAt did before after now (Waiting ticket) = WithdrawsBy (did before after) ticket now
+CancelsAt did before after now (Dialling lease) = DropsBy (did before after) lease now
+CancelsAt did before after now (Sending lease sent) = DropsBy (did before after) lease now
+CancelsAt did before after now (Reading lease) = DropsBy (did before after) lease now
+CancelsAt did before after now (Finished done) = after ≡ before
+
+abbrev pub Cancels : {C W : Type 0} → (C → C → Deed W → Type 0) → C → C → ℕ → Option (State W) → Type 0
+Cancels did before after now state = IsSomeAnd state (CancelsAt did before after now)
 
 -- it has not ended
 abbrev pub IsGoing : {W : Type 0} → State W → Type 0
 IsGoing (Finished done) = ⊥
 IsGoing _ = Unit {0}
 
+-- what has ended stays so
+abbrev pub StaysEnded : {W : Type 0} → State W → State W → Type 0
+StaysEnded (Finished done) new = new ≡ Finished done
+StaysEnded _ new = Unit {0}
+
 -- how a step ends: it goes on, having left its context alone; it waits; or the exchange has ended
-abbrev pub PaceLeaves : {W : Type 0} → (W → Carried) → ℕ → Context → Context → Option Waker → Stage → Option (State W) → Pace → Type 0
-PaceLeaves carried dial old new waker stage state Goes = (new ≡ old) × IsSomeAnd state IsGoing
-PaceLeaves carried dial old new waker stage state Waits = Leaves carried dial old new waker stage state
-PaceLeaves carried dial old new waker stage state Ended = (new ≡ old) × IsFinished state
+abbrev pub PaceLeaves : {W : Type 0} → (W → ℕ) → ℕ → Context → Context → Option Waker → Stage → Option (State W) → Pace → Type 0
+PaceLeaves name dial old new waker stage state Goes = (new ≡ old) × IsSomeAnd state IsGoing
+PaceLeaves name dial old new waker stage state Waits = Leaves name dial old new waker stage state
+PaceLeaves name dial old new waker stage state Ended = (new ≡ old) × IsFinished state
 
 -- it may be polled
-abbrev pub MayPoll : {C W : Type 0} → World C W → Prepared → C → ℕ → Option (State W) → Type 0
-MayPoll world p cache dial_failures state = Stands world p cache dial_failures state × IsReady world p
+abbrev pub MayPoll : {W : Type 0} → Out → (ℕ → Tables → Type 0) → Prepared → Option (State W) → Type 0
+MayPoll out owns p state = Owns out owns p state × IsReady p
 
 -- what it waits for, by the name of the source
-abbrev pub NeedsAt : {W : Type 0} → (W → Carried) → ℕ → ℕ → Stage → State W → Type 0
-NeedsAt carried dial source AtDialling (Dialling lease) = source ≡ dial
-NeedsAt carried dial source AtSending (Sending lease sent) = OnWire carried lease (λ wire. source ≡ wire.source)
-NeedsAt carried dial source AtReading (Reading lease) = OnWire carried lease (λ wire. source ≡ wire.source)
-NeedsAt carried dial source _ _ = ⊥
+abbrev pub NeedsAt : {W : Type 0} → (W → ℕ) → ℕ → ℕ → Stage → State W → Type 0
+NeedsAt name dial source AtDialling (Dialling lease) = source ≡ dial
+NeedsAt name dial source AtSending (Sending lease sent) = OnSource name lease (λ its. source ≡ its)
+NeedsAt name dial source AtReading (Reading lease) = OnSource name lease (λ its. source ≡ its)
+NeedsAt name dial source _ _ = ⊥
 
-abbrev pub Needs : {W : Type 0} → (W → Carried) → ℕ → ℕ → Stage → Option (State W) → Type 0
-Needs carried dial source stage state = IsSomeAnd state (NeedsAt carried dial source stage)
+abbrev pub Needs : {W : Type 0} → (W → ℕ) → ℕ → ℕ → Stage → Option (State W) → Type 0
+Needs name dial source stage state = IsSomeAnd state (NeedsAt name dial source stage)

@@ -4,10 +4,12 @@ pub mod Dialling
 pub mod Deeds
 pub mod Leasing
 pub mod Answers
+pub mod Worlds
+pub mod Story
 pub mod Standing
 pub mod Steps
 pub mod Waiting
+pub mod Owning
 pub mod Exchanging
-pub mod Spending
 pub mod Memory
 pub mod FakeCaches

@@ -1,11 +1,38 @@
--- What a connection in memory carried.
-use Rattle.std.specs.Prelude.{ℕ, ◌-◌, List, take, drop}
+-- What happens on a connection in memory.
+use Rattle.std.specs.Prelude.{◌≡◌, ℕ, List, [], ◌++◌, take}
+use Rattle.conn_key.specs.Wants.{Rises}
 use Rattle.exchange.specs.declared.memory.MemoryWire.{MemoryWire}
-use Rattle.exchange.specs.Wires.{Carried}
+use Rattle.exchange.specs.Wires.{Happening}
+use Rattle.exchange.specs.Wires.Happening.{nothing, is_adopted, takes, gives, ends, fails_to_read, fails_to_write}
 
--- the bytes of its script between the places where it was dialled or adopted, and where it is
-abbrev pub received_of : MemoryWire → List ℕ
-received_of wire = take (wire.place - wire.start) (drop wire.start wire.response.items)
+-- what its peer has answered of its script
+abbrev pub answered : MemoryWire → List ℕ
+answered wire = take wire.place wire.response.items
 
-abbrev pub carried_of : MemoryWire → Carried
-carried_of wire = record { sent = wire.sent.items; received = received_of wire; ended = wire.ended; failures = wire.failures; source = wire.source.id }
+-- it has sent nothing, and its peer has answered nothing
+pub record IsUntouched (wire : MemoryWire) : Type 0 where
+  pub sent : wire.sent.items ≡ []
+  pub answered_is : answered wire ≡ []
+
+-- it has sent that much more, and its peer has answered that much more of the same script
+pub record Carries (sent received : List ℕ) (old new : MemoryWire) : Type 0 where
+  pub script : new.response.items ≡ old.response.items
+  pub source : new.source.id ≡ old.source.id
+  pub sent_is : new.sent.items ≡ old.sent.items ++ sent
+  pub answered_is : answered new ≡ answered old ++ received
+
+-- that happened, and no read or write failed; or one failed, and nothing else happened
+abbrev pub Goes : List ℕ → List ℕ → MemoryWire → MemoryWire → Type 0
+Goes sent received old new = Carries sent received old new × (new.failures ≡ old.failures)
+
+abbrev pub Fails : MemoryWire → MemoryWire → Type 0
+Fails old new = Carries [] [] old new × Rises old.failures new.failures
+
+abbrev pub HappenedTo : MemoryWire → MemoryWire → Happening → Type 0
+HappenedTo old new nothing = Goes [] [] old new
+HappenedTo old new is_adopted = Goes [] [] old new
+HappenedTo old new (takes bytes) = Goes bytes [] old new
+HappenedTo old new (gives bytes) = Goes [] bytes old new
+HappenedTo old new ends = Goes [] [] old new
+HappenedTo old new fails_to_read = Fails old new
+HappenedTo old new fails_to_write = Fails old new

@@ -1,174 +1,144 @@
--- Where an exchange stands: what it owns, what it has sent and read, and what came of it.
-use Rattle.std.specs.Prelude.{◌≡◌, ℕ, ◌<◌, true, false, [], length, take, None, ◌⊎◌, IsSomeAnd}
+-- Where an exchange stands: what it has, what it has sent and read, and what came of it.
+use Rattle.std.specs.Prelude.{◌≡◌, ℕ, Bool, true, false, ◌∷◌, List, None, ◌⊎◌}
 use Rattle.persistence.specs.declared.facts.Facts.{Facts}
-use Rattle.persistence.specs.declared.answer.ReadFault.{ReadFault}
-use Rattle.persistence.specs.Reader.{Reading, HasFault, TellsFactsOfFaulty}
-use Rattle.persistence.specs.Told.{TellsFacts}
+use Rattle.budget.specs.declared.refusal.Refusal.{Refusal}
 use Rattle.budget.specs.declared.refusal.Refusal.TheVariants.{StrangeLease, StrangeTicket}
-use Rattle.bundle.specs.Seats.{Tables}
 use Rattle.bundle.specs.Lease.{Leasing, Ticketed}
-use Rattle.bundle.specs.Calls.{Start}
 use Rattle.exchange.specs.declared.job.Prepared.{Prepared}
+use Rattle.exchange.specs.declared.done.Answer.{Answer}
 use Rattle.exchange.specs.declared.done.Fault.{Fault}
 use Rattle.exchange.specs.declared.done.Fault.TheVariants.{Memory, Dial, Read, Write, BadResponse, Cut, Refused, Cancelled}
 use Rattle.exchange.specs.declared.done.Done.{Done}
 use Rattle.exchange.specs.declared.done.Done.TheVariants.{Good, Bad}
 use Rattle.exchange.specs.declared.state.State.{State}
-use Rattle.exchange.specs.declared.state.State.TheVariants.{Asking, Waiting, Dialling, Sending, Reading as ReadingState, Finished}
-use Rattle.exchange.specs.Wires.{Carried, IsUntouched}
-use Rattle.exchange.specs.Deeds.{Out, none_out, lease_out, ticket_out, Deed}
-use Rattle.exchange.specs.Deeds.Deed.{gives_back, abandons, withdraws, refuses}
-use Rattle.exchange.specs.Answers.{text_of, unread, wanted, IsAnswer, ReadsWire}
+use Rattle.exchange.specs.declared.state.State.TheVariants.{Asking, Waiting, Dialling, Sending, Reading, Finished}
+use Rattle.exchange.specs.Wires.{Carried}
+use Rattle.exchange.specs.Deeds.{Deed, AllDone}
+use Rattle.exchange.specs.Deeds.Deed.{refuses, finds_strange_ticket}
+use Rattle.exchange.specs.Worlds.{World, OnWire}
+use Rattle.exchange.specs.Answers.{unread, wanted, IsSent, ReadsWire, IsAnswer, IsFaulty, IsCut, FailsReading, FailsWriting, IsWhole, IsFruitless, may_retry}
+use Rattle.exchange.specs.Story.{WaitsFor, Asks, Has, IsReturn, IsDrop, IsStray}
 
--- what contracts may know of caches and wires
-pub record World (C W : Type 0) : Type 1 where
-  pub out : C → Out
-  pub owns : C → ℕ → Tables → Type 0
-  pub did : C → C → Deed W → Type 0
-  pub carried : W → Carried
-
-abbrev pub world_of : {C W : Type 0} → (C → Out) → (C → ℕ → Tables → Type 0) → (C → C → Deed W → Type 0) → (W → Carried) → World C W
-world_of out owns did carried = record { out = out; owns = owns; did = did; carried = carried }
-
--- of the lease's wire this holds
-abbrev pub OnWire : {W : Type 0} → (W → Carried) → Leasing W → (Carried → Type 0) → Type 0
-OnWire carried lease P = IsSomeAnd lease.stream (λ wire. P (carried wire))
-
--- the lease is the exchange's own: made here, for its site and its want
-pub record IsOwn {C W : Type 0} (world : World C W) (p : Prepared) (cache : C) (lease : Leasing W) : Type 0 where
-  pub here : world.owns cache lease.site lease.tables
-  pub site : lease.site ≡ p.site
-  pub want : lease.start.want ≡ wanted p
-
--- it asks, waits or dials: nothing was sent or read
-pub record StandsAsking {C W : Type 0} (world : World C W) (p : Prepared) (cache : C) : Type 0 where
-  pub out : world.out cache ≡ none_out
+-- it asks, waits or dials: its reader was fed nothing
+pub record StandsAsking {C W : Type 0} (world : World C W) (p : Prepared) (deeds : List (Deed W)) : Type 0 where
   pub reader : p.reader ≡ unread p
+  pub asks : Asks world p deeds
 
-pub record StandsWaiting {C W : Type 0} (world : World C W) (p : Prepared) (cache : C) (ticket : Ticketed) : Type 0 where
-  pub out : world.out cache ≡ ticket_out
+pub record StandsWaiting {C W : Type 0} (world : World C W) (p : Prepared) (ticket : Ticketed) (deeds : List (Deed W)) : Type 0 where
   pub reader : p.reader ≡ unread p
-  pub site : ticket.site ≡ p.site
-  pub want : ticket.wait.want ≡ wanted p
+  pub waits : WaitsFor world (Asks world p) p.site (wanted p) ticket deeds
 
-pub record StandsDialling {C W : Type 0} (world : World C W) (p : Prepared) (cache : C) (lease : Leasing W) : Type 0 where
-  pub out : world.out cache ≡ lease_out
-  pub own : IsOwn world p cache lease
+pub record StandsDialling {C W : Type 0} (world : World C W) (p : Prepared) (lease : Leasing W) (deeds : List (Deed W)) : Type 0 where
   pub reader : p.reader ≡ unread p
+  pub has : Has world p lease lease deeds
   pub none : lease.stream ≡ None
-  pub fresh : lease.start.reused ≡ false
 
--- a front of the request was sent, short of its end, and nothing was read
-pub record IsSent (p : Prepared) (sent : ℕ) (wire : Carried) : Type 0 where
-  pub front : wire.sent ≡ take sent (text_of p)
-  pub received : wire.received ≡ []
-  pub going : wire.ended ≡ false
-
-pub record StandsSending {C W : Type 0} (world : World C W) (p : Prepared) (cache : C) (lease : Leasing W) (sent : ℕ) : Type 0 where
-  pub out : world.out cache ≡ lease_out
-  pub own : IsOwn world p cache lease
+-- a front of the request was sent, and nothing was read
+pub record StandsSending {C W : Type 0} (world : World C W) (p : Prepared) (lease : Leasing W) (sent : ℕ) (deeds : List (Deed W)) : Type 0 where
+  pub given : Leasing W
   pub reader : p.reader ≡ unread p
-  pub short : sent < length (text_of p)
-  pub wire : OnWire world.carried lease (IsSent p sent)
+  pub has : Has world p given lease deeds
+  pub wire : OnWire world given lease (IsSent p sent)
 
 -- the request was sent whole, and all that came since was read
-pub record StandsReading {C W : Type 0} (world : World C W) (p : Prepared) (cache : C) (lease : Leasing W) : Type 0 where
-  pub out : world.out cache ≡ lease_out
-  pub own : IsOwn world p cache lease
-  pub wire : OnWire world.carried lease (ReadsWire p)
+pub record StandsReading {C W : Type 0} (world : World C W) (p : Prepared) (lease : Leasing W) (deeds : List (Deed W)) : Type 0 where
+  pub given : Leasing W
+  pub has : Has world p given lease deeds
+  pub wire : OnWire world given lease (ReadsWire p)
 
 -- a lease was given back with those facts, or taken for a stranger
-abbrev pub Returns : {C W : Type 0} → World C W → C → C → Leasing W → Facts → Type 0
-Returns world before after lease facts = world.did before after (gives_back lease facts) ⊎ world.did before after (refuses StrangeLease)
+abbrev pub Returns : {C W : Type 0} → World C W → Facts → Leasing W → Deed W → Type 0
+Returns world facts lease deed = IsReturn world facts lease deed ⊎ IsStray lease deed
 
-abbrev pub Drops : {C W : Type 0} → World C W → C → C → Leasing W → Type 0
-Drops world before after lease = world.did before after (abandons lease) ⊎ world.did before after (refuses StrangeLease)
+-- a lease was abandoned, or taken for a stranger
+abbrev pub Drops : {C W : Type 0} → World C W → Leasing W → Deed W → Type 0
+Drops world lease deed = IsDrop world lease deed ⊎ IsStray lease deed
 
--- a ticket was withdrawn, or taken for a stranger
-abbrev pub Withdraws : {C W : Type 0} → World C W → C → C → Ticketed → Type 0
-Withdraws world before after ticket = world.did before after (withdraws ticket) ⊎ world.did before after (refuses StrangeTicket)
+-- its last lease was spent so; this held of whether its connection was reused, and of what its wire carried
+pub record Spent {C W : Type 0} (world : World C W) (p : Prepared) (Spends : Leasing W → Deed W → Type 0) (P : Bool → Carried → Type 0) (deeds : List (Deed W)) : Type 0 where
+  pub given : Leasing W
+  pub lease : Leasing W
+  pub deed : Deed W
+  pub earlier : List (Deed W)
+  pub last : deeds ≡ deed ∷ earlier
+  pub spends : Spends lease deed
+  pub has : Has world p given lease earlier
+  pub wire : OnWire world given lease (P lease.start.reused)
 
--- the wire failed
-abbrev pub HasFailed : Carried → Type 0
-HasFailed wire = 0 < wire.failures
+-- its last lease was given up, before its connection was open
+pub record GaveUp {C W : Type 0} (world : World C W) (p : Prepared) (deeds : List (Deed W)) : Type 0 where
+  pub lease : Leasing W
+  pub deed : Deed W
+  pub earlier : List (Deed W)
+  pub last : deeds ≡ deed ∷ earlier
+  pub drops : Drops world lease deed
+  pub has : Has world p lease lease earlier
+  pub none : lease.stream ≡ None
 
--- the bytes that the wire received are no response; the facts are those up to their first fault
-abbrev pub IsFaulty : Prepared → Facts → Carried → Type 0
-IsFaulty p facts wire = (reading : Reading) × (fault : ReadFault) × (reading.bytes ≡ wire.received) × (reading.method ≡ p.method) × (reading.request_close ≡ p.want.forbid_reuse) × HasFault reading fault × TellsFactsOfFaulty reading facts
+-- the request may not be sent once more, and this holds
+abbrev pub IsFinal : Prepared → (Carried → Type 0) → Bool → Carried → Type 0
+IsFinal p P reused wire = (may_retry p.retried reused wire.received ≡ false) × P wire
 
--- the wire ended before the response was whole
-pub record IsCut (p : Prepared) (facts : Facts) (wire : Carried) : Type 0 where
-  pub ended : wire.ended ≡ true
-  pub facts_are : TellsFacts p.method p.want.forbid_reuse wire.received true facts
-  pub cut : facts.whole ≡ false
+-- the request may be sent once more, since its connection bore no fruit
+abbrev pub MayRetry : Prepared → Bool → Carried → Type 0
+MayRetry p reused wire = (may_retry p.retried reused wire.received ≡ true) × IsFruitless p wire
 
--- what came of it: how its last lease was spent, and what its wire carried
-abbrev pub EndsBad : {C W : Type 0} → World C W → Prepared → C → ℕ → Fault → Type 0
-EndsBad world p cache dial_failures Memory = ⊥
-EndsBad {C} {W} world p cache dial_failures Dial = (0 < dial_failures) × ((before : C) × (lease : Leasing W) × Drops world before cache lease × (lease.stream ≡ None))
-EndsBad {C} {W} world p cache dial_failures Read = (before : C) × (lease : Leasing W) × Drops world before cache lease × OnWire world.carried lease HasFailed
-EndsBad {C} {W} world p cache dial_failures Write = (before : C) × (lease : Leasing W) × Drops world before cache lease × OnWire world.carried lease HasFailed
-EndsBad {C} {W} world p cache dial_failures BadResponse = (before : C) × (lease : Leasing W) × (facts : Facts) × Returns world before cache lease facts × OnWire world.carried lease (IsFaulty p facts)
-EndsBad {C} {W} world p cache dial_failures Cut = (before : C) × (lease : Leasing W) × (facts : Facts) × Returns world before cache lease facts × OnWire world.carried lease (IsCut p facts)
-EndsBad {C} world p cache dial_failures (Refused refusal) = (before : C) × world.did before cache (refuses refusal)
-EndsBad world p cache dial_failures Cancelled = ⊥
+-- its response was whole, or its request would have been sent once more
+abbrev pub WouldGoOn : Prepared → Bool → Carried → Type 0
+WouldGoOn p reused wire = IsWhole p wire ⊎ MayRetry p reused wire
 
-abbrev pub Ends : {C W : Type 0} → World C W → Prepared → C → ℕ → Done → Type 0
-Ends {C} {W} world p cache dial_failures (Good answer) = (before : C) × (lease : Leasing W) × world.did before cache (gives_back lease answer.facts) × (answer.reused ≡ lease.start.reused) × OnWire world.carried lease (λ wire. IsAnswer p wire answer)
-Ends world p cache dial_failures (Bad fault) = EndsBad world p cache dial_failures fault
+-- it was refused a connection
+pub record WasRefused {C W : Type 0} (world : World C W) (p : Prepared) (refusal : Refusal) (deeds : List (Deed W)) : Type 0 where
+  pub earlier : List (Deed W)
+  pub now : ℕ
+  pub last : deeds ≡ refuses p.site (wanted p) now refusal ∷ earlier
+  pub told : world.tells now
+  pub asks : Asks world p earlier
 
-pub record StandsFinished {C W : Type 0} (world : World C W) (p : Prepared) (cache : C) (dial_failures : ℕ) (done : Done) : Type 0 where
-  pub out : world.out cache ≡ none_out
-  pub ends : Ends world p cache dial_failures done
+-- its ticket was taken for a stranger
+pub record LostTicket {C W : Type 0} (world : World C W) (p : Prepared) (refusal : Refusal) (deeds : List (Deed W)) : Type 0 where
+  pub ticket : Ticketed
+  pub earlier : List (Deed W)
+  pub last : deeds ≡ finds_strange_ticket ticket ∷ earlier
+  pub waits : WaitsFor world (Asks world p) p.site (wanted p) ticket earlier
+  pub refusal_is : refusal ≡ StrangeTicket
 
-abbrev pub StandsAt : {C W : Type 0} → World C W → Prepared → C → ℕ → State W → Type 0
-StandsAt world p cache dial_failures Asking = StandsAsking world p cache
-StandsAt world p cache dial_failures (Waiting ticket) = StandsWaiting world p cache ticket
-StandsAt world p cache dial_failures (Dialling lease) = StandsDialling world p cache lease
-StandsAt world p cache dial_failures (Sending lease sent) = StandsSending world p cache lease sent
-StandsAt world p cache dial_failures (ReadingState lease) = StandsReading world p cache lease
-StandsAt world p cache dial_failures (Finished done) = StandsFinished world p cache dial_failures done
+-- its lease was, where it would have gone on or been answered
+pub record LostLease {C W : Type 0} (world : World C W) (p : Prepared) (refusal : Refusal) (deeds : List (Deed W)) : Type 0 where
+  pub spent : Spent world p IsStray (WouldGoOn p) deeds
+  pub refusal_is : refusal ≡ StrangeLease
 
--- the request was sent before: a reused connection failed before any byte of a response came, and was abandoned
-abbrev pub WasRetried : {C W : Type 0} → World C W → Type 0
-WasRetried {C} {W} world = (before after : C) × (lease : Leasing W) × world.did before after (abandons lease) × (lease.start.reused ≡ true) × OnWire world.carried lease (λ wire. wire.received ≡ [])
+-- a whole response: its lease was given back with its facts
+abbrev pub IsGood : {C W : Type 0} → World C W → Prepared → Answer → List (Deed W) → Type 0
+IsGood {C} {W} world p answer deeds = Spent world p (IsReturn world answer.facts) (λ reused wire. (answer.reused ≡ reused) × IsAnswer p answer wire) deeds
 
--- what it has beside: a text, and room to read into; and where it was retried, why
-pub record IsReady {C W : Type 0} (world : World C W) (p : Prepared) : Type 0 where
-  pub text : 0 < length (text_of p)
-  pub room : 0 < length p.buffer.items
-  pub retried : p.retried ≡ true → WasRetried world
+-- no response: why, how its last lease was spent, and what its wire carried
+abbrev pub IsBad : {C W : Type 0} → World C W → Prepared → Fault → List (Deed W) → Type 0
+IsBad world p Memory deeds = ⊥
+IsBad world p Dial deeds = GaveUp world p deeds
+IsBad world p Read deeds = Spent world p (Drops world) (IsFinal p (FailsReading p)) deeds
+IsBad world p Write deeds = Spent world p (Drops world) (IsFinal p (FailsWriting p)) deeds
+IsBad world p BadResponse deeds = (facts : Facts) × Spent world p (Returns world facts) (λ reused. IsFaulty p facts) deeds
+IsBad world p Cut deeds = (facts : Facts) × Spent world p (Returns world facts) (IsFinal p (IsCut p facts)) deeds
+IsBad world p (Refused refusal) deeds = WasRefused world p refusal deeds ⊎ (LostTicket world p refusal deeds ⊎ LostLease world p refusal deeds)
+IsBad world p Cancelled deeds = ⊥
 
--- a lease begins: on a new connection, which has no wire yet, or on a reused one, whose wire has carried nothing since
-abbrev pub Begins : {W : Type 0} → (W → Carried) → Leasing W → State W → Type 0
-Begins carried lease (Dialling same) = (same ≡ lease) × (lease.stream ≡ None)
-Begins carried lease (Sending same sent) = (same ≡ record lease { stream = same.stream }) × OnWire carried same IsUntouched × (sent ≡ 0)
-Begins carried lease _ = ⊥
+abbrev pub Ends : {C W : Type 0} → World C W → Prepared → Done → List (Deed W) → Type 0
+Ends world p (Good answer) deeds = IsGood world p answer deeds
+Ends world p (Bad fault) deeds = IsBad world p fault deeds
 
--- the lease of that start goes on, or the exchange has ended
-abbrev pub GoesOn : {W : Type 0} → Start → State W → Type 0
-GoesOn start Asking = ⊥
-GoesOn start (Waiting ticket) = ⊥
-GoesOn start (Dialling lease) = lease.start ≡ start
-GoesOn start (Sending lease sent) = lease.start ≡ start
-GoesOn start (ReadingState lease) = lease.start ≡ start
-GoesOn start (Finished done) = Unit {0}
+abbrev pub StandsAt : {C W : Type 0} → World C W → Prepared → State W → List (Deed W) → Type 0
+StandsAt world p Asking deeds = StandsAsking world p deeds
+StandsAt world p (Waiting ticket) deeds = StandsWaiting world p ticket deeds
+StandsAt world p (Dialling lease) deeds = StandsDialling world p lease deeds
+StandsAt world p (Sending lease sent) deeds = StandsSending world p lease sent deeds
+StandsAt world p (Reading lease) deeds = StandsReading world p lease deeds
+StandsAt world p (Finished done) deeds = Ends world p done deeds
 
--- no lease is tried again: what has a lease goes on with it, or ends; what has ended stays so
-abbrev pub KeepsStart : {W : Type 0} → State W → State W → Type 0
-KeepsStart Asking new = Unit {0}
-KeepsStart (Waiting ticket) new = Unit {0}
-KeepsStart (Dialling lease) new = GoesOn lease.start new
-KeepsStart (Sending lease sent) new = GoesOn lease.start new
-KeepsStart (ReadingState lease) new = GoesOn lease.start new
-KeepsStart (Finished done) new = new ≡ Finished done
+-- all that was done since that first time led there
+abbrev pub StandsFrom : {C W : Type 0} → World C W → Prepared → C → C → State W → Type 0
+StandsFrom {C} {W} world p first cache state = (deeds : List (Deed W)) × AllDone world.did first cache deeds × StandsAt world p state deeds
 
--- what has ended stays so
-abbrev pub StaysEnded : {W : Type 0} → State W → State W → Type 0
-StaysEnded (Finished done) new = new ≡ Finished done
-StaysEnded _ new = Unit {0}
-
--- only the first connection is tried again, and an exchange that was tried again says so from then on: unless it says so
--- newly, no lease is tried again
-abbrev pub TriesOnce : {W : Type 0} → Prepared → Prepared → State W → State W → Type 0
-TriesOnce old new before after = (old.retried ≡ true → new.retried ≡ true) × (new.retried ≡ old.retried → KeepsStart before after)
+-- whenever it began, it goes on from where it stood
+abbrev pub GoesOn : {C W : Type 0} → World C W → Prepared → Prepared → C → C → State W → State W → Type 0
+GoesOn {C} world old new before after state next = (first : C) → StandsFrom world old first before state → StandsFrom world new first after next

@@ -1,75 +1,125 @@
--- What the parts of a step may rely on, and what they leave.
-use Rattle.std.specs.Prelude.{◌≡◌, ℕ, Bool, true, false, not, ◌&&◌, Some, None, ◌⊎◌, ◌++◌, take}
+-- What the parts of a step leave.
+use Rattle.std.specs.Prelude.{◌≡◌, ℕ, ◌+◌, ◌≤◌, Bool, true, false, if◌then◌else◌, Some, None, ◌⊎◌, List, [], ◌++◌, take}
+use Rattle.conn_key.specs.Wants.{Rises}
 use Rattle.persistence.specs.declared.facts.Facts.{Facts}
 use Rattle.persistence.specs.Split.{Parts, IsSplit}
-use Rattle.persistence.specs.Told.{is_some_text}
-use Rattle.budget.specs.declared.refusal.Refusal.TheVariants.{StrangeLease}
 use Rattle.bundle.specs.Lease.{Leasing}
 use Rattle.exchange.specs.declared.job.Prepared.{Prepared}
 use Rattle.exchange.specs.declared.done.Fault.{Fault}
-use Rattle.exchange.specs.declared.done.Fault.TheVariants.{Read, Write}
-use Rattle.exchange.specs.Wires.{Carried}
-use Rattle.exchange.specs.Deeds.{lease_out}
-use Rattle.exchange.specs.Deeds.Deed.{gives_back, refuses}
-use Rattle.exchange.specs.Answers.{text_of}
-use Rattle.exchange.specs.Standing.{World, IsOwn}
+use Rattle.exchange.specs.declared.done.Fault.TheVariants.{Dial, Read, Write}
+use Rattle.exchange.specs.declared.done.Done.TheVariants.{Bad}
+use Rattle.exchange.specs.declared.state.State.{State}
+use Rattle.exchange.specs.declared.state.State.TheVariants.{Asking, Waiting, Dialling, Sending, Reading, Finished}
+use Rattle.exchange.specs.Wires.{Carried, Happening}
+use Rattle.exchange.specs.Wires.Happening.{is_adopted}
+use Rattle.exchange.specs.Deeds.{Deed, AllDone}
+use Rattle.exchange.specs.Deeds.Deed.{gives_back, finds_strange_lease}
+use Rattle.exchange.specs.Worlds.{World, OnWire}
+use Rattle.exchange.specs.Answers.{text_of, NoneFailed, GoesWell, FailsReading, FailsWriting, IsEnded, IsFruitless, may_retry}
+use Rattle.exchange.specs.Story.{Has}
+use Rattle.exchange.specs.Standing.{StandsFrom}
 
--- a step of the lease's wire: this holds of what it carried before and after, and nothing else of the lease changes
-pub record StepsWire {W : Type 0} (carried : W → Carried) (old new : Leasing W) (P : Carried → Carried → Type 0) : Type 0 where
+-- a step of the lease's wire: this holds of it before and after, and nothing else of the lease changes
+pub record StepsWire {W : Type 0} (old new : Leasing W) (P : W → W → Type 0) : Type 0 where
   pub before : W
   pub after : W
   pub was : old.stream ≡ Some before
   pub is_now : new ≡ record old { stream = Some after }
-  pub stepped : P (carried before) (carried after)
+  pub stepped : P before after
 
--- the exchange's lease is out
-pub record HasLease {C W : Type 0} (world : World C W) (p : Prepared) (cache : C) (lease : Leasing W) : Type 0 where
-  pub out : world.out cache ≡ lease_out
-  pub own : IsOwn world p cache lease
+-- a lease begins: on a new connection, which has no wire yet, or on a reused one, whose wire is adopted
+abbrev pub Begins : {W : Type 0} → (W → W → Happening → Type 0) → Leasing W → State W → Type 0
+Begins happened lease (Dialling same) = (same ≡ lease) × (lease.stream ≡ None) × (lease.start.reused ≡ false)
+Begins happened lease (Sending same sent) = StepsWire lease same (λ old new. happened old new is_adopted) × (sent ≡ 0)
+Begins happened lease _ = ⊥
 
--- a lease was given back, or taken for a stranger
-abbrev pub IsGivenBack : {C W : Type 0} → World C W → C → C → Leasing W → Facts → Bool → Type 0
-IsGivenBack world before after lease facts true = world.did before after (gives_back lease facts)
-IsGivenBack world before after lease facts false = world.did before after (refuses StrangeLease)
+-- a lease was given back at that moment, or taken for a stranger
+abbrev pub IsGivenBack : {W : Type 0} → (Deed W → Type 0) → Leasing W → Facts → ℕ → Bool → Type 0
+IsGivenBack did lease facts now true = did (gives_back lease facts now)
+IsGivenBack did lease facts now false = did (finds_strange_lease lease)
 
--- a lease may be tried again: the first one, on a reused connection, before any byte of a response
-abbrev pub may_retry : {W : Type 0} → Prepared → Leasing W → Bool
-may_retry p lease = not p.retried && (lease.start.reused && not (is_some_text p.reader.bytes))
+-- all that was done since that first time gave it a lease, and this holds of what its wire carried since
+pub record LeasedFrom {C W : Type 0} (world : World C W) (p : Prepared) (first cache : C) (lease : Leasing W) (P : Carried → Type 0) : Type 0 where
+  pub given : Leasing W
+  pub deeds : List (Deed W)
+  pub done : AllDone world.did first cache deeds
+  pub has : Has world p given lease deeds
+  pub wire : OnWire world given lease P
 
--- what the reader was fed are the bytes that the wire received
-abbrev pub IsFed : Prepared → Carried → Type 0
-IsFed p wire = p.reader.bytes ≡ wire.received
+-- whenever it began, it goes on from a lease of which that held
+abbrev pub LeadsOn : {C W : Type 0} → World C W → Prepared → Prepared → C → C → Leasing W → (Carried → Type 0) → State W → Type 0
+LeadsOn {C} world old new before after lease P next = (first : C) → LeasedFrom world old first before lease P → StandsFrom world new first after next
 
--- the reader, at an end: it was fed what the wire received, without a fault; and the wire has ended, or the response is
--- whole
-pub record CanSettle (p : Prepared) (wire : Carried) : Type 0 where
-  pub sent : wire.sent ≡ text_of p
-  pub bytes : p.reader.bytes ≡ wire.received
-  pub ended : p.reader.ended ≡ wire.ended
-  pub faultless : p.reader.fault ≡ None
-  pub method : p.reader.method ≡ p.method
-  pub close : p.reader.request_close ≡ p.want.forbid_reuse
-  pub over : (wire.ended ≡ true) ⊎ ((parts : Parts) × IsSplit p.method wire.received wire.ended parts)
+-- the connection failed so
+abbrev pub Fails : Prepared → Fault → Carried → Type 0
+Fails p Read wire = FailsReading p wire
+Fails p Write wire = FailsWriting p wire
+Fails p _ wire = ⊥
 
--- a failure of the wire
+-- a fault of the wire
 abbrev pub IsWireFault : Fault → Type 0
 IsWireFault fault = (fault ≡ Read) ⊎ (fault ≡ Write)
 
--- the reader, where its wire has ended and it was not told so yet
-pub record IsAtEnd (p : Prepared) (wire : Carried) : Type 0 where
-  pub sent : wire.sent ≡ text_of p
+-- what the reader was fed is what the wire received, without a fault
+pub record IsFed (p : Prepared) (wire : Carried) : Type 0 where
   pub bytes : p.reader.bytes ≡ wire.received
-  pub ended : wire.ended ≡ true
   pub faultless : p.reader.fault ≡ None
   pub method : p.reader.method ≡ p.method
   pub close : p.reader.request_close ≡ p.want.forbid_reuse
+
+-- it was, and the connection bore no fruit
+pub record IsRetriable (p : Prepared) (wire : Carried) : Type 0 where
+  pub fed : IsFed p wire
+  pub fruitless : IsFruitless p wire
+
+-- it was, and the connection failed so
+pub record FailsSo (p : Prepared) (fault : Fault) (wire : Carried) : Type 0 where
+  pub fed : IsFed p wire
+  pub fails : Fails p fault wire
+
+-- the reader, where its wire has ended and it was not told so yet
+pub record IsAtEnd (p : Prepared) (wire : Carried) : Type 0 where
+  pub ended : IsEnded p wire
+  pub fed : IsFed p wire
 
 -- so many bytes of the buffer have come, which the reader was not fed yet
 pub record HasCome (p : Prepared) (count : ℕ) (wire : Carried) : Type 0 where
   pub sent : wire.sent ≡ text_of p
   pub bytes : wire.received ≡ p.reader.bytes ++ take count p.buffer.items
-  pub going : wire.ended ≡ false
+  pub well : GoesWell wire
   pub reading : p.reader.ended ≡ false
   pub faultless : p.reader.fault ≡ None
   pub method : p.reader.method ≡ p.method
   pub close : p.reader.request_close ≡ p.want.forbid_reuse
+
+-- the reader, at an end: the wire has ended, and the request may not be sent once more, or the response is whole
+pub record CanSettle (p : Prepared) (reused : Bool) (wire : Carried) : Type 0 where
+  pub sent : wire.sent ≡ text_of p
+  pub unfailed : NoneFailed wire
+  pub fed : IsFed p wire
+  pub ended : p.reader.ended ≡ wire.ended
+  pub over : ((wire.ended ≡ true) × (may_retry p.retried reused wire.received ≡ false)) ⊎ ((parts : Parts) × IsSplit p.method wire.received wire.ended parts)
+
+-- no dial has failed
+abbrev pub IsNotDial : {W : Type 0} → State W → Type 0
+IsNotDial (Finished (Bad Dial)) = ⊥
+IsNotDial _ = Unit {0}
+
+-- a dial has failed, so that its count rose, where that is what came of it, and only there
+abbrev pub DialFails : {W : Type 0} → ℕ → ℕ → State W → Type 0
+DialFails old new (Finished (Bad Dial)) = Rises old new
+DialFails old new _ = new ≡ old
+
+-- how many connections it may still open: one, until it has a connection; then one more where its request may be sent
+-- once more
+abbrev pub may_open : {W : Type 0} → Prepared → State W → ℕ
+may_open p Asking = 1
+may_open p (Waiting ticket) = 1
+may_open p (Dialling lease) = 1
+may_open p (Sending lease sent) = if may_retry p.retried lease.start.reused [] then 1 else 0
+may_open p (Reading lease) = if may_retry p.retried lease.start.reused [] then 1 else 0
+may_open p (Finished done) = 0
+
+-- it opens no more than it may: so many were opened before, and so many after
+abbrev pub Opens : {W : Type 0} → Prepared → Prepared → State W → ℕ → ℕ → State W → Type 0
+Opens p q state old new next = new + may_open q next ≤ old + may_open p state

@@ -1,10 +1,13 @@
 //! How an exchange gets its connection: it asks the cache, waits, and dials.
 
-ghost use Rattle.std.specs.Prelude.{◌≡◌, ◌<◌, ◌≤◌, None, length, is_some};
+ghost use Rattle.std.specs.Prelude.{◌≡◌, ◌<◌, ◌≤◌, None, length, is_some, false};
+ghost use Rattle.exchange.specs.Deeds.{none_out, ticket_out};
 ghost use Rattle.exchange.specs.Answers.{text_of};
-ghost use Rattle.exchange.specs.Standing.{world_of, Begins, StandsAt, StandsAsking, StandsWaiting};
-ghost use Rattle.exchange.specs.Standing.{StandsDialling, TriesOnce};
+ghost use Rattle.exchange.specs.Worlds.{world_of};
+ghost use Rattle.exchange.specs.Standing.{GoesOn};
+ghost use Rattle.exchange.specs.Steps.{Begins, DialFails, Opens};
 ghost use Rattle.exchange.specs.Waiting.{AtStep, StepLeaves};
+ghost use Rattle.exchange.specs.Owning.{OwnsLease, OwnsAt, IsReading};
 ghost use Rattle.exchange.specs.declared.state.State.TheVariants as at;
 
 use crate::done::{Done, Fault, Stage};
@@ -12,7 +15,7 @@ use crate::ending::abandon;
 use crate::job::Prepared;
 use crate::leasing::Cache;
 use crate::state::{State, Step};
-use crate::wire::{Dial, Dialled, Wire};
+use crate::wire::{Clock, Dial, Dialled, Wire};
 use budget::Refusal;
 use bundle::{Claimed, Lease, Ticket};
 use cache::Acquired;
@@ -21,8 +24,9 @@ use futures::task::{Context, Poll, Waker};
 // Where a lease begins: its connection is dialled, or its wire is used again.
 fn begin<W: Wire, D: Dial<W>>(mut lease: Lease<W>, dial: &mut D) -> State<W>
     requires { is_some lease.stream ≡ lease.start.reused }
-    ensures begins { Begins W.carried lease result }
-    ensures counted { D.failures dial.old ≤ D.failures dial.new }
+    ensures begins { Begins W.happened lease result }
+    ensures counted { D.failures dial.new ≡ D.failures dial.old }
+    ensures opens { D.opened dial.new ≤ D.opened dial.old }
 {
     match lease.stream_mut() {
         Some(wire) => dial.adopt(wire),
@@ -32,18 +36,23 @@ fn begin<W: Wire, D: Dial<W>>(mut lease: Lease<W>, dial: &mut D) -> State<W>
 }
 
 // Asks the cache for a connection.
-pub(crate) fn ask<W: Wire, C: Cache<W>, D: Dial<W>>(
+pub(crate) fn ask<W: Wire, C: Cache<W>, D: Dial<W>, K: Clock>(
     parts: &Prepared,
     cache: &mut C,
     dial: &mut D,
-    now: u64,
+    clock: &K,
 ) -> State<W>
-    requires stands { StandsAsking (world_of C.out C.owns C.did W.carried) parts.now cache.old }
+    requires none { C.out cache.old ≡ none_out }
     requires text { 0 < length (text_of parts.now) }
-    ensures { StandsAt (world_of C.out C.owns C.did W.carried) parts.now cache.new
-        (D.failures dial.new) result }
+    requires reading { IsReading parts.now }
+    ensures owns { OwnsAt (C.out cache.new) (C.owns cache.new) parts.now result }
+    ensures story { GoesOn (world_of C.did W.untouched W.happened (K.tells clock.now)) parts.now
+        parts.now cache.old cache.new at.Asking result }
+    ensures dialled { DialFails (D.failures dial.old) (D.failures dial.new) result }
+    ensures opens { Opens parts.now parts.now at.Asking (D.opened dial.old)
+        (D.opened dial.new) result }
 {
-    match cache.acquire(parts.site, parts.wanted(), now) {
+    match cache.acquire(parts.site, parts.wanted(), clock.now()) {
         Ok(Acquired::Lease(lease)) => begin(lease, dial),
         Ok(Acquired::Wait(ticket)) => State::Waiting(ticket),
         Err(refusal) => State::Finished(Done::Bad(Fault::Refused(refusal))),
@@ -51,19 +60,25 @@ pub(crate) fn ask<W: Wire, C: Cache<W>, D: Dial<W>>(
 }
 
 // Claims what its transfer waits for.
-pub(crate) fn claim<W: Wire, C: Cache<W>, D: Dial<W>>(
+pub(crate) fn claim<W: Wire, C: Cache<W>, D: Dial<W>, K: Clock>(
     parts: &Prepared,
     cache: &mut C,
     dial: &mut D,
+    _clock: &K,
     ticket: Ticket,
     cx: &mut Context<'_>,
 ) -> Step<W>
-    requires stands { StandsWaiting (world_of C.out C.owns C.did W.carried) parts.now cache.old
-        ticket }
+    requires out { C.out cache.old ≡ ticket_out }
     requires text { 0 < length (text_of parts.now) }
-    ensures stands { AtStep result (StandsAt (world_of C.out C.owns C.did W.carried) parts.now
-        cache.new (D.failures dial.new)) }
-    ensures leaves { StepLeaves W.carried (D.source_name dial.new) cx.old cx.new None result }
+    requires reading { IsReading parts.now }
+    ensures owns { AtStep result (OwnsAt (C.out cache.new) (C.owns cache.new) parts.now) }
+    ensures story { AtStep result
+        (GoesOn (world_of C.did W.untouched W.happened (K.tells _clock.now)) parts.now parts.now
+        cache.old cache.new (at.Waiting ticket)) }
+    ensures dialled { AtStep result (DialFails (D.failures dial.old) (D.failures dial.new)) }
+    ensures opens { AtStep result (Opens parts.now parts.now (at.Waiting ticket)
+        (D.opened dial.old) (D.opened dial.new)) }
+    ensures leaves { StepLeaves W.source_name (D.source_name dial.new) cx.old cx.new None result }
 {
     match cache.claim(ticket) {
         Ok(Claimed::Lease(lease)) => Step::Goes(begin(lease, dial)),
@@ -80,22 +95,29 @@ pub(crate) fn claim<W: Wire, C: Cache<W>, D: Dial<W>>(
 }
 
 // Opens its connection.
-pub(crate) fn dial_up<W: Wire, C: Cache<W>, D: Dial<W>>(
+pub(crate) fn dial_up<W: Wire, C: Cache<W>, D: Dial<W>, K: Clock>(
     parts: &Prepared,
     cache: &mut C,
     dial: &mut D,
+    clock: &K,
     mut lease: Lease<W>,
-    now: u64,
     cx: &mut Context<'_>,
     waker: &mut Option<Waker>,
 ) -> Step<W>
-    requires stands { StandsDialling (world_of C.out C.owns C.did W.carried) parts.now cache.old
-        lease }
+    requires owns { OwnsLease (C.out cache.old) (C.owns cache.old) lease }
+    requires none { lease.stream ≡ None }
+    requires fresh { lease.start.reused ≡ false }
     requires text { 0 < length (text_of parts.now) }
-    ensures stands { AtStep result (StandsAt (world_of C.out C.owns C.did W.carried) parts.now
-        cache.new (D.failures dial.new)) }
-    ensures once { AtStep result (TriesOnce parts.now parts.now (at.Dialling lease)) }
-    ensures leaves { StepLeaves W.carried (D.source_name dial.new) cx.old cx.new waker.new result }
+    requires reading { IsReading parts.now }
+    ensures owns { AtStep result (OwnsAt (C.out cache.new) (C.owns cache.new) parts.now) }
+    ensures story { AtStep result
+        (GoesOn (world_of C.did W.untouched W.happened (K.tells clock.now)) parts.now parts.now
+        cache.old cache.new (at.Dialling lease)) }
+    ensures dialled { AtStep result (DialFails (D.failures dial.old) (D.failures dial.new)) }
+    ensures opens { AtStep result (Opens parts.now parts.now (at.Dialling lease)
+        (D.opened dial.old) (D.opened dial.new)) }
+    ensures leaves { StepLeaves W.source_name (D.source_name dial.new) cx.old cx.new waker.new
+        result }
 {
     match dial.dial(parts.site) {
         Dialled::Up(wire) => {
@@ -107,7 +129,7 @@ pub(crate) fn dial_up<W: Wire, C: Cache<W>, D: Dial<W>>(
             Step::Waits(State::Dialling(lease), Stage::Dialling)
         }
         Dialled::Fault => {
-            abandon(cache, lease, now);
+            abandon(cache, lease, clock.now());
             Step::Goes(State::Finished(Done::Bad(Fault::Dial)))
         }
     }

@@ -1,20 +1,21 @@
 //! How a lease of an exchange ends: given back with the facts of its response, or abandoned, and
 //! perhaps tried again.
 
-ghost use Rattle.std.specs.Prelude.{◌≡◌, ◌<◌, true, false, IsSome, [], ℕ};
+ghost use Rattle.std.specs.Prelude.{◌≡◌, true, false, IsSome};
 ghost use Rattle.exchange.specs.Deeds.{none_out, lease_out, ticket_out};
-ghost use Rattle.exchange.specs.Answers.{IsSameJob};
-ghost use Rattle.exchange.specs.Standing.{world_of, OnWire, StandsAt, IsReady, HasFailed, Drops};
-ghost use Rattle.exchange.specs.Standing.{Withdraws};
-ghost use Rattle.exchange.specs.Standing.{GoesOn};
-ghost use Rattle.exchange.specs.Steps.{HasLease, IsGivenBack, may_retry, IsFed, CanSettle};
-ghost use Rattle.exchange.specs.Steps.{IsWireFault, IsAtEnd};
+ghost use Rattle.exchange.specs.Leasing.{DropsBy, WithdrawsBy};
+ghost use Rattle.exchange.specs.Answers.{IsSameJob, IsFruitless, may_retry};
+ghost use Rattle.exchange.specs.Worlds.{world_of};
+ghost use Rattle.exchange.specs.Steps.{IsGivenBack, LeadsOn, IsRetriable, FailsSo, IsAtEnd};
+ghost use Rattle.exchange.specs.Steps.{CanSettle, IsWireFault, IsNotDial, Opens};
+ghost use Rattle.exchange.specs.Owning.{IsReady, IsReading, OwnsLease, OwnsWire, OwnsAt};
+ghost use Rattle.exchange.specs.declared.state.State.TheVariants as at;
 
 use crate::done::{Answer, Done, Fault};
 use crate::job::Prepared;
 use crate::leasing::Cache;
 use crate::state::State;
-use crate::wire::Wire;
+use crate::wire::{Clock, Wire};
 use budget::Refusal;
 use bundle::{Lease, Ticket};
 use persistence::Facts;
@@ -30,8 +31,7 @@ pub(crate) fn give_back<W: Wire, C: Cache<W>>(
     requires here { C.owns cache.old lease.site lease.tables }
     requires wire { IsSome lease.stream }
     ensures spent { C.out cache.new ≡ none_out }
-    ensures done { IsGivenBack (world_of C.out C.owns C.did W.carried) cache.old cache.new lease
-        facts result }
+    ensures done { IsGivenBack (C.did cache.old cache.new) lease facts now result }
 {
     match cache.give_back(lease, facts, now) {
         Ok(()) => true,
@@ -47,7 +47,7 @@ pub(crate) fn abandon<W: Wire, C: Cache<W>>(cache: &mut C, lease: Lease<W>, now:
     requires out { C.out cache.old ≡ lease_out }
     requires here { C.owns cache.old lease.site lease.tables }
     ensures spent { C.out cache.new ≡ none_out }
-    ensures done { Drops (world_of C.out C.owns C.did W.carried) cache.old cache.new lease }
+    ensures done { DropsBy (C.did cache.old cache.new) lease now }
 {
     if let Err(stray) = cache.abandon(lease, now) {
         stray.scrap();
@@ -58,7 +58,7 @@ pub(crate) fn abandon<W: Wire, C: Cache<W>>(cache: &mut C, lease: Lease<W>, now:
 pub(crate) fn withdraw<W: Wire, C: Cache<W>>(cache: &mut C, ticket: Ticket, now: u64)
     requires out { C.out cache.old ≡ ticket_out }
     ensures spent { C.out cache.new ≡ none_out }
-    ensures done { Withdraws (world_of C.out C.owns C.did W.carried) cache.old cache.new ticket }
+    ensures done { WithdrawsBy (C.did cache.old cache.new) ticket now }
 {
     if let Err(stray) = cache.withdraw(ticket, now) {
         stray.scrap();
@@ -69,32 +69,31 @@ pub(crate) fn withdraw<W: Wire, C: Cache<W>>(cache: &mut C, ticket: Ticket, now:
 // time, and no byte of a response came. GET and HEAD are safe to send again (RFC 9110, section
 // 9.2.2; RFC 9112, section 9.3.1).
 pub(crate) fn may_retry<W: Wire>(parts: &Prepared, lease: &Lease<W>) -> bool
-    ensures { result ≡ may_retry parts.now lease.now }
+    ensures { result ≡ may_retry parts.now.retried lease.now.start.reused parts.now.reader.bytes }
 {
     !parts.retried && lease.reused() && !parts.reader.any_byte()
 }
 
 // Abandons its lease, and asks for a new connection.
-fn retry<W: Wire, C: Cache<W>>(
+fn retry<W: Wire, C: Cache<W>, K: Clock>(
     parts: &mut Prepared,
     cache: &mut C,
+    clock: &K,
     lease: Lease<W>,
-    now: u64,
 ) -> State<W>
-    requires leased { HasLease (world_of C.out C.owns C.did W.carried) parts.old cache.old lease }
-    requires ready { IsReady (world_of C.out C.owns C.did W.carried) parts.old }
+    requires owns { OwnsLease (C.out cache.old) (C.owns cache.old) lease }
+    requires ready { IsReady parts.old }
     requires first { parts.old.retried ≡ false }
     requires reused { lease.start.reused ≡ true }
-    requires wire { OnWire W.carried lease (λ wire. wire.received ≡ []) }
-    requires reader { (parts.old.reader.method ≡ parts.old.method)
-        × (parts.old.reader.request_close ≡ parts.old.want.forbid_reuse) }
-    ensures stands { (failures : ℕ) → StandsAt (world_of C.out C.owns C.did W.carried) parts.new
-        cache.new failures result }
-    ensures ready { IsReady (world_of C.out C.owns C.did W.carried) parts.new }
+    ensures owns { OwnsAt (C.out cache.new) (C.owns cache.new) parts.new result }
+    ensures ready { IsReady parts.new }
     ensures same { IsSameJob parts.old parts.new }
-    ensures once { parts.new.retried ≡ parts.old.retried → GoesOn lease.start result }
+    ensures story { LeadsOn (world_of C.did W.untouched W.happened (K.tells clock.now)) parts.old
+        parts.new cache.old cache.new lease (IsRetriable parts.old) result }
+    ensures dialled { IsNotDial result }
+    ensures opens { Opens parts.old parts.new (at.Reading lease) 0 0 result }
 {
-    match cache.abandon(lease, now) {
+    match cache.abandon(lease, clock.now()) {
         Ok(()) => {
             parts.retried = true;
             parts.reader.clear();
@@ -108,75 +107,73 @@ fn retry<W: Wire, C: Cache<W>>(
 }
 
 // Its wire failed: tries it again where it may, or abandons it.
-pub(crate) fn fail<W: Wire, C: Cache<W>>(
+pub(crate) fn fail<W: Wire, C: Cache<W>, K: Clock>(
     parts: &mut Prepared,
     cache: &mut C,
+    clock: &K,
     lease: Lease<W>,
     fault: Fault,
-    now: u64,
 ) -> State<W>
-    requires leased { HasLease (world_of C.out C.owns C.did W.carried) parts.old cache.old lease }
-    requires ready { IsReady (world_of C.out C.owns C.did W.carried) parts.old }
-    requires fed { OnWire W.carried lease (IsFed parts.old) }
-    requires failed { OnWire W.carried lease HasFailed }
+    requires owns { OwnsLease (C.out cache.old) (C.owns cache.old) lease }
+    requires ready { IsReady parts.old }
     requires fault { IsWireFault fault }
-    requires reader { (parts.old.reader.method ≡ parts.old.method)
-        × (parts.old.reader.request_close ≡ parts.old.want.forbid_reuse) }
-    ensures stands { (failures : ℕ) → StandsAt (world_of C.out C.owns C.did W.carried) parts.new
-        cache.new failures result }
-    ensures ready { IsReady (world_of C.out C.owns C.did W.carried) parts.new }
+    ensures owns { OwnsAt (C.out cache.new) (C.owns cache.new) parts.new result }
+    ensures ready { IsReady parts.new }
     ensures same { IsSameJob parts.old parts.new }
-    ensures marked { parts.old.retried ≡ true → parts.new.retried ≡ true }
-    ensures once { parts.new.retried ≡ parts.old.retried → GoesOn lease.start result }
+    ensures story { LeadsOn (world_of C.did W.untouched W.happened (K.tells clock.now)) parts.old
+        parts.new cache.old cache.new lease (FailsSo parts.old fault) result }
+    ensures dialled { IsNotDial result }
+    ensures opens { Opens parts.old parts.new (at.Reading lease) 0 0 result }
 {
     if may_retry(parts, &lease) {
-        return retry(parts, cache, lease, now);
+        return retry(parts, cache, clock, lease);
     }
-    abandon(cache, lease, now);
+    abandon(cache, lease, clock.now());
     State::Finished(Done::Bad(fault))
 }
 
 // Its connection ended: tries it again where it may, or answers what came.
-pub(crate) fn end<W: Wire, C: Cache<W>>(
+pub(crate) fn end<W: Wire, C: Cache<W>, K: Clock>(
     parts: &mut Prepared,
     cache: &mut C,
+    clock: &K,
     lease: Lease<W>,
-    now: u64,
 ) -> State<W>
-    requires leased { HasLease (world_of C.out C.owns C.did W.carried) parts.old cache.old lease }
-    requires ready { IsReady (world_of C.out C.owns C.did W.carried) parts.old }
-    requires wire { OnWire W.carried lease (IsAtEnd parts.old) }
-    ensures stands { (failures : ℕ) → StandsAt (world_of C.out C.owns C.did W.carried) parts.new
-        cache.new failures result }
-    ensures ready { IsReady (world_of C.out C.owns C.did W.carried) parts.new }
+    requires owns { OwnsWire (C.out cache.old) (C.owns cache.old) lease }
+    requires ready { IsReady parts.old }
+    ensures owns { OwnsAt (C.out cache.new) (C.owns cache.new) parts.new result }
+    ensures ready { IsReady parts.new }
     ensures same { IsSameJob parts.old parts.new }
-    ensures marked { parts.old.retried ≡ true → parts.new.retried ≡ true }
-    ensures once { parts.new.retried ≡ parts.old.retried → GoesOn lease.start result }
+    ensures story { LeadsOn (world_of C.did W.untouched W.happened (K.tells clock.now)) parts.old
+        parts.new cache.old cache.new lease (IsAtEnd parts.old) result }
+    ensures dialled { IsNotDial result }
+    ensures opens { Opens parts.old parts.new (at.Reading lease) 0 0 result }
 {
     if may_retry(parts, &lease) {
-        return retry(parts, cache, lease, now);
+        return retry(parts, cache, clock, lease);
     }
     parts.reader.end();
-    settle(parts, cache, lease, now)
+    settle(parts, cache, clock, lease)
 }
 
 // Gives its lease back with the facts of all bytes that came, and answers them: a response where
 // they are whole, else that it was cut.
-pub(crate) fn settle<W: Wire, C: Cache<W>>(
+pub(crate) fn settle<W: Wire, C: Cache<W>, K: Clock>(
     parts: &Prepared,
     cache: &mut C,
+    clock: &K,
     lease: Lease<W>,
-    now: u64,
 ) -> State<W>
-    requires leased { HasLease (world_of C.out C.owns C.did W.carried) parts.now cache.old lease }
-    requires wire { OnWire W.carried lease (CanSettle parts.now) }
-    ensures stands { (failures : ℕ) → StandsAt (world_of C.out C.owns C.did W.carried) parts.now
-        cache.new failures result }
-    ensures once { GoesOn lease.start result }
+    requires owns { OwnsWire (C.out cache.old) (C.owns cache.old) lease }
+    ensures owns { OwnsAt (C.out cache.new) (C.owns cache.new) parts.now result }
+    ensures story { LeadsOn (world_of C.did W.untouched W.happened (K.tells clock.now)) parts.now
+        parts.now cache.old cache.new lease (CanSettle parts.now lease.start.reused) result }
+    ensures dialled { IsNotDial result }
+    ensures opens { Opens parts.now parts.now (at.Reading lease) 0 0 result }
 {
     let facts = parts.reader.facts();
     let reused = lease.reused();
-    let known = give_back(cache, lease, facts, now);
+    let known = give_back(cache, lease, facts, clock.now());
     let done = match parts.reader.status() {
         Some(status) if facts.whole => {
             if known {

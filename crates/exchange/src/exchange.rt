@@ -1,16 +1,20 @@
 //! One transfer, polled by hand.
 
-ghost use Rattle.std.specs.Prelude.{◌≡◌, None, Some};
+ghost use Rattle.std.specs.Prelude.{◌≡◌, ◌≤◌, None, Some};
+ghost use Rattle.conn_key.specs.Wants.{Rises};
 ghost use Rattle.futures.specs.Task.{Keeps};
 ghost use Rattle.futures.specs.Poll.{IfReady, OnPending};
+ghost use Rattle.exchange.specs.Dialling.{OnTurnFault};
 ghost use Rattle.exchange.specs.Deeds.{none_out};
 ghost use Rattle.exchange.specs.Answers.{IsUnused, IsSameJob};
-ghost use Rattle.exchange.specs.Standing.{world_of, IsReady, StandsAt, TriesOnce};
-ghost use Rattle.exchange.specs.Standing.{StaysEnded};
+ghost use Rattle.exchange.specs.Worlds.{world_of};
+ghost use Rattle.exchange.specs.Standing.{GoesOn};
 ghost use Rattle.exchange.specs.Waiting.{AtStep, StepLeaves};
-ghost use Rattle.exchange.specs.Exchanging.{Stands, IsFinished, Leaves, TriesOnceOn, Cancels};
-ghost use Rattle.exchange.specs.Exchanging.{PaceLeaves, CancelsAt};
-ghost use Rattle.exchange.specs.Spending.{OwnsAt};
+ghost use Rattle.exchange.specs.Owning.{IsReady, OwnsAt, Owns};
+ghost use Rattle.exchange.specs.Exchanging.{Stands, Continues, IsFinished, Leaves, DialFailed};
+ghost use Rattle.exchange.specs.Exchanging.{Cancels, PaceLeaves, StaysEnded};
+ghost use Rattle.exchange.specs.Exchanging.{DialFailsSince, OpensFew};
+ghost use Rattle.exchange.specs.Steps.{Opens};
 ghost use Rattle.exchange.specs.declared.state.State.TheVariants as at;
 
 use crate::connecting::{ask, claim, dial_up};
@@ -62,32 +66,37 @@ fn put<W>(slot: &mut Option<State<W>>, state: State<W>)
 }
 
 // Takes one step from where the exchange stands.
-fn advance<W: Wire, C: Cache<W>, D: Dial<W>>(
+fn advance<W: Wire, C: Cache<W>, D: Dial<W>, K: Clock>(
     state: State<W>,
     parts: &mut Prepared,
     cache: &mut C,
     dial: &mut D,
-    now: u64,
+    clock: &K,
     cx: &mut Context<'_>,
     waker: &mut Option<Waker>,
 ) -> Step<W>
-    requires stands { StandsAt (world_of C.out C.owns C.did W.carried) parts.old cache.old
-        (D.failures dial.old) state }
-    requires ready { IsReady (world_of C.out C.owns C.did W.carried) parts.old }
-    ensures stands { AtStep result (StandsAt (world_of C.out C.owns C.did W.carried) parts.new
-        cache.new (D.failures dial.new)) }
-    ensures ready { IsReady (world_of C.out C.owns C.did W.carried) parts.new }
+    requires owns { OwnsAt (C.out cache.old) (C.owns cache.old) parts.old state }
+    requires ready { IsReady parts.old }
+    ensures owns { AtStep result (OwnsAt (C.out cache.new) (C.owns cache.new) parts.new) }
+    ensures ready { IsReady parts.new }
     ensures same { IsSameJob parts.old parts.new }
-    ensures once { AtStep result (TriesOnce parts.old parts.new state) }
+    ensures story { AtStep result
+        (GoesOn (world_of C.did W.untouched W.happened (K.tells clock.now)) parts.old parts.new
+        cache.old cache.new state) }
     ensures over { AtStep result (StaysEnded state) }
-    ensures leaves { StepLeaves W.carried (D.source_name dial.new) cx.old cx.new waker.new result }
+    ensures dialled { AtStep result
+        (DialFailsSince state (D.failures dial.old) (D.failures dial.new)) }
+    ensures opens { AtStep result
+        (Opens parts.old parts.new state (D.opened dial.old) (D.opened dial.new)) }
+    ensures leaves { StepLeaves W.source_name (D.source_name dial.new) cx.old cx.new waker.new
+        result }
 {
     match state {
-        State::Asking => Step::Goes(ask(parts, cache, dial, now)),
-        State::Waiting(ticket) => claim(parts, cache, dial, ticket, cx),
-        State::Dialling(lease) => dial_up(parts, cache, dial, lease, now, cx, waker),
-        State::Sending(lease, sent) => send(parts, cache, lease, sent, now, cx, waker),
-        State::Reading(lease) => read(parts, cache, lease, now, cx, waker),
+        State::Asking => Step::Goes(ask(parts, cache, dial, clock)),
+        State::Waiting(ticket) => claim(parts, cache, dial, clock, ticket, cx),
+        State::Dialling(lease) => dial_up(parts, cache, dial, clock, lease, cx, waker),
+        State::Sending(lease, sent) => send(parts, cache, clock, lease, sent, cx, waker),
+        State::Reading(lease) => read(parts, cache, clock, lease, cx, waker),
         State::Finished(done) => Step::Goes(State::Finished(done)),
     }
 }
@@ -100,12 +109,17 @@ impl<'a, W: Wire, C: Cache<W>, D: Dial<W>, K: Clock> Exchange<'a, W, C, D, K> {
     pub fn new(parts: Prepared, cache: &'a mut C, dial: &'a mut D, clock: &'a K) -> Self
         requires none { C.out cache.old ≡ none_out }
         requires unused { IsUnused parts }
-        ensures stands { Stands (world_of C.out C.owns C.did W.carried) result.parts
-            result.cache.now (D.failures result.dial.now) result.state }
-        ensures ready { IsReady (world_of C.out C.owns C.did W.carried) result.parts }
+        ensures owns { Owns (C.out result.cache.now) (C.owns result.cache.now) result.parts
+            result.state }
+        ensures ready { IsReady result.parts }
+        ensures stands { Stands (world_of C.did W.untouched W.happened (K.tells clock.now))
+            result.parts cache.old result.cache.now result.state }
         ensures parts { result.parts ≡ parts }
         ensures begins { result.state ≡ Some at.Asking }
+        ensures stage { result.stage ≡ Stage.Turn }
         ensures cache { result.cache.now ≡ cache.old }
+        ensures dial { result.dial.now ≡ dial.old }
+        ensures clock { result.clock ≡ clock.entry }
         ensures same_cache { result.cache.ghost_name ≡ cache.entry.ghost_name }
         ensures same_dial { result.dial.ghost_name ≡ dial.entry.ghost_name }
     {
@@ -125,21 +139,30 @@ impl<'a, W: Wire, C: Cache<W>, D: Dial<W>, K: Clock> Exchange<'a, W, C, D, K> {
     /// with the wire or the dial that it waits for, or has asked to be polled again: see
     /// [`Exchange::waits_on`].
     pub fn poll(&mut self, cx: &mut Context<'_>) -> Poll<()>
-        requires stands { Stands (world_of C.out C.owns C.did W.carried) self.old.parts
-            self.old.cache.now (D.failures self.old.dial.now) self.old.state }
-        requires ready { IsReady (world_of C.out C.owns C.did W.carried) self.old.parts }
-        ensures stands { Stands (world_of C.out C.owns C.did W.carried) self.new.parts
-            self.new.cache.now (D.failures self.new.dial.now) self.new.state }
-        ensures ready { IsReady (world_of C.out C.owns C.did W.carried) self.new.parts }
+        requires owns { Owns (C.out self.old.cache.now) (C.owns self.old.cache.now) self.old.parts
+            self.old.state }
+        requires ready { IsReady self.old.parts }
+        ensures owns { Owns (C.out self.new.cache.now) (C.owns self.new.cache.now) self.new.parts
+            self.new.state }
+        ensures ready { IsReady self.new.parts }
         ensures same { IsSameJob self.old.parts self.new.parts }
-        ensures once { TriesOnceOn self.old.parts self.new.parts self.old.state self.new.state }
+        ensures story { Continues
+            (world_of C.did W.untouched W.happened (K.tells self.old.clock.now))
+            self.old.parts self.new.parts self.old.cache.now self.new.cache.now
+            self.old.state self.new.state }
         ensures over { IsFinished self.old.state → self.new.state ≡ self.old.state }
+        ensures dialled { DialFailed self.old.state self.new.state
+            (D.failures self.old.dial.now) (D.failures self.new.dial.now) }
+        ensures opens { OpensFew self.old.parts self.new.parts self.old.state self.new.state
+            (D.opened self.old.dial.now) (D.opened self.new.dial.now) }
         ensures finished { IfReady result (λ _. IsFinished self.new.state) }
-        ensures pending { OnPending result (Leaves W.carried (D.source_name self.new.dial.now)
-            cx.old cx.new self.new.waker self.new.stage self.new.state) }
+        ensures pending { OnPending result (Leaves W.source_name
+            (D.source_name self.new.dial.now) cx.old cx.new self.new.waker self.new.stage
+            self.new.state) }
         ensures kept { Keeps cx.old cx.new }
         ensures same_cache { self.new.cache.ghost_name ≡ self.old.cache.ghost_name }
         ensures same_dial { self.new.dial.ghost_name ≡ self.old.dial.ghost_name }
+        ensures same_clock { self.new.clock ≡ self.old.clock }
     {
         for _ in 0..MOST_STEPS {
             match self.step(cx) {
@@ -154,28 +177,35 @@ impl<'a, W: Wire, C: Cache<W>, D: Dial<W>, K: Clock> Exchange<'a, W, C, D, K> {
 
     // Takes one step.
     fn step(&mut self, cx: &mut Context<'_>) -> Pace
-        requires stands { Stands (world_of C.out C.owns C.did W.carried) self.old.parts
-            self.old.cache.now (D.failures self.old.dial.now) self.old.state }
-        requires ready { IsReady (world_of C.out C.owns C.did W.carried) self.old.parts }
-        ensures stands { Stands (world_of C.out C.owns C.did W.carried) self.new.parts
-            self.new.cache.now (D.failures self.new.dial.now) self.new.state }
-        ensures ready { IsReady (world_of C.out C.owns C.did W.carried) self.new.parts }
+        requires owns { Owns (C.out self.old.cache.now) (C.owns self.old.cache.now) self.old.parts
+            self.old.state }
+        requires ready { IsReady self.old.parts }
+        ensures owns { Owns (C.out self.new.cache.now) (C.owns self.new.cache.now) self.new.parts
+            self.new.state }
+        ensures ready { IsReady self.new.parts }
         ensures same { IsSameJob self.old.parts self.new.parts }
-        ensures once { TriesOnceOn self.old.parts self.new.parts self.old.state self.new.state }
+        ensures story { Continues
+            (world_of C.did W.untouched W.happened (K.tells self.old.clock.now))
+            self.old.parts self.new.parts self.old.cache.now self.new.cache.now
+            self.old.state self.new.state }
         ensures over { IsFinished self.old.state → self.new.state ≡ self.old.state }
-        ensures leaves { PaceLeaves W.carried (D.source_name self.new.dial.now) cx.old cx.new
-            self.new.waker self.new.stage self.new.state result }
+        ensures dialled { DialFailed self.old.state self.new.state
+            (D.failures self.old.dial.now) (D.failures self.new.dial.now) }
+        ensures opens { OpensFew self.old.parts self.new.parts self.old.state self.new.state
+            (D.opened self.old.dial.now) (D.opened self.new.dial.now) }
+        ensures leaves { PaceLeaves W.source_name (D.source_name self.new.dial.now) cx.old
+            cx.new self.new.waker self.new.stage self.new.state result }
         ensures same_cache { self.new.cache.ghost_name ≡ self.old.cache.ghost_name }
         ensures same_dial { self.new.dial.ghost_name ≡ self.old.dial.ghost_name }
+        ensures same_clock { self.new.clock ≡ self.old.clock }
     {
-        let now = self.clock.now();
         let state = self.state.take().unwrap();
         let step = advance(
             state,
             &mut self.parts,
             self.cache,
             self.dial,
-            now,
+            self.clock,
             cx,
             &mut self.waker,
         );
@@ -203,17 +233,21 @@ impl<'a, W: Wire, C: Cache<W>, D: Dial<W>, K: Clock> Exchange<'a, W, C, D, K> {
         self.stage
     }
 
-    /// Takes a turn of its dial's event loop.
+    /// Takes a turn of its dial's event loop, which waits at most ten milliseconds.
     pub fn turn(&mut self) -> Turned
-        requires stands { Stands (world_of C.out C.owns C.did W.carried) self.old.parts
-            self.old.cache.now (D.failures self.old.dial.now) self.old.state }
-        ensures stands { Stands (world_of C.out C.owns C.did W.carried) self.new.parts
-            self.new.cache.now (D.failures self.new.dial.now) self.new.state }
+        ensures fault { OnTurnFault result (Rises (D.turn_failures self.old.dial.now)
+            (D.turn_failures self.new.dial.now)) }
+        ensures done { D.turned self.old.dial.now self.new.dial.now }
+        ensures counted { D.failures self.new.dial.now ≡ D.failures self.old.dial.now }
+        ensures opens { D.opened self.new.dial.now ≤ D.opened self.old.dial.now }
         ensures parts { self.new.parts ≡ self.old.parts }
         ensures state { self.new.state ≡ self.old.state }
+        ensures stage { self.new.stage ≡ self.old.stage }
+        ensures waker { self.new.waker ≡ self.old.waker }
         ensures cache { self.new.cache.now ≡ self.old.cache.now }
         ensures same_cache { self.new.cache.ghost_name ≡ self.old.cache.ghost_name }
         ensures same_dial { self.new.dial.ghost_name ≡ self.old.dial.ghost_name }
+        ensures same_clock { self.new.clock ≡ self.old.clock }
     {
         self.dial.turn()
     }
@@ -244,11 +278,9 @@ impl<'a, W: Wire, C: Cache<W>, D: Dial<W>, K: Clock> Exchange<'a, W, C, D, K> {
     /// seconds. Before the first poll, and once a poll was ready, it changes nothing. Gives the
     /// cache back.
     pub fn cancel(self, now: u64) -> &'a mut C
-        requires stands { Stands (world_of C.out C.owns C.did W.carried) self.parts
-            self.cache.now (D.failures self.dial.now) self.state }
+        requires owns { Owns (C.out self.cache.now) (C.owns self.cache.now) self.parts self.state }
         ensures none { C.out result.now ≡ none_out }
-        ensures cancels { Cancels (world_of C.out C.owns C.did W.carried) self.entry.cache.now
-            result.now self.entry.state }
+        ensures cancels { Cancels C.did self.entry.cache.now result.now now self.entry.state }
         ensures same_cache { result.ghost_name ≡ self.entry.cache.ghost_name }
     {
         let Exchange {
@@ -260,25 +292,15 @@ impl<'a, W: Wire, C: Cache<W>, D: Dial<W>, K: Clock> Exchange<'a, W, C, D, K> {
             waker: _,
             stage: _,
         } = self;
-        if let Some(state) = state {
-            spend(cache, state, now);
+        match state {
+            Some(State::Waiting(ticket)) => withdraw(cache, ticket, now),
+            Some(State::Dialling(lease) | State::Sending(lease, _) | State::Reading(lease)) => {
+                abandon(cache, lease, now);
+            }
+            Some(State::Asking) => {}
+            Some(State::Finished(_)) => {}
+            None => {}
         }
         cache
-    }
-}
-
-// Spends what a state owns.
-fn spend<W: Wire, C: Cache<W>>(cache: &mut C, state: State<W>, now: u64)
-    requires owns { OwnsAt (world_of C.out C.owns C.did W.carried) cache.old state }
-    ensures none { C.out cache.new ≡ none_out }
-    ensures cancels { CancelsAt (world_of C.out C.owns C.did W.carried) cache.old cache.new state }
-{
-    match state {
-        State::Asking => {}
-        State::Waiting(ticket) => withdraw(cache, ticket, now),
-        State::Dialling(lease) | State::Sending(lease, _) | State::Reading(lease) => {
-            abandon(cache, lease, now);
-        }
-        State::Finished(_) => {}
     }
 }

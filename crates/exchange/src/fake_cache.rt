@@ -1,7 +1,7 @@
 //! A cache over a pool, which users' tests drive exchanges with: it notes what an exchange gave
 //! back.
 
-ghost use Rattle.std.specs.Prelude.{◌≡◌, IsSome, IfOk, IfSome};
+ghost use Rattle.std.specs.Prelude.{◌≡◌, IsSome, IfOk, IfSome, None};
 ghost use Rattle.cache.specs.Pools.{IsMadeHere, IsNewPool, StaysHosts, StaysPool};
 
 use crate::leasing::Cache;
@@ -63,6 +63,7 @@ impl<W: Drop> FakeCache<W> {
     pub fn new(alloc: Global, limits: Limits, hosts: u32) -> Result<FakeCache<W>, Refusal>
         ensures pool { IfOk result (λ cache. IsNewPool limits hosts cache.pool) }
         ensures none { IfOk result (λ cache. (cache.leases ≡ 0) × (cache.tickets ≡ 0)) }
+        ensures last { IfOk result (λ cache. cache.last ≡ None) }
     {
         let pool = Pool::new(alloc, limits, hosts)?;
         Ok(FakeCache::over(pool))
@@ -72,6 +73,7 @@ impl<W: Drop> FakeCache<W> {
     pub fn over(pool: Pool<W>) -> FakeCache<W>
         ensures pool { result.pool ≡ pool }
         ensures none { (result.leases ≡ 0) × (result.tickets ≡ 0) }
+        ensures last { result.last ≡ None }
     {
         FakeCache {
             pool,
@@ -90,6 +92,7 @@ impl<W: Drop> FakeCache<W> {
         requires stream { IsSome lease.stream }
         ensures pool { result.pool ≡ pool }
         ensures none { (result.leases ≡ 0) × (result.tickets ≡ 0) }
+        ensures last { result.last ≡ None }
     {
         FakeCache {
             pool,
@@ -138,7 +141,10 @@ impl<W: Drop> FakeCache<W> {
     }
 
     /// Gives back what another transfer still has. What is left is the pool.
-    pub fn close(self) -> Pool<W> {
+    pub fn close(self) -> Pool<W>
+        ensures hosts { StaysHosts self.pool result }
+        ensures stays { StaysPool self.pool result }
+    {
         let FakeCache {
             mut pool,
             other,
@@ -155,6 +161,9 @@ impl<W: Drop> FakeCache<W> {
     fn count_wait(&mut self)
         ensures leases { self.new.leases ≡ self.old.leases }
         ensures tickets { self.new.tickets ≡ self.old.tickets }
+        ensures last { self.new.last ≡ self.old.last }
+        ensures hosts { StaysHosts self.old.pool self.new.pool }
+        ensures stays { StaysPool self.old.pool self.new.pool }
     {
         if self.waits == 1 {
             release(&mut self.pool, self.other.take());
@@ -177,16 +186,15 @@ fn release<W: Drop>(pool: &mut Pool<W>, other: Option<Other<W>>)
 
 impl<W: Wire> Cache<W> for FakeCache<W> {
     ghost use Rattle.std.specs.Prelude.{◌≡◌, IsSome, OnOk, OnErr};
-    ghost use Rattle.budget.specs.declared.refusal.Refusal.TheVariants.{StrangeLease};
     ghost use Rattle.exchange.specs.Deeds.{none_out, lease_out};
-    ghost use Rattle.exchange.specs.Deeds.Deed.{gives_back, abandons, refuses};
+    ghost use Rattle.exchange.specs.Deeds.Deed.{gives_back, abandons};
     ghost use Rattle.exchange.specs.FakeCaches.{out_of, OwnsTables, DidToPool};
 
     ghost out = { λ cache. out_of cache.leases cache.tickets };
 
     ghost owns = { λ cache. OwnsTables cache.pool };
 
-    ghost did = { λ old new. DidToPool old.pool new.pool new.last };
+    ghost did = { DidToPool };
 
     fn acquire(&mut self, site: u32, want: Want, now: u64) -> Result<Acquired<W>, Refusal> {
         match self.pool.acquire(site, want, now)? {
@@ -227,9 +235,8 @@ impl<W: Wire> Cache<W> for FakeCache<W> {
         requires stream { IsSome lease.stream }
         ensures spent { out_of self.new.leases self.new.tickets ≡ none_out }
         ensures ok { OnOk result
-            (DidToPool self.old.pool self.new.pool self.new.last (gives_back lease facts)) }
-        ensures strange { OnErr result
-            (DidToPool self.old.pool self.new.pool self.new.last (refuses StrangeLease)) }
+            (DidToPool self.old self.new (gives_back lease facts now)) }
+        ensures strange { OnErr result ⊥ }
     {
         self.leases -= 1;
         self.last = Some(Returned {
@@ -245,9 +252,8 @@ impl<W: Wire> Cache<W> for FakeCache<W> {
         requires here { OwnsTables self.old.pool lease.site lease.tables }
         ensures spent { out_of self.new.leases self.new.tickets ≡ none_out }
         ensures ok { OnOk result
-            (DidToPool self.old.pool self.new.pool self.new.last (abandons lease)) }
-        ensures strange { OnErr result
-            (DidToPool self.old.pool self.new.pool self.new.last (refuses StrangeLease)) }
+            (DidToPool self.old self.new (abandons lease now)) }
+        ensures strange { OnErr result ⊥ }
     {
         self.leases -= 1;
         self.pool.abandon(lease, now);

@@ -1,6 +1,6 @@
 //! Where an exchange gets its connection, and where it gives it back.
 
-ghost use Rattle.std.specs.Prelude.{◌≡◌, ℕ, IsSome, OnOk, OnErr, IfOk, IfErr, is_some};
+ghost use Rattle.std.specs.Prelude.{◌≡◌, ℕ, IsSome, OnOk, OnErr, IfOk, IfErr};
 
 use crate::wire::Wire;
 use budget::Refusal;
@@ -16,11 +16,10 @@ use persistence::Facts;
 /// another.
 pub trait Cache<W: Wire> {
     ghost use Rattle.bundle.specs.Seats.{Tables};
-    ghost use Rattle.budget.specs.declared.refusal.Refusal.TheVariants.{StrangeLease};
-    ghost use Rattle.budget.specs.declared.refusal.Refusal.TheVariants.{StrangeTicket};
     ghost use Rattle.exchange.specs.Deeds.{Out, none_out, lease_out, ticket_out, Deed};
     ghost use Rattle.exchange.specs.Deeds.Deed.{gives_back, abandons, withdraws, refuses};
-    ghost use Rattle.exchange.specs.Leasing.{GivesOut, Claims};
+    ghost use Rattle.exchange.specs.Deeds.Deed.{finds_strange_lease, finds_strange_ticket};
+    ghost use Rattle.exchange.specs.Leasing.{GivesOut, Claims, GivesBy, ClaimsBy};
 
     /// What is out.
     ghost out: { Self → Out };
@@ -35,16 +34,18 @@ pub trait Cache<W: Wire> {
     fn acquire(&mut self, site: u32, want: Want, now: u64) -> Result<Acquired<W>, Refusal>
         requires none { out self.old ≡ none_out }
         ensures given { IfOk result (GivesOut (out self.new) (owns self.new) site want) }
+        ensures done { IfOk result (GivesBy (did self.old self.new) now) }
         ensures refused { IfErr result (λ refusal. (out self.new ≡ none_out)
-            × did self.old self.new (refuses refusal)) };
+            × did self.old self.new (refuses site want now refusal)) };
 
     /// Gives the lease that the ticket was granted, or the ticket while it still waits. A stranger
     /// counts as spent.
     fn claim(&mut self, ticket: Ticket) -> Result<Claimed<W>, Stray<Ticket>>
         requires out { out self.old ≡ ticket_out }
         ensures claimed { IfOk result (Claims (out self.new) (owns self.new) ticket) }
+        ensures done { IfOk result (ClaimsBy (did self.old self.new)) }
         ensures strange { OnErr result ((out self.new ≡ none_out)
-            × did self.old self.new (refuses StrangeTicket)) };
+            × did self.old self.new (finds_strange_ticket ticket)) };
 
     /// Takes a connection back, with the facts of its response. A stranger counts as spent.
     fn give_back(&mut self, lease: Lease<W>, facts: Facts, now: u64) -> Result<(), Stray<Lease<W>>>
@@ -52,21 +53,21 @@ pub trait Cache<W: Wire> {
         requires here { owns self.old lease.site lease.tables }
         requires stream { IsSome lease.stream }
         ensures spent { out self.new ≡ none_out }
-        ensures ok { OnOk result (did self.old self.new (gives_back lease facts)) }
-        ensures strange { OnErr result (did self.old self.new (refuses StrangeLease)) };
+        ensures ok { OnOk result (did self.old self.new (gives_back lease facts now)) }
+        ensures strange { OnErr result (did self.old self.new (finds_strange_lease lease)) };
 
     /// Closes a connection without a response. A stranger counts as spent.
     fn abandon(&mut self, lease: Lease<W>, now: u64) -> Result<(), Stray<Lease<W>>>
         requires out { out self.old ≡ lease_out }
         requires here { owns self.old lease.site lease.tables }
         ensures spent { out self.new ≡ none_out }
-        ensures ok { OnOk result (did self.old self.new (abandons lease)) }
-        ensures strange { OnErr result (did self.old self.new (refuses StrangeLease)) };
+        ensures ok { OnOk result (did self.old self.new (abandons lease now)) }
+        ensures strange { OnErr result (did self.old self.new (finds_strange_lease lease)) };
 
     /// Ends a wait. A stranger counts as spent.
     fn withdraw(&mut self, ticket: Ticket, now: u64) -> Result<(), Stray<Ticket>>
         requires out { out self.old ≡ ticket_out }
         ensures spent { out self.new ≡ none_out }
-        ensures ok { OnOk result (did self.old self.new (withdraws ticket)) }
-        ensures strange { OnErr result (did self.old self.new (refuses StrangeTicket)) };
+        ensures ok { OnOk result (did self.old self.new (withdraws ticket now)) }
+        ensures strange { OnErr result (did self.old self.new (finds_strange_ticket ticket)) };
 }

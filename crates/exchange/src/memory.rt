@@ -1,6 +1,7 @@
 //! Connections in memory, which users' tests drive exchanges with.
 
-ghost use Rattle.std.specs.Prelude.{◌≡◌, ◌+◌, ◌≤◌, [], ℕ, length, false};
+ghost use Rattle.std.specs.Prelude.{◌≡◌, ◌+◌, ◌≤◌, [], ◌∷◌, ◌++◌, ℕ, length, max};
+ghost use Rattle.std.specs.Prelude.{IfOk, OnOk, OnErr};
 ghost use Rattle.conn_key.specs.Wants.{Rises};
 
 use crate::wire::{Clock, Dial, Dialled, Read, Turned, Wire, Written};
@@ -28,7 +29,9 @@ struct Calls {
 
 impl Calls {
     // Calls at which nothing else happens.
-    fn new() -> Calls {
+    fn new() -> Calls
+        ensures { result ≡ record { count = 0; halts_at = 0; halt = Halt.Fault } }
+    {
         Calls {
             count: 0,
             halts_at: 0,
@@ -37,7 +40,9 @@ impl Calls {
     }
 
     // The same, but that happens at that call, which is counted from one.
-    fn with_halt(nth: u64, halt: Halt) -> Calls {
+    fn with_halt(nth: u64, halt: Halt) -> Calls
+        ensures { result ≡ record { count = 0; halts_at = nth; halt = halt } }
+    {
         Calls {
             count: 0,
             halts_at: nth,
@@ -61,23 +66,20 @@ impl Calls {
 #[derive(Drop)]
 pub struct MemoryWire {
     response: Vec<u8>,
-    // Where the bytes begin that were read since it was dialled or adopted, and where they end.
-    start: usize,
+    // How many bytes of the response were read.
     place: usize,
     most_read: usize,
     reads: Calls,
     sent: Vec<u8>,
     most_written: usize,
     writes: Calls,
-    ended: bool,
     failures: u64,
     source: Source,
-    ghost in_order: { start ≤ place },
     ghost in_range: { place ≤ length response.items },
 }
 
 impl MemoryWire {
-    ghost use Rattle.exchange.specs.Memory.{received_of};
+    ghost use Rattle.exchange.specs.Memory.{IsUntouched};
 
     /// A wire whose peer answers these bytes. It has room for so many bytes that are sent: a write
     /// that has none left is a fault.
@@ -85,45 +87,58 @@ impl MemoryWire {
     /// # Errors
     ///
     /// There is no memory for it.
-    pub fn new(alloc: Global, response: &[u8], room: usize) -> Result<MemoryWire, AllocError> {
+    pub fn new(alloc: Global, response: &[u8], room: usize) -> Result<MemoryWire, AllocError>
+        ensures untouched { IfOk result IsUntouched }
+        ensures response { IfOk result (λ wire. wire.response.items ≡ response.now) }
+    {
         let response = response.to_vec(alloc)?;
         let sent = Vec::with_capacity(alloc, room)?;
         Ok(MemoryWire {
             response,
-            start: 0,
             place: 0,
             most_read: usize::MAX,
             reads: Calls::new(),
             sent,
             most_written: usize::MAX,
             writes: Calls::new(),
-            ended: false,
             failures: 0,
             source: Source::new(),
         })
     }
 
     /// Each read gives at most so many bytes; 0 counts as one.
-    pub fn set_most_read(&mut self, most: usize) {
+    pub fn set_most_read(&mut self, most: usize)
+        ensures { self.new ≡ record self.old { most_read = max most 1 } }
+    {
         self.most_read = most.max(1);
     }
 
     /// Each write takes at most so many bytes; 0 counts as one.
-    pub fn set_most_written(&mut self, most: usize) {
+    pub fn set_most_written(&mut self, most: usize)
+        ensures { self.new ≡ record self.old { most_written = max most 1 } }
+    {
         self.most_written = most.max(1);
     }
 
     /// At that read, counted from one, this happens.
-    pub fn halt_read(&mut self, nth: u64, halt: Halt) {
+    pub fn halt_read(&mut self, nth: u64, halt: Halt)
+        ensures { self.new ≡ record self.old {
+          reads = record { count = 0; halts_at = nth; halt = halt };
+        } }
+    {
         self.reads = Calls::with_halt(nth, halt);
     }
 
     /// At that write, counted from one, this happens.
-    pub fn halt_write(&mut self, nth: u64, halt: Halt) {
+    pub fn halt_write(&mut self, nth: u64, halt: Halt)
+        ensures { self.new ≡ record self.old {
+          writes = record { count = 0; halts_at = nth; halt = halt };
+        } }
+    {
         self.writes = Calls::with_halt(nth, halt);
     }
 
-    /// The bytes that were sent since it was dialled or adopted last.
+    /// The bytes that were sent on it since it was dialled.
     pub fn sent(&self) -> &[u8]
         ensures { result.now ≡ self.now.sent.items }
     {
@@ -137,15 +152,19 @@ impl MemoryWire {
         self.response.len() - self.place
     }
 
-    // What it carried counts anew.
+    /// How often a read or a write failed; the count stays at the greatest `u64`.
+    pub fn failures(&self) -> u64
+        ensures { result ≡ self.now.failures }
+    {
+        self.failures
+    }
+
+    // Nothing has happened on it yet.
     fn begin(&mut self)
-        ensures sent { self.new.sent.items ≡ [] }
-        ensures received { received_of self.new ≡ [] }
-        ensures ended { self.new.ended ≡ false }
+        ensures { IsUntouched self.new }
     {
         self.sent.clear();
-        self.start = self.place;
-        self.ended = false;
+        self.place = 0;
     }
 
     // Counts a failure.
@@ -158,18 +177,20 @@ impl MemoryWire {
 }
 
 impl Wire for MemoryWire {
-    ghost use Rattle.std.specs.Prelude.{◌≡◌};
-    ghost use Rattle.exchange.specs.Memory.{carried_of};
+    ghost use Rattle.exchange.specs.Memory.{IsUntouched, HappenedTo};
 
-    ghost carried = { carried_of };
+    ghost untouched = { λ wire site. IsUntouched wire };
+
+    ghost happened = { HappenedTo };
+
+    ghost failures = { λ wire. wire.failures };
+
+    ghost source_name = { λ wire. wire.source.id };
 
     fn read(&mut self, buffer: &mut [u8]) -> Read {
         match self.reads.next() {
             Some(Halt::NotYet) => return Read::NotYet,
-            Some(Halt::End) => {
-                self.ended = true;
-                return Read::End;
-            }
+            Some(Halt::End) => return Read::End,
             Some(Halt::Fault) => {
                 self.fail();
                 return Read::Fault;
@@ -178,7 +199,6 @@ impl Wire for MemoryWire {
         }
         let count = self.unread().min(self.most_read).min(buffer.len());
         if count == 0 {
-            self.ended = true;
             return Read::End;
         }
         let end = self.place + count;
@@ -220,16 +240,20 @@ impl Wire for MemoryWire {
 pub struct MemoryDial {
     wires: Vec<MemoryWire>,
     dials: Calls,
+    opened: u64,
     failures: u64,
     source: Source,
 }
 
 impl MemoryDial {
     /// A dial without wires.
-    pub fn new(alloc: Global) -> MemoryDial {
+    pub fn new(alloc: Global) -> MemoryDial
+        ensures { result.wires.items ≡ [] }
+    {
         MemoryDial {
             wires: Vec::new(alloc),
             dials: Calls::new(),
+            opened: 0,
             failures: 0,
             source: Source::new(),
         }
@@ -240,7 +264,11 @@ impl MemoryDial {
     /// # Errors
     ///
     /// There is no memory for it.
-    pub fn add(&mut self, wire: MemoryWire) -> Result<(), AllocError> {
+    pub fn add(&mut self, wire: MemoryWire) -> Result<(), AllocError>
+        ensures ok { OnOk result
+            (self.new.wires.items ≡ self.old.wires.items ++ (wire ∷ [])) }
+        ensures err { OnErr result (self.new.wires.items ≡ self.old.wires.items) }
+    {
         match self.wires.push(wire) {
             Ok(()) => Ok(()),
             Err(_) => Err(AllocError),
@@ -252,15 +280,24 @@ impl MemoryDial {
         self.dials = Calls::with_halt(nth, halt);
     }
 
+    /// How many connections it has opened; the count stays at the greatest `u64`.
+    pub fn opened(&self) -> u64
+        ensures { result ≡ self.now.opened }
+    {
+        self.opened
+    }
+
     /// How many wires it will still give.
-    pub fn left(&self) -> usize {
+    pub fn left(&self) -> usize
+        ensures { result ≡ length self.now.wires.items }
+    {
         self.wires.len()
     }
 
     // Counts a failure.
     fn fail(&mut self)
         ensures rises { Rises self.old.failures self.new.failures }
-        ensures counted { self.old.failures ≤ self.new.failures }
+        ensures opened { self.new.opened ≡ self.old.opened }
     {
         self.failures = self.failures.saturating_add(1);
     }
@@ -268,6 +305,12 @@ impl MemoryDial {
 
 impl Dial<MemoryWire> for MemoryDial {
     ghost failures = { λ dial. dial.failures };
+
+    ghost opened = { λ dial. dial.opened };
+
+    ghost turn_failures = { λ dial. 0 };
+
+    ghost turned = { λ old new. new ≡ old };
 
     ghost source_name = { λ dial. dial.source.id };
 
@@ -284,14 +327,13 @@ impl Dial<MemoryWire> for MemoryDial {
             self.fail();
             return Dialled::Fault;
         }
+        self.opened = self.opened.saturating_add(1);
         let mut wire = self.wires.remove(0);
         wire.begin();
         Dialled::Up(wire)
     }
 
-    fn adopt(&mut self, wire: &mut MemoryWire) {
-        wire.begin();
-    }
+    fn adopt(&mut self, _wire: &mut MemoryWire) {}
 
     fn turn(&mut self) -> Turned {
         Turned::Done
@@ -310,6 +352,10 @@ pub struct FixedClock {
 }
 
 impl Clock for FixedClock {
+    ghost use Rattle.std.specs.Prelude.{◌≡◌};
+
+    ghost tells = { λ clock moment. moment ≡ clock.now };
+
     fn now(&self) -> u64 {
         self.now
     }

@@ -2,11 +2,12 @@
 
 ghost use Rattle.std.specs.Prelude.{◌≡◌, ◌<◌, ◌≤◌, ℕ, length, take, IsSome};
 ghost use Rattle.exchange.specs.Wires.{Reads, Writes};
-ghost use Rattle.exchange.specs.Answers.{IsSameJob, ReadsWire};
-ghost use Rattle.exchange.specs.Standing.{world_of, OnWire, StandsAt, StandsSending, StandsReading};
-ghost use Rattle.exchange.specs.Standing.{IsReady, TriesOnce, GoesOn};
-ghost use Rattle.exchange.specs.Steps.{StepsWire, HasLease, HasCome};
-ghost use Rattle.exchange.specs.Waiting.{AtStep, StepLeaves, IsRegistered};
+ghost use Rattle.exchange.specs.Answers.{text_of, IsSameJob};
+ghost use Rattle.exchange.specs.Worlds.{world_of};
+ghost use Rattle.exchange.specs.Standing.{GoesOn};
+ghost use Rattle.exchange.specs.Steps.{StepsWire, LeadsOn, HasCome, IsNotDial, Opens};
+ghost use Rattle.exchange.specs.Waiting.{AtStep, StepLeaves, OnSource, IsRegistered};
+ghost use Rattle.exchange.specs.Owning.{IsReady, IsReading, OwnsWire, OwnsAt};
 ghost use Rattle.exchange.specs.declared.state.State.TheVariants as at;
 
 use crate::done::{Done, Fault, Stage};
@@ -14,7 +15,7 @@ use crate::ending::{end, fail, give_back, settle};
 use crate::job::Prepared;
 use crate::leasing::Cache;
 use crate::state::{State, Step};
-use crate::wire::{Read, Wire, Written};
+use crate::wire::{Clock, Read, Wire, Written};
 use bundle::Lease;
 use futures::task::{Context, Poll, Waker};
 use persistence::Fed;
@@ -23,7 +24,8 @@ use persistence::Fed;
 fn write_to<W: Wire>(lease: &mut Lease<W>, bytes: &[u8]) -> Written
     requires wire { IsSome lease.old.stream }
     requires some { 0 < length bytes.now }
-    ensures { StepsWire W.carried lease.old lease.new (λ old new. Writes bytes.now old new result) }
+    ensures { StepsWire lease.old lease.new
+        (λ old new. Writes bytes.now (W.happened old new) result) }
 {
     let Some(wire) = lease.stream_mut() else {
         unreachable!()
@@ -35,7 +37,8 @@ fn write_to<W: Wire>(lease: &mut Lease<W>, bytes: &[u8]) -> Written
 fn read_from<W: Wire>(lease: &mut Lease<W>, buffer: &mut [u8]) -> Read
     requires wire { IsSome lease.old.stream }
     requires room { 0 < length buffer.old }
-    ensures { StepsWire W.carried lease.old lease.new (λ old new. Reads buffer.new old new result) }
+    ensures { StepsWire lease.old lease.new
+        (λ old new. Reads buffer.new (W.happened old new) result) }
 {
     let Some(wire) = lease.stream_mut() else {
         unreachable!()
@@ -47,8 +50,7 @@ fn read_from<W: Wire>(lease: &mut Lease<W>, buffer: &mut [u8]) -> Read
 fn wait_for<W: Wire>(lease: &mut Lease<W>, cx: &mut Context<'_>, waker: &mut Option<Waker>)
     requires wire { IsSome lease.old.stream }
     ensures same { lease.new ≡ lease.old }
-    ensures registered { OnWire W.carried lease.old
-        (λ wire. IsRegistered cx.old cx.new waker.new wire.source) }
+    ensures registered { OnSource W.source_name lease.old (IsRegistered cx.old cx.new waker.new) }
 {
     let Some(wire) = lease.stream_mut() else {
         unreachable!()
@@ -57,24 +59,28 @@ fn wait_for<W: Wire>(lease: &mut Lease<W>, cx: &mut Context<'_>, waker: &mut Opt
 }
 
 // Sends more of its request.
-pub(crate) fn send<W: Wire, C: Cache<W>>(
+pub(crate) fn send<W: Wire, C: Cache<W>, K: Clock>(
     parts: &mut Prepared,
     cache: &mut C,
+    clock: &K,
     mut lease: Lease<W>,
     sent: usize,
-    now: u64,
     cx: &mut Context<'_>,
     waker: &mut Option<Waker>,
 ) -> Step<W>
-    requires stands { StandsSending (world_of C.out C.owns C.did W.carried) parts.old cache.old
-        lease sent }
-    requires ready { IsReady (world_of C.out C.owns C.did W.carried) parts.old }
-    ensures stands { (failures : ℕ) → AtStep result
-        (StandsAt (world_of C.out C.owns C.did W.carried) parts.new cache.new failures) }
-    ensures ready { IsReady (world_of C.out C.owns C.did W.carried) parts.new }
+    requires owns { OwnsWire (C.out cache.old) (C.owns cache.old) lease }
+    requires short { sent < length (text_of parts.old) }
+    requires reading { IsReading parts.old }
+    requires ready { IsReady parts.old }
+    ensures owns { AtStep result (OwnsAt (C.out cache.new) (C.owns cache.new) parts.new) }
+    ensures ready { IsReady parts.new }
     ensures same { IsSameJob parts.old parts.new }
-    ensures once { AtStep result (TriesOnce parts.old parts.new (at.Sending lease sent)) }
-    ensures leaves { (dial : ℕ) → StepLeaves W.carried dial cx.old cx.new waker.new result }
+    ensures story { AtStep result
+        (GoesOn (world_of C.did W.untouched W.happened (K.tells clock.now)) parts.old parts.new
+        cache.old cache.new (at.Sending lease sent)) }
+    ensures dialled { AtStep result IsNotDial }
+    ensures opens { AtStep result (Opens parts.old parts.new (at.Sending lease sent) 0 0) }
+    ensures leaves { (dial : ℕ) → StepLeaves W.source_name dial cx.old cx.new waker.new result }
 {
     let text = parts.text.as_bytes();
     match write_to(&mut lease, &text[sent..]) {
@@ -90,63 +96,68 @@ pub(crate) fn send<W: Wire, C: Cache<W>>(
             wait_for(&mut lease, cx, waker);
             Step::Waits(State::Sending(lease, sent), Stage::Sending)
         }
-        Written::Fault => Step::Goes(fail(parts, cache, lease, Fault::Write, now)),
+        Written::Fault => Step::Goes(fail(parts, cache, clock, lease, Fault::Write)),
     }
 }
 
 // Reads more of the response.
-pub(crate) fn read<W: Wire, C: Cache<W>>(
+pub(crate) fn read<W: Wire, C: Cache<W>, K: Clock>(
     parts: &mut Prepared,
     cache: &mut C,
+    clock: &K,
     mut lease: Lease<W>,
-    now: u64,
     cx: &mut Context<'_>,
     waker: &mut Option<Waker>,
 ) -> Step<W>
-    requires stands { StandsReading (world_of C.out C.owns C.did W.carried) parts.old cache.old
-        lease }
-    requires ready { IsReady (world_of C.out C.owns C.did W.carried) parts.old }
-    ensures stands { (failures : ℕ) → AtStep result
-        (StandsAt (world_of C.out C.owns C.did W.carried) parts.new cache.new failures) }
-    ensures ready { IsReady (world_of C.out C.owns C.did W.carried) parts.new }
+    requires owns { OwnsWire (C.out cache.old) (C.owns cache.old) lease }
+    requires reading { IsReading parts.old }
+    requires ready { IsReady parts.old }
+    ensures owns { AtStep result (OwnsAt (C.out cache.new) (C.owns cache.new) parts.new) }
+    ensures ready { IsReady parts.new }
     ensures same { IsSameJob parts.old parts.new }
-    ensures once { AtStep result (TriesOnce parts.old parts.new (at.Reading lease)) }
-    ensures leaves { (dial : ℕ) → StepLeaves W.carried dial cx.old cx.new waker.new result }
+    ensures story { AtStep result
+        (GoesOn (world_of C.did W.untouched W.happened (K.tells clock.now)) parts.old parts.new
+        cache.old cache.new (at.Reading lease)) }
+    ensures dialled { AtStep result IsNotDial }
+    ensures opens { AtStep result (Opens parts.old parts.new (at.Reading lease) 0 0) }
+    ensures leaves { (dial : ℕ) → StepLeaves W.source_name dial cx.old cx.new waker.new result }
 {
     match read_from(&mut lease, &mut parts.buffer) {
-        Read::Bytes(count) => Step::Goes(feed(parts, cache, lease, count, now)),
+        Read::Bytes(count) => Step::Goes(feed(parts, cache, clock, lease, count)),
         Read::NotYet => {
             wait_for(&mut lease, cx, waker);
             Step::Waits(State::Reading(lease), Stage::Reading)
         }
-        Read::End => Step::Goes(end(parts, cache, lease, now)),
-        Read::Fault => Step::Goes(fail(parts, cache, lease, Fault::Read, now)),
+        Read::End => Step::Goes(end(parts, cache, clock, lease)),
+        Read::Fault => Step::Goes(fail(parts, cache, clock, lease, Fault::Read)),
     }
 }
 
 // Feeds its reader so many bytes of the buffer, which have come.
-fn feed<W: Wire, C: Cache<W>>(
+fn feed<W: Wire, C: Cache<W>, K: Clock>(
     parts: &mut Prepared,
     cache: &mut C,
+    clock: &K,
     lease: Lease<W>,
     count: usize,
-    now: u64,
 ) -> State<W>
-    requires leased { HasLease (world_of C.out C.owns C.did W.carried) parts.old cache.old lease }
-    requires ready { IsReady (world_of C.out C.owns C.did W.carried) parts.old }
+    requires owns { OwnsWire (C.out cache.old) (C.owns cache.old) lease }
+    requires reading { IsReading parts.old }
+    requires ready { IsReady parts.old }
     requires room { count ≤ length parts.old.buffer.items }
-    requires wire { OnWire W.carried lease (HasCome parts.old count) }
-    ensures stands { (failures : ℕ) → StandsAt (world_of C.out C.owns C.did W.carried) parts.new
-        cache.new failures result }
-    ensures ready { IsReady (world_of C.out C.owns C.did W.carried) parts.new }
+    ensures owns { OwnsAt (C.out cache.new) (C.owns cache.new) parts.new result }
+    ensures ready { IsReady parts.new }
     ensures same { IsSameJob parts.old parts.new }
-    ensures once { (parts.new.retried ≡ parts.old.retried) × GoesOn lease.start result }
+    ensures story { LeadsOn (world_of C.did W.untouched W.happened (K.tells clock.now)) parts.old
+        parts.new cache.old cache.new lease (HasCome parts.old count) result }
+    ensures dialled { IsNotDial result }
+    ensures opens { Opens parts.old parts.new (at.Reading lease) 0 0 result }
 {
     match parts.reader.feed(&parts.buffer[..count]) {
         Ok(Fed::More) => State::Reading(lease),
-        Ok(Fed::Whole) => settle(parts, cache, lease, now),
+        Ok(Fed::Whole) => settle(parts, cache, clock, lease),
         Err(_) => {
-            let _known = give_back(cache, lease, parts.reader.facts(), now);
+            let _known = give_back(cache, lease, parts.reader.facts(), clock.now());
             State::Finished(Done::Bad(Fault::BadResponse))
         }
     }

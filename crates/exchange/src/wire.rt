@@ -51,68 +51,95 @@ pub enum Turned {
 
 /// A connection that bytes go over, which waits for nothing.
 ///
-/// The ghost member `carried` tells contracts the bytes since the wire was dialled or adopted last,
-/// how often it failed, and the name of its source. The count of failures stays at the greatest
-/// `u64`.
+/// The ghost members tell contracts what happened on it from one time to another, that nothing has
+/// happened on it yet, how often it failed, a count that stays at the greatest `u64`, and the name
+/// of its source.
 pub trait Wire: Drop {
-    ghost use Rattle.exchange.specs.Wires.{Carried, Reads, Writes};
+    ghost use Rattle.exchange.specs.Wires.{Happening, Reads, Writes};
+    ghost use Rattle.exchange.specs.Dialling.{OnReadFault, OnWriteFault};
 
-    /// What it carried.
-    ghost carried: { Self → Carried };
+    /// It was dialled to the host of that site, and nothing has happened on it yet.
+    ghost untouched: { Self → ℕ → Type 0 };
+
+    /// From the one time to the other this happened, and nothing else.
+    ghost happened: { Self → Self → Happening → Type 0 };
+
+    /// How often a read or a write failed.
+    ghost failures: { Self → ℕ };
+
+    /// The name of its source.
+    ghost source_name: { Self → ℕ };
 
     /// Reads into the buffer, which must have room.
     fn read(&mut self, buffer: &mut [u8]) -> Read
         requires { 0 < length buffer.old }
-        ensures { Reads buffer.new (carried self.old) (carried self.new) result };
+        ensures reads { Reads buffer.new (happened self.old self.new) result }
+        ensures fault { OnReadFault result (Rises (failures self.old) (failures self.new)) };
 
     /// Writes a front of the bytes, of which there must be one.
     fn write(&mut self, bytes: &[u8]) -> Written
         requires { 0 < length bytes.now }
-        ensures { Writes bytes.now (carried self.old) (carried self.new) result };
+        ensures writes { Writes bytes.now (happened self.old self.new) result }
+        ensures fault { OnWriteFault result (Rises (failures self.old) (failures self.new)) };
 
     /// What a task registers with that waits until it can read or write.
     fn source(&self) -> &Source
-        ensures { result.now.id ≡ (carried self.now).source };
+        ensures { result.now.id ≡ source_name self.now };
 }
 
 /// What opens connections, and sees when they are ready.
 ///
-/// The ghost members tell contracts how often it failed, a count that stays at the greatest `u64`,
-/// and the name of its source.
+/// The ghost members tell contracts how often a dial failed, how many connections were opened and
+/// how often a turn failed, counts that stay at the greatest `u64`, and the name of its source.
 pub trait Dial<W: Wire> {
-    ghost use Rattle.exchange.specs.Wires.{IsUntouched};
-    ghost use Rattle.exchange.specs.Dialling.{IfUp, OnDialFault, OnTurnFault};
+    ghost use Rattle.exchange.specs.Wires.Happening.{is_adopted};
+    ghost use Rattle.exchange.specs.Dialling.{IfUp, CountsDial, OpensOne, OnTurnFault};
 
-    /// How often it failed.
+    /// How often a dial failed.
     ghost failures: { Self → ℕ };
+
+    /// How many connections it has opened.
+    ghost opened: { Self → ℕ };
+
+    /// How often a turn failed.
+    ghost turn_failures: { Self → ℕ };
+
+    /// From the one time to the other it took a turn, and did nothing else.
+    ghost turned: { Self → Self → Type 0 };
 
     /// The name of its source.
     ghost source_name: { Self → ℕ };
 
     /// Opens a connection to the host of that site, or goes on with it.
     fn dial(&mut self, site: u32) -> Dialled<W>
-        ensures up { IfUp result (λ wire. IsUntouched (W.carried wire)) }
-        ensures fault { OnDialFault result (Rises (failures self.old) (failures self.new)) }
-        ensures counted { failures self.old ≤ failures self.new };
+        ensures up { IfUp result (λ wire. W.untouched wire site) }
+        ensures counted { CountsDial result (failures self.old) (failures self.new) }
+        ensures opens { OpensOne result (opened self.old) (opened self.new) };
 
     /// Takes a wire over, which another dial may have made, so that its readiness is seen here.
-    /// What it carried counts anew.
     fn adopt(&mut self, wire: &mut W)
-        ensures untouched { IsUntouched (W.carried wire.new) }
-        ensures counted { failures self.old ≤ failures self.new };
+        ensures adopted { W.happened wire.old wire.new is_adopted }
+        ensures counted { failures self.new ≡ failures self.old }
+        ensures opens { opened self.new ≤ opened self.old };
 
     /// Takes a turn of its event loop, which waits at most ten milliseconds.
     fn turn(&mut self) -> Turned
-        ensures fault { OnTurnFault result (Rises (failures self.old) (failures self.new)) }
-        ensures counted { failures self.old ≤ failures self.new };
+        ensures fault { OnTurnFault result
+            (Rises (turn_failures self.old) (turn_failures self.new)) }
+        ensures done { turned self.old self.new }
+        ensures counted { failures self.new ≡ failures self.old }
+        ensures opens { opened self.new ≤ opened self.old };
 
     /// What a task registers with that waits until a connection is open.
     fn source(&self) -> &Source
         ensures { result.now.id ≡ source_name self.now };
 }
 
-/// What tells the time.
+/// What tells the time. The ghost member tells contracts which moments it tells.
 pub trait Clock {
+    ghost tells: { Self → ℕ → Type 0 };
+
     /// The seconds since some moment that stays the same.
-    fn now(&self) -> u64;
+    fn now(&self) -> u64
+        ensures { tells self.now result };
 }

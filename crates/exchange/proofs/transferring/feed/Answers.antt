@@ -1,12 +1,21 @@
--- Faulty bytes are those that its wire received.
-use Rattle.std.proofs.Common.{rules, ◌≡◌, ◌++◌, take}
-use Rattle.exchange.specs.Standing.{world_of}
-use Rattle.exchange.proofs.Settling.{ends_faulty}
+-- What its reader was fed is what its wire received.
+use Rattle.std.proofs.Common.{rules}
+use Rattle.exchange.specs.Worlds.{world_of}
+use Rattle.exchange.proofs.Receiving.{Feeds, reads_on, can_settle_whole, ends_faulty}
 use Rattle.exchange.proofs.transferring.feed.Goals as goal
 
-pub returns-in-Err-clause-stands : goal.returns-in-Err-clause-stands
-returns-in-Err-clause-stands g c failures =
-    let world = world_of g.C.Cache.out g.C.Cache.owns g.C.Cache.did g.W.Wire.carried in
-    let fed = c.in-Err.ensures in
-    let bytes : c.feed.new.self.bytes ≡ c.args.parts.now.reader.bytes ++ take c.args.count c.args.parts.now.buffer.items = search rules in
-    ends_faulty world c.args.parts.now c.args.cache.now c.give_back-known.new.cache failures c.args.lease c.args.count c.feed.new.self c.in-Err.field-0 c.facts.result c.give_back-known.result c.give_back-known.ensures.spent c.requires.wire c.give_back-known.ensures.done bytes fed.same fed.fault c.facts.ensures.after_fault
+pub returns-in-Ok-More-clause-story : goal.returns-in-Ok-More-clause-story
+returns-in-Ok-More-clause-story g c =
+    let feeds : Feeds c.args.parts.now c.args.count c.feed.new.self = record { bytes = search rules; same = c.feed.ensures.same } in
+    reads_on (world_of g.C.Cache.did g.W.Wire.untouched g.W.Wire.happened (g.K.Clock.tells c.args.clock.now)) c.args.parts.now c.args.cache.now c.args.lease c.args.count c.feed.new.self feeds c.in-Ok-More.ensures.faultless.0 (rw c.in-Ok-More.field-0-is at c.in-Ok-More.ensures.told)
+
+pub returns-in-Ok-Whole-clause-story : goal.returns-in-Ok-Whole-clause-story
+returns-in-Ok-Whole-clause-story g c first from =
+    let feeds : Feeds c.args.parts.now c.args.count c.feed.new.self = record { bytes = search rules; same = c.feed.ensures.same } in
+    let told = c.in-Ok-Whole.ensures.told in
+    c.settle.ensures.story first (can_settle_whole (world_of g.C.Cache.did g.W.Wire.untouched g.W.Wire.happened (g.K.Clock.tells c.args.clock.now)) c.args.parts.now c.args.cache.now c.args.lease c.args.count c.feed.new.self feeds c.in-Ok-Whole.ensures.faultless.0 (rw c.in-Ok-Whole.field-0-is at told) first from)
+
+pub returns-in-Err-clause-story : goal.returns-in-Err-clause-story
+returns-in-Err-clause-story g c =
+    let feeds : Feeds c.args.parts.now c.args.count c.feed.new.self = record { bytes = search rules; same = c.feed.ensures.same } in
+    ends_faulty (world_of g.C.Cache.did g.W.Wire.untouched g.W.Wire.happened (g.K.Clock.tells c.args.clock.now)) c.args.parts.now c.args.cache.now c.args.lease c.args.count c.feed.new.self feeds c.give_back-known.new.cache c.now.result c.give_back-known.result c.facts.result c.in-Err.field-0 c.now.ensures c.give_back-known.ensures.done c.in-Err.ensures.fault c.facts.ensures.after_fault

@@ -1,6 +1,16 @@
-use Rattle.exchange.specs.Standing.{world_of}
-use Rattle.exchange.proofs.Sending.{still_sending}
+-- What its wire answers is where the exchange goes on.
+use Rattle.exchange.specs.Worlds.{world_of}
+use Rattle.exchange.proofs.Sending.{sends_more, sends_all, sends_later, sends_in_vain}
 use Rattle.exchange.proofs.transferring.send.Goals as goal
 
-pub returns-then-sent-text-clause-stands : goal.returns-then-sent-text-clause-stands
-returns-then-sent-text-clause-stands g c = λ _. still_sending (world_of g.C.Cache.out g.C.Cache.owns g.C.Cache.did g.W.Wire.carried) c.args.parts.now c.args.cache.now c.args.lease c.write_to.new.lease c.args.sent c.in-Took.taken c.as_bytes-text.result.now c.as_bytes-text.ensures.value c.if-sent-text.true c.in-Took.ensures c.requires.stands
+pub returns-then-sent-text-clause-story : goal.returns-then-sent-text-clause-story
+returns-then-sent-text-clause-story g c = sends_more (world_of g.C.Cache.did g.W.Wire.untouched g.W.Wire.happened (g.K.Clock.tells c.args.clock.now)) c.args.parts.now c.args.cache.now c.args.lease c.write_to.new.lease c.args.sent c.as_bytes-text.result.now c.in-Took.taken c.as_bytes-text.ensures.value c.in-Took.ensures
+
+pub returns-else-sent-text-clause-story : goal.returns-else-sent-text-clause-story
+returns-else-sent-text-clause-story g c = sends_all (world_of g.C.Cache.did g.W.Wire.untouched g.W.Wire.happened (g.K.Clock.tells c.args.clock.now)) c.args.parts.now c.args.cache.now c.args.lease c.write_to.new.lease c.args.sent c.as_bytes-text.result.now c.in-Took.taken c.as_bytes-text.ensures.value c.if-sent-text.false c.in-Took.ensures
+
+pub returns-in-NotYet-clause-story : goal.returns-in-NotYet-clause-story
+returns-in-NotYet-clause-story g c = rw c.wait_for.ensures.same (sends_later (world_of g.C.Cache.did g.W.Wire.untouched g.W.Wire.happened (g.K.Clock.tells c.args.clock.now)) c.args.parts.now c.args.cache.now c.args.lease c.write_to.new.lease c.args.sent c.as_bytes-text.result.now c.in-NotYet.ensures)
+
+pub returns-in-Fault-clause-story : goal.returns-in-Fault-clause-story
+returns-in-Fault-clause-story g c = λ first stands. c.fail.ensures.story first (sends_in_vain (world_of g.C.Cache.did g.W.Wire.untouched g.W.Wire.happened (g.K.Clock.tells c.args.clock.now)) c.args.parts.now c.args.cache.now c.args.lease c.write_to.new.lease c.args.sent c.as_bytes-text.result.now c.requires.short c.in-Fault.ensures first stands)

@@ -1,6 +1,6 @@
-use Rattle.std.proofs.Common.{rules, arith, ◌≡◌, ◌<◌, ◌≤◌, ◌++◌, length, take, drop, ap, tests}
+use Rattle.std.proofs.Common.{rules, tests, arith, ◌≡◌, ◌<◌, ◌≤◌, ◌++◌, length, take, drop}
 use Rattle.std.proofs.lemmas.Grind.{common_steps}
-use Rattle.exchange.proofs.Received.{goes-on}
+use Rattle.exchange.proofs.Answered.{answers_more}
 use Rattle.exchange.proofs.memory.MemoryWireWire.read.Goals as goal
 
 pub returns : goal.returns
@@ -10,8 +10,8 @@ returns c =
     let copied = c.copy_from_slice.new.self in
     let rest = drop n c.args.buffer.now in
     let some : 0 < n = search (tests, rules) in
-    let fits : n ≤ length c.args.buffer.now = search rules in
-    let l : length copied ≡ n = search rules in
-    let e : copied ≡ take n (drop w.place w.response.items) = search rules in
-    let whole : n ≤ length (copied ++ rest) = grind (arith, common_steps) in
-    (some, whole, ap (λ r. record { sent = w.sent.items; received = r; ended = w.ended; failures = w.failures; source = w.source.id }) (goes-on w.response.items copied rest w.start w.place n w.in_order e l))
+    let len : length copied ≡ n = search rules in
+    let from : copied ≡ take n (drop w.place w.response.items) = search rules in
+    let fits : n ≤ length (copied ++ rest) = grind (arith, common_steps) in
+    let answered = answers_more w.response.items copied rest w.place n from len in
+    search (rules, some, fits, answered)
