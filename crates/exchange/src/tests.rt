@@ -8,6 +8,7 @@ use crate::driving::{
 };
 use crate::memory::{Halt, MemoryDial};
 use crate::returned::Returned;
+use crate::wire::{Read, Wire, Written};
 use budget::Refusal;
 use conn_log::{Cause, Want};
 use persistence::{Facts, Framing, Method};
@@ -90,7 +91,54 @@ fn the_wire_gets_the_request(rt: HostRuntime) -> Result<(), Fail> {
         let wire = lease.stream_mut().expect(&rt, "the wire");
         assert_eq!(rt; wire.sent(), text);
         assert_eq!(rt; wire.unread(), 0);
+        assert_eq!(rt; wire.failures(), 0);
         pool.abandon(lease, NOW);
+    }
+    Ok(())
+}
+
+#[test]
+fn a_wire_carries_two_requests(rt: HostRuntime) -> Result<(), Fail> {
+    let text: &[u8] = b"GET / HTTP/1.1\r\nHost: example.com\r\n\r\n";
+    let both = repeated(&rt, text, text, 1)?;
+    let mut wire = wire_of(&rt, &repeated(&rt, OK, OK, 1)?);
+    wire.set_most_read(OK.len());
+    let mut dial = dial_of(&rt, wire);
+    let mut cache = cache_of(&rt);
+    for reused in [false, true] {
+        assert_eq!(rt; cache.leases(), 0);
+        assert_eq!(rt; cache.tickets(), 0);
+        let done = run_at_once(&rt, prepared(&rt), &mut cache, &mut dial);
+        assert_eq!(rt; done, Done::Good(Answer { reused, ..GOOD }));
+    }
+    let mut pool = close(&rt, cache);
+    let mut lease = lease_of(&rt, &mut pool, 2, NOW);
+    let wire = lease.stream_mut().expect(&rt, "the wire");
+    assert_eq!(rt; wire.sent(), both.as_slice());
+    assert_eq!(rt; wire.unread(), 0);
+    pool.abandon(lease, NOW);
+    Ok(())
+}
+
+#[test]
+fn a_wire_counts_its_failures(rt: HostRuntime) -> Result<(), Fail> {
+    for (halt, read, written, failures) in [
+        (Halt::NotYet, Read::NotYet, Written::NotYet, 0),
+        (Halt::End, Read::End, Written::Fault, 1),
+        (Halt::Fault, Read::Fault, Written::Fault, 2),
+    ] {
+        let mut wire = wire_of(&rt, OK);
+        wire.halt_read(1, halt);
+        wire.halt_write(1, halt);
+        let mut buffer = [0; 4];
+        assert_eq!(rt; wire.read(&mut buffer), read);
+        assert_eq!(rt; wire.write(b"GET "), written);
+        assert_eq!(rt; wire.failures(), failures, "{halt:?}");
+        // and the calls behind are as ever
+        assert_eq!(rt; wire.read(&mut buffer), Read::Bytes(4));
+        assert_eq!(rt; buffer, *b"HTTP");
+        assert_eq!(rt; wire.write(b"GET "), Written::Took(4));
+        assert_eq!(rt; wire.failures(), failures, "{halt:?}");
     }
     Ok(())
 }
@@ -229,35 +277,31 @@ fn a_failed_wire_is_tried_again_before_any_byte(rt: HostRuntime) -> Result<(), F
         ..GOOD
     });
     let (read, write) = (Done::Bad(Fault::Read), Done::Bad(Fault::Write));
-    for (reused, is_read, nth, done) in [
-        (false, false, 1, write),
-        (false, false, 2, write),
-        (false, false, 20, write),
-        (false, true, 1, read),
-        (false, true, 2, read),
-        (false, true, 20, read),
-        (true, false, 1, retried),
-        (true, false, 20, retried),
-        (true, true, 1, retried),
-        (true, true, 2, read),
-        (true, true, 20, read),
-    ] {
-        let mut wire = wire_of(&rt, OK);
-        wire.set_most_read(1);
-        wire.set_most_written(1);
-        if is_read {
-            wire.halt_read(nth, Halt::Fault);
-        } else {
-            wire.halt_write(nth, Halt::Fault);
+    // The request and the response have more bytes than that.
+    for nth in 1..37 {
+        for (reused, is_read, done) in [
+            (false, false, write),
+            (false, true, read),
+            (true, false, retried),
+            (true, true, if nth == 1 { retried } else { read }),
+        ] {
+            let mut wire = wire_of(&rt, OK);
+            wire.set_most_read(1);
+            wire.set_most_written(1);
+            if is_read {
+                wire.halt_read(nth, Halt::Fault);
+            } else {
+                wire.halt_write(nth, Halt::Fault);
+            }
+            let (mut cache, mut dial) = if reused {
+                (cache_with_idle(&rt, wire), dial_of(&rt, wire_of(&rt, OK)))
+            } else {
+                (cache_of(&rt), dial_of(&rt, wire))
+            };
+            let (ended, _) = run(&rt, prepared(&rt), &mut cache, &mut dial, Stage::Turn);
+            assert_eq!(rt; ended, done, "{reused} {is_read} {nth}");
+            let _ = close(&rt, cache);
         }
-        let (mut cache, mut dial) = if reused {
-            (cache_with_idle(&rt, wire), dial_of(&rt, wire_of(&rt, OK)))
-        } else {
-            (cache_of(&rt), dial_of(&rt, wire))
-        };
-        let (ended, _) = run(&rt, prepared(&rt), &mut cache, &mut dial, Stage::Turn);
-        assert_eq!(rt; ended, done, "{reused} {is_read} {nth}");
-        let _ = close(&rt, cache);
     }
     Ok(())
 }
@@ -317,6 +361,44 @@ fn a_response_that_is_bad(rt: HostRuntime) -> Result<(), Fail> {
             response.len()
         );
         check_last(&rt, &cache, closed(1, Cause::Cut, NOW));
+        let _ = close(&rt, cache);
+    }
+    Ok(())
+}
+
+#[test]
+fn a_response_at_a_limit(rt: HostRuntime) -> Result<(), Fail> {
+    let empty = b"HTTP/1.1 200 OK\r\nContent-Length: 0\r\n";
+    let chunked = b"HTTP/1.1 200 OK\r\nTransfer-Encoding: chunked\r\n\r\n";
+    // a head of 16,384 bytes
+    let mut long = repeated(&rt, &repeated(&rt, empty, b"A: ", 1)?, b"x", 16_341)?;
+    long.extend_from_slice(b"\r\n\r\n")?;
+    // 100 fields
+    let mut many = repeated(&rt, empty, b"A: b\r\n", 99)?;
+    many.extend_from_slice(b"\r\n")?;
+    // eight interim heads
+    let mut interim = repeated(&rt, &[], b"HTTP/1.1 100 Continue\r\n\r\n", 8)?;
+    interim.extend_from_slice(OK)?;
+    // a chunk line of 1,024 bytes
+    let mut chunk = repeated(&rt, &repeated(&rt, chunked, b"2;", 1)?, b"x", 1_020)?;
+    chunk.extend_from_slice(b"\r\nok\r\n0\r\n\r\n")?;
+    for (response, body_len, framing) in [
+        (&long, 0, Framing::Counted),
+        (&many, 0, Framing::Counted),
+        (&interim, 2, Framing::Counted),
+        (&chunk, 2, Framing::Chunked),
+    ] {
+        let mut dial = dial_of(&rt, wire_of(&rt, response));
+        let mut cache = cache_of(&rt);
+        let done = run_at_once(&rt, prepared(&rt), &mut cache, &mut dial);
+        let facts = Facts { framing, ..KEEP };
+        let good = Answer {
+            body_len,
+            facts,
+            ..GOOD
+        };
+        assert_eq!(rt; done, Done::Good(good), "{} bytes", response.len());
+        check_last(&rt, &cache, returned(1, facts, NOW));
         let _ = close(&rt, cache);
     }
     Ok(())
