@@ -228,9 +228,14 @@ fn a_dial_fails(rt: HostRuntime) -> Result<(), Fail> {
 #[test]
 fn a_connection_is_reused(rt: HostRuntime) -> Result<(), Fail> {
     let mut dial = MemoryDial::new(rt.alloc());
-    let mut cache = cache_with_idle(&rt, wire_of(&rt, OK));
+    // 200 bytes
+    let response = b"HTTP/1.1 200 OK\r\nDate: Tue, 15 Nov 1994 08:12:31 GMT\r\nServer: example\r\n\
+        Content-Type: text/html\r\nCache-Control: max-age=60\r\nContent-Length: 55\r\n\r\n\
+        <html><head><title>A</title></head><body></body></html>";
+    let mut cache = cache_with_idle(&rt, wire_of(&rt, response));
     let done = run_at_once(&rt, prepared(&rt), &mut cache, &mut dial);
     let answer = Answer {
+        body_len: 55,
         reused: true,
         ..GOOD
     };
