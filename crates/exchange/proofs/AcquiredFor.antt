@@ -2,12 +2,12 @@
 use Rattle.std.proofs.Common.{◌≡◌, ℕ, ap, ◌∙◌}
 use Rattle.conn_log.specs.declared.entry.Want.{Want}
 use Rattle.bundle.specs.Calls.{Reply, Start, starts, waits_on, no_room, again}
-use Rattle.bundle.specs.Lease.{Leasing, Ticketed}
+use Rattle.bundle.specs.Lease.{Leasing, Ticketed, HasItsStream}
 use Rattle.cache.specs.declared.acquired.Acquired.{Acquired}
 use Rattle.cache.specs.declared.acquired.Acquired.TheVariants.{Lease, Wait as Waits}
 use Rattle.cache.specs.Laws.{AnswersWant}
 use Rattle.cache.specs.Calls.{after_acquire, reply_of}
-use Rattle.cache.specs.Pools.{IsAcquired, all_hosts}
+use Rattle.cache.specs.Pools.{IsAcquired, GivesLease, all_hosts, host_at}
 use Rattle.exchange.specs.FakeCaches.{FakeShown, Keeps, Acquires}
 
 module _ {S : Type 0} where
@@ -24,5 +24,5 @@ ticket_for S site want no_room ticket its is = absurd is
 ticket_for S site want again ticket its is = absurd is
 
 -- what an acquire did for a site and a want it did for those that are the same
-pub did_acquire : {S : Type 0} → (old new : FakeShown S) (site same_site : ℕ) (want same_want : Want) (now : ℕ) (acquired : Acquired S) → (same_site ≡ site) × (same_want ≡ want) → all_hosts new.pool ≡ after_acquire old.pool.limits site want now (all_hosts old.pool) → IsAcquired site (reply_of old.pool.limits site want now (all_hosts old.pool)) acquired → Keeps old new → Acquires old new same_site same_want now acquired
-did_acquire old new site same_site want same_want now acquired same all reply keeps = record { all = rw (same.0, same.1) all; reply = rw (same.0, same.1) reply; keeps = keeps }
+pub did_acquire : {S : Type 0} → (old new : FakeShown S) (site same_site : ℕ) (want same_want : Want) (now : ℕ) (acquired : Acquired S) → (same_site ≡ site) × (same_want ≡ want) → all_hosts new.pool ≡ after_acquire old.pool.limits site want now (all_hosts old.pool) → IsAcquired site (reply_of old.pool.limits site want now (all_hosts old.pool)) acquired → GivesLease acquired (HasItsStream (host_at old.pool site).streams) → Keeps old new → Acquires old new same_site same_want now acquired
+did_acquire old new site same_site want same_want now acquired same all reply stream keeps = record { all = rw (same.0, same.1) all; reply = rw (same.0, same.1) reply; stream = rw (same.0) stream; keeps = keeps }

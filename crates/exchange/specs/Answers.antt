@@ -56,7 +56,7 @@ pub record NoneFailed (wire : Carried) : Type 0 where
   pub reads : wire.read_failed ≡ false
   pub writes : wire.write_failed ≡ false
 
--- nor has the connection ended
+-- no read or write has failed, and the connection has not ended
 pub record GoesWell (wire : Carried) : Type 0 where
   pub going : wire.ended ≡ false
   pub unfailed : NoneFailed wire

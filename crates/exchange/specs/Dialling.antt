@@ -30,7 +30,7 @@ CountsDial _ old new = new ≡ old
 -- the count of connections opened rises by one at most, and only where this one was opened
 abbrev pub OpensOne : {W : Type 0} → Dialled W → ℕ → ℕ → Type 0
 OpensOne (Up wire) old new = new ≤ old + 1
-OpensOne _ old new = new ≤ old
+OpensOne _ old new = new ≡ old
 
 abbrev pub OnTurnFault : Turned → Type 0 → Type 0
 OnTurnFault TurnFault P = P

@@ -39,6 +39,7 @@ abbrev pub DialFailsSince : {W : Type 0} → State W → ℕ → ℕ → State W
 DialFailsSince (Finished done) old new next = new ≡ old
 DialFailsSince _ old new next = DialFails old new next
 
+-- and it was, from where the exchange stood
 abbrev pub DialFailed : {W : Type 0} → Option (State W) → Option (State W) → ℕ → ℕ → Type 0
 DialFailed state next old new = IsSomeAnd state (λ first. IsSomeAnd next (DialFailsSince first old new))
 

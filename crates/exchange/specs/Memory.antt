@@ -22,8 +22,8 @@ pub record Carries (sent received : List ℕ) (old new : MemoryWire) : Type 0 wh
   pub answered_is : answered new ≡ answered old ++ received
 
 -- and no read or write failed
-abbrev pub Goes : List ℕ → List ℕ → MemoryWire → MemoryWire → Type 0
-Goes sent received old new = Carries sent received old new × (new.failures ≡ old.failures)
+abbrev pub CarriesWell : List ℕ → List ℕ → MemoryWire → MemoryWire → Type 0
+CarriesWell sent received old new = Carries sent received old new × (new.failures ≡ old.failures)
 
 -- a read or a write failed, and nothing was sent or answered
 abbrev pub Breaks : MemoryWire → MemoryWire → Type 0
@@ -31,10 +31,10 @@ Breaks old new = Carries [] [] old new × Rises old.failures new.failures
 
 -- from the one time to the other this happened
 abbrev pub HappenedTo : MemoryWire → MemoryWire → Happening → Type 0
-HappenedTo old new nothing = Goes [] [] old new
-HappenedTo old new is_adopted = Goes [] [] old new
-HappenedTo old new (takes bytes) = Goes bytes [] old new
-HappenedTo old new (gives bytes) = Goes [] bytes old new
-HappenedTo old new ends = Goes [] [] old new
+HappenedTo old new nothing = CarriesWell [] [] old new
+HappenedTo old new is_adopted = CarriesWell [] [] old new
+HappenedTo old new (takes bytes) = CarriesWell bytes [] old new
+HappenedTo old new (gives bytes) = CarriesWell [] bytes old new
+HappenedTo old new ends = CarriesWell [] [] old new
 HappenedTo old new fails_to_read = Breaks old new
 HappenedTo old new fails_to_write = Breaks old new

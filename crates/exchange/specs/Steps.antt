@@ -101,17 +101,17 @@ pub record CanSettle (p : Prepared) (reused : Bool) (wire : Carried) : Type 0 wh
   pub over : ((wire.ended ≡ true) × (may_retry p.retried reused wire.received ≡ false)) ⊎ ((parts : Parts) × IsSplit p.method wire.received wire.ended parts)
 
 -- no dial has failed
-abbrev pub IsNotDial : {W : Type 0} → State W → Type 0
-IsNotDial (Finished (Bad Dial)) = ⊥
-IsNotDial _ = Unit {0}
+abbrev pub HasNoDialFault : {W : Type 0} → State W → Type 0
+HasNoDialFault (Finished (Bad Dial)) = ⊥
+HasNoDialFault _ = Unit {0}
 
 -- a dial has failed, so that its count rose, where that is what came of it, and only there
 abbrev pub DialFails : {W : Type 0} → ℕ → ℕ → State W → Type 0
 DialFails old new (Finished (Bad Dial)) = Rises old new
 DialFails old new _ = new ≡ old
 
--- how many connections it may still open: one, until it has a connection; then one more where its request may be sent
--- once more
+-- how many connections it may still open: one, until its wire is there; a reused one leaves that one for sending the
+-- request once more
 abbrev pub may_open : {W : Type 0} → Prepared → State W → ℕ
 may_open p Asking = 1
 may_open p (Waiting ticket) = 1
@@ -119,6 +119,10 @@ may_open p (Dialling lease) = 1
 may_open p (Sending lease sent) = if may_retry p.retried lease.start.reused [] then 1 else 0
 may_open p (Reading lease) = if may_retry p.retried lease.start.reused [] then 1 else 0
 may_open p (Finished done) = 0
+
+-- it may open no more than before
+abbrev pub OpensNoMore : {W : Type 0} → Prepared → Prepared → State W → State W → Type 0
+OpensNoMore p q state next = may_open q next ≤ may_open p state
 
 -- it opens no more than it may: so many were opened before, and so many after
 abbrev pub Opens : {W : Type 0} → Prepared → Prepared → State W → ℕ → ℕ → State W → Type 0

@@ -1,6 +1,6 @@
 //! How an exchange gets its connection: it asks the cache, waits, and dials.
 
-ghost use Rattle.std.specs.Prelude.{◌≡◌, ◌<◌, ◌≤◌, None, length, is_some, false};
+ghost use Rattle.std.specs.Prelude.{◌≡◌, ◌<◌, None, length, is_some, false};
 ghost use Rattle.exchange.specs.Deeds.{none_out, ticket_out};
 ghost use Rattle.exchange.specs.Answers.{text_of};
 ghost use Rattle.exchange.specs.Worlds.{world_of};
@@ -26,7 +26,8 @@ fn begin<W: Wire, D: Dial<W>>(mut lease: Lease<W>, dial: &mut D) -> State<W>
     requires { is_some lease.stream ≡ lease.start.reused }
     ensures begins { Begins W.happened lease result }
     ensures counted { D.failures dial.new ≡ D.failures dial.old }
-    ensures opens { D.opened dial.new ≤ D.opened dial.old }
+    ensures opens { D.opened dial.new ≡ D.opened dial.old }
+    ensures turns { D.turn_failures dial.new ≡ D.turn_failures dial.old }
 {
     match lease.stream_mut() {
         Some(wire) => dial.adopt(wire),
@@ -51,6 +52,7 @@ pub(crate) fn ask<W: Wire, C: Cache<W>, D: Dial<W>, K: Clock>(
     ensures dialled { DialFails (D.failures dial.old) (D.failures dial.new) result }
     ensures opens { Opens parts.now parts.now at.Asking (D.opened dial.old)
         (D.opened dial.new) result }
+    ensures turns { D.turn_failures dial.new ≡ D.turn_failures dial.old }
 {
     match cache.acquire(parts.site, parts.wanted(), clock.now()) {
         Ok(Acquired::Lease(lease)) => begin(lease, dial),
@@ -78,6 +80,7 @@ pub(crate) fn claim<W: Wire, C: Cache<W>, D: Dial<W>, K: Clock>(
     ensures dialled { AtStep result (DialFails (D.failures dial.old) (D.failures dial.new)) }
     ensures opens { AtStep result (Opens parts.now parts.now (at.Waiting ticket)
         (D.opened dial.old) (D.opened dial.new)) }
+    ensures turns { D.turn_failures dial.new ≡ D.turn_failures dial.old }
     ensures leaves { StepLeaves W.source_name (D.source_name dial.new) cx.old cx.new None result }
 {
     match cache.claim(ticket) {
@@ -116,6 +119,7 @@ pub(crate) fn dial_up<W: Wire, C: Cache<W>, D: Dial<W>, K: Clock>(
     ensures dialled { AtStep result (DialFails (D.failures dial.old) (D.failures dial.new)) }
     ensures opens { AtStep result (Opens parts.now parts.now (at.Dialling lease)
         (D.opened dial.old) (D.opened dial.new)) }
+    ensures turns { D.turn_failures dial.new ≡ D.turn_failures dial.old }
     ensures leaves { StepLeaves W.source_name (D.source_name dial.new) cx.old cx.new waker.new
         result }
 {

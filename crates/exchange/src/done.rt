@@ -21,7 +21,8 @@ pub enum Stage {
 /// Why an exchange has no good response.
 #[derive(Clone, Copy, Debug, PartialEq, Eq)]
 pub enum Fault {
-    /// There is no memory. A poll never gives it: all memory is taken before the first.
+    /// There is no memory. A poll never gives it, since it takes none itself: what its cache lacks
+    /// is a refusal.
     Memory,
     /// The connection could not be opened. It was abandoned.
     Dial,
@@ -52,8 +53,8 @@ pub struct Answer {
     pub facts: Facts,
     /// Its connection was used before.
     pub reused: bool,
-    /// The request was sent once more, on a new connection, since the first failed before any byte
-    /// of a response.
+    /// The request was sent once more, on a new connection, since the first failed or was ended
+    /// before any byte of a response.
     pub retried: bool,
 }
 

@@ -7,7 +7,7 @@ ghost use Rattle.exchange.specs.Leasing.{DropsBy, WithdrawsBy};
 ghost use Rattle.exchange.specs.Answers.{IsSameJob, IsFruitless, may_retry};
 ghost use Rattle.exchange.specs.Worlds.{world_of};
 ghost use Rattle.exchange.specs.Steps.{IsGivenBack, LeadsOn, IsRetriable, FailsSo, IsAtEnd};
-ghost use Rattle.exchange.specs.Steps.{CanSettle, IsWireFault, IsNotDial, Opens};
+ghost use Rattle.exchange.specs.Steps.{CanSettle, IsWireFault, HasNoDialFault, OpensNoMore};
 ghost use Rattle.exchange.specs.Owning.{IsReady, IsReading, OwnsLease, OwnsWire, OwnsAt};
 ghost use Rattle.exchange.specs.declared.state.State.TheVariants as at;
 
@@ -90,8 +90,8 @@ fn retry<W: Wire, C: Cache<W>, K: Clock>(
     ensures same { IsSameJob parts.old parts.new }
     ensures story { LeadsOn (world_of C.did W.untouched W.happened (K.tells clock.now)) parts.old
         parts.new cache.old cache.new lease (IsRetriable parts.old) result }
-    ensures dialled { IsNotDial result }
-    ensures opens { Opens parts.old parts.new (at.Reading lease) 0 0 result }
+    ensures dialled { HasNoDialFault result }
+    ensures opens { OpensNoMore parts.old parts.new (at.Reading lease) result }
 {
     match cache.abandon(lease, clock.now()) {
         Ok(()) => {
@@ -122,8 +122,8 @@ pub(crate) fn fail<W: Wire, C: Cache<W>, K: Clock>(
     ensures same { IsSameJob parts.old parts.new }
     ensures story { LeadsOn (world_of C.did W.untouched W.happened (K.tells clock.now)) parts.old
         parts.new cache.old cache.new lease (FailsSo parts.old fault) result }
-    ensures dialled { IsNotDial result }
-    ensures opens { Opens parts.old parts.new (at.Reading lease) 0 0 result }
+    ensures dialled { HasNoDialFault result }
+    ensures opens { OpensNoMore parts.old parts.new (at.Reading lease) result }
 {
     if may_retry(parts, &lease) {
         return retry(parts, cache, clock, lease);
@@ -146,8 +146,8 @@ pub(crate) fn end<W: Wire, C: Cache<W>, K: Clock>(
     ensures same { IsSameJob parts.old parts.new }
     ensures story { LeadsOn (world_of C.did W.untouched W.happened (K.tells clock.now)) parts.old
         parts.new cache.old cache.new lease (IsAtEnd parts.old) result }
-    ensures dialled { IsNotDial result }
-    ensures opens { Opens parts.old parts.new (at.Reading lease) 0 0 result }
+    ensures dialled { HasNoDialFault result }
+    ensures opens { OpensNoMore parts.old parts.new (at.Reading lease) result }
 {
     if may_retry(parts, &lease) {
         return retry(parts, cache, clock, lease);
@@ -168,8 +168,8 @@ pub(crate) fn settle<W: Wire, C: Cache<W>, K: Clock>(
     ensures owns { OwnsAt (C.out cache.new) (C.owns cache.new) parts.now result }
     ensures story { LeadsOn (world_of C.did W.untouched W.happened (K.tells clock.now)) parts.now
         parts.now cache.old cache.new lease (CanSettle parts.now lease.start.reused) result }
-    ensures dialled { IsNotDial result }
-    ensures opens { Opens parts.now parts.now (at.Reading lease) 0 0 result }
+    ensures dialled { HasNoDialFault result }
+    ensures opens { OpensNoMore parts.now parts.now (at.Reading lease) result }
 {
     let facts = parts.reader.facts();
     let reused = lease.reused();

@@ -1,6 +1,6 @@
 //! One transfer, polled by hand.
 
-ghost use Rattle.std.specs.Prelude.{◌≡◌, ◌≤◌, None, Some};
+ghost use Rattle.std.specs.Prelude.{◌≡◌, None, Some};
 ghost use Rattle.conn_key.specs.Wants.{Rises};
 ghost use Rattle.futures.specs.Task.{Keeps};
 ghost use Rattle.futures.specs.Poll.{IfReady, OnPending};
@@ -88,6 +88,7 @@ fn advance<W: Wire, C: Cache<W>, D: Dial<W>, K: Clock>(
         (DialFailsSince state (D.failures dial.old) (D.failures dial.new)) }
     ensures opens { AtStep result
         (Opens parts.old parts.new state (D.opened dial.old) (D.opened dial.new)) }
+    ensures turns { D.turn_failures dial.new ≡ D.turn_failures dial.old }
     ensures leaves { StepLeaves W.source_name (D.source_name dial.new) cx.old cx.new waker.new
         result }
 {
@@ -155,6 +156,7 @@ impl<'a, W: Wire, C: Cache<W>, D: Dial<W>, K: Clock> Exchange<'a, W, C, D, K> {
             (D.failures self.old.dial.now) (D.failures self.new.dial.now) }
         ensures opens { OpensFew self.old.parts self.new.parts self.old.state self.new.state
             (D.opened self.old.dial.now) (D.opened self.new.dial.now) }
+        ensures turns { D.turn_failures self.new.dial.now ≡ D.turn_failures self.old.dial.now }
         ensures finished { IfReady result (λ _. IsFinished self.new.state) }
         ensures pending { OnPending result (Leaves W.source_name
             (D.source_name self.new.dial.now) cx.old cx.new self.new.waker self.new.stage
@@ -193,6 +195,7 @@ impl<'a, W: Wire, C: Cache<W>, D: Dial<W>, K: Clock> Exchange<'a, W, C, D, K> {
             (D.failures self.old.dial.now) (D.failures self.new.dial.now) }
         ensures opens { OpensFew self.old.parts self.new.parts self.old.state self.new.state
             (D.opened self.old.dial.now) (D.opened self.new.dial.now) }
+        ensures turns { D.turn_failures self.new.dial.now ≡ D.turn_failures self.old.dial.now }
         ensures leaves { PaceLeaves W.source_name (D.source_name self.new.dial.now) cx.old
             cx.new self.new.waker self.new.stage self.new.state result }
         ensures same_cache { self.new.cache.ghost_name ≡ self.old.cache.ghost_name }
@@ -239,7 +242,8 @@ impl<'a, W: Wire, C: Cache<W>, D: Dial<W>, K: Clock> Exchange<'a, W, C, D, K> {
             (D.turn_failures self.new.dial.now)) }
         ensures done { D.turned self.old.dial.now self.new.dial.now }
         ensures counted { D.failures self.new.dial.now ≡ D.failures self.old.dial.now }
-        ensures opens { D.opened self.new.dial.now ≤ D.opened self.old.dial.now }
+        ensures opens { D.opened self.new.dial.now ≡ D.opened self.old.dial.now }
+        ensures source { D.source_name self.new.dial.now ≡ D.source_name self.old.dial.now }
         ensures parts { self.new.parts ≡ self.old.parts }
         ensures state { self.new.state ≡ self.old.state }
         ensures stage { self.new.stage ≡ self.old.stage }

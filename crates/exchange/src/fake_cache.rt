@@ -1,7 +1,7 @@
 //! A cache over a pool, which users' tests drive exchanges with: it notes what an exchange gave
 //! back.
 
-ghost use Rattle.std.specs.Prelude.{◌≡◌, IsSome, IfOk, IfSome, None};
+ghost use Rattle.std.specs.Prelude.{◌≡◌, IsSome, IfOk, IfErr, IfSome, None, nat_lt, if◌then◌else◌};
 ghost use Rattle.cache.specs.Pools.{IsMadeHere, IsNewPool, StaysHosts, StaysPool};
 
 use crate::leasing::Cache;
@@ -64,6 +64,8 @@ impl<W: Drop> FakeCache<W> {
         ensures pool { IfOk result (λ cache. IsNewPool limits hosts cache.pool) }
         ensures none { IfOk result (λ cache. (cache.leases ≡ 0) × (cache.tickets ≡ 0)) }
         ensures last { IfOk result (λ cache. cache.last ≡ None) }
+        ensures err { IfErr result (λ refusal. refusal
+            ≡ (if nat_lt 1024 hosts then Refusal.BadSite else Refusal.Memory)) }
     {
         let pool = Pool::new(alloc, limits, hosts)?;
         Ok(FakeCache::over(pool))

@@ -248,7 +248,8 @@ pub struct MemoryDial {
 impl MemoryDial {
     /// A dial without wires.
     pub fn new(alloc: Global) -> MemoryDial
-        ensures { result.wires.items ≡ [] }
+        ensures wires { result.wires.items ≡ [] }
+        ensures counts { (result.opened ≡ 0) × (result.failures ≡ 0) }
     {
         MemoryDial {
             wires: Vec::new(alloc),
@@ -268,6 +269,8 @@ impl MemoryDial {
         ensures ok { OnOk result
             (self.new.wires.items ≡ self.old.wires.items ++ (wire ∷ [])) }
         ensures err { OnErr result (self.new.wires.items ≡ self.old.wires.items) }
+        ensures counts { (self.new.opened ≡ self.old.opened)
+            × (self.new.failures ≡ self.old.failures) × (self.new.dials ≡ self.old.dials) }
     {
         match self.wires.push(wire) {
             Ok(()) => Ok(()),
@@ -276,7 +279,11 @@ impl MemoryDial {
     }
 
     /// At that dial, counted from one, this happens.
-    pub fn halt_dial(&mut self, nth: u64, halt: Halt) {
+    pub fn halt_dial(&mut self, nth: u64, halt: Halt)
+        ensures { self.new ≡ record self.old {
+          dials = record { count = 0; halts_at = nth; halt = halt };
+        } }
+    {
         self.dials = Calls::with_halt(nth, halt);
     }
 

@@ -3,7 +3,8 @@
 ghost use Rattle.std.specs.Prelude.{◌≡◌, ⊤};
 ghost use Rattle.futures.specs.Poll.{IfReady, OnPending};
 ghost use Rattle.futures.specs.Task.{Covers, Keeps};
-ghost use Rattle.exchange.specs.Exchanging.{MayPoll, Needs, IsFinished};
+ghost use Rattle.exchange.specs.Worlds.{world_of};
+ghost use Rattle.exchange.specs.Exchanging.{MayPoll, Needs, Continues, IsFinished};
 
 use crate::exchange::Exchange;
 use crate::leasing::Cache;
@@ -51,6 +52,11 @@ impl<'b, 'a, W: Wire, C: Cache<W>, D: Dial<W>, K: Clock> Future for Polled<'b, '
         ensures can_poll { MayPoll (C.out self.new.exchange.now.cache.now)
             (C.owns self.new.exchange.now.cache.now) self.new.exchange.now.parts
             self.new.exchange.now.state }
+        ensures story { Continues
+            (world_of C.did W.untouched W.happened (K.tells self.old.exchange.now.clock.now))
+            self.old.exchange.now.parts self.new.exchange.now.parts
+            self.old.exchange.now.cache.now self.new.exchange.now.cache.now
+            self.old.exchange.now.state self.new.exchange.now.state }
         ensures finished { IfReady result (λ _. IsFinished self.new.exchange.now.state) }
         ensures registered { OnPending result (Covers cx.new (λ source. Needs W.source_name
             (D.source_name self.new.exchange.now.dial.now) source self.new.exchange.now.stage

@@ -5,7 +5,7 @@ ghost use Rattle.exchange.specs.Wires.{Reads, Writes};
 ghost use Rattle.exchange.specs.Answers.{text_of, IsSameJob};
 ghost use Rattle.exchange.specs.Worlds.{world_of};
 ghost use Rattle.exchange.specs.Standing.{GoesOn};
-ghost use Rattle.exchange.specs.Steps.{StepsWire, LeadsOn, HasCome, IsNotDial, Opens};
+ghost use Rattle.exchange.specs.Steps.{StepsWire, LeadsOn, HasCome, HasNoDialFault, OpensNoMore};
 ghost use Rattle.exchange.specs.Waiting.{AtStep, StepLeaves, OnSource, IsRegistered};
 ghost use Rattle.exchange.specs.Owning.{IsReady, IsReading, OwnsWire, OwnsAt};
 ghost use Rattle.exchange.specs.declared.state.State.TheVariants as at;
@@ -78,8 +78,8 @@ pub(crate) fn send<W: Wire, C: Cache<W>, K: Clock>(
     ensures story { AtStep result
         (GoesOn (world_of C.did W.untouched W.happened (K.tells clock.now)) parts.old parts.new
         cache.old cache.new (at.Sending lease sent)) }
-    ensures dialled { AtStep result IsNotDial }
-    ensures opens { AtStep result (Opens parts.old parts.new (at.Sending lease sent) 0 0) }
+    ensures dialled { AtStep result HasNoDialFault }
+    ensures opens { AtStep result (OpensNoMore parts.old parts.new (at.Sending lease sent)) }
     ensures leaves { (dial : ℕ) → StepLeaves W.source_name dial cx.old cx.new waker.new result }
 {
     let text = parts.text.as_bytes();
@@ -118,8 +118,8 @@ pub(crate) fn read<W: Wire, C: Cache<W>, K: Clock>(
     ensures story { AtStep result
         (GoesOn (world_of C.did W.untouched W.happened (K.tells clock.now)) parts.old parts.new
         cache.old cache.new (at.Reading lease)) }
-    ensures dialled { AtStep result IsNotDial }
-    ensures opens { AtStep result (Opens parts.old parts.new (at.Reading lease) 0 0) }
+    ensures dialled { AtStep result HasNoDialFault }
+    ensures opens { AtStep result (OpensNoMore parts.old parts.new (at.Reading lease)) }
     ensures leaves { (dial : ℕ) → StepLeaves W.source_name dial cx.old cx.new waker.new result }
 {
     match read_from(&mut lease, &mut parts.buffer) {
@@ -150,8 +150,8 @@ fn feed<W: Wire, C: Cache<W>, K: Clock>(
     ensures same { IsSameJob parts.old parts.new }
     ensures story { LeadsOn (world_of C.did W.untouched W.happened (K.tells clock.now)) parts.old
         parts.new cache.old cache.new lease (HasCome parts.old count) result }
-    ensures dialled { IsNotDial result }
-    ensures opens { Opens parts.old parts.new (at.Reading lease) 0 0 result }
+    ensures dialled { HasNoDialFault result }
+    ensures opens { OpensNoMore parts.old parts.new (at.Reading lease) result }
 {
     match parts.reader.feed(&parts.buffer[..count]) {
         Ok(Fed::More) => State::Reading(lease),

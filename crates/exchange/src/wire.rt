@@ -51,9 +51,9 @@ pub enum Turned {
 
 /// A connection that bytes go over, which waits for nothing.
 ///
-/// The ghost members tell contracts what happened on it from one time to another, that nothing has
-/// happened on it yet, how often it failed, a count that stays at the greatest `u64`, and the name
-/// of its source.
+/// The ghost members tell contracts what happened on it from one time to another, to which site's
+/// host it was dialled where nothing has happened on it yet, how often it failed, a count that stays
+/// at the greatest `u64`, and the name of its source.
 pub trait Wire: Drop {
     ghost use Rattle.exchange.specs.Wires.{Happening, Reads, Writes};
     ghost use Rattle.exchange.specs.Dialling.{OnReadFault, OnWriteFault};
@@ -89,8 +89,9 @@ pub trait Wire: Drop {
 
 /// What opens connections, and sees when they are ready.
 ///
-/// The ghost members tell contracts how often a dial failed, how many connections were opened and
-/// how often a turn failed, counts that stay at the greatest `u64`, and the name of its source.
+/// The ghost members tell contracts how often a dial failed, how many connections were opened, how
+/// often a turn failed, counts that stay at the greatest `u64`, what a turn does, and the name of
+/// its source.
 pub trait Dial<W: Wire> {
     ghost use Rattle.exchange.specs.Wires.Happening.{is_adopted};
     ghost use Rattle.exchange.specs.Dialling.{IfUp, CountsDial, OpensOne, OnTurnFault};
@@ -114,13 +115,15 @@ pub trait Dial<W: Wire> {
     fn dial(&mut self, site: u32) -> Dialled<W>
         ensures up { IfUp result (λ wire. W.untouched wire site) }
         ensures counted { CountsDial result (failures self.old) (failures self.new) }
-        ensures opens { OpensOne result (opened self.old) (opened self.new) };
+        ensures opens { OpensOne result (opened self.old) (opened self.new) }
+        ensures turns { turn_failures self.new ≡ turn_failures self.old };
 
     /// Takes a wire over, which another dial may have made, so that its readiness is seen here.
     fn adopt(&mut self, wire: &mut W)
         ensures adopted { W.happened wire.old wire.new is_adopted }
         ensures counted { failures self.new ≡ failures self.old }
-        ensures opens { opened self.new ≤ opened self.old };
+        ensures opens { opened self.new ≡ opened self.old }
+        ensures turns { turn_failures self.new ≡ turn_failures self.old };
 
     /// Takes a turn of its event loop, which waits at most ten milliseconds.
     fn turn(&mut self) -> Turned
@@ -128,7 +131,8 @@ pub trait Dial<W: Wire> {
             (Rises (turn_failures self.old) (turn_failures self.new)) }
         ensures done { turned self.old self.new }
         ensures counted { failures self.new ≡ failures self.old }
-        ensures opens { opened self.new ≤ opened self.old };
+        ensures opens { opened self.new ≡ opened self.old }
+        ensures source { source_name self.new ≡ source_name self.old };
 
     /// What a task registers with that waits until a connection is open.
     fn source(&self) -> &Source

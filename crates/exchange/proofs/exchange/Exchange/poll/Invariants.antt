@@ -14,6 +14,7 @@ invariant-loop g l = record {
   over : IsFinished l.fn.self.state → l.self.state ≡ l.fn.self.state;
   counted : g.D.Dial.failures l.self.dial.now ≡ g.D.Dial.failures l.fn.self.dial.now;
   opens : OpensFew l.fn.self.parts l.self.parts l.fn.self.state l.self.state (g.D.Dial.opened l.fn.self.dial.now) (g.D.Dial.opened l.self.dial.now);
+  turns : g.D.Dial.turn_failures l.self.dial.now ≡ g.D.Dial.turn_failures l.fn.self.dial.now;
   begins : (l.self.state ≡ l.fn.self.state) ⊎ IsSomeAnd l.self.state IsGoing;
   going : (l.counter ≡ 0) ⊎ IsSomeAnd l.self.state IsGoing;
   context : l.cx ≡ l.fn.cx;

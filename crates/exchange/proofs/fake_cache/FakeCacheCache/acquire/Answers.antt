@@ -1,7 +1,8 @@
 use Rattle.std.proofs.Common.{rules, ◌≡◌, is_some}
+use Rattle.bundle.specs.Lease.{HasItsStream}
 use Rattle.cache.specs.declared.acquired.Acquired.TheVariants.{Lease, Wait}
 use Rattle.cache.specs.Calls.{reply_of, after_acquire}
-use Rattle.cache.specs.Pools.{IsMadeHere, StaysPool, IsAcquired, all_hosts}
+use Rattle.cache.specs.Pools.{IsMadeHere, StaysPool, IsAcquired, all_hosts, host_at}
 use Rattle.cache.proofs.Replying.{acquire_starts_or_waits}
 use Rattle.exchange.specs.Deeds.{none_out}
 use Rattle.exchange.specs.FakeCaches.{out_of}
@@ -45,8 +46,9 @@ returns-in-Lease-clause-done g c =
     let is : IsAcquired {S = g.row.W.Denot} c.args.site reply (Lease lease) = search rules in
     let all : all_hosts c.acquire.new.self ≡ after_acquire old.limits c.args.site c.args.want c.args.now (all_hosts old) = search rules in
     let stays : StaysPool old c.acquire.new.self = search rules in
+    let stream : HasItsStream {S = g.row.W.Denot} (host_at old c.args.site).streams lease = search rules in
     let its = lease_for {S = g.row.W.Denot} c.args.site c.args.want reply lease (acquire_starts_or_waits old.limits c.args.site c.args.want c.args.now (all_hosts old)) is in
-    did_acquire c.args.self.now _ c.args.site lease.site c.args.want lease.start.want c.args.now (Lease lease) its all is (record { stays = stays; last = search rules })
+    did_acquire c.args.self.now _ c.args.site lease.site c.args.want lease.start.want c.args.now (Lease lease) its all is stream (record { stays = stays; last = search rules })
 
 pub returns-in-Wait-clause-done : goal.returns-in-Wait-clause-done
 returns-in-Wait-clause-done g c =
@@ -57,4 +59,4 @@ returns-in-Wait-clause-done g c =
     let all : all_hosts c.acquire.new.self ≡ after_acquire old.limits c.args.site c.args.want c.args.now (all_hosts old) = search rules in
     let stays : StaysPool old c.acquire.new.self = search rules in
     let its = ticket_for g.row.W.Denot c.args.site c.args.want reply ticket (acquire_starts_or_waits old.limits c.args.site c.args.want c.args.now (all_hosts old)) is in
-    did_acquire c.args.self.now _ c.args.site ticket.site c.args.want ticket.wait.want c.args.now (Wait ticket) its all is (record { stays = stays; last = search rules })
+    did_acquire c.args.self.now _ c.args.site ticket.site c.args.want ticket.wait.want c.args.now (Wait ticket) its all is tt (record { stays = stays; last = search rules })
