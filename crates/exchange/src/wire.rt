@@ -51,9 +51,9 @@ pub enum Turned {
 
 /// A connection that bytes go over, which waits for nothing.
 ///
-/// The ghost members tell contracts what happened on it from one time to another, to which site's
-/// host it was dialled where nothing has happened on it yet, how often it failed, a count that stays
-/// at the greatest `u64`, and the name of its source.
+/// The ghost members tell contracts to which site's host it was dialled, where nothing has happened
+/// on it yet, what happened on it from one time to another, how often it failed, and the name of
+/// its source. The count of failures stays at the greatest `u64`.
 pub trait Wire: Drop {
     ghost use Rattle.exchange.specs.Wires.{Happening, Reads, Writes};
     ghost use Rattle.exchange.specs.Dialling.{OnReadFault, OnWriteFault};
