@@ -1,11 +1,13 @@
 -- What is kept over one step after another: each host stays, and so does what it has of leases and tickets.
-use Rattle.std.proofs.Common.{◌≡◌, ℕ, ◌<◌, false, List, [], ◌++◌, length, Option, Some, None, refl, sym, ap, subst, ◌∙◌, append_assoc}
+use Rattle.std.proofs.Common.{◌≡◌, ℕ, ◌<◌, true, false, List, [], ◌++◌, length, Option, Some, None, refl, sym, ap, subst, ◌∙◌, append_assoc}
 use Rattle.std.specs.Prelude.{◌==◌, if◌then◌else◌}
 use Rattle.conn_log.specs.declared.entry.Want.{Want}
 use Rattle.conn_log.specs.declared.entry.Entry.{Entry}
 use Rattle.bundle.specs.Calls.{GrowsBy}
-use Rattle.bundle.specs.Lease.{HostShown, StaysThere, KeepsAll, GetsLease, GetsTicket, Spends, is_unclaimed}
-use Rattle.cache.specs.Pools.{PoolShown, host_at, StaysHost, KeepsHost, StaysPool, KeepsHosts, KeepsOtherHosts}
+use Rattle.conn_log.specs.Connections.{is_open}
+use Rattle.bundle.specs.Lease.{HostShown, Leasing, StaysThere, KeepsAll, KeepsItsStream, GetsLease, GetsTicket, Spends, is_unclaimed}
+use Rattle.cache.specs.Pools.{PoolShown, host_at, StaysHost, KeepsHost, StaysPool, KeepsHosts, KeepsOtherHosts, StreamsStay, OtherStreamsStay}
+use Rattle.cache.proofs.StreamsStay.{streams_on, others_on as other_streams_on, but_one, own_on}
 
 pub grows_on : (x y z : List Entry) → GrowsBy x y → GrowsBy y z → GrowsBy x z
 grows_on x y z first next = (next.0 ++ first.0, next.1 ∙ ap (λ (l : List Entry). next.0 ++ l) first.1 ∙ sym (append_assoc next.0 first.0 x))
@@ -35,12 +37,13 @@ module _ {S : Type 0} where
   }
 
   pub keeps_host : (host : HostShown S) → KeepsHost host host
-  keeps_host host = record { stays = stays_host host; keeps = record { leases = λ t. refl; tickets = λ t. refl } }
+  keeps_host host = record { stays = stays_host host; keeps = record { leases = λ t. refl; tickets = λ t. refl }; streams = λ c was is. refl }
 
   pub keeps_host_on : (x y z : HostShown S) → KeepsHost x y → KeepsHost y z → KeepsHost x z
   keeps_host_on x y z first next = record {
     stays = stays_host_on x y z first.stays next.stays;
     keeps = keeps_all_on x y z first.keeps next.keeps;
+    streams = streams_on x y z first.stays.grew next.stays.grew first.streams next.streams;
   }
 
   -- who gets a lease or a ticket has it still after steps that keep all, and who spends one still has none
@@ -113,3 +116,22 @@ module _ {S : Type 0} where
 
   pub others_on : (one : ℕ) (x y z : PoolShown S) → StaysPool x y → KeepsOtherHosts one x y → KeepsHosts y z → KeepsOtherHosts one x z
   others_on one x y z stays first next = keeps_others_on one x y z stays first (keeps_others one y z next)
+
+  -- the streams of the others at that host, and that of the lease that was spent there
+  pub streams_at : (one : ℕ) (x y z : PoolShown S) (site : ℕ) → StaysPool x y → site < length x.hosts → StaysHost (host_at x site) (host_at y site) → OtherStreamsStay one (host_at x site) (host_at y site) → KeepsHosts y z
+      → OtherStreamsStay one (host_at x site) (host_at z site)
+  streams_at one x y z site stays there first others next =
+      let served = next site (still_there x y site stays there) in
+      other_streams_on one (host_at x site) (host_at y site) (host_at z site) first.grew served.stays.grew others (but_one one (host_at y site) (host_at z site) served.streams)
+
+  pub all_streams_at : (x y z : PoolShown S) (site : ℕ) → StaysPool x y → site < length x.hosts → StaysHost (host_at x site) (host_at y site) → StreamsStay (host_at x site) (host_at y site) → KeepsHosts y z
+      → StreamsStay (host_at x site) (host_at z site)
+  all_streams_at x y z site stays there first all next =
+      let served = next site (still_there x y site stays there) in
+      streams_on (host_at x site) (host_at y site) (host_at z site) first.grew served.stays.grew all served.streams
+
+  pub own_stream_at : (x y z : PoolShown S) (lease : Leasing S) → StaysPool x y → lease.site < length x.hosts → StaysHost (host_at x lease.site) (host_at y lease.site) → is_open (host_at x lease.site).log lease.start.number ≡ true
+      → KeepsItsStream (host_at y lease.site) lease → KeepsHosts y z → KeepsItsStream (host_at z lease.site) lease
+  own_stream_at x y z lease stays there first was own next =
+      let served = next lease.site (still_there x y lease.site stays there) in
+      own_on (host_at x lease.site) (host_at y lease.site) (host_at z lease.site) lease first.grew served.stays.grew was own served.streams

@@ -25,6 +25,7 @@ pub mod WaitsForRoom
 pub mod FirstRest
 pub mod Oldests
 pub mod Claims
+pub mod StreamsStay
 pub mod Sums
 pub mod Closing
 pub mod Opening

@@ -49,6 +49,7 @@ module _ {S : Type 0} where
   keeps_from_start host = record {
     stays = record { same = record { settings = refl; host = refl; tables = refl }; booked = refl; grew = ([], refl) };
     keeps = record { leases = λ t. refl; tickets = λ t. refl };
+    streams = λ c was is. refl;
   }
 
   pub others_keep : (limits : Bounds) (queue later : List ℕ) (hosts : List (HostShown S)) (site : ℕ) (new : HostShown S)

@@ -9,7 +9,8 @@ use Rattle.bundle.specs.Calls.{becomes_idle, after_give_back}
 use Rattle.bundle.specs.Lease.{Leasing, Spends}
 use Rattle.cache.specs.AllHosts.{AllHosts, log_at, with_log, terms, kept, can_keep, without_oldest, marked}
 use Rattle.cache.specs.Calls.{with_room_to_keep, given_back}
-use Rattle.cache.specs.Pools.{PoolShown, host_at, all_hosts, StaysHost, StaysPool, KeepsHosts, KeepsOtherHosts}
+use Rattle.cache.specs.Pools.{PoolShown, host_at, all_hosts, StaysHost, StaysPool, KeepsHosts, KeepsOtherHosts, OtherStreamsStay}
+use Rattle.cache.proofs.StreamsStay.{but_one, others_on}
 use Rattle.cache.proofs.Keeping.{stays_host_on, spends_after, keeps_others_on, keeps_others}
 
 -- where there is room at once none is closed
@@ -56,6 +57,16 @@ module _ {S : Type 0} (start tried closed : PoolShown S) (same : tried ≡ start
     others_stay next =
         let last : KeepsOtherHosts lease.site closed end = subst (λ (l : Leasing S). KeepsOtherHosts l.site closed end) same_lease next in
         keeps_others_on lease.site start closed end started_stays (keeps_others lease.site start closed started) last
+
+    pub site_streams : lease.site < length start.hosts → StaysHost (host_at closed back.site) (host_at end back.site) → OtherStreamsStay back.start.number (host_at closed back.site) (host_at end back.site)
+        → OtherStreamsStay lease.start.number (host_at start lease.site) (host_at end lease.site)
+    site_streams there stays next =
+        let site = lease.site in
+        let one = lease.start.number in
+        let grew : StaysHost (host_at closed site) (host_at end site) = subst (λ (l : Leasing S). StaysHost (host_at closed l.site) (host_at end l.site)) same_lease stays in
+        let last : OtherStreamsStay one (host_at closed site) (host_at end site) = subst (λ (l : Leasing S). OtherStreamsStay l.start.number (host_at closed l.site) (host_at end l.site)) same_lease next in
+        let first = started site there in
+        others_on one (host_at start site) (host_at closed site) (host_at end site) first.stays.grew grew.grew (but_one one (host_at start site) (host_at closed site) first.streams) last
 
     pub site_spends : lease.site < length start.hosts → Spends (host_at closed back.site) (host_at end back.site) back.start.want.transfer → Spends (host_at start lease.site) (host_at end lease.site) lease.start.want.transfer
     site_spends there next =

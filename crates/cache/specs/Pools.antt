@@ -1,5 +1,5 @@
 -- What a pool shows to those who use it, and what it keeps true.
-use Rattle.std.specs.Prelude.{◌≡◌, ◌≢◌, ℕ, ◌<◌, ◌≤◌, false, List, [], length, map, slice_index_or, Option, Result, Ok, Err}
+use Rattle.std.specs.Prelude.{◌≡◌, ◌≢◌, ℕ, ◌<◌, ◌≤◌, ◌==◌, true, false, List, [], length, map, slice_index_or, Option, Result, Ok, Err}
 use Rattle.atomic_table.specs.Seated.{TableId}
 use Rattle.budget.specs.Limits.{Bounds}
 use Rattle.budget.specs.Lobby.{Queue, is_listed}
@@ -7,7 +7,9 @@ use Rattle.budget.specs.Plain.{Plain}
 use Rattle.budget.specs.Accounts.{IsEnrolledAt, spent_at}
 use Rattle.conn_log.specs.declared.entry.Entry.{Entry}
 use Rattle.conn_log.specs.declared.stamp.Stamp.{Stamp}
+use Rattle.conn_log.specs.Connections.{is_open}
 use Rattle.conn_log.specs.Fit.{oldest_stamp}
+use Rattle.host_state.specs.Idle.{stream_of}
 use Rattle.bundle.specs.Calls.{Reply, starts, waits_on, GrowsBy, is_queued}
 use Rattle.bundle.specs.Laws.{IsSoundAndQuiet}
 use Rattle.bundle.specs.Lease.{HostShown, IsNewHost, Leasing, Ticketed, StaysThere, KeepsAll, held_by}
@@ -67,17 +69,26 @@ pub record StaysHost {S : Type 0} (old new : HostShown S) : Type 0 where
   pub booked : new.booked ≡ old.booked
   pub grew : GrowsBy old.log new.log
 
--- and nobody's lease or ticket there changes
+-- each connection that is open before and after has the stream under its number that it had; or each but one, which is
+-- leased or comes back
+abbrev pub StreamsStay : {S : Type 0} → HostShown S → HostShown S → Type 0
+StreamsStay old new = (c : ℕ) → is_open old.log c ≡ true → is_open new.log c ≡ true → stream_of new.streams c ≡ stream_of old.streams c
+
+abbrev pub OtherStreamsStay : {S : Type 0} → ℕ → HostShown S → HostShown S → Type 0
+OtherStreamsStay one old new = (c : ℕ) → (one == c) ≡ false → is_open old.log c ≡ true → is_open new.log c ≡ true → stream_of new.streams c ≡ stream_of old.streams c
+
+-- and nobody's lease or ticket there changes, nor does a stream
 pub record KeepsHost {S : Type 0} (old new : HostShown S) : Type 0 where
   pub stays : StaysHost old new
   pub keeps : KeepsAll old new
+  pub streams : StreamsStay old new
 
 -- the pool has the same limits, and as many hosts
 pub record StaysPool {S : Type 0} (old new : PoolShown S) : Type 0 where
   pub limits : new.limits ≡ old.limits
   pub count : length new.hosts ≡ length old.hosts
 
--- each host stays; it keeps all leases and tickets at every host, or at every host but one
+-- each host stays; it keeps all leases, tickets and streams at every host, or at every host but one
 abbrev pub StaysHosts : {S : Type 0} → PoolShown S → PoolShown S → Type 0
 StaysHosts old new = (host : ℕ) → host < length old.hosts → StaysHost (host_at old host) (host_at new host)
 

@@ -9,6 +9,7 @@ ghost use Rattle.cache.specs.AllHosts.{total, with_room};
 ghost use Rattle.cache.specs.Calls.{acquired, started, reply_of};
 ghost use Rattle.cache.specs.Pools.{IsAcquired, IfAcquired, GivesLease, GivesTicket, host_at};
 ghost use Rattle.cache.specs.Pools.{all_hosts, StaysHost, StaysPool, KeepsOtherHosts};
+ghost use Rattle.cache.specs.Pools.{StreamsStay, OtherStreamsStay};
 
 use crate::acquired::Acquired;
 use crate::hosts::Hosts;
@@ -33,6 +34,13 @@ impl<S: Drop> Hosts<S> {
             (λ lease. is_some lease.stream ≡ lease.start.reused)) }
         ensures stream { let streams = (host_at self.old site).streams in
             IfAcquired result (λ got. GivesLease got (HasItsStream streams)) }
+        ensures streams { let old = host_at self.old site in
+            let new = host_at self.new site in
+            IfAcquired result (λ got. GivesLease got
+            (λ lease. OtherStreamsStay lease.start.number old new)) }
+        ensures kept { let old = host_at self.old site in
+            let new = host_at self.new site in
+            IfAcquired result (λ got. GivesTicket got (λ ticket. StreamsStay old new)) }
         ensures gets_lease { let old = host_at self.old site in
             let new = host_at self.new site in
             IfAcquired result (λ got. GivesLease got
@@ -84,6 +92,12 @@ impl<S: Drop> Hosts<S> {
         ensures has_stream { GivesLease result
             (λ lease. is_some lease.stream ≡ lease.start.reused) }
         ensures stream { GivesLease result (HasItsStream (host_at self.old booking.site).streams) }
+        ensures streams { let old = host_at self.old booking.site in
+            let new = host_at self.new booking.site in
+            GivesLease result (λ lease. OtherStreamsStay lease.start.number old new) }
+        ensures kept { let old = host_at self.old booking.site in
+            let new = host_at self.new booking.site in
+            GivesTicket result (λ ticket. StreamsStay old new) }
         ensures gets_lease { let old = host_at self.old booking.site in
             let new = host_at self.new booking.site in
             let transfer = booking.want.transfer in

@@ -6,6 +6,7 @@ ghost use Rattle.std.specs.Prelude.{IfOk, IfErr, IfSome, IfNone, OnOk, OnErr};
 ghost use Rattle.bundle.specs.Calls.{refusal, limit_refusal, is_queued};
 ghost use Rattle.bundle.specs.Lease.{is_valid_ticket, is_unclaimed, WasGranted, HasItsStream};
 ghost use Rattle.bundle.specs.Lease.{GetsLease, GetsTicket, Spends, is_held_lease, snapshot_of};
+ghost use Rattle.bundle.specs.Lease.{KeepsItsStream};
 ghost use Rattle.bundle.specs.Replies.{IfClaimed, IfStill};
 ghost use Rattle.bundle.specs.Seats.{gone};
 ghost use Rattle.cache.specs.AllHosts.{IsAtRest, terms};
@@ -16,6 +17,7 @@ ghost use Rattle.cache.specs.Pools.{AreInPlace};
 ghost use Rattle.cache.specs.Pools.{IsNewPool, host_at, all_hosts, IsAcquired, IfAcquired};
 ghost use Rattle.cache.specs.Pools.{GivesLease, GivesTicket, StaysHost, StaysPool};
 ghost use Rattle.cache.specs.Pools.{KeepsHosts, KeepsOtherHosts, IsMadeHere};
+ghost use Rattle.cache.specs.Pools.{StreamsStay, OtherStreamsStay};
 
 use crate::acquired::Acquired;
 use crate::hosts::Hosts;
@@ -35,6 +37,9 @@ pub const MOST_HOSTS: u32 = 1_024;
 ///
 /// Between two calls a host is queued for room only where the total is at its limit and nothing is
 /// idle at any host.
+///
+/// A call changes no stream of a connection that is open before and after it, but that of the
+/// connection that it leases or takes back.
 pub struct Pool<S: Drop> {
     hosts: Hosts<S>,
 }
@@ -161,6 +166,13 @@ impl<S: Drop> Pool<S> {
             (λ lease. is_some lease.stream ≡ lease.start.reused)) }
         ensures stream { let streams = (host_at self.old site).streams in
             IfAcquired result (λ got. GivesLease got (HasItsStream streams)) }
+        ensures streams { let old = host_at self.old site in
+            let new = host_at self.new site in
+            IfAcquired result (λ got. GivesLease got
+            (λ lease. OtherStreamsStay lease.start.number old new)) }
+        ensures kept { let old = host_at self.old site in
+            let new = host_at self.new site in
+            IfAcquired result (λ got. GivesTicket got (λ ticket. StreamsStay old new)) }
         ensures gets_lease { let old = host_at self.old site in
             let new = host_at self.new site in
             IfAcquired result (λ got. GivesLease got
@@ -200,7 +212,11 @@ impl<S: Drop> Pool<S> {
         ensures has_stream { IfClaimed result (λ lease. is_some lease.stream ≡ lease.start.reused) }
         ensures stream { let host = host_at self.old ticket.site in
             IfClaimed result (HasItsStream host.streams) }
+        ensures streams { let old = host_at self.old ticket.site in
+            let new = host_at self.new ticket.site in
+            IfClaimed result (λ lease. OtherStreamsStay lease.start.number old new) }
         ensures made_here { IfClaimed result (IsMadeHere self.new) }
+        ensures made_at { IfClaimed result (λ lease. lease.site ≡ ticket.site) }
         ensures still { let host = host_at self.old ticket.site in
             IfStill result (λ same. (is_unclaimed host ticket.wait.want.transfer ≡ false)
             × (same ≡ ticket) × (self.new ≡ self.old)) }
@@ -239,6 +255,10 @@ impl<S: Drop> Pool<S> {
         ensures spends { let old = host_at self.old lease.site in
             let new = host_at self.new lease.site in
             Spends old new lease.start.want.transfer }
+        ensures stream { KeepsItsStream (host_at self.new lease.site) lease }
+        ensures streams { let old = host_at self.old lease.site in
+            let new = host_at self.new lease.site in
+            OtherStreamsStay lease.start.number old new }
         ensures site { StaysHost (host_at self.old lease.site) (host_at self.new lease.site) }
         ensures others { KeepsOtherHosts lease.site self.old self.new }
         ensures stays { StaysPool self.old self.new }
@@ -260,6 +280,9 @@ impl<S: Drop> Pool<S> {
         ensures spends { let old = host_at self.old lease.site in
             let new = host_at self.new lease.site in
             Spends old new lease.start.want.transfer }
+        ensures streams { let old = host_at self.old lease.site in
+            let new = host_at self.new lease.site in
+            OtherStreamsStay lease.start.number old new }
         ensures site { StaysHost (host_at self.old lease.site) (host_at self.new lease.site) }
         ensures others { KeepsOtherHosts lease.site self.old self.new }
         ensures stays { StaysPool self.old self.new }
@@ -287,6 +310,9 @@ impl<S: Drop> Pool<S> {
         ensures spends { let old = host_at self.old ticket.site in
             let new = host_at self.new ticket.site in
             OnOk result (Spends old new ticket.wait.want.transfer) }
+        ensures streams { let old = host_at self.old ticket.site in
+            let new = host_at self.new ticket.site in
+            OnOk result (StreamsStay old new) }
         ensures site { OnOk result
             (StaysHost (host_at self.old ticket.site) (host_at self.new ticket.site)) }
         ensures others { KeepsOtherHosts ticket.site self.old self.new }

@@ -3,13 +3,15 @@
 ghost use Rattle.std.specs.Prelude.{◌≡◌, ◌<◌, true, false, [], length, is_some};
 ghost use Rattle.std.specs.Prelude.{IsSome, IfSome, IfNone, IfErr, OnOk, OnErr};
 ghost use Rattle.persistence.specs.declared.facts.Facts.{Facts};
+ghost use Rattle.conn_log.specs.Connections.{is_open};
 ghost use Rattle.bundle.specs.Calls.{becomes_idle, after_give_back};
 ghost use Rattle.bundle.specs.Lease.{is_valid_ticket, is_unclaimed, WasGranted, HasItsStream};
-ghost use Rattle.bundle.specs.Lease.{GetsLease, Spends, is_held_lease};
+ghost use Rattle.bundle.specs.Lease.{GetsLease, Spends, is_held_lease, KeepsItsStream};
 ghost use Rattle.bundle.specs.Replies.{IfClaimed, IfStill};
 ghost use Rattle.cache.specs.AllHosts.{log_at, with_log, terms, kept, can_keep, marked};
 ghost use Rattle.cache.specs.Calls.{given_back, abandoned, withdrawn};
 ghost use Rattle.cache.specs.Pools.{host_at, all_hosts, StaysHost, StaysPool, KeepsOtherHosts};
+ghost use Rattle.cache.specs.Pools.{StreamsStay, OtherStreamsStay};
 
 use crate::hosts::Hosts;
 use bundle::{Back, Claimed, Lease, Stray, Ticket};
@@ -34,6 +36,9 @@ impl<S: Drop> Hosts<S> {
         ensures has_stream { IfClaimed result (λ lease. is_some lease.stream ≡ lease.start.reused) }
         ensures stream { let host = host_at self.old ticket.site in
             IfClaimed result (HasItsStream host.streams) }
+        ensures streams { let old = host_at self.old ticket.site in
+            let new = host_at self.new ticket.site in
+            IfClaimed result (λ lease. OtherStreamsStay lease.start.number old new) }
         ensures made_here { let host = host_at self.old ticket.site in
             IfClaimed result (λ lease. lease.tables ≡ host.tables) }
         ensures made_at { IfClaimed result (λ lease. lease.site ≡ ticket.site) }
@@ -66,6 +71,11 @@ impl<S: Drop> Hosts<S> {
         ensures spends { let old = host_at self.old lease.site in
             let new = host_at self.new lease.site in
             Spends old new lease.start.want.transfer }
+        ensures was_open { is_open (host_at self.old lease.site).log lease.start.number ≡ true }
+        ensures stream { KeepsItsStream (host_at self.new lease.site) lease }
+        ensures streams { let old = host_at self.old lease.site in
+            let new = host_at self.new lease.site in
+            OtherStreamsStay lease.start.number old new }
         ensures site { StaysHost (host_at self.old lease.site) (host_at self.new lease.site) }
         ensures others { KeepsOtherHosts lease.site self.old self.new }
         ensures stays { StaysPool self.old self.new }
@@ -90,6 +100,11 @@ impl<S: Drop> Hosts<S> {
         ensures spends { let old = host_at self.old lease.site in
             let new = host_at self.new lease.site in
             Spends old new lease.start.want.transfer }
+        ensures was_open { is_open (host_at self.old lease.site).log lease.start.number ≡ true }
+        ensures stream { KeepsItsStream (host_at self.new lease.site) lease }
+        ensures streams { let old = host_at self.old lease.site in
+            let new = host_at self.new lease.site in
+            OtherStreamsStay lease.start.number old new }
         ensures site { StaysHost (host_at self.old lease.site) (host_at self.new lease.site) }
         ensures others { KeepsOtherHosts lease.site self.old self.new }
         ensures stays { StaysPool self.old self.new }
@@ -110,6 +125,11 @@ impl<S: Drop> Hosts<S> {
         ensures spends { let old = host_at self.old lease.site in
             let new = host_at self.new lease.site in
             Spends old new lease.start.want.transfer }
+        ensures was_open { is_open (host_at self.old lease.site).log lease.start.number ≡ true }
+        ensures stream { KeepsItsStream (host_at self.new lease.site) lease }
+        ensures streams { let old = host_at self.old lease.site in
+            let new = host_at self.new lease.site in
+            OtherStreamsStay lease.start.number old new }
         ensures site { StaysHost (host_at self.old lease.site) (host_at self.new lease.site) }
         ensures others { KeepsOtherHosts lease.site self.old self.new }
         ensures stays { StaysPool self.old self.new }
@@ -133,6 +153,10 @@ impl<S: Drop> Hosts<S> {
         ensures spends { let old = host_at self.old lease.site in
             let new = host_at self.new lease.site in
             Spends old new lease.start.want.transfer }
+        ensures stream { KeepsItsStream (host_at self.new lease.site) lease }
+        ensures streams { let old = host_at self.old lease.site in
+            let new = host_at self.new lease.site in
+            OtherStreamsStay lease.start.number old new }
         ensures site { StaysHost (host_at self.old lease.site) (host_at self.new lease.site) }
         ensures others { KeepsOtherHosts lease.site self.old self.new }
         ensures stays { StaysPool self.old self.new }
@@ -166,6 +190,11 @@ impl<S: Drop> Hosts<S> {
         ensures spends { let old = host_at self.old lease.site in
             let new = host_at self.new lease.site in
             IfNone result (Spends old new lease.start.want.transfer) }
+        ensures was_open { is_open (host_at self.old lease.site).log lease.start.number ≡ true }
+        ensures stream { IfNone result (KeepsItsStream (host_at self.new lease.site) lease) }
+        ensures streams { let old = host_at self.old lease.site in
+            let new = host_at self.new lease.site in
+            IfNone result (OtherStreamsStay lease.start.number old new) }
         ensures site { StaysHost (host_at self.old lease.site) (host_at self.new lease.site) }
         ensures others { KeepsOtherHosts lease.site self.old self.new }
         ensures stays { StaysPool self.old self.new }
@@ -212,6 +241,11 @@ impl<S: Drop> Hosts<S> {
         ensures spends { let old = host_at self.old lease.site in
             let new = host_at self.new lease.site in
             IfNone result (Spends old new lease.start.want.transfer) }
+        ensures was_open { is_open (host_at self.old lease.site).log lease.start.number ≡ true }
+        ensures stream { IfNone result (KeepsItsStream (host_at self.new lease.site) lease) }
+        ensures streams { let old = host_at self.old lease.site in
+            let new = host_at self.new lease.site in
+            IfNone result (OtherStreamsStay lease.start.number old new) }
         ensures site { StaysHost (host_at self.old lease.site) (host_at self.new lease.site) }
         ensures others { KeepsOtherHosts lease.site self.old self.new }
         ensures stays { StaysPool self.old self.new }
@@ -243,6 +277,9 @@ impl<S: Drop> Hosts<S> {
         ensures spends { let old = host_at self.old lease.site in
             let new = host_at self.new lease.site in
             Spends old new lease.start.want.transfer }
+        ensures streams { let old = host_at self.old lease.site in
+            let new = host_at self.new lease.site in
+            OtherStreamsStay lease.start.number old new }
         ensures site { StaysHost (host_at self.old lease.site) (host_at self.new lease.site) }
         ensures others { KeepsOtherHosts lease.site self.old self.new }
         ensures stays { StaysPool self.old self.new }
@@ -278,6 +315,9 @@ impl<S: Drop> Hosts<S> {
         ensures spends { let old = host_at self.old ticket.site in
             let new = host_at self.new ticket.site in
             OnOk result (Spends old new ticket.wait.want.transfer) }
+        ensures streams { let old = host_at self.old ticket.site in
+            let new = host_at self.new ticket.site in
+            OnOk result (StreamsStay old new) }
         ensures site { StaysHost (host_at self.old ticket.site) (host_at self.new ticket.site) }
         ensures others { KeepsOtherHosts ticket.site self.old self.new }
         ensures stays { StaysPool self.old self.new }

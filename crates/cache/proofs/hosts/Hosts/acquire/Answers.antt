@@ -15,10 +15,11 @@ use Rattle.cache.specs.AllHosts.{terms, log_at, with_room}
 use Rattle.cache.specs.Calls.{Acquired, acquired, started, reply_of}
 use Rattle.cache.specs.Oldest.{is_before, stamp_at}
 use Rattle.cache.proofs.Asked.{once_as_told}
-use Rattle.cache.specs.Pools.{PoolShown, all_hosts, host_at, host_in, IsAcquired, GivesLease, GivesTicket, StaysHost, StaysPool, KeepsOtherHosts as KeepsOthers}
+use Rattle.cache.specs.Pools.{PoolShown, all_hosts, host_at, host_in, IsAcquired, GivesLease, GivesTicket, StaysHost, StaysPool, StreamsStay, OtherStreamsStay, KeepsOtherHosts as KeepsOthers}
 use Rattle.cache.proofs.Booked.{among_last, not_booked, none_due, lease_so, ticket_so, ended_halfway}
 use Rattle.cache.proofs.Keeping.{lease_after, ticket_after, keeps_others_on}
 use Rattle.cache.proofs.Reused.{IsReuse, reused_was_idle, idle_before_room, stream_before}
+use Rattle.cache.proofs.StreamsStay.{open_ones_stay, but_one, streams_on, others_on}
 use Rattle.cache.proofs.OneHost.{others_keep, host_changed, read_is, log_is}
 use Rattle.cache.proofs.Calling.{kept_called, was_kept, told_so, marks_nothing, NotesOne}
 use Rattle.cache.proofs.LastTries.{IsToldAt, once_all, once_reply, lease_reply, wait_reply, begun_lease, begun_wait, same_order, no_room_reply, booking_is, half_full, half_goes_on, again_reply, never_again}
@@ -441,3 +442,49 @@ returns-in-Ok-NoRoom-clause-others g c =
     let first : KeepsOthers site old mid = rw (sym c.self.view_is) (others_keep inside.budget.limits inside.lobby.order inside.lobby.order inside.bundles.items site new) in
     let next = subst (λ (b : Booked). KeepsOthers b.site mid c.start_with_room.new.self) (half_booked g half) c.start_with_room.ensures.others in
     keeps_others_on site old mid c.start_with_room.new.self stays first next
+
+-- its streams stay, and its log only grew
+half_streams : (g : _) (c : goal.In-Ok-NoRoom g) → StreamsStay (host_at c.args.self.now c.args.site) (host_in (slice_set c.self.inside.bundles.items c.args.site c.acquire-got.new.self) c.args.site)
+half_streams g c =
+    let was = c.index_mut-bundle.result.now in
+    let new = c.acquire-got.new.self in
+    let keeps : KeepsStreams was new = subst (λ r. GivesBooking r (λ booking. KeepsStreams was new)) c.in-Ok-NoRoom.field-0-is c.in-Ok-NoRoom.ensures.halfway in
+    subst (λ (h : HostShown g.row.S.Denot). StreamsStay h (host_in (slice_set c.self.inside.bundles.items c.args.site new) c.args.site)) (sym (half_site g c))
+    (subst (λ (h : HostShown g.row.S.Denot). StreamsStay was h) (sym (half_mid g c)) (open_ones_stay was new keeps))
+
+half_grew : (g : _) (c : goal.In-Ok-NoRoom g) → GrowsBy (host_at c.args.self.now c.args.site).log (host_in (slice_set c.self.inside.bundles.items c.args.site c.acquire-got.new.self) c.args.site).log
+half_grew g c =
+    let was = c.index_mut-bundle.result.now in
+    let new = c.acquire-got.new.self in
+    let grew : GrowsBy was.log new.log = c.in-Ok-NoRoom.ensures.grew in
+    subst (λ (h : HostShown g.row.S.Denot). GrowsBy h.log (host_in (slice_set c.self.inside.bundles.items c.args.site new) c.args.site).log) (sym (half_site g c))
+    (subst (λ (h : HostShown g.row.S.Denot). GrowsBy was.log h.log) (sym (half_mid g c)) grew)
+
+rest_grew : (g : _) (c : goal.After-start_with_room g) → GrowsBy (host_in (slice_set c.self.inside.bundles.items c.args.site c.acquire-got.new.self) c.args.site).log (host_at c.start_with_room.new.self c.args.site).log
+rest_grew g c =
+    let hosts = slice_set c.self.inside.bundles.items c.args.site c.acquire-got.new.self in
+    subst (λ (b : Booked). GrowsBy (host_in hosts b.site).log (host_at c.start_with_room.new.self b.site).log) (half_booked g c.before.before) c.start_with_room.ensures.grew
+
+pub returns-in-Ok-NoRoom-clause-streams : goal.returns-in-Ok-NoRoom-clause-streams
+returns-in-Ok-NoRoom-clause-streams g c =
+    let half = c.before.before in
+    let site = c.args.site in
+    let hosts = slice_set c.self.inside.bundles.items site c.acquire-got.new.self in
+    let before = host_at c.args.self.now site in
+    let mid = host_in hosts site in
+    let after = host_at c.start_with_room.new.self site in
+    let others = subst (λ (b : Booked). GivesLease c.start_with_room.result (λ lease. OtherStreamsStay lease.start.number (host_in hosts b.site) (host_at c.start_with_room.new.self b.site))) (half_booked g half) c.start_with_room.ensures.streams in
+    lease_so (λ lease. OtherStreamsStay lease.start.number mid after) (λ lease. OtherStreamsStay lease.start.number before after) c.start_with_room.result
+    (λ lease next. others_on lease.start.number before mid after (half_grew g half) (rest_grew g c) (but_one lease.start.number before mid (half_streams g half)) next) others
+
+pub returns-in-Ok-NoRoom-clause-kept : goal.returns-in-Ok-NoRoom-clause-kept
+returns-in-Ok-NoRoom-clause-kept g c =
+    let half = c.before.before in
+    let site = c.args.site in
+    let hosts = slice_set c.self.inside.bundles.items site c.acquire-got.new.self in
+    let before = host_at c.args.self.now site in
+    let mid = host_in hosts site in
+    let after = host_at c.start_with_room.new.self site in
+    let all = subst (λ (b : Booked). GivesTicket c.start_with_room.result (λ ticket. StreamsStay (host_in hosts b.site) (host_at c.start_with_room.new.self b.site))) (half_booked g half) c.start_with_room.ensures.kept in
+    ticket_so (λ ticket. StreamsStay mid after) (λ ticket. StreamsStay before after) c.start_with_room.result
+    (λ ticket next. streams_on before mid after (half_grew g half) (rest_grew g c) (half_streams g half) next) all

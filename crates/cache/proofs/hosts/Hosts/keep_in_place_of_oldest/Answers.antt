@@ -1,5 +1,5 @@
 use Rattle.std.proofs.Common.{refl}
-use Rattle.cache.proofs.TwoTries.{kept_later, site_stays, site_spends, others_stay}
+use Rattle.cache.proofs.TwoTries.{kept_later, site_stays, site_streams, site_spends, others_stay}
 use Rattle.cache.proofs.hosts.Hosts.keep_in_place_of_oldest.Goals as goal
 
 pub returns-clause-site : goal.returns-clause-site
@@ -21,3 +21,8 @@ pub returns-clause-spends : goal.returns-clause-spends
 returns-clause-spends g c =
     let close = c.close_oldest.ensures in
     site_spends c.args.self.now c.args.self.now c.close_oldest.new.self refl close.keeps close.stays c.try_to_keep.new.self c.args.lease c.args.lease refl c.requires.there c.in-None.ensures.spends
+
+pub returns-clause-streams : goal.returns-clause-streams
+returns-clause-streams g c =
+    let close = c.close_oldest.ensures in
+    site_streams c.args.self.now c.args.self.now c.close_oldest.new.self refl close.keeps close.stays c.try_to_keep.new.self c.args.lease c.args.lease refl c.requires.there c.in-None.ensures.site c.in-None.ensures.streams

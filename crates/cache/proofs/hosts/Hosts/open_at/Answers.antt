@@ -115,7 +115,7 @@ returns-clause-keeps g c =
     let done = c.serve_queued-given.ensures in
     let there : site < length hosts = search rules in
     let was_is = read_is hosts site was there c.index_mut-bundle.ensures.value in
-    let keeps : KeepsHost was new = record { stays = record { same = done.same; booked = done.booked; grew = done.grew }; keeps = done.keeps } in
+    let keeps : KeepsHost was new = record { stays = record { same = done.same; booked = done.booked; grew = done.grew }; keeps = done.keeps; streams = λ c was is. done.streams c is } in
     let before : PoolShown g.row.S.Denot = record { limits = inside.budget.limits; hosts = hosts; queue = inside.lobby.order } in
     let later : PoolShown g.row.S.Denot = record { limits = c.serve_queued-given.new.permits.budget.now.limits; hosts = slice_set hosts site new; queue = after } in
     rw (sym c.self.view_is) (all_keep before later site new there refl

@@ -58,4 +58,4 @@ returns-clause-keeps g c =
     let inside = c.self.inside in
     let done = c.prune-closed.ensures in
     let there : c.args.site < length inside.bundles.items = search rules in
-    rw (sym c.self.view_is) (all_keep inside.budget.limits inside.bundles.items c.args.site c.index_mut-bundle.result.now c.prune-closed.new.self inside.lobby.order inside.lobby.order there c.index_mut-bundle.ensures.value (record { stays = record { same = done.same; booked = done.booked; grew = done.grew }; keeps = done.keeps }))
+    rw (sym c.self.view_is) (all_keep inside.budget.limits inside.bundles.items c.args.site c.index_mut-bundle.result.now c.prune-closed.new.self inside.lobby.order inside.lobby.order there c.index_mut-bundle.ensures.value (record { stays = record { same = done.same; booked = done.booked; grew = done.grew }; keeps = done.keeps; streams = λ c was is. done.streams c is }))

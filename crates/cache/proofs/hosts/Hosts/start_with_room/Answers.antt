@@ -2,10 +2,11 @@ use Rattle.std.proofs.Common.{◌≡◌, ◌<◌, length, refl, sym, ap, subst, 
 use Rattle.budget.specs.Plain.{KeepsOtherHosts, held_at_host}
 use Rattle.bundle.specs.Calls.{acquired as acquired_at, GrowsBy}
 use Rattle.bundle.specs.Laws.{IsSoundAndQuiet}
-use Rattle.bundle.specs.Lease.{HostShown, HasItsStream, KeepsStreams, held_by}
-use Rattle.bundle.specs.Replies.{GivesLease as GotLease}
+use Rattle.bundle.specs.Lease.{HostShown, HasItsStream, KeepsStreams, KeepsOthers, held_by}
+use Rattle.bundle.specs.Replies.{GivesLease as GotLease, GivesTicket as GotTicket}
 use Rattle.cache.specs.AllHosts.{terms}
-use Rattle.cache.specs.Pools.{all_hosts, host_at, logs_of, IsAcquired, GivesLease}
+use Rattle.cache.specs.Pools.{all_hosts, host_at, logs_of, IsAcquired, GivesLease, GivesTicket, StreamsStay, OtherStreamsStay, KeepsHost}
+use Rattle.cache.proofs.StreamsStay.{open_ones_stay, open_others_stay, but_one, streams_on, others_on}
 use Rattle.cache.proofs.OneHost.{others_keep, read_is, host_changed}
 use Rattle.cache.proofs.Reused.{stream_kept}
 use Rattle.cache.proofs.Calling.{kept_called, was_kept, told_so, marks_one, NotesOne}
@@ -168,3 +169,52 @@ returns-clause-grew g c =
     let inside_is : host_at c.close_oldest.new.self site ≡ was = sym (read_is hosts site was there c.index_mut-bundle.ensures.value ∙ ap (λ p. host_at p site) c.self.view_is) in
     let first : GrowsBy (host_at old site).log was.log = subst (λ (h : HostShown g.row.S.Denot). GrowsBy (host_at old site).log h.log) inside_is (c.close_oldest.ensures.keeps site old_there).stays.grew in
     rw (sym c.site-site.ensures) (rw (host_changed hosts site new there) (grows_on (host_at old site).log was.log new.log first c.retry-got.ensures.grew))
+
+-- what is kept at the site until the last try
+made_room : (g : _) (c : goal.Joined-got g) → KeepsHost (host_at c.args.self.now c.site-site.result) c.index_mut-bundle.result.now
+made_room g c =
+    let site = c.site-site.result in
+    let hosts = c.self.inside.bundles.items in
+    let was = c.index_mut-bundle.result.now in
+    let old = c.args.self.now in
+    let there : site < length hosts = search rules in
+    let old_there : site < length old.hosts = rw c.site-site.ensures c.requires.there in
+    let inside_is : host_at c.close_oldest.new.self site ≡ was = sym (read_is hosts site was there c.index_mut-bundle.ensures.value ∙ ap (λ p. host_at p site) c.self.view_is) in
+    subst (KeepsHost (host_at old site)) inside_is (c.close_oldest.ensures.keeps site old_there)
+
+pub returns-clause-streams : goal.returns-clause-streams
+returns-clause-streams g c =
+    let site = c.site-site.result in
+    let hosts = c.self.inside.bundles.items in
+    let was = c.index_mut-bundle.result.now in
+    let new = c.retry-got.new.self in
+    let done = c.retry-got.ensures in
+    let old = host_at c.args.self.now site in
+    let there : site < length hosts = search rules in
+    let first = made_room g c in
+    rw (sym c.site-site.ensures) (rw (host_changed hosts site new there) (elim c.match-got.branch [
+      | in-Lease w ↦
+          let number = w.in-Lease.lease.start.number in
+          let others : KeepsOthers number was new = subst (λ r. GotLease r (λ lease. KeepsOthers lease.start.number was new)) w.in-Lease.is done.streams in
+          subst (λ r. GivesLease r (λ lease. OtherStreamsStay lease.start.number old new)) (sym w.result-is)
+          (others_on number old was new first.stays.grew done.grew (but_one number old was first.streams) (open_others_stay number was new others))
+      | in-Wait w ↦ subst (λ r. GivesLease r (λ lease. OtherStreamsStay lease.start.number old new)) (sym w.result-is) tt
+    ]))
+
+pub returns-clause-kept : goal.returns-clause-kept
+returns-clause-kept g c =
+    let site = c.site-site.result in
+    let hosts = c.self.inside.bundles.items in
+    let was = c.index_mut-bundle.result.now in
+    let new = c.retry-got.new.self in
+    let done = c.retry-got.ensures in
+    let old = host_at c.args.self.now site in
+    let there : site < length hosts = search rules in
+    let first = made_room g c in
+    rw (sym c.site-site.ensures) (rw (host_changed hosts site new there) (elim c.match-got.branch [
+      | in-Lease w ↦ subst (λ r. GivesTicket r (λ ticket. StreamsStay old new)) (sym w.result-is) tt
+      | in-Wait w ↦
+          let all : KeepsStreams was new = subst (λ r. GotTicket r (λ ticket. KeepsStreams was new)) w.in-Wait.is done.kept in
+          subst (λ r. GivesTicket r (λ ticket. StreamsStay old new)) (sym w.result-is)
+          (streams_on old was new first.stays.grew done.grew first.streams (open_ones_stay was new all))
+    ]))

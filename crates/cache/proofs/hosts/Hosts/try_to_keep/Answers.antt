@@ -10,6 +10,7 @@ use Rattle.cache.proofs.OneHost.{all_marked, others_keep, stepped, log_was}
 use Rattle.cache.proofs.Calling.{kept_called, was_kept, told_spending, tells_nothing, notes_lower, marks_one, TellsOne}
 use Rattle.cache.proofs.SameLog.{pool_same}
 use Rattle.cache.proofs.Returning.{gave_log, gave_none, gave_again, gave_strange, one_more_idle, full_kept, room_kept}
+use Rattle.cache.proofs.StreamsStay.{open_at}
 use Rattle.cache.proofs.hosts.Hosts.try_to_keep.Goals as goal
 use Rattle.cache.proofs.hosts.Hosts.try_to_keep.Goals.{in-Spent, in-NoKeep}
 
@@ -151,3 +152,14 @@ pub returns-clause-others : goal.returns-clause-others
 returns-clause-others g c =
     let inside = c.self.inside in
     rw (sym c.self.view_is) (rw (sym c.site-site.ensures) (others_keep inside.budget.limits inside.lobby.order c.give_back-back.new.lobby.0.order inside.bundles.items c.site-site.result c.give_back-back.new.self))
+
+pub returns-clause-was_open : goal.returns-clause-was_open
+returns-clause-was_open g c =
+    let site = c.site-site.result in
+    let inside = c.self.inside in
+    let hosts = inside.bundles.items in
+    let was = c.index_mut-bundle.result.now in
+    let read = c.index_mut-bundle.ensures.value in
+    let there : site < length hosts = search rules in
+    let it = was_kept site hosts was was inside.budget inside.budget inside.lobby inside.lobby inside.pass inside.pass inside.noted inside.noted c.self.invariant there read in
+    rw (sym c.self.view_is) (rw (sym c.site-site.ensures) (open_at hosts site was there read it.settled.sound c.args.lease.start.want.transfer c.args.lease.start.number c.give_back-back.ensures.known))
