@@ -212,8 +212,6 @@ impl<W: Wire> Cache<W> for FakeCache<W> {
     }
 
     fn claim(&mut self, ticket: Ticket) -> Result<Claimed<W>, Stray<Ticket>> {
-        // its logs tell that each host of a pool is in its place
-        let _log = self.pool.log(ticket.site());
         match self.pool.claim(ticket) {
             Ok(Claimed::Lease(lease)) => {
                 self.tickets -= 1;

@@ -1,6 +1,5 @@
-use Rattle.std.proofs.Common.{rules, ◌≡◌, ◌<◌, length, ◌∙◌, is_some}
-use Rattle.bundle.specs.Lease.{WasGranted}
-use Rattle.cache.specs.Pools.{IsMadeHere, host_at}
+use Rattle.std.proofs.Common.{rules, ◌≡◌, ◌<◌, length, is_some}
+use Rattle.cache.specs.Pools.{IsMadeHere}
 use Rattle.exchange.specs.Deeds.{ticket_out}
 use Rattle.exchange.specs.FakeCaches.{out_of}
 use Rattle.exchange.proofs.CountedOut.{claimed_out}
@@ -14,14 +13,13 @@ returns-in-Ok-Lease-clause-claimed g c =
     let out : out_of c.self.inside.leases c.self.inside.tickets ≡ ticket_out = search rules in
     let there : ticket.site < length old.hosts = search rules in
     let here : IsMadeHere {S = g.row.W.Denot} c.claim.new.self lease = search rules in
-    let granted : WasGranted {S = g.row.W.Denot} (host_at old ticket.site) ticket.wait.want.transfer lease = search rules in
     let want : lease.start.want ≡ ticket.wait.want = search rules in
     let wire : is_some lease.stream ≡ lease.start.reused = search rules in
-    let place : (host_at old ticket.site).host ≡ ticket.site = search rules in
+    let site : lease.site ≡ ticket.site = search rules in
     record {
       out_is = claimed_out c.self.inside.leases c.self.inside.tickets out;
       here = record { there = here.there; tables_are = here.tables };
-      site_is = granted.1 ∙ place;
+      site_is = site;
       want_is = want;
       wire = wire;
     }
