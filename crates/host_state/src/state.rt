@@ -2,6 +2,8 @@ ghost use Rattle.std.specs.Prelude.{◌≡◌, ℕ, ◌+◌, ◌-◌, ◌*◌, �
 ghost use Rattle.std.specs.Prelude.{length, Some, None, IfOk, IfErr, OnOk, OnErr, IfSome, IfNone};
 ghost use Rattle.std.specs.Prelude.{OnSome, is_some, if◌then◌else◌, take, drop};
 ghost use Rattle.std.specs.VecDeque.{deque_capacity};
+ghost use Rattle.persistence.specs.declared.facts.Facts.{Facts};
+ghost use Rattle.persistence.specs.Persistent.{is_persistent};
 ghost use Rattle.conn_log.specs.declared.entry.Entry.{Entry};
 ghost use Rattle.conn_log.specs.declared.entry.Event.TheVariants.{Opened, Closed, Waited, Left};
 ghost use Rattle.conn_log.specs.declared.entry.Event.TheVariants.{Returned as CameBack};
@@ -567,7 +569,7 @@ impl<S: Drop> State<S> {
         ensures strange_same { IfStrange result (λ back.
             (back ≡ stream) × (self.new ≡ self.old)) }
     {
-        if !may_keep && self.would_stay(transfer, number, &facts) {
+        if !may_keep && self.would_stay(transfer, number, persists(&facts)) {
             return Returned::Unkept(stream);
         }
         let more = self.booked as usize + self.queue.len();
@@ -590,14 +592,17 @@ impl<S: Drop> State<S> {
         Returned::Idle(held)
     }
 
-    // Whether the transfer holds that connection, and it would stay open after that response.
-    fn would_stay(&self, transfer: u64, number: u32, facts: &Facts) -> bool
-        ensures yes { result ≡ true → WouldStay self.now transfer number facts.now }
-        ensures no { result ≡ false → WouldStay self.now transfer number facts.now → ⊥ }
+    // Whether the transfer holds that connection, and it would stay open after that response. It is
+    // told whether the response persists: facts that were lent would have to stand in memory.
+    fn would_stay(&self, transfer: u64, number: u32, persists: bool) -> bool
+        ensures yes { (facts : Facts) → is_persistent facts ≡ persists →
+            result ≡ true → WouldStay self.now transfer number facts }
+        ensures no { (facts : Facts) → is_persistent facts ≡ persists →
+            result ≡ false → WouldStay self.now transfer number facts → ⊥ }
     {
         let _limit = self.limit;
         match self.held(transfer, number) {
-            Some(held) => stays_open(facts, &held),
+            Some(held) => persists && !held.forbids_reuse,
             None => false,
         }
     }

@@ -132,7 +132,7 @@ returns-clause-idle g c =
 
 pub returns-then-would_stay-clause-known : goal.returns-then-would_stay-clause-known
 returns-then-would_stay-clause-known g c =
-    let stays = c.would_stay.ensures.yes c.if-would_stay.true in
+    let stays = c.would_stay.ensures.yes c.args.facts (sym c.persists.ensures) c.if-would_stay.true in
     let log_is = ap (λ (v : HostState g.row.S.Denot). v.log) c.self.view_is in
     let shown = ap (λ log. held_facts log c.args.transfer) log_is ∙ stays.was_held in
     ap (λ log. is_held_by log c.args.transfer c.args.number) (sym log_is) ∙ would_stay_held c.self.invariant.replays c.args.transfer c.args.number stays.held shown stays.number
