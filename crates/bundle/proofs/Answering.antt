@@ -354,7 +354,7 @@ known log transfer held is = by_number (held_number log transfer) refl is
         }
 
 -- it is the only idle one once it has come back, where someone waits
-pub came_back_alone : (settings : LimitAndFirst) (log : List Entry) → IsSoundAndQuiet settings log → (transfer : ℕ) (held : Held) (m : ℕ) (facts : Facts) → held_facts log transfer ≡ Some (facts_of_held held) → is_persistent facts ≡ true → IsAnyone (waiting log) → IsAlone (add m (Returned held.number facts) log) held m
+pub came_back_alone : (settings : LimitAndFirst) (log : List Entry) → IsSoundAndQuiet settings log → (transfer : ℕ) (held : Held) (m : ℕ) (facts : Facts) → held_facts log transfer ≡ Some (facts_of_held held) → is_persistent facts ≡ true → IsAnyone (waiting log) → IsAlone (add m (Returned held.number facts) log) held.number held.lane held.born m
 came_back_alone settings log kept transfer held m facts is persists anyone =
     let it = known log transfer held is in
     let holder = held_want settings log kept.sound transfer held.number it.number in

@@ -209,13 +209,13 @@ module _ {S : Type 0} where
         ap (λ gs. stream_of (grant_streams gs ++ ys) c) e_granted ∙ passed_stream settings' c m returned left stream xs ys none kept_is nobody (ap (λ l. is_open l c) (sym e_after) ∙ still)
 
 -- it is the only idle one once it has come back, where someone waits
-pub alone_passed : (settings : LimitAndFirst) (log : List Entry) → IsSoundAndQuiet settings log → (t : ℕ) (held : Held) → held_facts log t ≡ Some (facts_of_held held) → (m : ℕ) (facts : Facts) (returned : List Entry) → returned ≡ add m (Returned held.number facts) log → owed returned ≡ None → IsAnyone (waiting returned) → IsAlone returned held m
+pub alone_passed : (settings : LimitAndFirst) (log : List Entry) → IsSoundAndQuiet settings log → (t : ℕ) (held : Held) → held_facts log t ≡ Some (facts_of_held held) → (m : ℕ) (facts : Facts) (returned : List Entry) → returned ≡ add m (Returned held.number facts) log → owed returned ≡ None → IsAnyone (waiting returned) → IsAlone returned held.number held.lane held.born m
 alone_passed settings log kept t held is m facts returned e_returned unowed anyone =
     let it = known log t held is in
     let holder = held_want settings log kept.sound t held.number it.number in
     let stays = owed_stays held.number facts holder.0 (sym (ap (option_and_then (owed_for held.number facts)) holder.1) ∙ ap owed (sym e_returned) ∙ unowed) in
     let persists = stays_persistent (is_persistent facts) holder.0.forbid_reuse stays in
-    subst (λ l. IsAlone l held m) (sym e_returned) (came_back_alone settings log kept t held m facts is persists (subst (λ l. IsAnyone (waiting l)) e_returned anyone))
+    subst (λ l. IsAlone l held.number held.lane held.born m) (sym e_returned) (came_back_alone settings log kept t held m facts is persists (subst (λ l. IsAnyone (waiting l)) e_returned anyone))
 
 -- a connection that was closed is not open
 pub gone_open : (c : ℕ) (cause : Cause) (settings' : LimitAndFirst) (m : ℕ) (log closed : List Entry) → closed ≡ add m (Closed c cause) log → (after : List Entry) → after ≡ open_for_head settings' m closed → is_open after c ≡ false

@@ -10,7 +10,6 @@ use Rattle.conn_log.specs.Connections.{is_idle, lane, since}
 use Rattle.conn_log.specs.Waiting.{waiting}
 use Rattle.conn_log.specs.Fit.{is_older, suits, is_fit, is_idle_longer, first_by, newest_fit, oldest}
 use Rattle.conn_log.specs.Legal.{LimitAndFirst}
-use Rattle.host_state.specs.declared.held.Held.{Held}
 use Rattle.host_state.specs.Steps.{add, is_full}
 use Rattle.bundle.specs.declared.grant.Grant.{Grant}
 use Rattle.bundle.specs.Calls.{start_new, open_for, open_for_head, unfit_cause, grant_to}
@@ -20,43 +19,43 @@ use Rattle.bundle.specs.Grants.{IsAlone, with_new, with_granted}
 abbrev cause_by : Bool → Want → ℕ → ℕ → ℕ → ℕ → Cause
 cause_by full head m lane_is since_is born_is = if (lane_is == head.lane) && not head.fresh && is_older since_is born_is head.max_age head.max_life m then ForAge else (if full then HostRoom else TotalRoom)
 
-module _ (settings : LimitAndFirst) (log : List Entry) (head : Want) (others : List Want) (back : Held) (m : ℕ) (queue : waiting log ≡ head ∷ others) (alone : IsAlone log back m) (unfit : newest_fit log head m ≡ None) where
-  not_fit : is_fit log head m back.number ≡ false
-  not_fit = and_false (is_idle log back.number) (suits log head m back.number) (picks (suits log head m back.number) (ap (λ cs. first_by (λ c d. is_idle_longer log d c) (filter (suits log head m) cs)) (sym alone.only) ∙ unfit))
+module _ (settings : LimitAndFirst) (log : List Entry) (head : Want) (others : List Want) (back in_lane born_at m : ℕ) (queue : waiting log ≡ head ∷ others) (alone : IsAlone log back in_lane born_at m) (unfit : newest_fit log head m ≡ None) where
+  not_fit : is_fit log head m back ≡ false
+  not_fit = and_false (is_idle log back) (suits log head m back) (picks (suits log head m back) (ap (λ cs. first_by (λ c d. is_idle_longer log d c) (filter (suits log head m) cs)) (sym alone.only) ∙ unfit))
     where
       and_false : (a b : Bool) → b ≡ false → (a && b) ≡ false
       and_false true b is = is
       and_false false b is = refl
 
-      picks : (b : Bool) → first_by (λ c d. is_idle_longer log d c) (if b then back.number ∷ [] else []) ≡ None → b ≡ false
+      picks : (b : Bool) → first_by (λ c d. is_idle_longer log d c) (if b then back ∷ [] else []) ≡ None → b ≡ false
       picks true found = absurd (cc)
       picks false found = refl
 
-  is_oldest : (n : ℕ) → oldest log ≡ Some n → n ≡ back.number
-  is_oldest n first = the_same n back.number (sym first ∙ ap (first_by (is_idle_longer log)) alone.only)
+  is_oldest : (n : ℕ) → oldest log ≡ Some n → n ≡ back
+  is_oldest n first = the_same n back (sym first ∙ ap (first_by (is_idle_longer log)) alone.only)
     where
       the_same : (a b : ℕ) → Some a ≡ Some b → a ≡ b
       the_same a b e = cc
 
-  cause_is : cause_by (is_full settings log) head m back.lane m back.born ≡ unfit_cause settings log head m back.number
+  cause_is : cause_by (is_full settings log) head m in_lane m born_at ≡ unfit_cause settings log head m back
   cause_is =
-      let c = back.number in
+      let c = back in
       let by = cause_by (is_full settings log) head m in
-      ap (λ l. by l m back.born) (sym alone.lane) ∙ ap (λ s. by (lane log c) s back.born) (sym alone.since) ∙ ap (λ b. by (lane log c) (since log c) b) (sym alone.born)
+      ap (λ l. by l m born_at) (sym alone.lane) ∙ ap (λ s. by (lane log c) s born_at) (sym alone.since) ∙ ap (λ b. by (lane log c) (since log c) b) (sym alone.born)
 
-  pub unfit_closed : (n : ℕ) (full : Bool) (cause : Cause) (closed after : List Entry) → oldest log ≡ Some n → full ≡ is_full settings log → cause ≡ cause_by full head m back.lane m back.born → closed ≡ add m (Closed n cause) log → after ≡ open_for_head settings m closed → after ≡ grant_to settings back.number m log (waiting log)
+  pub unfit_closed : (n : ℕ) (full : Bool) (cause : Cause) (closed after : List Entry) → oldest log ≡ Some n → full ≡ is_full settings log → cause ≡ cause_by full head m in_lane m born_at → closed ≡ add m (Closed n cause) log → after ≡ open_for_head settings m closed → after ≡ grant_to settings back m log (waiting log)
   unfit_closed n full cause closed after first same_full told is opened =
-      let due = add m (Closed back.number (unfit_cause settings log head m back.number)) log in
-      let cause_due = told ∙ ap (λ b. cause_by b head m back.lane m back.born) same_full ∙ cause_is in
-      let closed_due : closed ≡ due = is ∙ ap (λ k. add m (Closed k cause) log) (is_oldest n first) ∙ ap (λ why. add m (Closed back.number why) log) cause_due in
+      let due = add m (Closed back (unfit_cause settings log head m back)) log in
+      let cause_due = told ∙ ap (λ b. cause_by b head m in_lane m born_at) same_full ∙ cause_is in
+      let closed_due : closed ≡ due = is ∙ ap (λ k. add m (Closed k cause) log) (is_oldest n first) ∙ ap (λ why. add m (Closed back why) log) cause_due in
       opened
       ∙ ap (open_for_head settings m) closed_due
       ∙ ap (open_for settings m due) queue
-      ∙ sym (ap (grant_to settings back.number m log) queue ∙ ap (λ b. if b then add m (Leased back.number head) log else start_new settings head m due) not_fit)
+      ∙ sym (ap (grant_to settings back m log) queue ∙ ap (λ b. if b then add m (Leased back head) log else start_new settings head m due) not_fit)
 
-  pub unfit_granted : {S : Type 0} (n : ℕ) (cause : Cause) (closed : List Entry) (grants granted : List (Grant S)) (stream : Option S) → closed ≡ add m (Closed n cause) log → granted ≡ with_new settings m closed (waiting closed) grants → granted ≡ with_granted settings back.number m stream log (waiting log) grants
+  pub unfit_granted : {S : Type 0} (n : ℕ) (cause : Cause) (closed : List Entry) (grants granted : List (Grant S)) (stream : Option S) → closed ≡ add m (Closed n cause) log → granted ≡ with_new settings m closed (waiting closed) grants → granted ≡ with_granted settings back m stream log (waiting log) grants
   unfit_granted n cause closed grants granted stream is new =
       new
       ∙ ap (λ l. with_new settings m l (waiting l) grants) is
       ∙ ap (λ wants. with_new settings m log wants grants) queue
-      ∙ sym (ap (λ wants. with_granted settings back.number m stream log wants grants) queue ∙ ap (λ b. if b then grants ++ record { want = head; number = back.number; moment = m; stream = stream } ∷ [] else with_new settings m log (head ∷ others) grants) not_fit)
+      ∙ sym (ap (λ wants. with_granted settings back m stream log wants grants) queue ∙ ap (λ b. if b then grants ++ record { want = head; number = back; moment = m; stream = stream } ∷ [] else with_new settings m log (head ∷ others) grants) not_fit)

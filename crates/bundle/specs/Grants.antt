@@ -8,7 +8,6 @@ use Rattle.conn_log.specs.Waiting.{waiting}
 use Rattle.conn_log.specs.Fit.{is_fit}
 use Rattle.conn_log.specs.Legal.{LimitAndFirst}
 use Rattle.bundle.specs.declared.grant.Grant.{Grant}
-use Rattle.host_state.specs.declared.held.Held.{Held}
 use Rattle.host_state.specs.declared.closing.Closing.TheVariants.{Above}
 use Rattle.host_state.specs.Steps.{moment_at, add, next_number, without_picked}
 use Rattle.bundle.specs.Calls.{Start, last_start, open_for_head}
@@ -81,12 +80,12 @@ with_granted settings c moment stream log [] grants = grants
 with_granted settings c moment stream log (head ∷ others) grants =
     if is_fit log head moment c then grants ++ record { want = head; number = c; moment = moment; stream = stream } ∷ [] else with_new settings moment log (head ∷ others) grants
 
--- the connection that has just come back is the only idle one
-pub record IsAlone (log : List Entry) (held : Held) (moment : ℕ) : Type 0 where
-  pub only : idle_connections log ≡ held.number ∷ []
-  pub lane : lane log held.number ≡ held.lane
-  pub born : born log held.number ≡ held.born
-  pub since : since log held.number ≡ moment
+-- the connection that has just come back, of that lane and opened at that moment, is the only idle one
+pub record IsAlone (log : List Entry) (c in_lane born_at moment : ℕ) : Type 0 where
+  pub only : idle_connections log ≡ c ∷ []
+  pub lane : lane log c ≡ in_lane
+  pub born : born log c ≡ born_at
+  pub since : since log c ≡ moment
 
 -- once one is opened for each of the first that wait, so many of them
 abbrev pub with_first : {S : Type 0} → ℕ → LimitAndFirst → ℕ → List Entry → List (Grant S) → List (Grant S)

@@ -333,6 +333,8 @@ fn lease_at_once<S: Drop, P: Permits>(
 }
 
 // Why log and bookings are against an acquire, if they are.
+#[cold]
+#[inline(never)]
 fn reason_against<S: Drop>(state: &State<S>, bookings: &[u64], want: &Want) -> Option<Refusal>
     requires count { state.now.booked ≡ length bookings.now }
     ensures reason { result ≡ refusal state.now.settings state.now.log bookings.now want.now }

@@ -71,6 +71,7 @@ pub(crate) fn close_idle<S: Drop, P: Permits>(
 /// oldest idle one of the host makes room where the budget has none, or the transfer waits; before
 /// that its acquire is left halfway.
 // Out of line, so that the reuse of the newest connection stays small enough to be inlined.
+#[cold]
 #[inline(never)]
 pub(crate) fn start_or_wait<S: Drop, P: Permits>(
     state: &mut State<S>,
@@ -312,6 +313,7 @@ pub(crate) fn open_for_head<S: Drop>(
 
 /// Hands on the permit of a connection that its holder closed: one is opened with it for the first
 /// transfer that waits; where nobody waits it is freed.
+#[cold]
 #[inline(never)]
 pub(crate) fn hand_on<S: Drop, P: Permits>(
     state: &mut State<S>,
@@ -365,7 +367,9 @@ pub(crate) fn grant_to_head<S: Drop>(
     requires seated { IsSeated state.old.log seats.old }
     requires unclaimed { AreUnclaimed (grant_starts grants.old.items) seats.old }
     requires later { last_moment state.old.log ≤ moment }
-    requires alone { IsAnyone (waiting state.old.log) → IsAlone state.old.log held.now moment }
+    requires alone { let held = held.now in
+        IsAnyone (waiting state.old.log) →
+        IsAlone state.old.log held.number held.lane held.born moment }
     requires spare { HasSpare state.old.log state.old.booked (vec_len grants.old)
         (vec_capacity grants.old) }
     ensures log { let log = state.old.log in
@@ -389,40 +393,46 @@ pub(crate) fn grant_to_head<S: Drop>(
     ensures same { IsSameHost state.old state.new }
 {
     if state.anyone_waits() {
-        grant_or_replace(state, seats, grants, held, moment);
+        let (number, lane, born) = (held.number, held.lane, held.born);
+        grant_or_replace(state, seats, grants, number, lane, born, moment);
     }
 }
 
 // The same, for the few times when anyone waits.
-// Out of line, so that what comes back where nobody waits stays small enough to be inlined.
+// Out of line, so that what comes back where nobody waits stays small enough to be inlined; what was
+// kept of the connection is told in parts, so that it need not stand in memory.
+#[cold]
 #[inline(never)]
 fn grant_or_replace<S: Drop>(
     state: &mut State<S>,
     seats: &mut Seats,
     grants: &mut Vec<Grant<S>>,
-    held: &Held,
+    number: u32,
+    lane: u32,
+    born: u64,
     moment: u64,
 )
     requires seated { IsSeated state.old.log seats.old }
     requires unclaimed { AreUnclaimed (grant_starts grants.old.items) seats.old }
     requires later { last_moment state.old.log ≤ moment }
-    requires alone { IsAnyone (waiting state.old.log) → IsAlone state.old.log held.now moment }
+    requires alone { IsAnyone (waiting state.old.log) →
+        IsAlone state.old.log number lane born moment }
     requires spare { HasSpare state.old.log state.old.booked (vec_len grants.old)
         (vec_capacity grants.old) }
     ensures log { let log = state.old.log in
         let wants = waiting state.old.log in
-        state.new.log ≡ grant_to state.old.settings held.now.number moment log wants }
+        state.new.log ≡ grant_to state.old.settings number moment log wants }
     ensures grants { let log = state.old.log in
         let wants = waiting state.old.log in
-        let stream = stream_of state.old.streams held.now.number in
-        let passed = with_granted state.old.settings held.now.number moment stream log wants in
+        let stream = stream_of state.old.streams number in
+        let passed = with_granted state.old.settings number moment stream log wants in
         grants.new.items ≡ passed grants.old.items }
     ensures seated { IsSeated state.new.log seats.new }
     ensures unclaimed { AreUnclaimed (grant_starts grants.new.items) seats.new }
     ensures starts { OnlyStarts seats.old seats.new }
     ensures spare { HasSpare state.new.log state.new.booked (vec_len grants.new)
         (vec_capacity grants.new) }
-    ensures others { KeepsOpenBut held.now.number state.old state.new }
+    ensures others { KeepsOpenBut number state.old state.new }
     ensures taken { IsAnyone (waiting state.old.log) →
         one_more_kept (held_by state.new.log) ≡ held_by state.old.log }
     ensures nobody { waiting state.old.log ≡ [] → state.new ≡ state.old }
@@ -446,7 +456,7 @@ fn grant_or_replace<S: Drop>(
         });
         return;
     }
-    let cause = unfit_cause(held, &head, state.is_full(), moment);
+    let cause = unfit_cause(lane, born, &head, state.is_full(), moment);
     state.close_oldest(cause, moment);
     open_for_head(state, seats, grants, moment);
 }
@@ -494,16 +504,15 @@ pub(crate) fn open_for_first<S: Drop>(
 
 // Why a connection that has just come back is closed where it does not fit the want: it is open for
 // longer than the want allows, or it makes room.
-fn unfit_cause(held: &Held, want: &Want, is_full: bool, moment: u64) -> Cause
-    ensures { let born = held.now.born in
-        let too_old = is_older moment born want.now.max_age want.now.max_life moment in
+fn unfit_cause(lane: u32, born: u64, want: &Want, is_full: bool, moment: u64) -> Cause
+    ensures { let too_old = is_older moment born want.now.max_age want.now.max_life moment in
         let room = if is_full then HostRoom else TotalRoom in
-        let same_lane = held.now.lane == want.now.lane in
+        let same_lane = lane == want.now.lane in
         result ≡ (if same_lane && not want.now.fresh && too_old then TooOld else room) }
 {
-    let open_for = moment.saturating_sub(held.born);
+    let open_for = moment.saturating_sub(born);
     let is_too_old = want.max_life != 0 && open_for > want.max_life;
-    if held.lane == want.lane && !want.fresh && is_too_old {
+    if lane == want.lane && !want.fresh && is_too_old {
         return Cause::TooOld;
     }
     if is_full {

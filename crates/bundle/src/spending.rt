@@ -217,18 +217,19 @@ impl<S: Drop> Bundle<S> {
         let moment = self.state.moment(now);
         let asked = ask_to_keep(&self.state, &facts, permits);
         let stream = used.detach();
-        let host = self.state.host();
         let back = self
             .state
             .give_back(transfer, number, facts, stream, moment, may_keep(asked));
         match back {
             Returned::Idle(held) => {
+                let host = self.state.host();
                 spend_returned(used, start, &mut self.seats, host, pass, moment, facts);
                 let seats = &mut self.seats;
                 grant_to_head(&mut self.state, seats, &mut self.grants, &held, moment);
                 Back::Spent { freed: false }
             }
             Returned::Ended => {
+                let host = self.state.host();
                 spend_returned(used, start, &mut self.seats, host, pass, moment, facts);
                 release_unused(asked, permits);
                 let freed = !self.state.anyone_waits();
@@ -243,6 +244,7 @@ impl<S: Drop> Bundle<S> {
                 if !close_if_full {
                     return Back::NoKeep(again(used, stream, start, &mut self.seats));
                 }
+                let host = self.state.host();
                 spend_returned(used, start, &mut self.seats, host, pass, moment, facts);
                 self.state
                     .give_back_to_close(transfer, number, facts, stream, moment);

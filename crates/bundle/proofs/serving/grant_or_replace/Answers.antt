@@ -75,7 +75,7 @@ returns-clause-log g c =
     let alone = c.requires.alone (subst IsAnyone (sym first.first) tt) in
     let full = c.is_full.ensures ∙ ap (λ (s : HostState g.row.S.Denot). is_full s.settings s.log) same in
     let opened = c.open_for_head.ensures.log ∙ ap (λ s. open_for_head s c.args.moment left) settings in
-    unfit_closed before.settings before.log c.in-Some.head first.others c.args.held.now c.args.moment first.first alone none.0 closed.number c.is_full.result cause left c.open_for_head.new.state.log (ap oldest (sym log) ∙ closed.oldest) full c.unfit_cause-cause.ensures (closed.log ∙ ap (add c.args.moment (Closed closed.number cause)) log) opened
+    unfit_closed before.settings before.log c.in-Some.head first.others c.args.number c.args.lane c.args.born c.args.moment first.first alone none.0 closed.number c.is_full.result cause left c.open_for_head.new.state.log (ap oldest (sym log) ∙ closed.oldest) full c.unfit_cause-cause.ensures (closed.log ∙ ap (add c.args.moment (Closed closed.number cause)) log) opened
 
 pub returns-clause-grants : goal.returns-clause-grants
 returns-clause-grants g c =
@@ -92,4 +92,4 @@ returns-clause-grants g c =
     let grants = c.args.grants.now.items in
     let alone = c.requires.alone (subst IsAnyone (sym first.first) tt) in
     let new = c.open_for_head.ensures.grants ∙ ap (λ s. with_new s c.args.moment left (waiting left) grants) settings in
-    unfit_granted before.settings before.log c.in-Some.head first.others c.args.held.now c.args.moment first.first alone none.0 closed.number cause left grants c.open_for_head.new.grants.items _ (closed.log ∙ ap (add c.args.moment (Closed closed.number cause)) log) new
+    unfit_granted before.settings before.log c.in-Some.head first.others c.args.number c.args.lane c.args.born c.args.moment first.first alone none.0 closed.number cause left grants c.open_for_head.new.grants.items _ (closed.log ∙ ap (add c.args.moment (Closed closed.number cause)) log) new

@@ -430,21 +430,21 @@ returns-in-Idle-clause-account g c =
     let state = c.self.inside.state in
     let pair_is = apart_pair c.args.lease _ _ c.take_apart-used.ensures.used _ _ c.number-number.ensures c.transfer-transfer.ensures _ c.take_apart-used.ensures.pair in
     let more = gone_spent state.log c.self.inside.seats _ c.number-number.result c.transfer-transfer.result pair_is c.self.invariant.seated c.take_back-start.ensures.leased c.take_back-start.new.self c.spend_returned.new.seats c.take_back-start.ensures.back c.spend_returned.ensures.cleared c.grant_to_head.new.state.log c.grant_to_head.new.seats c.grant_to_head.ensures.seated c.grant_to_head.ensures.starts.ended in
-    accounts_spent c.args.self.now state.log c.grant_to_head.new.state.log (ap (λ (v : HostShown g.row.S.Denot). v.log) c.self.view_is) more c.args.pass.now _ _ (c.host-host.ensures ∙ ap (λ (v : HostShown g.row.S.Denot). v.host) c.self.view_is) _ _ c.requires.enrolled c.spend_returned.ensures.spent
+    accounts_spent c.args.self.now state.log c.grant_to_head.new.state.log (ap (λ (v : HostShown g.row.S.Denot). v.log) c.self.view_is) more c.args.pass.now _ _ (c.host-host.ensures ∙ c.in-Idle.ensures.idle.same.host ∙ ap (λ (v : HostShown g.row.S.Denot). v.host) c.self.view_is) _ _ c.requires.enrolled c.spend_returned.ensures.spent
 
 pub returns-in-Ended-clause-account : goal.returns-in-Ended-clause-account
 returns-in-Ended-clause-account g c =
     let state = c.self.inside.state in
     let pair_is = apart_pair c.args.lease _ _ c.take_apart-used.ensures.used _ _ c.number-number.ensures c.transfer-transfer.ensures _ c.take_apart-used.ensures.pair in
     let more = gone_spent state.log c.self.inside.seats _ c.number-number.result c.transfer-transfer.result pair_is c.self.invariant.seated c.take_back-start.ensures.leased c.take_back-start.new.self c.spend_returned-in-Ended.new.seats c.take_back-start.ensures.back c.spend_returned-in-Ended.ensures.cleared c.hand_on.new.state.log c.hand_on.new.seats c.hand_on.ensures.seated c.hand_on.ensures.starts.ended in
-    accounts_spent c.args.self.now state.log c.hand_on.new.state.log (ap (λ (v : HostShown g.row.S.Denot). v.log) c.self.view_is) more c.args.pass.now _ _ (c.host-host.ensures ∙ ap (λ (v : HostShown g.row.S.Denot). v.host) c.self.view_is) _ _ c.requires.enrolled c.spend_returned-in-Ended.ensures.spent
+    accounts_spent c.args.self.now state.log c.hand_on.new.state.log (ap (λ (v : HostShown g.row.S.Denot). v.log) c.self.view_is) more c.args.pass.now _ _ (c.host-host-in-Ended.ensures ∙ c.in-Ended.ensures.closed.same.host ∙ ap (λ (v : HostShown g.row.S.Denot). v.host) c.self.view_is) _ _ c.requires.enrolled c.spend_returned-in-Ended.ensures.spent
 
 pub returns-else-not-close_if_full-clause-account : goal.returns-else-not-close_if_full-clause-account
 returns-else-not-close_if_full-clause-account g c =
     let state = c.self.inside.state in
     let pair_is = apart_pair c.args.lease _ _ c.take_apart-used.ensures.used _ _ c.number-number.ensures c.transfer-transfer.ensures _ c.take_apart-used.ensures.pair in
     let more = gone_spent state.log c.self.inside.seats _ c.number-number.result c.transfer-transfer.result pair_is c.self.invariant.seated c.take_back-start.ensures.leased c.take_back-start.new.self c.spend_returned-in-Unkept.new.seats c.take_back-start.ensures.back c.spend_returned-in-Unkept.ensures.cleared c.give_back_to_close.new.self.log c.spend_returned-in-Unkept.new.seats (seated_out g c) refl in
-    accounts_spent c.args.self.now state.log c.give_back_to_close.new.self.log (ap (λ (v : HostShown g.row.S.Denot). v.log) c.self.view_is) more c.args.pass.now _ _ (c.host-host.ensures ∙ ap (λ (v : HostShown g.row.S.Denot). v.host) c.self.view_is) _ _ c.requires.enrolled c.spend_returned-in-Unkept.ensures.spent
+    accounts_spent c.args.self.now state.log c.give_back_to_close.new.self.log (ap (λ (v : HostShown g.row.S.Denot). v.log) c.self.view_is) more c.args.pass.now _ _ (c.host-host-in-Unkept.ensures ∙ ap (λ (v : HostState g.row.S.Denot). v.host) c.in-Unkept.ensures.unkept_same.1 ∙ ap (λ (v : HostShown g.row.S.Denot). v.host) c.self.view_is) _ _ c.requires.enrolled c.spend_returned-in-Unkept.ensures.spent
 
 pub returns-else-not-close_if_full-clause-stays : goal.returns-else-not-close_if_full-clause-stays
 returns-else-not-close_if_full-clause-stays g c = g.met.P.Permits.stays_on _ _ _ c.ask_to_keep-asked.ensures.stays c.release_open.ensures.stays
