@@ -69,6 +69,7 @@ impl<S: Drop> Hosts<S> {
     }
 
     // The same, where a host is queued.
+    #[cold]
     #[inline(never)]
     fn take_turns(&mut self, now: u64)
         ensures all { all_hosts self.new ≡ served self.old.limits now (all_hosts self.old) }

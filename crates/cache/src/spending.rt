@@ -114,6 +114,7 @@ impl<S: Drop> Hosts<S> {
 
     // The same, also where a host is queued, or as many are kept as may be. Out of line, so that
     // the common give back stays small enough to be inlined.
+    #[cold]
     #[inline(never)]
     fn give_back_in_any_case(&mut self, lease: Lease<S>, facts: Facts, now: u64)
         requires there { lease.site < length self.old.hosts }

@@ -91,10 +91,15 @@ impl WinnerTree {
         requires own { IfSome stamp (λ s. s.host ≡ host) }
         ensures { self.new ≡ slice_set self.old host (earlier_of (stamp_at self.old host) stamp) }
     {
-        let noted = self.nodes[self.hosts + host];
-        if is_before(stamp, noted) {
-            self.set_lower(host, stamp);
+        let Some(stamp) = stamp else {
+            return;
+        };
+        if let Some(noted) = self.nodes[self.hosts + host] {
+            if !stamp.is_earlier(&noted) {
+                return;
+            }
         }
+        self.set_lower(host, Some(stamp));
     }
 
     // The same. Inlined, so that the stamp is moved into memory here, and not before each `lower`.
