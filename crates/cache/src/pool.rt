@@ -187,9 +187,18 @@ impl<S: Drop> Pool<S> {
         if site as usize >= self.hosts.len() {
             return Err(Refusal::BadSite);
         }
-        let acquired = self.hosts.acquire(site, want, now)?;
-        self.hosts.serve(now);
-        Ok(acquired)
+        // Matched before turns are taken: afterwards all ways here would have come together.
+        match self.hosts.acquire(site, want, now) {
+            Ok(Acquired::Lease(lease)) => {
+                self.hosts.serve(now);
+                Ok(Acquired::Lease(lease))
+            }
+            Ok(Acquired::Wait(ticket)) => {
+                self.hosts.serve(now);
+                Ok(Acquired::Wait(ticket))
+            }
+            Err(refusal) => Err(refusal),
+        }
     }
 
     /// Gives the transfer the connection that it was granted, with the stream that came back under

@@ -1,36 +1,38 @@
-use Rattle.std.proofs.Common.{◌<◌, length, sym, rules}
-use Rattle.cache.specs.Pools.{host_at, StreamsStay, OtherStreamsStay}
-use Rattle.cache.proofs.Booked.{lease_so, ticket_so}
+use Rattle.std.proofs.Common.{◌<◌, length, sym, subst, rules}
+use Rattle.cache.specs.Pools.{host_at, StreamsStay, OtherStreamsStay, GivesLease, GivesTicket}
 use Rattle.cache.proofs.Keeping.{site_on, others_on, streams_at, all_streams_at}
 use Rattle.cache.proofs.pool.Pool.acquire.Goals as goal
 
-pub returns-clause-site : goal.returns-clause-site
-returns-clause-site g c =
+pub returns-in-Ok-Lease-clause-site : goal.returns-in-Ok-Lease-clause-site
+returns-in-Ok-Lease-clause-site g c =
     let there : c.args.site < length c.self.inside.hosts.hosts = search rules in
-    rw (sym c.self.view_is) (site_on c.self.inside.hosts c.acquire.new.self c.serve.new.self c.args.site c.acquire.ensures.stays there c.in_ok-acquired.ensures.site c.serve.ensures.keeps)
+    rw (sym c.self.view_is) (site_on c.self.inside.hosts c.acquire.new.self c.serve.new.self c.args.site c.acquire.ensures.stays there c.in-Ok-Lease.ensures.site c.serve.ensures.keeps)
 
-pub returns-clause-others : goal.returns-clause-others
-returns-clause-others g c =
+pub returns-in-Ok-Wait-clause-site : goal.returns-in-Ok-Wait-clause-site
+returns-in-Ok-Wait-clause-site g c =
+    let there : c.args.site < length c.self.inside.hosts.hosts = search rules in
+    rw (sym c.self.view_is) (site_on c.self.inside.hosts c.acquire.new.self c.serve-in-Ok-Wait.new.self c.args.site c.acquire.ensures.stays there c.in-Ok-Wait.ensures.site c.serve-in-Ok-Wait.ensures.keeps)
+
+pub returns-in-Ok-Lease-clause-others : goal.returns-in-Ok-Lease-clause-others
+returns-in-Ok-Lease-clause-others g c =
     rw (sym c.self.view_is) (others_on c.args.site c.self.inside.hosts c.acquire.new.self c.serve.new.self c.acquire.ensures.stays c.acquire.ensures.others c.serve.ensures.keeps)
 
-pub returns-clause-streams : goal.returns-clause-streams
-returns-clause-streams g c =
-    let site = c.args.site in
-    let start = c.self.inside.hosts in
-    let mid = c.acquire.new.self in
-    let end = c.serve.new.self in
-    let done = c.in_ok-acquired.ensures in
-    let there : site < length start.hosts = search rules in
-    rw (sym c.self.view_is) (lease_so (λ lease. OtherStreamsStay lease.start.number (host_at start site) (host_at mid site)) (λ lease. OtherStreamsStay lease.start.number (host_at start site) (host_at end site)) c.in_ok-acquired.acquired
-    (λ lease first. streams_at lease.start.number start mid end site c.acquire.ensures.stays there done.site first c.serve.ensures.keeps) done.streams)
+pub returns-in-Ok-Wait-clause-others : goal.returns-in-Ok-Wait-clause-others
+returns-in-Ok-Wait-clause-others g c =
+    rw (sym c.self.view_is) (others_on c.args.site c.self.inside.hosts c.acquire.new.self c.serve-in-Ok-Wait.new.self c.acquire.ensures.stays c.acquire.ensures.others c.serve-in-Ok-Wait.ensures.keeps)
 
-pub returns-clause-kept : goal.returns-clause-kept
-returns-clause-kept g c =
-    let site = c.args.site in
+pub returns-in-Ok-Lease-clause-streams : goal.returns-in-Ok-Lease-clause-streams
+returns-in-Ok-Lease-clause-streams g c =
     let start = c.self.inside.hosts in
-    let mid = c.acquire.new.self in
-    let end = c.serve.new.self in
-    let done = c.in_ok-acquired.ensures in
-    let there : site < length start.hosts = search rules in
-    rw (sym c.self.view_is) (ticket_so (λ ticket. StreamsStay (host_at start site) (host_at mid site)) (λ ticket. StreamsStay (host_at start site) (host_at end site)) c.in_ok-acquired.acquired
-    (λ ticket first. all_streams_at start mid end site c.acquire.ensures.stays there done.site first c.serve.ensures.keeps) done.kept)
+    let there : c.args.site < length start.hosts = search rules in
+    let done = c.in-Ok-Lease.ensures in
+    let first = subst (λ got. GivesLease got (λ lease. OtherStreamsStay lease.start.number (host_at start c.args.site) (host_at c.acquire.new.self c.args.site))) c.in-Ok-Lease.field-0-is done.streams in
+    rw (sym c.self.view_is) (streams_at c.in-Ok-Lease.lease.start.number start c.acquire.new.self c.serve.new.self c.args.site c.acquire.ensures.stays there done.site first c.serve.ensures.keeps)
+
+pub returns-in-Ok-Wait-clause-kept : goal.returns-in-Ok-Wait-clause-kept
+returns-in-Ok-Wait-clause-kept g c =
+    let start = c.self.inside.hosts in
+    let there : c.args.site < length start.hosts = search rules in
+    let done = c.in-Ok-Wait.ensures in
+    let first = subst (λ got. GivesTicket got (λ ticket. StreamsStay (host_at start c.args.site) (host_at c.acquire.new.self c.args.site))) c.in-Ok-Wait.field-0-is done.kept in
+    rw (sym c.self.view_is) (all_streams_at start c.acquire.new.self c.serve-in-Ok-Wait.new.self c.args.site c.acquire.ensures.stays there done.site first c.serve-in-Ok-Wait.ensures.keeps)
