@@ -1,5 +1,6 @@
 -- What is kept once a call of one host has told the pool's pass, and its stamp was noted.
-use Rattle.std.proofs.Common.{◌≡◌, ◌≢◌, ℕ, ◌<◌, Bool, false, ◌==◌, List, length, slice_set, slice_index_or, Option, Some, None, refl, sym, ap, subst, ◌∙◌, inl, inr, arith}
+use Rattle.std.proofs.Common.{◌≡◌, ◌≢◌, ℕ, ◌<◌, Bool, true, false, ◌==◌, List, length, slice_set, slice_index_or, Option, Some, None, refl, sym, ap, subst, ◌∙◌, inl, inr, arith}
+use Rattle.std.specs.Prelude.{if◌then◌else◌}
 use Rattle.std.proofs.lemmas.Bool.Decides.{eqb_tells}
 use Rattle.std.proofs.lemmas.List.{get_or-set_other, length-set}
 use Rattle.budget.specs.Lobby.{Queue, is_listed}
@@ -20,7 +21,7 @@ use Rattle.bundle.specs.Lease.{HostShown, StaysThere, held_by}
 use Rattle.bundle.specs.Lobbies.{IsMarked}
 use Rattle.bundle.specs.Passes.{Accounts, tells, spends, withdraws, AccountsForStarts}
 use Rattle.bundle.proofs.OtherHosts.{still_listed}
-use Rattle.cache.specs.Oldest.{earlier_of, is_before, stamp_at}
+use Rattle.cache.specs.Oldest.{earlier_of, is_before, is_since_before, stamp_at}
 use Rattle.cache.specs.Pools.{IsKeptHost, AreKept}
 use Rattle.cache.proofs.Noting.{lowered_not_later, set_not_later}
 use Rattle.cache.proofs.OneHost.{kept_changed, read_is}
@@ -69,6 +70,16 @@ notes_lower site noted lowered stamp oldest there is lowered_is = rw lowered_is 
   other_stamps = λ other apart. get_or-set_other noted site other (earlier_of (stamp_at noted site) stamp) None apart;
   not_later = lowered_not_later noted site stamp oldest there is;
 })
+
+-- where a connection came back: it is lowered, unless it is since an earlier moment, and then no later still
+pub notes_returned : (site moment : ℕ) (noted lowered : List (Option Stamp)) (oldest : Option Stamp) → site < length noted
+    → lowered ≡ (if is_since_before (stamp_at noted site) moment then noted else slice_set noted site (earlier_of (stamp_at noted site) oldest))
+    → (is_since_before (stamp_at noted site) moment ≡ true → is_before oldest (stamp_at noted site) ≡ false) → NotesOne site noted lowered oldest
+notes_returned site moment noted lowered oldest there lowered_is still = by_time (is_since_before (stamp_at noted site) moment) refl lowered_is
+  where
+    by_time : (early : Bool) → is_since_before (stamp_at noted site) moment ≡ early → lowered ≡ (if early then noted else slice_set noted site (earlier_of (stamp_at noted site) oldest)) → NotesOne site noted lowered oldest
+    by_time true early same = rw same (record { stamps = refl; other_stamps = λ other apart. refl; not_later = still early })
+    by_time false late set = notes_lower site noted lowered oldest oldest there refl set
 
 pub notes_set : (site : ℕ) (noted set : List (Option Stamp)) (stamp oldest : Option Stamp) → site < length noted → stamp ≡ oldest
     → set ≡ slice_set noted site stamp → NotesOne site noted set oldest

@@ -1,30 +1,35 @@
--- A host's oldest is no earlier once its log grew by what makes nothing idle, as an acquire does.
-use Rattle.std.proofs.Common.{◌≡◌, ℕ, Bool, true, false, ◌&&◌, ◌||◌, List, [], ◌∷◌, Option, Some, None, is_none, refl, sym, ap, subst, inl, inr, ◌∙◌, arith}
+-- A host's oldest is no earlier once its log grew by what makes nothing idle, as an acquire does, and after a give
+-- back no earlier than what is noted since an earlier moment.
+use Rattle.std.proofs.Common.{◌≡◌, ◌⊎◌, ◌≤◌, ℕ, Bool, true, false, ◌&&◌, ◌||◌, List, [], ◌∷◌, Option, Some, None, is_none, refl, sym, ap, subst, inl, inr, ◌∙◌, arith}
 use Rattle.std.specs.Prelude.{◌==◌, nat_lt, if◌then◌else◌}
 use Rattle.std.specs.Option.{option_map, option_map_or}
 use mathlib.Core.Bool.{false≢true}
 use Rattle.std.proofs.lemmas.Bool.Decides.{nat_tests, eqb_tells}
+use Rattle.std.proofs.Math.Nat.{le-max_left}
+use Rattle.persistence.specs.declared.facts.Facts.{Facts}
 use Rattle.budget.specs.declared.permits.Try.{Try}
 use Rattle.budget.specs.declared.permits.Try.TheVariants.{Got, Full, Contended}
 use Rattle.conn_log.specs.declared.entry.Want.{Want}
 use Rattle.conn_log.specs.declared.entry.Cause.{Cause}
 use Rattle.conn_log.specs.declared.entry.Cause.TheVariants.{HostRoom, TotalRoom}
-use Rattle.conn_log.specs.declared.entry.Event.TheVariants.{Opened, Leased, Closed, Waited}
+use Rattle.conn_log.specs.declared.entry.Event.TheVariants.{Opened, Leased, Closed, Waited, Returned}
 use Rattle.conn_log.specs.declared.entry.Entry.{Entry}
 use Rattle.conn_log.specs.declared.stamp.Stamp.{Stamp}
-use Rattle.conn_log.specs.Connections.{is_among, is_open, holder_want, idle_connections, is_idle, since}
+use Rattle.conn_log.specs.Connections.{is_among, is_open, holder_want, idle_connections, is_idle, since, last_moment}
+use Rattle.conn_log.specs.Legal.{owed}
 use Rattle.conn_log.specs.Waiting.{waiting}
-use Rattle.conn_log.specs.Fit.{is_earlier, is_idle_longer, first_by, newest_fit, oldest, oldest_stamp, stamp_of}
+use Rattle.conn_log.specs.Fit.{is_earlier, is_fit, is_idle_longer, first_by, newest_fit, oldest, oldest_stamp, stamp_of}
 use Rattle.conn_log.specs.Legal.{LimitAndFirst}
 use Rattle.conn_log.proofs.Firsts.{first_among}
-use Rattle.conn_log.proofs.Holdings.{holder_closed}
+use Rattle.conn_log.proofs.Holdings.{holder_closed, holder_returned}
 use Rattle.conn_log.proofs.Steps.{is_idle_is, is_open_is, open_before}
 use Rattle.host_state.specs.Steps.{moment_at, add, close_each, cause_of, picked, is_full, next_number}
 use Rattle.host_state.specs.declared.closing.Closing.TheVariants.{TooOld}
 use Rattle.bundle.specs.Calls.{acquired, start, start_behind, start_on, start_as_told, start_in_place_of, start_in_place}
+use Rattle.bundle.specs.Calls.{start_new, open_for, grant_to, unfit_cause, settle, after_give_back}
 use Rattle.bundle.specs.Effects.{tidied}
 use Rattle.bundle.proofs.KeptSound.{none_first}
-use Rattle.cache.specs.Oldest.{is_before}
+use Rattle.cache.specs.Oldest.{is_before, is_since_before}
 
 -- what is idle after it was idle before, and since then
 pub record WasIdle (log after : List Entry) (c : ℕ) : Type 0 where
@@ -159,21 +164,21 @@ none_before log (x ∷ numbers) d is c among = by_rest (λ e found there. none_b
 at_any_host : (s t host c d : ℕ) → (nat_lt s t || ((s == t) && (nat_lt 0 0 || ((0 == 0) && nat_lt c d)))) ≡ false → (nat_lt s t || ((s == t) && (nat_lt host host || ((host == host) && nat_lt c d)))) ≡ false
 at_any_host s t host c d is = grind (arith, nat_tests, is)
 
-rises : (log after : List Entry) (host : ℕ) → Idles log after → is_before (oldest_stamp after host) (oldest_stamp log host) ≡ false
-rises log after host idles = by_after (oldest after) refl
+still_behind : (log after : List Entry) (host c : ℕ) → WasIdle log after c → is_before (Some (stamp_of after host c)) (oldest_stamp log host) ≡ false
+still_behind log after host c was = by_log (oldest log) refl
   where
-    by_log : (c : ℕ) → oldest after ≡ Some c → (first : Option ℕ) → oldest log ≡ first → is_before (Some (stamp_of after host c)) (option_map (stamp_of log host) first) ≡ false
-    by_log c is None none =
-        let was = idles c (first_among (is_idle_longer after) (idle_connections after) c is) in
-        absurd (false≢true (ap (is_among c) (sym (none_first (is_idle_longer log) (idle_connections log) none)) ∙ was.idle))
-    by_log c is (Some d) first =
-        let was = idles c (first_among (is_idle_longer after) (idle_connections after) c is) in
+    by_log : (first : Option ℕ) → oldest log ≡ first → is_before (Some (stamp_of after host c)) (option_map (stamp_of log host) first) ≡ false
+    by_log None none = absurd (false≢true (ap (is_among c) (sym (none_first (is_idle_longer log) (idle_connections log) none)) ∙ was.idle))
+    by_log (Some d) first =
         let behind = none_before log (idle_connections log) d first c was.idle in
         ap (λ (n : ℕ). is_earlier (record { since = n; host = host; number = c }) (stamp_of log host d)) was.since_same ∙ at_any_host (since log c) (since log d) host c d behind
 
+rises : (log after : List Entry) (host : ℕ) → Idles log after → is_before (oldest_stamp after host) (oldest_stamp log host) ≡ false
+rises log after host idles = by_after (oldest after) refl
+  where
     by_after : (found : Option ℕ) → oldest after ≡ found → is_before (option_map (stamp_of after host) found) (oldest_stamp log host) ≡ false
     by_after None is = refl
-    by_after (Some c) is = by_log c is (oldest log) refl
+    by_after (Some c) is = still_behind log after host c (idles c (first_among (is_idle_longer after) (idle_connections after) c is))
 
 -- no earlier than what is no earlier
 not_earlier_on : (x y z : Stamp) → is_earlier x y ≡ false → is_earlier y z ≡ false → is_earlier x z ≡ false
@@ -191,3 +196,83 @@ pub still_not_later : (is_last : Bool) (told : Try) (settings : LimitAndFirst) (
 still_not_later is_last told settings log after want now host noted is before =
     not_before_on (oldest_stamp after host) (oldest_stamp log host) noted
     (ap (λ (l : List Entry). is_before (oldest_stamp l host) (oldest_stamp log host)) is ∙ rises log (acquired is_last told settings log want now).log host (idles_acquired is_last told settings log want now)) before
+
+-- what is idle after it is idle since that moment, or was idle before
+abbrev IdlesSince : ℕ → List Entry → List Entry → Type 0
+IdlesSince m log after = (c : ℕ) → is_idle after c ≡ true → (since after c ≡ m) ⊎ WasIdle log after c
+
+since_on : (m : ℕ) (log mid after : List Entry) → IdlesSince m log mid → Idles mid after → IdlesSince m log after
+since_on m log mid after first next c idle =
+    let late = next c idle in
+    elim (first c late.idle) [
+      | inl here ↦ inl (late.since_same ∙ here)
+      | inr was ↦ inr (record { idle = was.idle; since_same = late.since_same ∙ was.since_same })
+    ]
+
+since_returned : (m c : ℕ) (facts : Facts) (log : List Entry) → IdlesSince m log (add m (Returned c facts) log)
+since_returned m c facts log d idle = elim (eqb_tells c d) [
+  | inl same ↦ inl (ap (λ (b : Bool). if b then m else since log d) same.0)
+  | inr other ↦ inr (record {
+    idle = grind (arith, nat_tests, idle, held other.0, is_idle_is (add m (Returned c facts) log) d, is_open_is (add m (Returned c facts) log) d, is_idle_is log d, is_open_is log d);
+    since_same = ap (λ (b : Bool). if b then m else since log d) other.0;
+  })
+]
+  where
+    held : (c == d) ≡ false → holder_want (add m (Returned c facts) log) d ≡ holder_want log d
+    held other = holder_returned m c facts log d ∙ ap (λ (b : Bool). if b then None else holder_want log d) other
+
+-- a give back makes nothing else idle
+module _ (settings : LimitAndFirst) (c m : ℕ) (log : List Entry) where
+  idles_new : (head : Want) (mid : List Entry) → Idles mid (start_new settings head m mid)
+  idles_new head mid = idles_opened m (next_number settings mid) head mid
+
+  idles_open_for : (mid : List Entry) (wants : List Want) → Idles mid (open_for settings m mid wants)
+  idles_open_for mid [] = idles_same mid
+  idles_open_for mid (head ∷ others) = idles_new head mid
+
+  idles_granted : (wants : List Want) → Idles log (grant_to settings c m log wants)
+  idles_granted [] = idles_same log
+  idles_granted (head ∷ others) = by_fit (is_fit log head m c)
+    where
+      closed : List Entry
+      closed = add m (Closed c (unfit_cause settings log head m c)) log
+
+      by_fit : (fits : Bool) → Idles log (if fits then add m (Leased c head) log else start_new settings head m closed)
+      by_fit true = idles_leased m c head log
+      by_fit false = idles_on log closed (start_new settings head m closed) (idles_closed m c (unfit_cause settings log head m c) log) (idles_new head closed)
+
+  idles_settled : (close : Option (ℕ × Cause)) → Idles log (settle settings c m log close)
+  idles_settled None = idles_granted (waiting log)
+  idles_settled (Some close) =
+      let closed = add m (Closed close.0 close.1) log in
+      idles_on log closed (open_for settings m closed (waiting closed)) (idles_closed m close.0 close.1 log) (idles_open_for closed (waiting closed))
+
+-- what is idle since that moment is not before what is since an earlier one
+since_now : (s x : Stamp) (now m : ℕ) → nat_lt s.since now ≡ true → now ≤ m → x.since ≡ m → is_earlier x s ≡ false
+since_now s x now m before le here = grind (arith, nat_tests, before, le, here)
+
+-- what was noted for the host since an earlier moment is no later still after a give back
+pub given_back_not_later : (settings : LimitAndFirst) (log after : List Entry) (c : ℕ) (facts : Facts) (now host : ℕ) (noted : Option Stamp) → after ≡ after_give_back settings log c facts now
+    → is_since_before noted now ≡ true → is_before (oldest_stamp log host) noted ≡ false → is_before (oldest_stamp after host) noted ≡ false
+given_back_not_later settings log after c facts now host None is early before = absurd (false≢true early)
+given_back_not_later settings log after c facts now host (Some s) is early before =
+    ap (λ (l : List Entry). is_before (oldest_stamp l host) (Some s)) is ∙ by_found (oldest due) refl
+  where
+    m : ℕ
+    m = moment_at log now
+
+    back : List Entry
+    back = add m (Returned c facts) log
+
+    due : List Entry
+    due = after_give_back settings log c facts now
+
+    idles : IdlesSince m log due
+    idles = since_on m log back due (since_returned m c facts log) (idles_settled settings c m back (owed back))
+
+    by_found : (found : Option ℕ) → oldest due ≡ found → is_before (option_map (stamp_of due host) found) (Some s) ≡ false
+    by_found None first = refl
+    by_found (Some d) first = elim (idles d (first_among (is_idle_longer due) (idle_connections due) d first)) [
+      | inl here ↦ since_now s (stamp_of due host d) now m early (le-max_left now (last_moment log)) here
+      | inr was ↦ not_before_on (Some (stamp_of due host d)) (oldest_stamp log host) (Some s) (still_behind log due host d was) before
+    ]

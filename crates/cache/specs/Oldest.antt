@@ -1,5 +1,5 @@
 -- The oldest of all hosts' idle connections, by the stamps of each host's own oldest.
-use Rattle.std.specs.Prelude.{◌≡◌, ℕ, suc, ◌<◌, Bool, true, false, if◌then◌else◌, List, [], ◌∷◌, length, slice_index_or, Option, Some, None}
+use Rattle.std.specs.Prelude.{◌≡◌, ℕ, suc, ◌<◌, Bool, true, false, nat_lt, if◌then◌else◌, List, [], ◌∷◌, length, slice_index_or, Option, Some, None}
 use Rattle.conn_log.specs.declared.entry.Entry.{Entry}
 use Rattle.conn_log.specs.declared.stamp.Stamp.{Stamp}
 use Rattle.conn_log.specs.Fit.{is_earlier, oldest_stamp}
@@ -15,6 +15,11 @@ abbrev pub is_before : Option Stamp → Option Stamp → Bool
 is_before None other = false
 is_before (Some x) None = true
 is_before (Some x) (Some y) = is_earlier x y
+
+-- since an earlier moment than that one; none is
+abbrev pub is_since_before : Option Stamp → ℕ → Bool
+is_since_before None moment = false
+is_since_before (Some x) moment = nat_lt x.since moment
 
 -- the earliest of all
 abbrev pub earliest : List (Option Stamp) → Option Stamp

@@ -3,7 +3,7 @@
 
 ghost use Rattle.std.specs.Prelude.{◌≡◌, ◌<◌, length, replicate, slice_set, Some, None, IfOk};
 ghost use Rattle.std.specs.Prelude.{IfErr, IfSome};
-ghost use Rattle.cache.specs.Oldest.{earliest, earlier_of, stamp_at};
+ghost use Rattle.cache.specs.Oldest.{earliest, earlier_of, is_since_before, stamp_at};
 
 use crate::oldest::is_before;
 use budget::Refusal;
@@ -64,6 +64,18 @@ impl WinnerTree {
         ensures { result ≡ stamp_at self.now host }
     {
         self.nodes[self.hosts + host]
+    }
+
+    /// Whether the host has a stamp since a moment before that one.
+    #[inline(always)]
+    pub fn is_since_before(&self, host: usize, moment: u64) -> bool
+        requires { host < length self.now }
+        ensures { result ≡ is_since_before (stamp_at self.now host) moment }
+    {
+        match self.nodes[self.hosts + host] {
+            Some(stamp) => stamp.since < moment,
+            None => false,
+        }
     }
 
     /// Gives the host that stamp, or none.

@@ -1,5 +1,8 @@
 use Rattle.bundle.specs.Effects.{idle_len}
-use Rattle.std.proofs.Common.{◌≡◌, ◌<◌, true, length, refl, sym, ap, ◌∙◌, rules}
+use Rattle.std.proofs.Common.{◌≡◌, ◌<◌, ℕ, true, length, slice_set, refl, sym, ap, subst, ◌∙◌, rules}
+use Rattle.std.specs.Prelude.{if◌then◌else◌}
+use Rattle.cache.specs.Oldest.{earlier_of, is_since_before, stamp_at}
+use Rattle.cache.proofs.Rising.{given_back_not_later}
 use Rattle.budget.specs.Plain.{KeepsOtherHosts, held_at_host}
 use Rattle.bundle.specs.Calls.{after_give_back, becomes_idle, is_queued}
 use Rattle.conn_log.specs.Fit.{oldest_stamp}
@@ -7,7 +10,7 @@ use Rattle.bundle.specs.Laws.{IsSoundAndQuiet}
 use Rattle.bundle.specs.Lease.{held_by}
 use Rattle.cache.specs.AllHosts.{marked}
 use Rattle.cache.proofs.OneHost.{all_marked, others_keep, stepped, log_was}
-use Rattle.cache.proofs.Calling.{kept_called, was_kept, told_spending, tells_nothing, notes_lower, marks_nothing, NotesOne, TellsOne}
+use Rattle.cache.proofs.Calling.{kept_called, was_kept, told_spending, tells_nothing, notes_returned, marks_nothing, NotesOne, TellsOne}
 use Rattle.cache.proofs.NoneQueued.{none_in, not_queued, stays_so, same_order, pool_stays}
 use Rattle.cache.proofs.Returning.{gave_log, gave_none, gave_again, gave_strange, one_more_idle, room_kept}
 use Rattle.cache.proofs.StreamsStay.{open_at}
@@ -40,8 +43,12 @@ invariant_of-self g c =
     let not_was = not_queued inside.lobby.order site (is_queued was.settings was.log) (none_in _ _ c.self.view_is c.requires.none_queued) it.listed in
     let marks = marks_nothing site (is_queued was.settings was.log) (is_queued new.settings new.log) inside.lobby it.listed (stays_so _ _ not_was done.mark) in
     let tells = told_spending was.host _ _ inside.pass told c.in-Spent.ensures.spent in
-    let notes = notes_lower site inside.noted c.lower.new.self _ _ (rw c.self.invariant.stamps there) (c.oldest-oldest.ensures ∙ ap (oldest_stamp new.log) (done.same.host ∙ it.place)) c.lower.ensures in
-    kept_called site hosts was new inside.budget later inside.lobby inside.lobby inside.pass told inside.noted c.lower.new.self c.self.invariant there read done.same settled others part marks tells done.seats done.account notes
+    let noted = c.note_after_return.new.noted in
+    let back = gave_log was new later c.args.lease c.args.facts c.args.now _ c.in-Spent.ensures.told in
+    let still = λ (early : is_since_before (stamp_at inside.noted site) c.args.now ≡ true). given_back_not_later was.settings was.log new.log c.args.lease.start.number c.args.facts c.args.now site (stamp_at inside.noted site) back early it.not_later in
+    let noted_is = subst (λ (host : ℕ). noted ≡ (if is_since_before (stamp_at inside.noted host) c.args.now then inside.noted else slice_set inside.noted host (earlier_of (stamp_at inside.noted host) (oldest_stamp new.log host)))) (done.same.host ∙ it.place) c.note_after_return.ensures in
+    let notes = notes_returned site c.args.now inside.noted noted (oldest_stamp new.log site) (rw c.self.invariant.stamps there) noted_is still in
+    kept_called site hosts was new inside.budget later inside.lobby inside.lobby inside.pass told inside.noted noted c.self.invariant there read done.same settled others part marks tells done.seats done.account notes
 
 pub invariant_of-self-in-NoKeep : goal.invariant_of-self-in-NoKeep
 invariant_of-self-in-NoKeep g c =
