@@ -569,7 +569,8 @@ impl<S: Drop> State<S> {
         ensures strange_same { IfStrange result (λ back.
             (back ≡ stream) × (self.new ≡ self.old)) }
     {
-        if !may_keep && self.would_stay(transfer, number, persists(&facts)) {
+        let persists = persists(&facts);
+        if !may_keep && self.would_stay(transfer, number, persists) {
             return Returned::Unkept(stream);
         }
         let more = self.booked as usize + self.queue.len();
@@ -577,7 +578,7 @@ impl<S: Drop> State<S> {
             return Returned::Strange(stream);
         };
         append_return(&mut self.log, moment, held.number, facts);
-        if !stays_open(&facts, &held) {
+        if !stays_open(persists, &held) {
             self.log.append(Entry {
                 moment,
                 event: Event::Closed {
@@ -602,7 +603,7 @@ impl<S: Drop> State<S> {
     {
         let _limit = self.limit;
         match self.held(transfer, number) {
-            Some(held) => persists && !held.forbids_reuse,
+            Some(held) => stays_open(persists, &held),
             None => false,
         }
     }
@@ -710,12 +711,13 @@ fn append_return(log: &mut Log, moment: u64, connection: u32, facts: Facts)
     log.append(Entry { moment, event });
 }
 
-// Whether a connection stays open after that response.
+// Whether a connection stays open after a response, by whether that persists.
 #[inline(always)]
-fn stays_open(facts: &Facts, held: &Held) -> bool
-    ensures { result ≡ stays_open facts.now held.now }
+fn stays_open(persists: bool, held: &Held) -> bool
+    ensures { (facts : Facts) → is_persistent facts ≡ persists →
+        result ≡ stays_open facts held.now }
 {
-    persists(facts) && !held.forbids_reuse
+    persists && !held.forbids_reuse
 }
 
 // What is kept of a connection that came back at that moment.

@@ -28,7 +28,7 @@ invariant_of-self-then-not-stays_open g c =
     let held = c.in-Some.held in
     let log_is = ap (λ (v : HostState g.row.S.Denot). v.log) c.self-2.view_is in
     let later = subst (λ log. last_moment log ≤ c.args.moment) (sym log_is) c.requires in
-    let ends : stays_open c.args.facts held ≡ false = sym c.stays_open.ensures ∙ grind (arith, c.if-not-stays_open.true) in
+    let ends : stays_open c.args.facts held ≡ false = sym (c.stays_open.ensures c.args.facts (sym c.persists-persists.ensures)) ∙ grind (arith, c.if-not-stays_open.true) in
     record {
       replays = rw (c.append.ensures.entries, c.append_return.ensures.entries) (replays_end _ _ _ _ _ _ kept c.args.transfer held c.in-Some.ensures.there c.args.moment later c.args.facts _ ends c.ending_cause.ensures _ _ c.in-Some.ensures.taken c.in-Some.ensures.len);
       limit = rw (c.append.ensures.entries, c.append_return.ensures.entries) c.self-2.invariant.limit;
@@ -55,7 +55,7 @@ returns-then-not-stays_open-clause-closed g c =
     let n = held.number in
     let log_is = ap (λ (v : HostState g.row.S.Denot). v.log) c.self-2.view_is in
     let later = subst (λ log. last_moment log ≤ c.args.moment) (sym log_is) c.requires in
-    let ends : stays_open c.args.facts held ≡ false = sym c.stays_open.ensures ∙ grind (arith, c.if-not-stays_open.true) in
+    let ends : stays_open c.args.facts held ≡ false = sym (c.stays_open.ensures c.args.facts (sym c.persists-persists.ensures)) ∙ grind (arith, c.if-not-stays_open.true) in
     let cause = c.ending_cause.result in
     let gone = has_gone _ _ _ _ _ _ kept c.args.transfer held c.in-Some.ensures.there _ (gone_ended c.args.moment n c.args.facts cause state.log.entries) in
     let was = table_number kept c.args.transfer held c.in-Some.ensures.there in
@@ -83,7 +83,7 @@ invariant_of-self-2 g c =
     let held = c.in-Some.held in
     let log_is = ap (λ (v : HostState g.row.S.Denot). v.log) c.self-2.view_is in
     let later = subst (λ log. last_moment log ≤ c.args.moment) (sym log_is) c.requires in
-    let stays : stays_open c.args.facts held ≡ true = sym c.stays_open.ensures ∙ grind (arith, c.if-not-stays_open.false) in
+    let stays : stays_open c.args.facts held ≡ true = sym (c.stays_open.ensures c.args.facts (sym c.persists-persists.ensures)) ∙ grind (arith, c.if-not-stays_open.false) in
     record {
       replays = rw (c.append_return.ensures.entries, c.put_in.ensures.items, c.idle_since.ensures) (replays_return _ _ _ _ _ _ kept c.args.transfer held c.in-Some.ensures.there c.args.moment later c.args.facts stays c.place_for-place.result c.args.stream c.place_for-place.ensures _ _ c.in-Some.ensures.taken c.in-Some.ensures.len);
       limit = rw c.append_return.ensures.entries c.self-2.invariant.limit;
@@ -110,7 +110,7 @@ returns-clause-idle g c =
     let there = c.in-Some.ensures.there in
     let log_is = ap (λ (v : HostState g.row.S.Denot). v.log) c.self-2.view_is in
     let later = subst (λ log. last_moment log ≤ c.args.moment) (sym log_is) c.requires in
-    let stays : stays_open c.args.facts held ≡ true = sym c.stays_open.ensures ∙ grind (arith, c.if-not-stays_open.false) in
+    let stays : stays_open c.args.facts held ≡ true = sym (c.stays_open.ensures c.args.facts (sym c.persists-persists.ensures)) ∙ grind (arith, c.if-not-stays_open.false) in
     let x : Idle g.row.S.Denot = record { number = n; lane = held.lane; born = held.born; since = c.args.moment; stream = c.args.stream } in
     let absent = held_not_found _ _ _ _ _ _ kept c.args.transfer held there in
     let it : (n == n) ≡ true = grind (arith, nat_tests) in
@@ -132,7 +132,7 @@ returns-clause-idle g c =
 
 pub returns-then-would_stay-clause-known : goal.returns-then-would_stay-clause-known
 returns-then-would_stay-clause-known g c =
-    let stays = c.would_stay.ensures.yes c.args.facts (sym c.persists.ensures) c.if-would_stay.true in
+    let stays = c.would_stay.ensures.yes c.args.facts (sym c.persists-persists.ensures) c.if-would_stay.true in
     let log_is = ap (λ (v : HostState g.row.S.Denot). v.log) c.self.view_is in
     let shown = ap (λ log. held_facts log c.args.transfer) log_is ∙ stays.was_held in
     ap (λ log. is_held_by log c.args.transfer c.args.number) (sym log_is) ∙ would_stay_held c.self.invariant.replays c.args.transfer c.args.number stays.held shown stays.number
