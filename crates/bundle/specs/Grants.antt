@@ -80,7 +80,7 @@ with_granted settings c moment stream log [] grants = grants
 with_granted settings c moment stream log (head ∷ others) grants =
     if is_fit log head moment c then grants ++ record { want = head; number = c; moment = moment; stream = stream } ∷ [] else with_new settings moment log (head ∷ others) grants
 
--- the connection that has just come back, of that lane and opened at that moment, is the only idle one
+-- that connection is the only idle one: in that lane, opened at the first moment, and idle since the second
 pub record IsAlone (log : List Entry) (c in_lane born_at moment : ℕ) : Type 0 where
   pub only : idle_connections log ≡ c ∷ []
   pub lane : lane log c ≡ in_lane

@@ -1,8 +1,8 @@
 //! How a transfer acquires a connection.
 
-ghost use Rattle.std.specs.Prelude.{◌≡◌, ℕ, ◌+◌, ◌<◌, ◌++◌, ◌∷◌, [], ◌⊎◌, Some, None, true, false};
+ghost use Rattle.std.specs.Prelude.{◌≡◌, ◌+◌, ◌<◌, ◌++◌, ◌∷◌, [], ◌⊎◌, Some, None, true, false};
 ghost use Rattle.std.specs.Prelude.{length, is_some, vec_len, vec_capacity, IfSome, IfNone, IfErr};
-ghost use Rattle.std.specs.Prelude.{IfOk, OnOk, OnErr, OnSome, if◌then◌else◌, ◌≤◌};
+ghost use Rattle.std.specs.Prelude.{OnOk, OnErr, OnSome, ◌≤◌};
 ghost use Rattle.budget.specs.declared.permits.Try.{Try};
 ghost use Rattle.budget.specs.declared.permits.Try.TheVariants.{Got as TryGot};
 ghost use Rattle.conn_log.specs.Connections.{held_number, is_among, last_moment};
@@ -332,7 +332,8 @@ fn lease_at_once<S: Drop, P: Permits>(
     Some(Lease::new(used, seat))
 }
 
-// Why log and bookings are against an acquire, if they are.
+// Why log and bookings are against an acquire, if they are. Out of line and cold, as all that only
+// an acquire needs that does not lease at once.
 #[cold]
 #[inline(never)]
 fn reason_against<S: Drop>(state: &State<S>, bookings: &[u64], want: &Want) -> Option<Refusal>

@@ -1,13 +1,13 @@
 //! The steps of calls: what starts a transfer, and what serves those that wait.
 
-ghost use Rattle.std.specs.Prelude.{◌≡◌, ℕ, ◌+◌, ◌-◌, ◌<◌, ◌≤◌, ◌++◌, ◌==◌, ◌&&◌, not, List, []};
-ghost use Rattle.std.specs.Prelude.{length, Some, None, IsSome, true, false, if◌then◌else◌};
+ghost use Rattle.std.specs.Prelude.{◌≡◌, ◌+◌, ◌-◌, ◌<◌, ◌≤◌, ◌==◌, ◌&&◌, not, []};
+ghost use Rattle.std.specs.Prelude.{length, Some, None, true, false, if◌then◌else◌};
 ghost use Rattle.std.specs.Prelude.{is_some, vec_len, vec_capacity};
 ghost use Rattle.budget.specs.declared.permits.Try.{Try};
-ghost use Rattle.budget.specs.Permits.{held, one_more_open, one_more_kept, one_less_open};
+ghost use Rattle.budget.specs.Permits.{held, one_more_open, one_more_kept};
 ghost use Rattle.conn_log.specs.declared.entry.Cause.TheVariants.{TooOld, HostRoom, TotalRoom};
 ghost use Rattle.conn_log.specs.declared.entry.Event.TheVariants.{Waited};
-ghost use Rattle.conn_log.specs.Connections.{last_moment, held_number, is_open, idle_connections};
+ghost use Rattle.conn_log.specs.Connections.{last_moment, held_number, idle_connections};
 ghost use Rattle.conn_log.specs.Connections.{open_connections};
 ghost use Rattle.conn_log.specs.Waiting.{waiting, waits};
 ghost use Rattle.conn_log.specs.Fit.{is_older};
@@ -398,9 +398,9 @@ pub(crate) fn grant_to_head<S: Drop>(
     }
 }
 
-// The same, for the few times when anyone waits.
-// Out of line, so that what comes back where nobody waits stays small enough to be inlined; what was
-// kept of the connection is told in parts, so that it need not stand in memory.
+// The same, for the few times when anyone waits. Out of line, so that what comes back where nobody
+// waits stays small enough to be inlined. It is told in parts what was kept of the connection: what
+// is lent has to stand in memory.
 #[cold]
 #[inline(never)]
 fn grant_or_replace<S: Drop>(

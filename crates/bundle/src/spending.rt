@@ -1,15 +1,13 @@
 //! How a lease or a ticket ends.
 
-ghost use Rattle.std.specs.Prelude.{◌≡◌, ℕ, ◌+◌, ◌<◌, ◌≤◌, [], true, false, is_some, IsSome};
+ghost use Rattle.std.specs.Prelude.{◌≡◌, ◌<◌, [], true, false, is_some, IsSome};
 ghost use Rattle.std.specs.Prelude.{Some, None, OnOk, OnErr, IfOk, IfErr, IfSome, IfNone};
-ghost use Rattle.std.specs.Prelude.{vec_len, vec_capacity};
 ghost use Rattle.persistence.specs.Persistent.{is_persistent};
 ghost use Rattle.budget.specs.declared.permits.Try.{Try};
 ghost use Rattle.budget.specs.declared.permits.Try.TheVariants.{Got, Contended};
 ghost use Rattle.budget.specs.Permits.{if_got, one_more_kept, one_less_kept};
 ghost use Rattle.conn_log.specs.Waiting.{waiting};
 ghost use Rattle.bundle.specs.Calls.{after_abandon, after_withdraw, is_freed, is_queued, GrowsBy};
-ghost use Rattle.bundle.specs.Grants.{without_grant};
 ghost use Rattle.bundle.specs.Lease.{is_unclaimed, is_valid_ticket, is_same_want, WasGranted};
 ghost use Rattle.bundle.specs.Lease.{is_held_lease, HasItsStream, KeepsItsStream, KeepsStreams};
 ghost use Rattle.bundle.specs.Lease.{KeepsOthers, GetsLease, Spends, StaysThere, held_by};
@@ -220,6 +218,7 @@ impl<S: Drop> Bundle<S> {
         let back = self
             .state
             .give_back(transfer, number, facts, stream, moment, may_keep(asked));
+        // Each way reads the host: read before, it would be carried over the steps on the tables.
         match back {
             Returned::Idle(held) => {
                 let host = self.state.host();

@@ -4,7 +4,7 @@ ghost use Rattle.std.specs.Prelude.{◌≡◌, ◌<◌, ◌⊎◌, length, is_so
 ghost use Rattle.std.specs.Prelude.{OnOk, OnErr};
 ghost use Rattle.bundle.specs.Calls.{refusal, GrowsBy};
 ghost use Rattle.bundle.specs.Lease.{IsBookedHere, HasItsStream, GetsLease, GetsTicket};
-ghost use Rattle.bundle.specs.Lease.{KeepsAll, StaysThere, without_booked};
+ghost use Rattle.bundle.specs.Lease.{StaysThere, without_booked};
 ghost use Rattle.cache.specs.AllHosts.{total, with_room};
 ghost use Rattle.cache.specs.Calls.{acquired, started, reply_of};
 ghost use Rattle.cache.specs.Pools.{IsAcquired, IfAcquired, GivesLease, GivesTicket, host_at};

@@ -1,7 +1,7 @@
 //! How hosts that are queued get room in total, and how room is made.
 
 ghost use Rattle.std.specs.Prelude.{◌≡◌, ◌+◌, ◌<◌, ◌||◌, true, false, nat_lt, length, is_some};
-ghost use Rattle.std.specs.Prelude.{slice_get, Some, if◌then◌else◌};
+ghost use Rattle.std.specs.Prelude.{slice_get, Some};
 ghost use Rattle.bundle.specs.Calls.{makes_room_for_others};
 ghost use Rattle.cache.specs.AllHosts.{without_oldest, oldest_of_all, has_room, with_room};
 ghost use Rattle.cache.specs.AllHosts.{may_turn, after_turn_of, turn_of_first, total, kept};

@@ -1,7 +1,8 @@
 //! How a lease or a ticket ends.
 
 ghost use Rattle.std.specs.Prelude.{◌≡◌, ◌<◌, true, false, [], length, is_some};
-ghost use Rattle.std.specs.Prelude.{IsSome, IfSome, IfNone, IfErr, OnOk, OnErr, slice_set, if◌then◌else◌};
+ghost use Rattle.std.specs.Prelude.{IsSome, IfSome, IfNone, IfErr, OnOk, OnErr, slice_set};
+ghost use Rattle.std.specs.Prelude.{if◌then◌else◌};
 ghost use Rattle.persistence.specs.declared.facts.Facts.{Facts};
 ghost use Rattle.conn_log.specs.Connections.{is_open};
 ghost use Rattle.conn_log.specs.Fit.{oldest_stamp};
