@@ -273,6 +273,3 @@ fn split_pair<N: Named>(
 {
     table.shared.split_seat::<OfLease<N>>(seat)
 }
-
-#[cfg(test)]
-mod tests;

@@ -23,8 +23,3 @@ pub use plain::{HostPermits, PlainBudget};
 pub use refusal::Refusal;
 pub use tally::{PassSeat, StartSeat, Tally};
 pub use words::{BudgetSeat, SeatPermits, Seen, WordBudget, Words};
-
-#[cfg(test)]
-mod tests;
-#[cfg(test)]
-mod threads_tests;

@@ -152,6 +152,3 @@ impl<D: Copy + Drop> Pass<D> {
         drop(accounts);
     }
 }
-
-#[cfg(test)]
-mod tests;

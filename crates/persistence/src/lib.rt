@@ -18,6 +18,3 @@ pub use facts::{Facts, Framing, Version, persists};
 pub use laws::split_is_unique;
 pub use method::Method;
 pub use reader::ResponseReader;
-
-#[cfg(test)]
-mod tests;

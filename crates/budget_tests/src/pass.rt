@@ -1,5 +1,4 @@
-use super::Pass;
-use crate::tally::Tally;
+use budget::{Pass, Tally};
 use std::test::Fail;
 
 #[test]

@@ -1,7 +1,7 @@
 //! What reading costs: valgrind's callgrind counts the instructions of each call of `feeds_each`,
 //! in the order of the tables (docs/developing.md).
-use crate::tests::rows::repeated;
-use crate::{Method, ResponseReader, persists};
+use crate::rows::repeated;
+use persistence::{Method, ResponseReader, persists};
 use std::alloc::{AllocError, Global};
 use std::test::Fail;
 

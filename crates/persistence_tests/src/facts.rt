@@ -1,10 +1,5 @@
-//! Whether a connection persists, by the facts; below, what a reader tells of responses.
-mod cost;
-mod drawn;
-mod pieces;
-mod rows;
-
-use crate::{Facts, Framing, Method, ReadFault, ResponseReader, Version, persists};
+//! Whether a connection persists, by the facts of its response.
+use persistence::{Facts, Framing, Method, ReadFault, ResponseReader, Version, persists};
 
 /// The facts of a counted HTTP/1.1 response that was read whole, where nothing else is said.
 pub(crate) const KEEP: Facts = Facts {

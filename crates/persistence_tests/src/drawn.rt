@@ -1,7 +1,7 @@
 //! Responses that are drawn and come cut at drawn places: of each a reader tells what a reader
 //! tells that is fed all its bytes at once, and of an undamaged one what it was drawn to be.
-use crate::tests::pieces::{Sent, Told, at_end, fed, told_in_pieces};
-use crate::{Method, ReadFault, ResponseReader};
+use crate::pieces::{Sent, Told, at_end, fed, told_in_pieces};
+use persistence::{Method, ReadFault, ResponseReader};
 use std::alloc::{AllocError, Global};
 use std::process::Abort;
 use std::test::Fail;

@@ -4,7 +4,7 @@ ghost use Rattle.std.specs.Prelude.{◌≡◌, ◌<◌, ◌+◌, length};
 ghost use Rattle.std.specs.Thread.{IsSync};
 ghost use Rattle.budget.specs.Words.{whole};
 
-use crate::{
+use budget::{
     BudgetSeat, Held, Limits, LimitsFault, Lobby, Permits, PlainBudget, SeatPermits, Seen, Try,
     WordBudget, Words,
 };

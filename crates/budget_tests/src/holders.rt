@@ -1,4 +1,4 @@
-use super::Holders;
+use budget::Holders;
 use std::test::Fail;
 
 #[test]

@@ -1,4 +1,4 @@
-use Rattle.budget.proofs.threads_tests.two_threads_bring_two_leases_back.Given as goal
+use Rattle.budget_tests.proofs.threads.two_threads_bring_two_leases_back.Given as goal
 
 abbrev pub ghosts-bring_back_by_two : goal.ghosts-bring_back_by_two
 ghosts-bring_back_by_two g a = record { table = a.holders.table }

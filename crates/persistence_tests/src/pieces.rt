@@ -1,8 +1,8 @@
 //! What a reader tells of responses written out, of faulty ones and at each limit: fed all at once,
 //! byte by byte, and cut into two pieces at each place.
-use crate::tests::KEEP;
-use crate::tests::rows::{FAULTS, LIMITS, NO_HEAD, ROWS, repeated};
-use crate::{Facts, Fed, Framing, Method, ReadFault, ResponseReader, persists};
+use crate::facts::KEEP;
+use crate::rows::{FAULTS, LIMITS, NO_HEAD, ROWS, repeated};
+use persistence::{Facts, Fed, Framing, Method, ReadFault, ResponseReader, persists};
 use std::alloc::Global;
 use std::process::Abort;
 use std::test::Fail;

@@ -1,6 +1,6 @@
 //! Responses written out, faulty ones, and ones at each limit, with what a reader tells of them.
-use crate::tests::KEEP;
-use crate::{Facts, Framing, Method, ReadFault, Version};
+use crate::facts::KEEP;
+use persistence::{Facts, Framing, Method, ReadFault, Version};
 use std::alloc::{AllocError, Global};
 
 /// The facts before a final head.

@@ -2,7 +2,7 @@
 ghost use Rattle.std.specs.Prelude.{◌≡◌, ◌<◌, true, false, None, IfSome};
 ghost use Rattle.budget.specs.Marks.{mark_at};
 
-use crate::{HolderSeat, Holders, Link, Lobby, LobbySeat, MarkSeat, PassSeat, Tally};
+use budget::{HolderSeat, Holders, Link, Lobby, LobbySeat, MarkSeat, PassSeat, Tally};
 use std::marker::{Brand, Model, PhantomData};
 use std::sync::{Mutex, Wait};
 use std::test::Fail;

@@ -1,0 +1,14 @@
+//! Tests of `persistence`: what no clause says, worked rows, and what reading costs. Tests stand in a
+//! crate of their own, since a crate that has tests is proved twice.
+#![tactic(auto)]
+
+#[cfg(test)]
+mod cost;
+#[cfg(test)]
+mod drawn;
+#[cfg(test)]
+mod facts;
+#[cfg(test)]
+mod pieces;
+#[cfg(test)]
+mod rows;
