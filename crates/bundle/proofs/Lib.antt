@@ -31,5 +31,4 @@ pub mod TurnLogs
 pub mod AtOnce
 pub mod LimitLogs
 pub mod OtherHosts
-pub mod DeskHosts
 pub mod ComingBack

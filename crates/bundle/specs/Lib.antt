@@ -9,4 +9,3 @@ pub mod Lobbies
 pub mod Laws
 pub mod Worked
 pub mod Effects
-pub mod Desks

@@ -1,5 +1,5 @@
-ghost use Rattle.std.specs.Prelude.{◌≡◌, ℕ, ◌-◌, ◌<◌, ◌≤◌, length, IfOk, IfErr};
-ghost use Rattle.conn_log.specs.Connections.{open_connections, idle_connections};
+ghost use Rattle.std.specs.Prelude.{◌≡◌, ℕ, ◌-◌, ◌<◌, ◌≤◌, ◌==◌, ◌&&◌, length, IfOk, IfErr};
+ghost use Rattle.conn_log.specs.Connections.{open_connections, idle_connections, is_among};
 ghost use Rattle.conn_log.specs.Fit.{oldest_stamp};
 ghost use Rattle.conn_log.specs.Legal.{IsLegal, IsQuiet, limit_in_force};
 ghost use Rattle.conn_log.specs.Sound.{IsSound};
@@ -12,6 +12,7 @@ ghost use Rattle.budget.specs.Accounts.{account_at, change_at, enrolled, IsEnrol
 ghost use Rattle.budget.specs.Starts.{Spendings};
 ghost use Rattle.conn_log.specs.Starts.{start_count};
 
+use crate::booking::Booking;
 use crate::did::Did;
 use crate::grant::Grant;
 use crate::seats::Seats;
@@ -128,6 +129,14 @@ impl<S: Drop> Bundle<S> {
             waiting: self.state.waiting_len(),
             queued: self.queued(),
         }
+    }
+
+    /// Whether the booking is this host's: its transfer's acquire is halfway here.
+    pub fn has_booked(&self, booking: &Booking) -> bool
+        ensures { let is_here = booking.now.site == self.now.host in
+            result ≡ (is_here && is_among booking.now.want.transfer self.now.booked) }
+    {
+        booking.site() == self.host() && self.bookings.contains(&booking.transfer())
     }
 
     /// Gives the pass a seat in the host's tally, with which it can spend leases here. It takes no

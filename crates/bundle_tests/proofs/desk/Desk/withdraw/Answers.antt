@@ -1,0 +1,8 @@
+use Rattle.bundle_tests.proofs.DeskHosts.{after_marked}
+use Rattle.bundle_tests.proofs.desk.Desk.withdraw.Goals as goal
+
+pub invariant_of-self : goal.invariant_of-self
+invariant_of-self g c =
+    let desk = c.self.inside in
+    let call = c.withdraw.ensures in
+    after_marked desk.bundle c.withdraw.new.self desk.other _ _ _ _ _ _ _ _ _ _ c.self.invariant c.host.ensures c.at-permits.ensures.budget c.at-permits.ensures.host call.stays.1 call.stays.2 call.part call.same call.marked call.seats

@@ -1,0 +1,20 @@
+//! Tests of `bundle`: what no clause says. Tests stand in a crate of their own, since a crate that
+//! has tests is proved twice.
+#![tactic(auto)]
+
+#[cfg(test)]
+mod budgets;
+#[cfg(test)]
+mod calls;
+#[cfg(test)]
+mod contended;
+#[cfg(test)]
+mod desk;
+#[cfg(test)]
+mod drops;
+#[cfg(test)]
+mod limits;
+#[cfg(test)]
+mod memory;
+#[cfg(test)]
+mod passes;
