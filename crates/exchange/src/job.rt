@@ -65,6 +65,13 @@ impl Prepared {
         })
     }
 
+    /// The text of the request.
+    pub fn text(&self) -> &str
+        ensures { result.now ≡ string_bytes self.now.text }
+    {
+        self.text.as_str()
+    }
+
     // What the transfer wants of the cache: once the request is sent again, a new connection.
     pub(crate) fn wanted(&self) -> Want
         ensures { result ≡ wanted self.now }

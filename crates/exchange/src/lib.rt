@@ -1,27 +1,17 @@
 //! One transfer as an exchange: one request and its response over a connection of a cache.
 #![tactic(auto)]
 
-#[cfg(test)]
-mod cancel_tests;
 mod connecting;
 mod done;
-#[cfg(test)]
-mod driving;
 mod ending;
-#[cfg(test)]
-mod example_tests;
 mod exchange;
 mod fake_cache;
 mod job;
 mod leasing;
 mod memory;
-#[cfg(test)]
-mod memory_tests;
 mod polled;
 mod returned;
 mod state;
-#[cfg(test)]
-mod tests;
 mod transferring;
 mod wire;
 

@@ -1,10 +1,12 @@
 //! An exchange where memory is short.
 
-use crate::{Done, Exchange, FakeCache, Fault, FixedClock, Job, MemoryDial, MemoryWire, Prepared};
 use budget::{Limits, Refusal};
 use cache::Pool;
 use conn_key::{CountedMemory, read_target};
 use conn_log::Want;
+use exchange::{
+    Done, Exchange, FakeCache, Fault, FixedClock, Job, MemoryDial, MemoryWire, Prepared,
+};
 use futures::task::{Doorbell, Solo};
 use persistence::Method;
 use std::alloc::AllocGlobal;

@@ -1,16 +1,13 @@
 //! Exchanges over wires in memory: what was expected was read off the standards by hand.
 
-use crate::done::{Answer, Done, Fault, Stage};
 use crate::driving::{
     BEFORE, KEEP, NOW, OK, cache_of, cache_with_idle, cache_with_other, check_last, check_log,
     close, closed, dial_of, lease_of, leased, opened, prepared, prepared_at, returned, run,
     run_at_once, want_of, wire_of,
 };
-use crate::memory::{Halt, MemoryDial};
-use crate::returned::Returned;
-use crate::wire::{Read, Wire, Written};
 use budget::Refusal;
 use conn_log::{Cause, Want};
+use exchange::{Answer, Done, Fault, Halt, MemoryDial, Read, Returned, Stage, Wire, Written};
 use persistence::{Facts, Framing, Method};
 use std::alloc::AllocGlobal;
 use std::test::Fail;
@@ -59,7 +56,7 @@ fn a_request_has_its_text(rt: HostRuntime) -> Result<(), Fail> {
             ..want_of(1)
         };
         let parts = prepared_at(&rt, 0, method, url, want);
-        assert_eq!(rt; parts.text.as_str(), text);
+        assert_eq!(rt; parts.text(), text);
     }
     Ok(())
 }

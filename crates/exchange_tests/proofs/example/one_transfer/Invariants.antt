@@ -1,6 +1,6 @@
 use Rattle.exchange.specs.Owning.{IsReady, Owns}
 use Rattle.exchange.specs.FakeCaches.{out_of, OwnsTables}
-use Rattle.exchange.proofs.example_tests.one_transfer.Given as goal
+use Rattle.exchange_tests.proofs.example.one_transfer.Given as goal
 
 abbrev pub invariant-loop : goal.invariant-loop
 invariant-loop g l = let cache = l.exchange.cache.now in record {

@@ -1,10 +1,10 @@
 //! README's program, over an exchange.
 
-use crate::{Done, Exchange, FakeCache, FixedClock, Job, MemoryDial, MemoryWire, Prepared};
 use budget::Limits;
 use cache::Pool;
 use conn_key::{CountedMemory, read_target};
 use conn_log::Want;
+use exchange::{Done, Exchange, FakeCache, FixedClock, Job, MemoryDial, MemoryWire, Prepared};
 use futures::task::{Doorbell, Solo};
 use persistence::Method;
 use std::alloc::AllocGlobal;

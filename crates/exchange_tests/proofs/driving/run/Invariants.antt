@@ -1,6 +1,6 @@
 use Rattle.exchange.specs.Owning.{IsReady, Owns}
 use Rattle.exchange.specs.FakeCaches.{out_of, OwnsTables}
-use Rattle.exchange.proofs.driving.run.Given as goal
+use Rattle.exchange_tests.proofs.driving.run.Given as goal
 
 abbrev pub invariant-loop-pending : goal.invariant-loop-pending
 invariant-loop-pending g l = let cache = l.exchange.cache.now in record {

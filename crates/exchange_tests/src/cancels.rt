@@ -1,13 +1,12 @@
 //! What a cancel does, by where its exchange stands; and how an exchange waits for a connection.
 
-use crate::done::{Answer, Done, Stage};
 use crate::driving::{
     BEFORE, KEEP, NOW, OK, cache_of, cache_with_other, cancel_polled, cancel_unpolled, check_log,
     close, closed, dial_of, leased, left, opened, prepared, returned, run, waited, want_of,
     wire_of,
 };
-use crate::memory::{Halt, MemoryDial};
 use conn_log::Cause;
+use exchange::{Answer, Done, Halt, MemoryDial, Stage};
 use std::test::Fail;
 
 #[test]

@@ -4,16 +4,14 @@ ghost use Rattle.std.specs.Prelude.{◌≡◌, IsSome};
 ghost use Rattle.cache.specs.Pools.{IsMadeHere};
 ghost use Rattle.exchange.specs.Answers.{IsUnused};
 
-use crate::done::{Done, Stage};
-use crate::exchange::Exchange;
-use crate::fake_cache::FakeCache;
-use crate::job::{Job, Prepared};
-use crate::memory::{FixedClock, MemoryDial, MemoryWire};
 use budget::Limits;
 use bundle::Lease;
 use cache::{Acquired, Pool};
 use conn_key::{CountedMemory, read_target};
 use conn_log::{Cause, Entry, Event, Want};
+use exchange::{
+    Done, Exchange, FakeCache, FixedClock, Job, MemoryDial, MemoryWire, Prepared, Stage,
+};
 use futures::task::{Doorbell, Solo};
 use persistence::{Facts, Framing, Method, Version};
 use std::alloc::AllocGlobal;

@@ -1,0 +1,14 @@
+//! Tests of `exchange`, over wires and a cache in memory: what no clause says. Tests stand in a crate
+//! of their own, since a crate that has tests is proved twice.
+#![tactic(auto)]
+
+#[cfg(test)]
+mod cancels;
+#[cfg(test)]
+mod driving;
+#[cfg(test)]
+mod example;
+#[cfg(test)]
+mod exchanges;
+#[cfg(test)]
+mod memory;
