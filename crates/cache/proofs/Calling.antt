@@ -10,6 +10,7 @@ use Rattle.budget.specs.declared.pass.Account.{Account}
 use Rattle.budget.specs.Accounts.{vacant, account_at, change_at, told as told_did, spent_once, KeepsSeats}
 use Rattle.conn_log.specs.declared.stamp.Stamp.{Stamp}
 use Rattle.conn_log.specs.declared.entry.Cause.TheVariants.{Withdrawn}
+use Rattle.conn_log.specs.declared.entry.Entry.{Entry}
 use Rattle.conn_log.specs.declared.entry.Event.{Event}
 use Rattle.conn_log.specs.declared.entry.Event.TheVariants.{Closed, Left}
 use Rattle.conn_log.specs.Fit.{oldest_stamp}
@@ -63,13 +64,18 @@ pub record NotesOne (site : ℕ) (noted lowered : List (Option Stamp)) (oldest :
   pub other_stamps : (other : ℕ) → other ≢ site → stamp_at lowered other ≡ stamp_at noted other
   pub not_later : is_before oldest (stamp_at lowered site) ≡ false
 
-pub notes_lower : (site : ℕ) (noted lowered : List (Option Stamp)) (stamp oldest : Option Stamp) → site < length noted → stamp ≡ oldest
-    → lowered ≡ slice_set noted site (earlier_of (stamp_at noted site) stamp) → NotesOne site noted lowered oldest
-notes_lower site noted lowered stamp oldest there is lowered_is = rw lowered_is (record {
-  stamps = length-set noted site (earlier_of (stamp_at noted site) stamp);
-  other_stamps = λ other apart. get_or-set_other noted site other (earlier_of (stamp_at noted site) stamp) None apart;
-  not_later = lowered_not_later noted site stamp oldest there is;
+notes_lower : (site : ℕ) (noted lowered : List (Option Stamp)) (oldest : Option Stamp) → site < length noted
+    → lowered ≡ slice_set noted site (earlier_of (stamp_at noted site) oldest) → NotesOne site noted lowered oldest
+notes_lower site noted lowered oldest there lowered_is = rw lowered_is (record {
+  stamps = length-set noted site (earlier_of (stamp_at noted site) oldest);
+  other_stamps = λ other apart. get_or-set_other noted site other (earlier_of (stamp_at noted site) oldest) None apart;
+  not_later = lowered_not_later noted site oldest oldest there refl;
 })
+
+-- where what is noted for the host is lowered to the stamp of its oldest idle connection
+pub notes_oldest : (host site : ℕ) (noted lowered : List (Option Stamp)) (log : List Entry) → site < length noted → host ≡ site
+    → lowered ≡ slice_set noted host (earlier_of (stamp_at noted host) (oldest_stamp log host)) → NotesOne site noted lowered (oldest_stamp log site)
+notes_oldest host site noted lowered log there place lowered_is = notes_lower site noted lowered (oldest_stamp log site) there (subst (λ (n : ℕ). lowered ≡ slice_set noted n (earlier_of (stamp_at noted n) (oldest_stamp log n))) place lowered_is)
 
 -- where a connection came back: it is lowered, unless it is since an earlier moment, and then no later still
 pub notes_returned : (site moment : ℕ) (noted lowered : List (Option Stamp)) (oldest : Option Stamp) → site < length noted
@@ -79,7 +85,7 @@ notes_returned site moment noted lowered oldest there lowered_is still = by_time
   where
     by_time : (early : Bool) → is_since_before (stamp_at noted site) moment ≡ early → lowered ≡ (if early then noted else slice_set noted site (earlier_of (stamp_at noted site) oldest)) → NotesOne site noted lowered oldest
     by_time true early same = rw same (record { stamps = refl; other_stamps = λ other apart. refl; not_later = still early })
-    by_time false late set = notes_lower site noted lowered oldest oldest there refl set
+    by_time false late set = notes_lower site noted lowered oldest there set
 
 pub notes_set : (site : ℕ) (noted set : List (Option Stamp)) (stamp oldest : Option Stamp) → site < length noted → stamp ≡ oldest
     → set ≡ slice_set noted site stamp → NotesOne site noted set oldest

@@ -99,8 +99,3 @@ pub told_either : {A E : Type 0} (r : Result A E) (host moment transfer : ℕ) (
     → OnOk r (told ≡ withdraws host moment transfer granted pass) → OnErr r (told ≡ tells host did pass) → TellsOne host pass told
 told_either (Ok a) host moment transfer granted did pass told ok err = told_withdrawing host moment transfer granted pass told ok
 told_either (Err e) host moment transfer granted did pass told ok err = told_so host did pass told err
-
--- a host's own stamp names it
-pub own_stamp : (log : List Entry) (host site : ℕ) (stamp : Option Stamp) → host ≡ site → stamp ≡ oldest_stamp log host → IfSome stamp (λ (s : Stamp). s.host ≡ site)
-own_stamp log host site stamp place is =
-    subst (λ (o : Option Stamp). IfSome o (λ (s : Stamp). s.host ≡ site)) (sym (is ∙ ap (oldest_stamp log) place)) (own_host log site)

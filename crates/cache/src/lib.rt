@@ -3,27 +3,14 @@
 
 mod acquired;
 mod acquiring;
-#[cfg(test)]
-mod cost_tests;
-#[cfg(test)]
-mod desk;
-#[cfg(test)]
-mod drawn_tests;
-#[cfg(test)]
-mod example_tests;
 mod hosts;
 pub mod laws;
-#[cfg(test)]
-mod limit_tests;
 mod limits;
+mod notes;
 mod oldest;
-#[cfg(test)]
-mod oldest_tests;
 mod pool;
 mod serving;
 mod spending;
-#[cfg(test)]
-mod tests;
 mod winner_tree;
 pub mod worked;
 

@@ -7,6 +7,7 @@ ghost use Rattle.cache.specs.Calls.{pruned, pruned_log, pruned_at, prune_count, 
 ghost use Rattle.cache.specs.Pools.{host_at, all_hosts, StaysPool, KeepsHosts};
 
 use crate::hosts::Hosts;
+use crate::notes::note_oldest;
 use budget::Refusal;
 use bundle::Changed;
 
@@ -70,8 +71,7 @@ impl<S: Drop> Hosts<S> {
         let (pass, lobby) = (&mut self.pass, &mut self.lobby);
         let changed = bundle.set_host_limit(limit, now, &mut permits, lobby, pass);
         let _log = bundle.log();
-        let oldest = bundle.oldest();
-        self.noted.lower(site as usize, oldest);
+        note_oldest(&mut self.noted, bundle);
         match changed {
             Ok(Changed::Done { freed: _ }) => Ok(()),
             // The budget of one thread need not be asked again.

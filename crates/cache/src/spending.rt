@@ -1,24 +1,21 @@
 //! How a lease or a ticket ends.
 
 ghost use Rattle.std.specs.Prelude.{◌≡◌, ◌<◌, true, false, [], length, is_some};
-ghost use Rattle.std.specs.Prelude.{IsSome, IfSome, IfNone, IfErr, OnOk, OnErr, slice_set};
-ghost use Rattle.std.specs.Prelude.{if◌then◌else◌};
+ghost use Rattle.std.specs.Prelude.{IsSome, IfSome, IfNone, IfErr, OnOk, OnErr};
 ghost use Rattle.persistence.specs.declared.facts.Facts.{Facts};
 ghost use Rattle.conn_log.specs.Connections.{is_open};
-ghost use Rattle.conn_log.specs.Fit.{oldest_stamp};
 ghost use Rattle.bundle.specs.Calls.{becomes_idle, after_give_back};
 ghost use Rattle.bundle.specs.Lease.{is_valid_ticket, is_unclaimed, WasGranted, HasItsStream};
 ghost use Rattle.bundle.specs.Lease.{GetsLease, Spends, is_held_lease, KeepsItsStream};
 ghost use Rattle.bundle.specs.Replies.{IfClaimed, IfStill};
 ghost use Rattle.cache.specs.AllHosts.{log_at, with_log, terms, kept, can_keep, marked};
 ghost use Rattle.cache.specs.Calls.{given_back, abandoned, withdrawn};
-ghost use Rattle.cache.specs.Oldest.{earlier_of, is_since_before, stamp_at};
 ghost use Rattle.cache.specs.Pools.{host_at, all_hosts, StaysHost, StaysPool, KeepsOtherHosts};
 ghost use Rattle.cache.specs.Pools.{StreamsStay, OtherStreamsStay};
 
 use crate::hosts::Hosts;
-use crate::winner_tree::WinnerTree;
-use bundle::{Back, Bundle, Claimed, Lease, Stray, Ticket};
+use crate::notes::{note_after_return, note_oldest};
+use bundle::{Back, Claimed, Lease, Stray, Ticket};
 use conn_log::Cause;
 use persistence::Facts;
 
@@ -260,8 +257,7 @@ impl<S: Drop> Hosts<S> {
         let (pass, lobby) = (&mut self.pass, Some(&mut self.lobby));
         let back = bundle.give_back(lease, facts, now, pass, &mut permits, lobby, false);
         let _log = bundle.log();
-        let oldest = bundle.oldest();
-        self.noted.lower(site as usize, oldest);
+        note_oldest(&mut self.noted, bundle);
         match back {
             Back::Spent { freed: _ } => None,
             Back::NoKeep(lease) => Some(lease),
@@ -294,8 +290,7 @@ impl<S: Drop> Hosts<S> {
         let (pass, lobby) = (&mut self.pass, Some(&mut self.lobby));
         let abandoned = bundle.abandon(lease, now, pass, &mut permits, lobby);
         let _log = bundle.log();
-        let oldest = bundle.oldest();
-        self.noted.lower(site as usize, oldest);
+        note_oldest(&mut self.noted, bundle);
         match abandoned {
             Ok(_freed) => {}
             // The lease was made here.
@@ -332,41 +327,10 @@ impl<S: Drop> Hosts<S> {
         let (pass, lobby) = (&mut self.pass, Some(&mut self.lobby));
         let withdrawn = bundle.withdraw(ticket, now, pass, &mut permits, lobby);
         let _log = bundle.log();
-        let oldest = bundle.oldest();
-        self.noted.lower(site as usize, oldest);
+        note_oldest(&mut self.noted, bundle);
         match withdrawn {
             Ok(_freed) => Ok(()),
             Err(stray) => Err(stray),
         }
     }
-}
-
-// Notes the oldest idle connection of a host at which one came back at that moment or later. Where
-// the one noted is idle since before that, it is no later still.
-#[inline(always)]
-fn note_after_return<S: Drop>(noted: &mut WinnerTree, bundle: &Bundle<S>, moment: u64)
-    requires there { bundle.now.host < length noted.old }
-    ensures { let host = bundle.now.host in
-        let early = is_since_before (stamp_at noted.old host) moment in
-        let oldest = oldest_stamp bundle.now.log host in
-        let lowered = earlier_of (stamp_at noted.old host) oldest in
-        noted.new ≡ (if early then noted.old else slice_set noted.old host lowered) }
-{
-    if !noted.is_since_before(bundle.host() as usize, moment) {
-        note_oldest(noted, bundle);
-    }
-}
-
-// Lowers what is noted for a host to the stamp of its oldest idle connection. Out of line, since it
-// is needed after few give backs.
-#[cold]
-#[inline(never)]
-fn note_oldest<S: Drop>(noted: &mut WinnerTree, bundle: &Bundle<S>)
-    requires there { bundle.now.host < length noted.old }
-    ensures { let host = bundle.now.host in
-        let oldest = oldest_stamp bundle.now.log host in
-        noted.new ≡ slice_set noted.old host (earlier_of (stamp_at noted.old host) oldest) }
-{
-    let oldest = bundle.oldest();
-    noted.lower(bundle.host() as usize, oldest);
 }

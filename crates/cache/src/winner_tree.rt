@@ -97,31 +97,14 @@ impl WinnerTree {
     }
 
     /// Gives the host that stamp where it is earlier than the one that it has.
-    #[inline(always)]
     pub fn lower(&mut self, host: usize, stamp: Option<Stamp>)
         requires there { host < length self.old }
         requires own { IfSome stamp (λ s. s.host ≡ host) }
         ensures { self.new ≡ slice_set self.old host (earlier_of (stamp_at self.old host) stamp) }
     {
-        let Some(stamp) = stamp else {
-            return;
-        };
-        if let Some(noted) = self.nodes[self.hosts + host] {
-            if !stamp.is_earlier(&noted) {
-                return;
-            }
+        if is_before(stamp, self.stamp(host)) {
+            self.set(host, stamp);
         }
-        self.set_lower(host, Some(stamp));
-    }
-
-    // The same. Inlined, so that the stamp is moved into memory here, and not before each `lower`.
-    #[inline(always)]
-    fn set_lower(&mut self, host: usize, stamp: Option<Stamp>)
-        requires there { host < length self.old }
-        requires own { IfSome stamp (λ s. s.host ≡ host) }
-        ensures { self.new ≡ slice_set self.old host stamp }
-    {
-        self.set(host, stamp);
     }
 }
 

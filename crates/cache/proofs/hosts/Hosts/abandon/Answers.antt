@@ -1,12 +1,11 @@
 use Rattle.std.proofs.Common.{◌≡◌, ◌<◌, length, sym, ap, ◌∙◌, rules}
 use Rattle.budget.specs.Plain.{KeepsOtherHosts, held_at_host}
 use Rattle.bundle.specs.Calls.{after_abandon}
-use Rattle.conn_log.specs.Fit.{oldest_stamp}
 use Rattle.bundle.specs.Laws.{IsSoundAndQuiet}
 use Rattle.bundle.specs.Lease.{held_by}
 use Rattle.cache.specs.AllHosts.{marked}
 use Rattle.cache.proofs.OneHost.{all_marked, others_keep, stepped}
-use Rattle.cache.proofs.Calling.{kept_called, was_kept, told_spending, notes_lower, marks_one}
+use Rattle.cache.proofs.Calling.{kept_called, was_kept, told_spending, notes_oldest, marks_one}
 use Rattle.cache.proofs.hosts.Hosts.abandon.Goals as goal
 
 pub invariant_of-self : goal.invariant_of-self
@@ -19,7 +18,7 @@ invariant_of-self g c =
     let later = c.abandon-abandoned.new.permits.budget.now in
     let after = c.abandon-abandoned.new.lobby.0 in
     let told = c.abandon-abandoned.new.pass in
-    let lowered = c.lower.new.self in
+    let lowered = c.note_oldest.new.noted in
     let done = c.in-Ok.ensures in
     let read = c.index_mut-bundle.ensures.value in
     let there : site < length hosts = search rules in
@@ -29,7 +28,7 @@ invariant_of-self g c =
     let settled : IsSoundAndQuiet new.settings new.log = record { sound = c.log-log.ensures.sound; quiet = c.log-log.ensures.quiet } in
     let marks = marks_one was.host site _ _ inside.lobby after it.place done.marked in
     let tells = told_spending was.host _ _ inside.pass told done.spent in
-    let notes = notes_lower site inside.noted lowered _ _ (rw c.self.invariant.stamps there) (c.oldest-oldest.ensures ∙ ap (oldest_stamp new.log) (done.same.host ∙ it.place)) c.lower.ensures in
+    let notes = notes_oldest _ site inside.noted lowered new.log (rw c.self.invariant.stamps there) (done.same.host ∙ it.place) c.note_oldest.ensures in
     kept_called site hosts was new inside.budget later inside.lobby after inside.pass told inside.noted lowered c.self.invariant there read done.same settled others part marks tells done.seats done.account notes
 
 pub returns-clause-all : goal.returns-clause-all

@@ -3,7 +3,6 @@ use Rattle.std.specs.Prelude.{min}
 use Rattle.std.specs.List.{sum_by}
 use Rattle.budget.specs.Lobby.{Queue}
 use Rattle.budget.specs.Plain.{KeepsOtherHosts, held_at_host}
-use Rattle.conn_log.specs.Fit.{oldest_stamp}
 use Rattle.host_state.specs.Steps.{moment_at}
 use Rattle.bundle.specs.Calls.{after_limit, kept_limit, starts_due, is_queued}
 use Rattle.bundle.specs.Effects.{open_len}
@@ -13,7 +12,7 @@ use Rattle.bundle.specs.Passes.{limit_did}
 use Rattle.cache.specs.AllHosts.{marked}
 use Rattle.cache.specs.Pools.{logs_of}
 use Rattle.cache.proofs.OneHost.{all_marked, stepped}
-use Rattle.cache.proofs.Calling.{kept_called, was_kept, told_so, notes_lower, marks_one}
+use Rattle.cache.proofs.Calling.{kept_called, was_kept, told_so, notes_oldest, marks_one}
 use Rattle.cache.proofs.Pruning.{all_keep}
 use Rattle.cache.proofs.Limiting.{limited_log, hosts_same}
 use Rattle.cache.proofs.hosts.Hosts.set_host_limit.Goals.{in-Ok-Done, in-Err}
@@ -36,7 +35,7 @@ invariant_of-self g c =
     let later = c.set_host_limit-changed.new.permits.budget.now in
     let after = c.set_host_limit-changed.new.lobby in
     let told = c.set_host_limit-changed.new.pass in
-    let lowered = c.lower.new.self in
+    let lowered = c.note_oldest.new.noted in
     let done = c.set_host_limit-changed.ensures in
     let read = c.index_mut-bundle.ensures.value in
     let there : site < length hosts = search rules in
@@ -46,7 +45,7 @@ invariant_of-self g c =
     let settled : IsSoundAndQuiet new.settings new.log = record { sound = c.log-log.ensures.sound; quiet = c.log-log.ensures.quiet } in
     let marks = marks_one was.host site _ _ inside.lobby after it.place done.marked in
     let tells = told_so was.host (limit_did (kept_limit c.args.limit) (moment_at was.log c.args.now) c.set_host_limit-changed.result) inside.pass told done.tells in
-    let notes = notes_lower site inside.noted lowered _ _ (rw c.self.invariant.stamps there) (c.oldest-oldest.ensures ∙ ap (oldest_stamp new.log) (done.same.host ∙ it.place)) c.lower.ensures in
+    let notes = notes_oldest _ site inside.noted lowered new.log (rw c.self.invariant.stamps there) (done.same.host ∙ it.place) c.note_oldest.ensures in
     kept_called site hosts was new inside.budget later inside.lobby after inside.pass told inside.noted lowered c.self.invariant there read done.same settled others part marks tells done.seats done.account notes
 
 pub returns-clause-all : goal.returns-clause-all

@@ -2,12 +2,11 @@ use Rattle.bundle.specs.Effects.{idle_len}
 use Rattle.std.proofs.Common.{◌≡◌, ◌<◌, true, length, sym, ap, ◌∙◌, rules}
 use Rattle.budget.specs.Plain.{KeepsOtherHosts, held_at_host}
 use Rattle.bundle.specs.Calls.{after_give_back, becomes_idle}
-use Rattle.conn_log.specs.Fit.{oldest_stamp}
 use Rattle.bundle.specs.Laws.{IsSoundAndQuiet}
 use Rattle.bundle.specs.Lease.{held_by}
 use Rattle.cache.specs.AllHosts.{marked}
 use Rattle.cache.proofs.OneHost.{all_marked, others_keep, stepped, log_was}
-use Rattle.cache.proofs.Calling.{kept_called, was_kept, told_spending, tells_nothing, notes_lower, marks_one, TellsOne}
+use Rattle.cache.proofs.Calling.{kept_called, was_kept, told_spending, tells_nothing, notes_oldest, marks_one, TellsOne}
 use Rattle.cache.proofs.SameLog.{pool_same}
 use Rattle.cache.proofs.Returning.{gave_log, gave_none, gave_again, gave_strange, one_more_idle, full_kept, room_kept}
 use Rattle.cache.proofs.StreamsStay.{open_at}
@@ -32,7 +31,7 @@ invariant_of-self g c =
     let later = c.give_back-back.new.permits.budget.now in
     let after = c.give_back-back.new.lobby.0 in
     let told = c.give_back-back.new.pass in
-    let lowered = c.lower.new.self in
+    let lowered = c.note_oldest.new.noted in
     let done = c.give_back-back.ensures in
     let read = c.index_mut-bundle.ensures.value in
     let there : site < length hosts = search rules in
@@ -46,7 +45,7 @@ invariant_of-self g c =
       | in-Spent w ↦ told_spending was.host _ _ inside.pass told w.in-Spent.ensures.spent
       | in-NoKeep w ↦ rw w.in-NoKeep.ensures.unspent (tells_nothing was.host inside.pass)
     ] in
-    let notes = notes_lower site inside.noted lowered _ _ (rw c.self.invariant.stamps there) (c.oldest-oldest.ensures ∙ ap (oldest_stamp new.log) (done.same.host ∙ it.place)) c.lower.ensures in
+    let notes = notes_oldest _ site inside.noted lowered new.log (rw c.self.invariant.stamps there) (done.same.host ∙ it.place) c.note_oldest.ensures in
     kept_called site hosts was new inside.budget later inside.lobby after inside.pass told inside.noted lowered c.self.invariant there read done.same settled others part marks tells done.seats done.account notes
 
 pub returns-clause-back : goal.returns-clause-back

@@ -2,27 +2,14 @@ use Rattle.std.proofs.Common.{◌≡◌, ◌<◌, length, Some, sym, ap, ◌∙�
 use Rattle.budget.specs.Plain.{KeepsOtherHosts, held_at_host}
 use Rattle.bundle.specs.declared.did.Did.TheVariants.{Stranger}
 use Rattle.bundle.specs.Calls.{after_withdraw}
-use Rattle.conn_log.specs.Fit.{oldest_stamp}
 use Rattle.bundle.specs.Laws.{IsSoundAndQuiet}
 use Rattle.bundle.specs.Lease.{held_by}
 use Rattle.cache.specs.AllHosts.{marked}
 use Rattle.cache.proofs.OneHost.{all_marked, others_keep, stepped}
-use Rattle.cache.proofs.Calling.{kept_called, was_kept, notes_lower, marks_one}
-use Rattle.cache.proofs.SameLog.{own_stamp, told_either, pool_same}
+use Rattle.cache.proofs.Calling.{kept_called, was_kept, notes_oldest, marks_one}
+use Rattle.cache.proofs.SameLog.{told_either, pool_same}
 use Rattle.cache.proofs.hosts.Hosts.withdraw.Goals as goal
 use Rattle.cache.proofs.hosts.Hosts.withdraw.Goals.{in-Ok, in-Err}
-
-pub lower-requires-clause-own : goal.lower-requires-clause-own
-lower-requires-clause-own g c =
-    let site = c.site-site.result in
-    let hosts = c.self.inside.bundles.items in
-    let was = c.index_mut-bundle.result.now in
-    let new = c.withdraw-withdrawn.new.self in
-    let inside = c.self.inside in
-    let read = c.index_mut-bundle.ensures.value in
-    let there : site < length hosts = search rules in
-    let it = was_kept site hosts was new inside.budget inside.budget inside.lobby inside.lobby inside.pass inside.pass inside.noted inside.noted c.self.invariant there read in
-    own_stamp new.log new.host site _ (c.withdraw-withdrawn.ensures.same.host ∙ it.place) c.oldest-oldest.ensures
 
 pub invariant_of-self : goal.invariant_of-self
 invariant_of-self g c =
@@ -34,7 +21,7 @@ invariant_of-self g c =
     let later = c.withdraw-withdrawn.new.permits.budget.now in
     let after = c.withdraw-withdrawn.new.lobby.0 in
     let told = c.withdraw-withdrawn.new.pass in
-    let lowered = c.lower.new.self in
+    let lowered = c.note_oldest.new.noted in
     let done = c.withdraw-withdrawn.ensures in
     let read = c.index_mut-bundle.ensures.value in
     let there : site < length hosts = search rules in
@@ -44,7 +31,7 @@ invariant_of-self g c =
     let settled : IsSoundAndQuiet new.settings new.log = record { sound = c.log-log.ensures.sound; quiet = c.log-log.ensures.quiet } in
     let marks = marks_one was.host site _ _ inside.lobby after it.place done.marked in
     let tells = told_either c.withdraw-withdrawn.result was.host _ _ _ (Some (Stranger c.args.ticket.wait.want.transfer)) inside.pass told done.withdrawn done.stranger in
-    let notes = notes_lower site inside.noted lowered _ _ (rw c.self.invariant.stamps there) (c.oldest-oldest.ensures ∙ ap (oldest_stamp new.log) (done.same.host ∙ it.place)) c.lower.ensures in
+    let notes = notes_oldest _ site inside.noted lowered new.log (rw c.self.invariant.stamps there) (done.same.host ∙ it.place) c.note_oldest.ensures in
     kept_called site hosts was new inside.budget later inside.lobby after inside.pass told inside.noted lowered c.self.invariant there read done.same settled others part marks tells done.seats done.account notes
 
 pub returns-clause-all : goal.returns-clause-all

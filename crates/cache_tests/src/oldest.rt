@@ -1,9 +1,8 @@
-//! What no clause says: worked rows of the oldest of many, and of a tree of three hosts.
+//! What no clause says: worked rows of the oldest of many.
 
 ghost use Rattle.std.specs.Prelude.{◌≡◌, IfSome};
 
-use crate::oldest_of;
-use crate::winner_tree::WinnerTree;
+use cache::oldest_of;
 use conn_log::Stamp;
 
 fn stamp(since: u64, host: u32, number: u32) -> Option<Stamp>
@@ -30,20 +29,4 @@ fn the_oldest_is_the_first_place_of_the_earliest(rt: HostRuntime) {
     // One stamp twice: the lower place.
     let twice = [None, stamp(4, 1, 6), stamp(4, 1, 6)];
     assert_eq!(rt; oldest_of(&twice), Some(1));
-}
-
-#[test]
-fn a_tree_of_three_hosts_tells_the_first(rt: HostRuntime) {
-    let mut tree = WinnerTree::new(rt.alloc(), 3).expect(&rt, "memory");
-    assert_eq!(rt; tree.first(), None);
-    tree.set(2, stamp(5, 2, 1));
-    assert_eq!(rt; tree.first(), stamp(5, 2, 1));
-    tree.lower(0, stamp(5, 0, 4));
-    tree.lower(0, stamp(6, 0, 3));
-    assert_eq!(rt; tree.first(), stamp(5, 0, 4));
-    tree.set(0, None);
-    assert_eq!(rt; tree.first(), stamp(5, 2, 1));
-    tree.set(1, stamp(9, 1, 1));
-    tree.set(2, stamp(10, 2, 1));
-    assert_eq!(rt; tree.first(), stamp(9, 1, 1));
 }

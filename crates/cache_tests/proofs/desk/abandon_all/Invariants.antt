@@ -1,6 +1,6 @@
 use Rattle.std.proofs.Common.{length, All}
 use Rattle.cache.specs.Pools.{IsMadeHere}
-use Rattle.cache.proofs.desk.abandon_all.Given as goal
+use Rattle.cache_tests.proofs.desk.abandon_all.Given as goal
 
 abbrev pub invariant-loop-lease : goal.invariant-loop-lease
 invariant-loop-lease l = All (IsMadeHere l.pool) l.leases.items

@@ -6,10 +6,9 @@ ghost use Rattle.std.specs.List.{All};
 ghost use Rattle.bundle.specs.Replies.{IfClaimed};
 ghost use Rattle.cache.specs.Pools.{IsMadeHere, IfAcquired, GivesLease, StaysHosts, StaysPool};
 
-use crate::acquired::Acquired;
-use crate::pool::Pool;
 use budget::{Limits, Refusal};
 use bundle::{Claimed, Lease, Stray, Ticket};
+use cache::{Acquired, Pool};
 use conn_log::{Cause, Entry, Event, Want};
 use persistence::{Facts, Framing, Version};
 use std::alloc::Global;

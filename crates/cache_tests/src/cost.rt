@@ -3,11 +3,10 @@
 
 ghost use Rattle.std.specs.Prelude.{◌≡◌, IsSome};
 
-use crate::acquired::Acquired;
 use crate::desk::{KEEP, want_of};
-use crate::pool::Pool;
 use budget::{GREATEST_LIMIT, Limits, Refusal};
 use bundle::{Lease, Ticket};
+use cache::{Acquired, Pool};
 use conn_log::Want;
 use std::alloc::Global;
 use std::test::Fail;

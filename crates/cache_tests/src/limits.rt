@@ -1,9 +1,9 @@
 //! What comes of a limit that changes, for transfers at its host and at others.
 
 use crate::desk::{Desk, check_log, closed, leased, limited, opened, returned, waited, want_of};
-use crate::pool::Pool;
 use budget::{Limits, Refusal};
 use bundle::Snapshot;
+use cache::Pool;
 use conn_log::Cause;
 use std::alloc::Global;
 use std::process::Abort;

@@ -1,7 +1,7 @@
 //! Many transfers at many hosts, in an order that is drawn.
 
 use crate::desk::{Desk, want_of};
-use crate::pool::Pool;
+use cache::Pool;
 use conn_log::{Event, Log, Want};
 use std::process::Abort;
 use std::test::Fail;

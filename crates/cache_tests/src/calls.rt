@@ -2,9 +2,9 @@
 //! the transcripts.
 
 use crate::desk::{Desk, check_log, closed, leased, opened, returned, strange, waited, want_of};
-use crate::pool::Pool;
 use budget::{Limits, Refusal};
 use bundle::Snapshot;
+use cache::Pool;
 use conn_log::{Cause, Want};
 use std::alloc::Global;
 use std::process::Abort;

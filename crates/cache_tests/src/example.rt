@@ -1,8 +1,7 @@
 //! The program of README: requests to two hosts over one pool.
 
-use crate::acquired::Acquired;
-use crate::pool::Pool;
 use budget::Limits;
+use cache::{Acquired, Pool};
 use conn_log::Want;
 use persistence::{Method, ResponseReader};
 use std::test::Fail;
