@@ -1,5 +1,4 @@
-//! Tests of `budget`: what no clause says, worked rows, and threads that come and go. Tests stand in
-//! a crate of their own, since a crate that has tests is proved twice.
+//! Tests of `budget`: what no clause says, worked rows, and threads that come and go.
 #![tactic(auto)]
 
 #[cfg(test)]

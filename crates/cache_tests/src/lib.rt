@@ -1,5 +1,4 @@
-//! Tests of `cache`: what no clause says, worked rows, and what calls cost. Tests stand in a crate of
-//! their own, since a crate that has tests is proved twice.
+//! Tests of `cache`: what no clause says, worked rows, and what calls cost.
 #![tactic(auto)]
 
 #[cfg(test)]

@@ -1,13 +1,9 @@
 //! What no clause says: worked rows of the oldest of many.
 
-ghost use Rattle.std.specs.Prelude.{◌≡◌, IfSome};
-
 use cache::oldest_of;
 use conn_log::Stamp;
 
-fn stamp(since: u64, host: u32, number: u32) -> Option<Stamp>
-    ensures { IfSome result (λ s. s.host ≡ host) }
-{
+fn stamp(since: u64, host: u32, number: u32) -> Option<Stamp> {
     Some(Stamp {
         since,
         host,

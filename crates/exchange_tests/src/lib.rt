@@ -1,5 +1,4 @@
-//! Tests of `exchange`, over wires and a cache in memory: what no clause says. Tests stand in a crate
-//! of their own, since a crate that has tests is proved twice.
+//! Tests of `exchange`, over wires and a cache in memory: what no clause says.
 #![tactic(auto)]
 
 #[cfg(test)]

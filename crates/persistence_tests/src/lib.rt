@@ -1,5 +1,4 @@
-//! Tests of `persistence`: what no clause says, worked rows, and what reading costs. Tests stand in a
-//! crate of their own, since a crate that has tests is proved twice.
+//! Tests of `persistence`: what no clause says, worked rows, and what reading costs.
 #![tactic(auto)]
 
 #[cfg(test)]

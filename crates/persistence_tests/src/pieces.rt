@@ -589,7 +589,8 @@ fn check_as_new(
 
 #[test]
 fn a_cleared_reader_is_as_new(rt: HostRuntime) -> Result<(), Fail> {
-    // a fault in a head and one in a body, a part of a head, a whole response with surplus, one ended
+    // a fault in a head and one in a body, a part of a head, a whole response with surplus, and one
+    // that ended
     let before = [
         "HTTP/1.1 2x0 OK\r\n\r\n",
         "HTTP/1.1 200 OK\r\nTransfer-Encoding: chunked\r\n\r\n2\r\nok\r\nz",
