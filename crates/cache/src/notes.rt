@@ -23,8 +23,8 @@ pub(crate) fn note_after_return<S: Drop>(noted: &mut WinnerTree, bundle: &Bundle
     }
 }
 
-/// Lowers what is noted for a host to the stamp of its oldest idle connection. Out of line, since it
-/// is needed after few give backs.
+/// Lowers what is noted for a host to the stamp of its oldest idle connection. Out of line, since
+/// few give backs need it.
 #[cold]
 #[inline(never)]
 pub(crate) fn note_oldest<S: Drop>(noted: &mut WinnerTree, bundle: &Bundle<S>)

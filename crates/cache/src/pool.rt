@@ -187,7 +187,8 @@ impl<S: Drop> Pool<S> {
         if site as usize >= self.hosts.len() {
             return Err(Refusal::BadSite);
         }
-        // Matched before turns are taken: afterwards all ways here would have come together.
+        // Matched before turns are taken: a reuse matched after them would first join all other
+        // ways to a lease.
         match self.hosts.acquire(site, want, now) {
             Ok(Acquired::Lease(lease)) => {
                 self.hosts.serve(now);

@@ -338,7 +338,8 @@ fn keep_lease(
     ensures err { IfErr result (λ refusal. refusal ≡ Refusal.Memory) }
     ensures abandoned { OnErr result (all_hosts pool.new ≡ after_abandoning pool.old.limits
         lease.site lease.start.number 0 (all_hosts pool.old)) }
-    ensures leases { KeepsLeases (leases_of (host_at pool.new lease.site)) (get nat_cmp leases.new) }
+    ensures leases { let held = leases_of (host_at pool.new lease.site) in
+        KeepsLeases held (get nat_cmp leases.new) }
     ensures tickets { (t : ℕ) → ticket_want (host_at pool.new lease.site) t
         ≡ ticket_want (host_at pool.old lease.site) t }
     ensures ordered { IsOrdered nat_cmp leases.new }

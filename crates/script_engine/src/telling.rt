@@ -1,6 +1,7 @@
 //! The lines that tell of what the logs of all hosts have more than before.
 
-ghost use Rattle.std.specs.Prelude.{◌≡◌, ◌<◌, ◌≤◌, map, flat_map, drop, reverse, length, string_bytes};
+ghost use Rattle.std.specs.Prelude.{◌≡◌, ◌<◌, ◌≤◌, map, flat_map, drop, reverse, length};
+ghost use Rattle.std.specs.Prelude.{string_bytes};
 ghost use Rattle.script_text.specs.Printing.{GivesText, entry_line};
 ghost use Rattle.script_engine.specs.Telling.{WereTold, lines_told, AddsText};
 ghost use Rattle.cache.specs.Pools.{logs_of, host_at};

@@ -61,9 +61,9 @@ pub fn worked_scripts()
     ensures leases { TellsLeases }
 {}
 
-/// And of those worked ones that need a limit in total, a new limit of a host, a prune or an upkeep,
-/// with a prune over two hosts, a limit raised for two that wait, and a limit that is taken away;
-/// and of a script over two hosts the lines that name the second.
+/// And of those worked ones that need a limit in total, a new limit of a host, a prune or an
+/// upkeep, with a prune over two hosts, a limit raised for two that wait, and a limit that is taken
+/// away; and of a script over two hosts the lines that name the second.
 pub fn worked_scripts_over_hosts()
     ensures limits_alone { TellsLimitsAlone }
     ensures newest_is_reused_then_upkeep { TellsNewestIsReusedThenUpkeep }
