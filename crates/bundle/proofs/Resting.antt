@@ -26,20 +26,14 @@ use Rattle.host_state.specs.Steps.{add, moment_at}
 use Rattle.bundle.specs.declared.grant.Grant.{Grant}
 use Rattle.bundle.specs.declared.answers.Back.{Back}
 use Rattle.bundle.specs.declared.answers.Back.TheVariants.{Spent, NoKeep, Again}
-use Rattle.bundle.specs.Calls.{Start, spent, open_for_head, grant_to, settle, returned, after_give_back, is_anyone, becomes_idle, keep_as_told, given_back, is_freed}
-use Rattle.bundle.specs.Lease.{HostShown, Leasing, Using, lease_at, held_by}
+use Rattle.host_rules.specs.Calls.{Start, spent, open_for_head, grant_to, settle, returned, after_give_back, is_anyone, becomes_idle, keep_as_told, is_freed}
+use Rattle.bundle.specs.Lease.{HostShown, Leasing, Using, lease_at}
+use Rattle.host_rules.specs.Counts.{held_by}
 use Rattle.bundle.specs.Grants.{grant_starts, grant_streams}
 use Rattle.bundle.specs.Replies.{IsBack, GivesBack}
-use Rattle.bundle.proofs.KeptSound.{held_want, idle_as_returned}
+use Rattle.host_rules.proofs.Soundness.{held_want}
 use Rattle.bundle.proofs.Answering.{known}
-
--- where the budget gave a permit, or was not asked
-pub got_is_spent : (close_if_full : Bool) (settings : LimitAndFirst) (log : List Entry) (c : ℕ) (facts : Facts) (now : ℕ) → given_back close_if_full Got settings log c facts now ≡ spent (after_give_back settings log c facts now)
-got_is_spent close_if_full settings log c facts now = by_rest (becomes_idle log c facts now) refl
-  where
-    by_rest : (idle : Bool) → becomes_idle log c facts now ≡ idle → (if idle then keep_as_told close_if_full Got c (moment_at log now) (returned log c facts now) else spent (after_give_back settings log c facts now)) ≡ spent (after_give_back settings log c facts now)
-    by_rest true idle = ap spent (sym (idle_as_returned settings log c facts now idle))
-    by_rest false idle = refl
+use Rattle.host_rules.proofs.EndsOfUses.{got_is_spent}
 
 module _ {S : Type 0} (old new : HostShown S) (lease : Leasing S) (facts : Facts) (now : ℕ) where
   pub back_spent : (close_if_full freed : Bool) → new.log ≡ after_give_back old.settings old.log lease.start.number facts now → freed ≡ is_freed old.log new.log → GivesBack close_if_full Got old new lease facts now (Spent freed)

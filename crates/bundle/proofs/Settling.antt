@@ -1,9 +1,8 @@
 -- What a host holds once a transfer gave back or closed what it held, and the first that waits was served.
-use Rattle.std.proofs.Common.{◌≡◌, ℕ, ◌<◌, Bool, true, false, List, [], ◌∷◌, ◌++◌, length, Option, Some, None, is_some, refl, sym, ap, subst, ◌∙◌, arith}
+use Rattle.std.proofs.Common.{◌≡◌, ℕ, ◌<◌, Bool, true, false, List, [], ◌∷◌, ◌++◌, Some, None, is_some, refl, sym, ap, subst, ◌∙◌, arith}
 use Rattle.std.specs.Prelude.{◌==◌, if◌then◌else◌}
 use Rattle.std.specs.Option.{option_and_then}
 use mathlib.Core.Bool.{false≢true}
-use Rattle.std.proofs.lemmas.Bool.Decides.{nat_tests}
 use Rattle.persistence.specs.declared.facts.Facts.{Facts}
 use Rattle.persistence.specs.Persistent.{is_persistent}
 use Rattle.budget.specs.Lobby.{Queue}
@@ -12,64 +11,29 @@ use Rattle.conn_log.specs.declared.entry.Cause.{Cause}
 use Rattle.conn_log.specs.declared.entry.Cause.TheVariants.{CacheFull, Withdrawn}
 use Rattle.conn_log.specs.declared.entry.Event.TheVariants.{Returned, Closed, Left}
 use Rattle.conn_log.specs.declared.entry.Entry.{Entry}
-use Rattle.conn_log.specs.Connections.{is_open, open_connections, idle_connections, held_number, holder_want}
+use Rattle.conn_log.specs.Connections.{is_open, idle_connections, held_number, holder_want}
 use Rattle.conn_log.specs.Waiting.{waiting, waits}
-use Rattle.conn_log.specs.Legal.{LimitAndFirst, limit_in_force, IsAnyone, ends_use, ending_cause, owed, owed_for}
+use Rattle.conn_log.specs.Legal.{LimitAndFirst, IsAnyone, owed, owed_for}
 use Rattle.conn_log.specs.Sound.{IsOrderly, IsSound, is_of_holder, held_facts}
-use Rattle.conn_log.proofs.Steps.{IsGone, gone_closed, gone_ended, fewer_open}
+use Rattle.conn_log.proofs.Steps.{gone_closed, gone_ended}
 use Rattle.conn_log.proofs.Soundness.{sound_return, sound_end, sound_drop}
 use Rattle.bundle.specs.declared.grant.Grant.{Grant}
 use Rattle.host_state.specs.declared.held.Held.{Held}
 use Rattle.host_state.specs.Steps.{add, moment_at, is_full}
-use Rattle.bundle.specs.Calls.{open_for_head, grant_to, settle, close_granted, after_withdraw, returned, becomes_idle, is_queued, GrowsBy}
+use Rattle.host_rules.specs.Calls.{open_for_head, grant_to, settle, close_granted, after_withdraw, returned, becomes_idle, is_queued, GrowsBy}
 use Rattle.bundle.specs.Grants.{without_grant, grant_streams, GrantsKept, with_new, with_granted, IsAlone}
 use Rattle.host_state.specs.Idle.{stream_of}
-use Rattle.bundle.specs.Lobbies.{IsMarked}
-use Rattle.bundle.specs.Laws.{IsSoundAndQuiet}
+use Rattle.host_rules.specs.Orders.{IsMarked}
+use Rattle.host_rules.specs.Laws.{IsSoundAndQuiet}
 use Rattle.host_state.specs.State.{facts_of_held}
-use Rattle.bundle.proofs.KeptSound.{later, held_want, only_idle, stays_persistent, kept_close, kept_give_back, kept_unkept}
-use Rattle.bundle.proofs.Growth.{grows_same, grows_by_one, grows_close, grows_give_back}
-use Rattle.bundle.proofs.Marks.{mark_close, mark_give_back, mark_unkept}
-use Rattle.bundle.proofs.Told.{freed_closed, freed_returned, freed_ended}
+use Rattle.host_rules.proofs.Soundness.{later, held_want, only_idle, stays_persistent, kept_close, kept_give_back, kept_unkept}
+use Rattle.host_rules.proofs.Growth.{grows_same, grows_by_one, grows_close, grows_give_back}
+use Rattle.host_rules.proofs.Marks.{mark_close, mark_give_back, mark_unkept}
+use Rattle.host_rules.proofs.Transfers.{freed_closed, freed_returned, freed_ended}
 use Rattle.bundle.proofs.Granting.{Freed, Grants, frees, freed_then, stream_of-without}
 use Rattle.bundle.proofs.Passing.{grants_new, grants_passed}
 use Rattle.bundle.proofs.Answering.{known, came_back_alone, both_same, with_new_streams, with_granted_streams, passed_stream, freed_stream, closed_not_open, left_freed}
-
--- there is room once what was held is gone
-pub room_gone : (settings : LimitAndFirst) (log : List Entry) → IsSoundAndQuiet settings log → (c : ℕ) → is_some (holder_want log c) ≡ true → (after : List Entry) → IsGone c log after → is_full settings after ≡ false
-room_gone settings log kept c held after gone =
-    let fewer = fewer_open settings log kept.sound.orderly c after gone (kept.sound.orderly.held_open c held) in
-    differs (length (open_connections after)) (limit_in_force settings after) (omega (arith, fewer, kept.sound.orderly.within, gone.limit settings))
-  where
-    differs : (a b : ℕ) → a < b → (a == b) ≡ false
-    differs a b lt = grind (arith, nat_tests, lt)
-
--- what an owed close tells of the use
-abbrev close_if : Bool → ℕ → Cause → Option (ℕ × Cause)
-close_if true c cause = Some (c, cause)
-close_if false c cause = None
-
-abbrev cause_of : Option (ℕ × Cause) → Cause → Cause
-cause_of None cause = cause
-cause_of (Some close) cause = close.1
-
-close_when : (ends : Bool) (c : ℕ) (cause : Cause) (close : Option (ℕ × Cause)) → (let owes : Option (ℕ × Cause) = if ends then Some (c, cause) else None in owes ≡ close) → close_if ends c cause ≡ close
-close_when true c cause close is = is
-close_when false c cause close is = is
-
-pub owed_ends : (c : ℕ) (facts : Facts) (cause : Cause) (want : Want) → owed_for c facts want ≡ Some (c, cause) → (ends_use facts want ≡ true) × (ending_cause facts want ≡ cause)
-owed_ends c facts cause want is = by_end (ends_use facts want) (close_when (ends_use facts want) c (ending_cause facts want) (Some (c, cause)) is)
-  where
-    by_end : (ends : Bool) → close_if ends c (ending_cause facts want) ≡ Some (c, cause) → (ends ≡ true) × (ending_cause facts want ≡ cause)
-    by_end true e = (refl, ap (λ close. cause_of close cause) e)
-    by_end false e = absurd (cc)
-
-owed_stays : (c : ℕ) (facts : Facts) (want : Want) → owed_for c facts want ≡ None → ends_use facts want ≡ false
-owed_stays c facts want is = by_end (ends_use facts want) (close_when (ends_use facts want) c (ending_cause facts want) None is)
-  where
-    by_end : (ends : Bool) → close_if ends c (ending_cause facts want) ≡ None → ends ≡ false
-    by_end true e = absurd (cc)
-    by_end false e = refl
+use Rattle.host_rules.proofs.EndsOfUses.{room_gone, owed_ends, owed_stays, holder_waits_not}
 
 module _ {S : Type 0} where
   -- the host after it: sound and quiet, with each grant kept, and the streams of the others
@@ -234,13 +198,6 @@ left_moved settings log orderly grants kept m t waits_here after e_after left e_
 pub left_log : (settings : LimitAndFirst) (log : List Entry) (t now m : ℕ) (after : List Entry) → waits log t ≡ true → m ≡ moment_at log now → after ≡ add m (Left t) log → after ≡ after_withdraw settings log t now
 left_log settings log t now m after waits_here e_m is =
     is ∙ ap (λ k. add k (Left t) log) e_m ∙ sym (ap (λ b. if b then add (moment_at log now) (Left t) log else close_granted settings log (held_number log t) now) waits_here)
-
-pub holder_waits_not : (settings : LimitAndFirst) (log : List Entry) → IsSound settings log → (t c : ℕ) → held_number log t ≡ Some c → waits log t ≡ false
-holder_waits_not settings log sound t c mine = by_wait (waits log t) refl
-  where
-    by_wait : (b : Bool) → waits log t ≡ b → b ≡ false
-    by_wait false is = refl
-    by_wait true is = let never : None ≡ Some c = sym (sound.orderly.waiting_free t is) ∙ mine in absurd (cc)
 
 pub withdrawn_log : (settings : LimitAndFirst) (log : List Entry) → IsSound settings log → (t c : ℕ) → held_number log t ≡ Some c → (now : ℕ) (settings' : LimitAndFirst) → settings' ≡ settings → (m : ℕ) → m ≡ moment_at log now → (closed : List Entry) → closed ≡ add m (Closed c Withdrawn) log → (after : List Entry) → after ≡ open_for_head settings' m closed → after ≡ after_withdraw settings log t now
 withdrawn_log settings log sound t c mine now settings' e_terms m e_m closed e_closed after e_after =

@@ -17,7 +17,7 @@ use Rattle.bundle.specs.declared.grant.Grant.{Grant}
 use Rattle.bundle.specs.Grants.{grant_starts}
 use Rattle.bundle.specs.Seats.{SeatsShown, pair_granted, IsSeated, AreUnclaimed}
 use Rattle.conn_log.specs.Starts.{start_count}
-use Rattle.bundle.proofs.KeptSound.{head_is_next}
+use Rattle.host_rules.proofs.Soundness.{head_is_next}
 use Rattle.bundle.proofs.Seating.{Begins, SameHolders, pair_fits, unclaimed_granted}
 
 -- the first one that waits holds nothing

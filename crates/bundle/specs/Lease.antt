@@ -1,20 +1,18 @@
 -- A lease, a ticket, and what a host shows to those who use its bundle.
-use Rattle.std.specs.Prelude.{◌≡◌, ℕ, ◌-◌, Bool, true, false, ◌==◌, ◌&&◌, ◌||◌, if◌then◌else◌, List, [], ◌∷◌, length, map, Option, Some, None, is_some}
+use Rattle.std.specs.Prelude.{◌≡◌, ℕ, ◌-◌, Bool, true, false, ◌==◌, ◌&&◌, ◌||◌, if◌then◌else◌, List, [], ◌∷◌, map, Option, Some, None, is_some}
 use Rattle.std.specs.List.{list_any}
-use Rattle.std.specs.Option.{option_map_or, option_and_then}
+use Rattle.std.specs.Option.{option_map_or}
 use Rattle.std.specs.Bool.{beq}
 use Rattle.bundle.specs.Seats.{Tables}
 use Rattle.conn_log.specs.declared.entry.Want.{Want}
 use Rattle.conn_log.specs.declared.entry.Entry.{Entry}
-use Rattle.conn_log.specs.Connections.{is_among, is_open, is_idle, is_held_by, open_connections, idle_connections, held_number, holder_want}
+use Rattle.conn_log.specs.Connections.{is_among, is_open, is_idle, is_held_by, held_number}
 use Rattle.conn_log.specs.Waiting.{waiting, waits}
 use Rattle.conn_log.specs.Legal.{LimitAndFirst}
-use Rattle.budget.specs.declared.permits.Held.{Held}
-use Rattle.budget.specs.Permits.{held}
 use Rattle.host_state.specs.Queue.{waiting_want}
-use Rattle.bundle.specs.declared.snapshot.Snapshot.{Snapshot}
-use Rattle.bundle.specs.Calls.{Start, Wait, last_start}
+use Rattle.host_rules.specs.Calls.{Start, Wait, last_start}
 use Rattle.host_state.specs.Idle.{stream_of}
+use Rattle.host_rules.specs.Grants.{granted_want}
 
 -- what a lease tells of its host's index and of its start, and the stream of its connection that it may have
 pub record Using (S : Type 0) : Type 0 where
@@ -98,15 +96,6 @@ pub record IsStartOf (log : List Entry) (granted : Start) : Type 0 where
 abbrev pub UnclaimedAreStarts : {S : Type 0} → HostShown S → Type 0
 UnclaimedAreStarts host = (transfer : ℕ) (granted : Start) → start_for host.unclaimed transfer ≡ Some granted → IsStartOf host.log granted
 
--- a transfer whose acquire is halfway neither holds nor waits, and has one booking
-abbrev pub AreBooked : List Entry → List ℕ → Type 0
-AreBooked log [] = Unit {0}
-AreBooked log (t ∷ others) = (held_number log t ≡ None) × (waits log t ≡ false) × (is_among t others ≡ false) × AreBooked log others
-
--- what a transfer was granted its connection for
-abbrev pub granted_want : List Entry → ℕ → Option Want
-granted_want log transfer = option_and_then (holder_want log) (held_number log transfer)
-
 -- the want of the ticket that a transfer has: it waits with it, or was granted for it what it has yet to claim
 abbrev pub ticket_want : {S : Type 0} → HostShown S → ℕ → Option Want
 ticket_want host transfer = if is_unclaimed host transfer then granted_want host.log transfer else waiting_want (waiting host.log) transfer
@@ -171,22 +160,8 @@ pub record KeepsAll {S : Type 0} (old new : HostShown S) : Type 0 where
 abbrev pub IsBookedHere : {S : Type 0} → HostShown S → Booked → Type 0
 IsBookedHere host booking = (booking.site ≡ host.host) × (is_among booking.want.transfer host.booked ≡ true)
 
--- the others whose acquires are halfway
-abbrev pub without_booked : ℕ → List ℕ → List ℕ
-without_booked transfer [] = []
-without_booked transfer (t ∷ others) = if t == transfer then others else t ∷ without_booked transfer others
-
--- what a budget's part holds is what the log counts: a permit for each open connection, and one for each
--- idle one
-abbrev pub held_by : List Entry → Held
-held_by log = held (length (open_connections log)) (length (idle_connections log))
-
 -- the host stays what it is
 pub record StaysThere {S : Type 0} (old new : HostShown S) : Type 0 where
   pub settings : new.settings ≡ old.settings
   pub host : new.host ≡ old.host
   pub tables : new.tables ≡ old.tables
-
--- what a look tells: the counts of the log, and the mark
-abbrev pub snapshot_of : List Entry → Bool → Snapshot
-snapshot_of log queued = record { alive = length (open_connections log); idle = length (idle_connections log); leased = length (open_connections log) - length (idle_connections log); waiting = length (waiting log); queued = queued }

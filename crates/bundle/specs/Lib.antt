@@ -1,4 +1,3 @@
-pub mod Calls
 pub mod Lease
 pub mod Lends
 pub mod Seats
@@ -6,6 +5,3 @@ pub mod Passes
 pub mod Grants
 pub mod Replies
 pub mod Lobbies
-pub mod Laws
-pub mod Worked
-pub mod Effects

@@ -7,7 +7,7 @@ use Rattle.budget.specs.declared.refusal.Refusal.TheVariants.{TransferBusy, Exha
 use Rattle.budget.specs.Accounts.{change_at, told, spent_once, spent_at}
 use Rattle.conn_log.specs.declared.entry.Cause.TheVariants.{Withdrawn}
 use Rattle.conn_log.specs.declared.entry.Event.{Event}
-use Rattle.conn_log.specs.declared.entry.Event.TheVariants.{Opened, Leased, Closed, Waited, Left, Limit}
+use Rattle.conn_log.specs.declared.entry.Event.TheVariants.{Closed, Left, Limit}
 use Rattle.conn_log.specs.declared.entry.Entry.{Entry}
 use Rattle.bundle.specs.declared.answers.Got.{Got}
 use Rattle.bundle.specs.declared.answers.Got.TheVariants.{Lease, Wait as Waits, NoRoom, Again}
@@ -17,26 +17,14 @@ use Rattle.bundle.specs.declared.answers.Changed.{Changed}
 use Rattle.bundle.specs.declared.answers.Changed.TheVariants.{Done, Again as ChangeAgain}
 use Rattle.bundle.specs.declared.did.Did.{Did}
 use Rattle.bundle.specs.declared.did.Did.TheVariants.{Wrote, Claimed, Still, Busy, Exhausted, Stranger, Held}
-use Rattle.bundle.specs.Calls.{Start, Wait}
+use Rattle.host_rules.specs.Calls.{Start, start_entry, wait_entry}
 use Rattle.bundle.specs.Lease.{HostShown, Ticketed}
 use Rattle.bundle.specs.Seats.{gone}
 use Rattle.conn_log.specs.Starts.{start_count}
-use Rattle.conn_log.specs.declared.entry.Entry.{Entry}
 
 -- what a pass remembers of each host
 abbrev pub Accounts : Type 0
 Accounts = List (Account Did)
-
--- the entry of a start
-abbrev pub start_event : Start → Event
-start_event start = if start.reused then Leased start.number start.want else Opened start.number start.want
-
-abbrev pub start_entry : Start → Entry
-start_entry start = record { moment = start.moment; event = start_event start }
-
--- the entry of a wait
-abbrev pub wait_entry : Wait → Entry
-wait_entry wait = record { moment = wait.moment; event = Waited wait.want }
 
 -- a pass is told so, or nothing
 abbrev pub tells : ℕ → Option Did → Accounts → Accounts

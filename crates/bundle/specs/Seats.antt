@@ -1,13 +1,14 @@
 -- What a host counts beside its log: the starts, and who holds what. Two tables that leases have seats at count it: one
 -- has a seat for each start, the other for each pair of a connection and the transfer that holds it.
-use Rattle.std.specs.Prelude.{◌≡◌, ℕ, ◌+◌, ◌-◌, ◌≤◌, Bool, true, false, List, [], ◌∷◌, length, map, Option, None}
+use Rattle.std.specs.Prelude.{◌≡◌, ℕ, ◌+◌, ◌-◌, ◌≤◌, List, [], ◌∷◌, length, map, Option, None}
 use Rattle.atomic_table.specs.Seated.{TableId}
 use Rattle.budget.specs.Pairs.{Pair, pair_count, without_pair}
 use Rattle.conn_log.specs.declared.entry.Entry.{Entry}
 use Rattle.conn_log.specs.Connections.{held_number, open_connections, idle_connections}
 use Rattle.conn_log.specs.Sound.{has_number}
 use Rattle.conn_log.specs.Starts.{start_count}
-use Rattle.bundle.specs.Calls.{Start, leased_len}
+use Rattle.host_rules.specs.Calls.{Start, leased_len}
+use Rattle.host_rules.specs.Effects.{one_if}
 
 -- the tables of a host: of its starts, and of the pairs held there
 pub record Tables : Type 0 where
@@ -44,10 +45,6 @@ pair_leased p seats = record seats { granted = without_pair p seats.granted; lea
 -- the starts that are over: all, but for one for each pair that is held
 abbrev pub ended_starts : SeatsShown → ℕ
 ended_starts seats = seats.counted - (length seats.granted + length seats.leased)
-
-abbrev pub one_if : Bool → ℕ
-one_if true = 1
-one_if false = 0
 
 -- each pair that the log shows held stands in one of the lists, once, and no other does; the starts are the log's; for
 -- each pair without a lease there is a start that no seat was split off for

@@ -9,11 +9,13 @@ ghost use Rattle.conn_log.specs.Connections.{held_number, is_among, last_moment}
 ghost use Rattle.conn_log.specs.Waiting.{waiting, waits};
 ghost use Rattle.host_state.specs.Steps.{is_exhausted};
 ghost use Rattle.host_state.specs.State.{IsSameHost, KeepsOpenBut};
-ghost use Rattle.bundle.specs.Calls.{refusal, is_queued, start_behind, GrowsBy};
+ghost use Rattle.host_rules.specs.Calls.{refusal, is_queued, start_behind, GrowsBy};
 ghost use Rattle.bundle.specs.Lease.{HasItsStream, KeepsStreams, KeepsOthers, GetsLease};
-ghost use Rattle.bundle.specs.Lease.{GetsTicket, KeepsAll, StaysThere, held_by, IsBookedHere};
-ghost use Rattle.bundle.specs.Lease.{without_booked};
-ghost use Rattle.bundle.specs.Lobbies.{IfLent, IfLeft, Lists, IsMarked, is_lent};
+ghost use Rattle.bundle.specs.Lease.{GetsTicket, KeepsAll, StaysThere, IsBookedHere};
+ghost use Rattle.host_rules.specs.Counts.{held_by};
+ghost use Rattle.host_rules.specs.Bookings.{without_booked};
+ghost use Rattle.bundle.specs.Lobbies.{IfLent, IfLeft, is_lent};
+ghost use Rattle.host_rules.specs.Orders.{Lists, IsMarked};
 ghost use Rattle.bundle.specs.Seats.{IsSeated, KeepsGranted};
 ghost use Rattle.bundle.specs.Replies.{Acquires, GivesLease, GivesTicket, GivesBooking};
 ghost use Rattle.bundle.specs.Replies.{UnlessBooking, IfGot, IsGot};

@@ -1,62 +1,7 @@
 //! Laws of what calls answer, for every log.
 
-ghost use Rattle.bundle.specs.Effects.{AcquireTidies, AcquireDoesAsReplied, GiveBackSpendsOne};
-ghost use Rattle.bundle.specs.Effects.{AbandonSpendsOne, WithdrawSpendsOne, WithdrawLeaves};
-ghost use Rattle.bundle.specs.Effects.{TurnOpensForHead, EvictingClosesOne, PruneCloses};
-ghost use Rattle.bundle.specs.Effects.{LimitChanges, NoneTooOldIsLeft, NoneToPruneIsLeft};
-ghost use Rattle.bundle.specs.Laws.{AcquireKeepsSoundAndQuiet, GiveBackKeepsSoundAndQuiet};
-ghost use Rattle.bundle.specs.Laws.{AbandonKeepsSoundAndQuiet, WithdrawKeepsSoundAndQuiet};
-ghost use Rattle.bundle.specs.Laws.{TurnKeepsSoundAndQuiet, EvictingKeepsSoundAndQuiet};
-ghost use Rattle.bundle.specs.Laws.{PruneKeepsSoundAndQuiet, LimitKeepsSoundAndQuiet};
-ghost use Rattle.bundle.specs.Laws.{AcquireWritesItsStart, AcquireWritesItsWait};
-ghost use Rattle.bundle.specs.Laws.{GiveBackWritesItsReturn, AbandonWritesItsClosing};
-ghost use Rattle.bundle.specs.Laws.{WithdrawWritesItsClosing, WithdrawWritesItsLeaving};
-ghost use Rattle.bundle.specs.Laws.{LimitIsWritten};
 ghost use Rattle.bundle.specs.Passes.{PassesSpendWhatIsGone, NothingIsGoneAtFirst};
 ghost use Rattle.bundle.specs.Passes.{EachSpendsSomeStarts};
-
-/// A sound and quiet log stays so, and so legal, by each call that is not refused, whatever the
-/// log.
-pub fn calls_keep_logs_sound_and_quiet()
-    ensures acquire { AcquireKeepsSoundAndQuiet }
-    ensures give_back { GiveBackKeepsSoundAndQuiet }
-    ensures abandon { AbandonKeepsSoundAndQuiet }
-    ensures withdraw { WithdrawKeepsSoundAndQuiet }
-    ensures turn { TurnKeepsSoundAndQuiet }
-    ensures evict { EvictingKeepsSoundAndQuiet }
-    ensures prune { PruneKeepsSoundAndQuiet }
-    ensures limit { LimitKeepsSoundAndQuiet }
-{}
-
-/// What each call does to its host as other hosts count it, whatever the log: how many connections
-/// are open and idle after it, and who waits.
-pub fn calls_have_their_effects()
-    ensures acquire_tidies { AcquireTidies }
-    ensures acquire { AcquireDoesAsReplied }
-    ensures give_back { GiveBackSpendsOne }
-    ensures abandon { AbandonSpendsOne }
-    ensures withdraw_granted { WithdrawSpendsOne }
-    ensures withdraw_waiting { WithdrawLeaves }
-    ensures turn { TurnOpensForHead }
-    ensures evict { EvictingClosesOne }
-    ensures prune { PruneCloses }
-    ensures limit { LimitChanges }
-    ensures none_too_old { NoneTooOldIsLeft }
-    ensures none_to_prune { NoneToPruneIsLeft }
-{}
-
-/// What a call tells its pass that it wrote stands in the log that it leaves, whatever the log: the
-/// start or the wait of an acquire is the newest entry, and that with which a lease or a ticket
-/// ends is the first one that the call writes.
-pub fn calls_write_what_they_tell()
-    ensures start { AcquireWritesItsStart }
-    ensures wait { AcquireWritesItsWait }
-    ensures give_back { GiveBackWritesItsReturn }
-    ensures abandon { AbandonWritesItsClosing }
-    ensures withdraw_granted { WithdrawWritesItsClosing }
-    ensures withdraw_waiting { WithdrawWritesItsLeaving }
-    ensures limit { LimitIsWritten }
-{}
 
 /// What the passes have spent at a host is the starts whose leases are gone: nothing at first, and
 /// each call keeps it so, by its clause `account`. So what one pass has spent is part of the

@@ -13,15 +13,13 @@ mod limit;
 mod room;
 mod seats;
 mod serving;
-mod snapshot;
 mod spending;
 mod ticket;
-pub mod worked;
 
 pub use answers::{Back, Changed, Claimed, Got, Served};
 pub use booking::Booking;
 pub use did::Did;
 pub use host::Bundle;
+pub use host_rules::Snapshot;
 pub use lease::{Lease, Stray};
-pub use snapshot::Snapshot;
 pub use ticket::Ticket;

@@ -8,7 +8,7 @@ use Rattle.conn_log.specs.declared.entry.Want.{Want}
 use Rattle.conn_log.specs.Connections.{is_among}
 use Rattle.bundle.specs.declared.answers.Got.{Got}
 use Rattle.bundle.specs.declared.answers.Got.TheVariants.{Lease, Wait, NoRoom, Again}
-use Rattle.bundle.specs.Calls.{Reply, starts, waits_on, no_room, again}
+use Rattle.host_rules.specs.Calls.{Reply, starts, waits_on, no_room, again}
 use Rattle.bundle.specs.Lease.{HostShown, Booked, IsBookedHere}
 use Rattle.bundle.specs.Replies.{IsGot, IfGot, GivesBooking, Acquires}
 

@@ -77,10 +77,10 @@ impl<S: Drop> Model for Desk<S> {
     ghost use Rattle.std.specs.Prelude.{◌≡◌, ◌≢◌, ◌<◌, ◌≤◌, length};
     ghost use Rattle.budget.specs.Accounts.{IsEnrolledAt};
     ghost use Rattle.budget.specs.Plain.{held_at_host};
-    ghost use Rattle.bundle.specs.Calls.{is_queued};
+    ghost use Rattle.host_rules.specs.Calls.{is_queued};
     ghost use Rattle.bundle_tests.specs.Desks.{TwoHosts};
-    ghost use Rattle.bundle.specs.Lease.{held_by};
-    ghost use Rattle.bundle.specs.Lobbies.{Lists};
+    ghost use Rattle.host_rules.specs.Counts.{held_by};
+    ghost use Rattle.host_rules.specs.Orders.{Lists};
 
     ghost Value = { TwoHosts };
 

@@ -1,7 +1,6 @@
 -- The transfers whose acquire is halfway, as one comes last and leaves.
-use Rattle.std.proofs.Common.{◌≡◌, ℕ, Bool, true, false, ◌||◌, List, [], ◌∷◌, ◌++◌, length, Option, Some, None, refl, sym, ap, ◌∙◌, inl, inr, arith}
+use Rattle.std.proofs.Common.{◌≡◌, ℕ, Bool, true, false, ◌||◌, List, [], ◌∷◌, ◌++◌, length, Option, Some, None, refl, sym, ap, ◌∙◌, inl, inr, arith, Result, Ok, Err}
 use Rattle.std.specs.Prelude.{if◌then◌else◌, IfSome}
-use Rattle.std.proofs.Common.{Result, Ok, Err}
 use Rattle.std.proofs.lemmas.Bool.Decides.{nat_tests, eqb_tells}
 use Rattle.host_state.specs.Steps.{is_exhausted}
 use Rattle.budget.specs.declared.refusal.Refusal.TheVariants.{TransferBusy, Exhausted}
@@ -10,8 +9,9 @@ use Rattle.conn_log.specs.declared.entry.Entry.{Entry}
 use Rattle.conn_log.specs.Connections.{is_among, holds}
 use Rattle.conn_log.specs.Waiting.{waits}
 use Rattle.conn_log.specs.Legal.{LimitAndFirst}
-use Rattle.bundle.specs.Calls.{refusal, is_busy, GrowsBy}
-use Rattle.bundle.specs.Lease.{HostShown, Leasing, Ticketed, StaysThere, without_booked}
+use Rattle.host_rules.specs.Calls.{refusal, is_busy, GrowsBy}
+use Rattle.bundle.specs.Lease.{HostShown, Leasing, Ticketed, StaysThere}
+use Rattle.host_rules.specs.Bookings.{without_booked}
 use Rattle.cache.specs.declared.acquired.Acquired.{Acquired as AcquiredOf}
 use Rattle.cache.specs.declared.acquired.Acquired.TheVariants.{Lease as LeaseOf, Wait as WaitOf}
 use Rattle.cache.specs.Pools.{StaysHost, GivesLease, GivesTicket}

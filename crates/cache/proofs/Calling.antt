@@ -4,8 +4,7 @@ use Rattle.std.specs.Prelude.{if◌then◌else◌}
 use Rattle.std.proofs.lemmas.Bool.Decides.{eqb_tells}
 use Rattle.std.proofs.lemmas.List.{get_or-set_other, length-set}
 use Rattle.budget.specs.Lobby.{Queue, is_listed}
-use Rattle.budget.specs.Plain.{Plain, held_at_host}
-use Rattle.budget.specs.Plain.{KeepsOtherHosts as KeepsOtherParts}
+use Rattle.budget.specs.Plain.{Plain, held_at_host, KeepsOtherHosts as KeepsOtherParts}
 use Rattle.budget.specs.declared.pass.Account.{Account}
 use Rattle.budget.specs.Accounts.{vacant, account_at, change_at, told as told_did, spent_once, KeepsSeats}
 use Rattle.conn_log.specs.declared.stamp.Stamp.{Stamp}
@@ -16,15 +15,16 @@ use Rattle.conn_log.specs.declared.entry.Event.TheVariants.{Closed, Left}
 use Rattle.conn_log.specs.Fit.{oldest_stamp}
 use Rattle.bundle.specs.declared.did.Did.{Did}
 use Rattle.bundle.specs.declared.did.Did.TheVariants.{Wrote}
-use Rattle.bundle.specs.Calls.{Start, is_queued}
-use Rattle.bundle.specs.Laws.{IsSoundAndQuiet}
-use Rattle.bundle.specs.Lease.{HostShown, StaysThere, held_by}
-use Rattle.bundle.specs.Lobbies.{IsMarked}
+use Rattle.host_rules.specs.Calls.{Start, is_queued}
+use Rattle.host_rules.specs.Laws.{IsSoundAndQuiet}
+use Rattle.bundle.specs.Lease.{HostShown, StaysThere}
+use Rattle.host_rules.specs.Counts.{held_by}
+use Rattle.host_rules.specs.Orders.{IsMarked}
 use Rattle.bundle.specs.Passes.{Accounts, tells, spends, withdraws, AccountsForStarts}
-use Rattle.bundle.proofs.OtherHosts.{still_listed}
-use Rattle.cache.specs.Oldest.{earlier_of, is_before, is_since_before, stamp_at}
+use Rattle.host_rules.proofs.OtherHosts.{still_listed}
+use Rattle.oldest.specs.Oldest.{earlier_of, is_before, is_since_before, stamp_at}
 use Rattle.cache.specs.Pools.{IsKeptHost, AreKept}
-use Rattle.cache.proofs.Noting.{lowered_not_later, set_not_later}
+use Rattle.oldest.proofs.NotedStamps.{lowered_not_later, set_not_later}
 use Rattle.cache.proofs.OneHost.{kept_changed, read_is}
 
 -- no account changes but that of one host

@@ -7,12 +7,13 @@ use Rattle.conn_log.specs.Connections.{is_among, holder_want, held_number}
 use Rattle.conn_log.specs.Waiting.{waiting}
 use Rattle.host_state.specs.Queue.{waiting_want}
 use Rattle.conn_log.specs.Sound.{IsSound}
-use Rattle.bundle.specs.Calls.{Start}
+use Rattle.host_rules.specs.Calls.{Start}
 use Rattle.bundle.specs.declared.answers.Claimed.{Claimed}
 use Rattle.bundle.specs.declared.answers.Claimed.TheVariants.{Lease, Still}
 use Rattle.bundle.specs.Replies.{IfClaimed}
-use Rattle.bundle.specs.Lease.{HostShown, Leasing, WasGranted, UnclaimedAreStarts, KeepsAll, starters, start_for, is_unclaimed, ticket_want, granted_want}
-use Rattle.bundle.proofs.KeptSound.{held_want}
+use Rattle.bundle.specs.Lease.{HostShown, Leasing, WasGranted, UnclaimedAreStarts, KeepsAll, starters, start_for, is_unclaimed, ticket_want}
+use Rattle.host_rules.specs.Grants.{granted_want}
+use Rattle.host_rules.proofs.Soundness.{held_want}
 use Rattle.cache.specs.Pools.{PoolShown, host_in, host_at, IsMadeHere}
 use Rattle.cache.specs.Turns.{KeepsSpent}
 use Rattle.cache.proofs.OneHost.{host_changed, other_host}

@@ -9,16 +9,16 @@ use Rattle.conn_log.specs.declared.entry.Event.TheVariants.{Closed}
 use Rattle.conn_log.specs.declared.entry.Entry.{Entry}
 use Rattle.conn_log.specs.Fit.{oldest, oldest_stamp}
 use Rattle.host_state.specs.Steps.{moment_at, add}
-use Rattle.bundle.specs.Calls.{makes_room_for_others}
-use Rattle.bundle.specs.Effects.{Closes}
-use Rattle.bundle.specs.Laws.{IsSoundAndQuiet}
+use Rattle.host_rules.specs.Calls.{makes_room_for_others}
+use Rattle.host_rules.specs.Effects.{Closes}
+use Rattle.host_rules.specs.Laws.{IsSoundAndQuiet}
 use Rattle.bundle.specs.Lease.{HostShown}
-use Rattle.bundle.proofs.Counts.{evict_closes}
+use Rattle.host_rules.proofs.Counts.{evict_closes}
 use Rattle.bundle.proofs.TurnLogs.{of_idle_for_others}
-use Rattle.cache.specs.AllHosts.{AllHosts, log_at, with_log, closed_of, without_oldest, oldest_of_all}
+use Rattle.pool_rules.specs.AllHosts.{AllHosts, log_at, with_log, closed_of, without_oldest, oldest_of_all}
 use Rattle.cache.specs.Pools.{PoolShown, host_in, host_at, all_hosts, KeepsHost, KeepsHosts, KeepsOtherHosts}
 use Rattle.cache.specs.Turns.{IsOneFewer}
-use Rattle.cache.proofs.Oldests.{oldest_is}
+use Rattle.pool_rules.proofs.OldestOfAll.{oldest_is}
 use Rattle.cache.proofs.OneHost.{log_is, logs_changed, host_changed, read_is}
 use Rattle.cache.proofs.HostSums.{one_fewer}
 

@@ -16,21 +16,21 @@ use Rattle.conn_log.specs.declared.entry.Entry.{Entry}
 use Rattle.conn_log.specs.Connections.{idle_connections}
 use Rattle.conn_log.specs.Legal.{LimitAndFirst}
 use Rattle.bundle.specs.declared.answers.Got.TheVariants.{Lease as GotLease, Wait as GotWait, NoRoom, Again}
-use Rattle.bundle.specs.Calls.{Reply, starts, waits_on, no_room, again, acquired as acquired_at, is_queued}
-use Rattle.bundle.specs.Calls.{Acquired as AcquiredAt}
-use Rattle.bundle.specs.Lobbies.{order_after}
+use Rattle.host_rules.specs.Calls.{Reply, starts, waits_on, no_room, again, acquired as acquired_at, is_queued, Acquired as AcquiredAt}
+use Rattle.host_rules.specs.Orders.{order_after}
 use Rattle.budget.specs.Lobby.{is_listed}
-use Rattle.bundle.specs.Effects.{open_len, idle_len}
-use Rattle.bundle.specs.Laws.{IsSoundAndQuiet}
-use Rattle.bundle.specs.Lease.{HostShown, Leasing, Ticketed, Booked, held_by}
+use Rattle.host_rules.specs.Effects.{open_len, idle_len}
+use Rattle.host_rules.specs.Laws.{IsSoundAndQuiet}
+use Rattle.bundle.specs.Lease.{HostShown, Leasing, Ticketed, Booked}
+use Rattle.host_rules.specs.Counts.{held_by}
 use Rattle.bundle.specs.Replies.{IsGot}
 use Rattle.cache.specs.declared.acquired.Acquired.TheVariants.{Lease, Wait}
-use Rattle.cache.specs.AllHosts.{AllHosts, log_at, with_log, terms, total, kept, has_room, with_room, without_oldest, marked}
-use Rattle.cache.specs.Calls.{Acquired, acquired, started}
+use Rattle.pool_rules.specs.AllHosts.{AllHosts, log_at, with_log, terms, total, kept, has_room, with_room, without_oldest, marked}
+use Rattle.pool_rules.specs.Calls.{Acquired, acquired, started}
 use Rattle.cache.specs.Pools.{all_hosts, logs_of, IsAcquired}
 use Rattle.cache.specs.Turns.{IsOneFewer}
 use Rattle.cache.proofs.OneHost.{logs_changed, log_was, all_marked}
-use Rattle.cache.proofs.Starting.{Tells, becomes, as_told, at_once, IsHalfway, halfway}
+use Rattle.pool_rules.proofs.Starts.{Tells, becomes, as_told, at_once, IsHalfway, halfway}
 
 module _ {S : Type 0} where
   -- what the budget holds is what the logs count

@@ -5,10 +5,10 @@ use Rattle.std.proofs.lemmas.List.{length-map}
 use Rattle.budget.specs.Lobby.{Queue, IsQueue, is_listed}
 use Rattle.budget.specs.Plain.{Plain, IsWithin}
 use Rattle.conn_log.specs.declared.stamp.Stamp.{Stamp}
-use Rattle.bundle.specs.Calls.{is_queued}
+use Rattle.host_rules.specs.Calls.{is_queued}
 use Rattle.bundle.specs.Lease.{HostShown}
 use Rattle.bundle.specs.Passes.{Accounts}
-use Rattle.cache.specs.AllHosts.{IsLawful, terms, log_at}
+use Rattle.pool_rules.specs.AllHosts.{IsLawful, terms, log_at}
 use Rattle.cache.specs.Pools.{no_host, host_in, logs_of, AreKept}
 use Rattle.cache.proofs.Sums.{total_is, kept_is, settled_at}
 

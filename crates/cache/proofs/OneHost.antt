@@ -5,8 +5,7 @@ use Rattle.std.proofs.lemmas.List.{get_or-set_same, get_or-set_other, get_or_def
 use Rattle.std.proofs.Math.ListN.{get_or-map}
 use Rattle.budget.specs.Limits.{Bounds}
 use Rattle.budget.specs.Lobby.{Queue, is_listed}
-use Rattle.budget.specs.Plain.{Plain, held_at_host}
-use Rattle.budget.specs.Plain.{KeepsOtherHosts as KeepsOtherParts}
+use Rattle.budget.specs.Plain.{Plain, held_at_host, KeepsOtherHosts as KeepsOtherParts}
 use Rattle.budget.specs.Permits.{held}
 use Rattle.budget.specs.declared.permits.Held.{Held}
 use Rattle.budget.specs.Accounts.{account_at, IsEnrolledAt, spent_at}
@@ -15,14 +14,15 @@ use Rattle.conn_log.specs.declared.stamp.Stamp.{Stamp}
 use Rattle.conn_log.specs.declared.entry.Entry.{Entry}
 use Rattle.conn_log.specs.Fit.{oldest_stamp}
 use Rattle.conn_log.specs.Legal.{LimitAndFirst}
-use Rattle.bundle.specs.Calls.{is_queued}
-use Rattle.bundle.specs.Laws.{IsSoundAndQuiet}
-use Rattle.bundle.specs.Lease.{HostShown, StaysThere, held_by}
-use Rattle.bundle.specs.Lobbies.{order_after}
+use Rattle.host_rules.specs.Calls.{is_queued}
+use Rattle.host_rules.specs.Laws.{IsSoundAndQuiet}
+use Rattle.bundle.specs.Lease.{HostShown, StaysThere}
+use Rattle.host_rules.specs.Counts.{held_by}
+use Rattle.host_rules.specs.Orders.{order_after}
 use Rattle.bundle.specs.Passes.{Accounts}
 use Rattle.bundle.specs.Seats.{gone}
-use Rattle.cache.specs.Oldest.{is_before, stamp_at}
-use Rattle.cache.specs.AllHosts.{AllHosts, terms, log_at, with_log, queue_after, marked}
+use Rattle.oldest.specs.Oldest.{is_before, stamp_at}
+use Rattle.pool_rules.specs.AllHosts.{AllHosts, terms, log_at, with_log, queue_after, marked}
 use Rattle.cache.specs.Pools.{PoolShown, no_host, host_in, host_at, logs_of, all_hosts, IsKeptHost, AreKept, KeepsHost, KeepsOtherHosts}
 
 module _ {S : Type 0} where

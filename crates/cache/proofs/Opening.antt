@@ -18,18 +18,20 @@ use Rattle.conn_log.specs.Fit.{oldest_stamp}
 use Rattle.conn_log.specs.Legal.{LimitAndFirst}
 use Rattle.bundle.specs.declared.answers.Served.{Served}
 use Rattle.bundle.specs.declared.answers.Served.TheVariants.{Given}
-use Rattle.bundle.specs.Calls.{after_turn, is_queued}
-use Rattle.bundle.specs.Effects.{open_len, idle_len, OpensForHead}
-use Rattle.bundle.specs.Laws.{IsSoundAndQuiet}
-use Rattle.bundle.specs.Lease.{HostShown, held_by}
-use Rattle.bundle.specs.Lobbies.{order_after_turn, HadTurn, IsServed}
-use Rattle.bundle.proofs.Counts.{turn_opens}
-use Rattle.bundle.proofs.OtherHosts.{listed_after_turn}
-use Rattle.cache.specs.Oldest.{is_before, stamp_at}
-use Rattle.cache.specs.AllHosts.{AllHosts, terms, log_at, has_room, total_waiting, after_turn_of}
+use Rattle.host_rules.specs.Calls.{after_turn, is_queued}
+use Rattle.host_rules.specs.Effects.{open_len, idle_len, OpensForHead}
+use Rattle.host_rules.specs.Laws.{IsSoundAndQuiet}
+use Rattle.bundle.specs.Lease.{HostShown}
+use Rattle.host_rules.specs.Counts.{held_by}
+use Rattle.host_rules.specs.Orders.{order_after_turn, HadTurn}
+use Rattle.bundle.specs.Lobbies.{IsServed}
+use Rattle.host_rules.proofs.Counts.{turn_opens}
+use Rattle.host_rules.proofs.OtherHosts.{listed_after_turn}
+use Rattle.oldest.specs.Oldest.{is_before, stamp_at}
+use Rattle.pool_rules.specs.AllHosts.{AllHosts, terms, log_at, has_room, total_waiting, after_turn_of}
 use Rattle.cache.specs.Pools.{no_host, logs_of, host_in, all_hosts}
 use Rattle.cache.proofs.Calling.{MarksOne, NotesOne}
-use Rattle.cache.proofs.Oldests.{none_oldest}
+use Rattle.pool_rules.proofs.OldestOfAll.{none_oldest}
 use Rattle.cache.proofs.OneHost.{log_was, logs_changed, read_is}
 use Rattle.cache.proofs.HostSums.{total_is, one_waits_less}
 

@@ -7,12 +7,12 @@ use Rattle.std.proofs.lemmas.List.Sums.{sum_by-cons, sum_by-set}
 use Rattle.budget.specs.Limits.{Bounds}
 use Rattle.conn_log.specs.declared.entry.Entry.{Entry}
 use Rattle.conn_log.specs.Legal.{LimitAndFirst}
-use Rattle.bundle.specs.Effects.{idle_len}
-use Rattle.bundle.specs.Laws.{IsSoundAndQuiet}
+use Rattle.host_rules.specs.Effects.{idle_len}
+use Rattle.host_rules.specs.Laws.{IsSoundAndQuiet}
 use Rattle.bundle.specs.Lease.{HostShown}
-use Rattle.bundle.proofs.Counts.{prune_closes}
-use Rattle.cache.specs.AllHosts.{AllHosts, log_at, with_log, kept}
-use Rattle.cache.specs.Calls.{pruned, pruned_log, pruned_at, prune_count}
+use Rattle.host_rules.proofs.Counts.{prune_closes}
+use Rattle.pool_rules.specs.AllHosts.{AllHosts, log_at, with_log, kept}
+use Rattle.pool_rules.specs.Calls.{pruned, pruned_log, pruned_at, prune_count}
 use Rattle.cache.specs.Pools.{PoolShown, host_in, logs_of, all_hosts, KeepsHost, StaysPool, KeepsHosts}
 use Rattle.cache.proofs.Keeping.{keeps_hosts, keeps_hosts_on, stays_pool, stays_pool_on}
 use Rattle.cache.proofs.OneHost.{read_is, logs_changed, host_changed, other_host, keeps_from_start}

@@ -7,8 +7,7 @@ use Rattle.std.proofs.lemmas.Bool.Decides.{nat_tests}
 use Rattle.std.proofs.lemmas.List.{length-map}
 use Rattle.std.proofs.lemmas.List.Sums.{sum_by-set}
 use Rattle.persistence.specs.declared.facts.Facts.{Facts}
-use Rattle.budget.specs.Plain.{Plain, IsWithin, TellsOfKept, kept_in, held_at_host}
-use Rattle.budget.specs.Plain.{KeepsOtherHosts as KeepsOtherParts}
+use Rattle.budget.specs.Plain.{Plain, IsWithin, TellsOfKept, kept_in, held_at_host, KeepsOtherHosts as KeepsOtherParts}
 use Rattle.budget.specs.Limits.{Bounds}
 use Rattle.budget.specs.declared.permits.Try.{Try}
 use Rattle.budget.specs.declared.permits.Try.TheVariants.{Got as Given, Full, Contended}
@@ -19,14 +18,14 @@ use Rattle.conn_log.specs.Sound.{IsSound, has_number}
 use Rattle.host_state.specs.Steps.{moment_at}
 use Rattle.bundle.specs.declared.answers.Back.{Back}
 use Rattle.bundle.specs.declared.answers.Back.TheVariants.{Spent, NoKeep, Again, Strange}
-use Rattle.bundle.specs.Calls.{spent, returned, after_give_back, becomes_idle, keep_as_told, given_back}
-use Rattle.bundle.specs.Effects.{idle_len}
-use Rattle.bundle.specs.Laws.{IsSoundAndQuiet}
-use Rattle.bundle.specs.Lease.{HostShown, Leasing, held_by}
+use Rattle.host_rules.specs.Calls.{spent, returned, after_give_back, becomes_idle, keep_as_told, given_back}
+use Rattle.host_rules.specs.Effects.{idle_len, one_if}
+use Rattle.host_rules.specs.Laws.{IsSoundAndQuiet}
+use Rattle.bundle.specs.Lease.{HostShown, Leasing}
+use Rattle.host_rules.specs.Counts.{held_by}
 use Rattle.bundle.specs.Replies.{IsBack, GivesBack}
-use Rattle.bundle.specs.Seats.{one_if}
-use Rattle.bundle.proofs.KeptSound.{idle_as_returned}
-use Rattle.bundle.proofs.Counts.{given_back_spends}
+use Rattle.host_rules.proofs.Soundness.{idle_as_returned}
+use Rattle.host_rules.proofs.Counts.{given_back_spends}
 use Rattle.cache.specs.Pools.{logs_of}
 use Rattle.cache.proofs.OneHost.{log_was, logs_changed, parts_changed}
 use Rattle.cache.proofs.SameLog.{hosts_same}

@@ -23,17 +23,17 @@ use Rattle.host_state.specs.Idle.{stream_of}
 use Rattle.host_state.specs.Steps.{moment_at, add, picked, cause_of, is_full}
 use Rattle.host_state.specs.declared.closing.Closing.TheVariants.{TooOld}
 use Rattle.bundle.specs.declared.answers.Got.TheVariants.{Lease as GotLease}
-use Rattle.bundle.specs.Calls.{Start, Reply, starts, waits_on, no_room, again, acquired, start_behind, start_on, start_as_told, start_in_place_of}
-use Rattle.bundle.specs.Effects.{tidied}
+use Rattle.host_rules.specs.Calls.{Start, Reply, starts, waits_on, no_room, again, acquired, start_behind, start_on, start_as_told, start_in_place_of}
+use Rattle.host_rules.specs.Effects.{tidied}
 use Rattle.bundle.specs.Lease.{HostShown, Leasing, HasItsStream, KeepsStreams}
 use Rattle.bundle.specs.Replies.{IsGot}
-use Rattle.cache.specs.AllHosts.{AllHosts, log_at, has_room, with_room, without_oldest, closed_of, oldest_of_all}
+use Rattle.pool_rules.specs.AllHosts.{AllHosts, log_at, has_room, with_room, without_oldest, closed_of, oldest_of_all}
 use Rattle.cache.specs.declared.acquired.Acquired.{Acquired as AcquiredOf}
 use Rattle.cache.specs.declared.acquired.Acquired.TheVariants.{Lease as LeaseOf, Wait as WaitOf}
 use Rattle.cache.specs.Pools.{PoolShown, host_in, host_at, IsAcquired, GivesLease}
 use Rattle.cache.specs.Turns.{KeepStreams}
 use Rattle.cache.proofs.OneHost.{host_changed, other_host}
-use Rattle.cache.proofs.Rising.{idles_each, idles_closed}
+use Rattle.pool_rules.proofs.OldestStamps.{idles_each, idles_closed}
 
 -- a start on a connection that was idle before
 abbrev pub IsReuse : List Entry → Reply → Type 0

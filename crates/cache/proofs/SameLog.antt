@@ -6,8 +6,7 @@ use Rattle.std.proofs.lemmas.List.{get_or_default, set-get_or, length-map}
 use Rattle.std.proofs.Math.ListN.{get_or-map}
 use Rattle.budget.specs.Limits.{Bounds}
 use Rattle.budget.specs.Lobby.{Queue}
-use Rattle.budget.specs.Plain.{Plain, held_at_host}
-use Rattle.budget.specs.Plain.{KeepsOtherHosts as KeepsOtherParts}
+use Rattle.budget.specs.Plain.{Plain, held_at_host, KeepsOtherHosts as KeepsOtherParts}
 use Rattle.budget.specs.Permits.{held}
 use Rattle.budget.specs.declared.permits.Held.{Held}
 use Rattle.budget.specs.Accounts.{KeepsSeats}
@@ -16,15 +15,16 @@ use Rattle.conn_log.specs.declared.entry.Entry.{Entry}
 use Rattle.conn_log.specs.Fit.{oldest_stamp}
 use Rattle.conn_log.specs.Legal.{LimitAndFirst}
 use Rattle.bundle.specs.declared.did.Did.{Did}
-use Rattle.bundle.specs.Calls.{Start, is_queued}
-use Rattle.bundle.specs.Laws.{IsSoundAndQuiet}
-use Rattle.bundle.specs.Lease.{HostShown, StaysThere, held_by}
-use Rattle.bundle.specs.Lobbies.{IsMarked, order_after}
+use Rattle.host_rules.specs.Calls.{Start, is_queued}
+use Rattle.host_rules.specs.Laws.{IsSoundAndQuiet}
+use Rattle.bundle.specs.Lease.{HostShown, StaysThere}
+use Rattle.host_rules.specs.Counts.{held_by}
+use Rattle.host_rules.specs.Orders.{IsMarked, order_after}
 use Rattle.bundle.specs.Passes.{Accounts, tells, withdraws, AccountsForStarts}
-use Rattle.cache.specs.AllHosts.{AllHosts}
-use Rattle.cache.specs.Oldest.{is_before, stamp_at}
+use Rattle.pool_rules.specs.AllHosts.{AllHosts}
+use Rattle.oldest.specs.Oldest.{is_before, stamp_at}
 use Rattle.cache.specs.Pools.{PoolShown, no_host, logs_of, all_hosts, AreKept}
-use Rattle.cache.proofs.Earliest.{own_host}
+use Rattle.oldest.proofs.StampOrder.{own_host}
 use Rattle.cache.proofs.OneHost.{read_is}
 use Rattle.cache.proofs.Calling.{TellsOne, NotesOne, marks_nothing, kept_called, was_kept, told_so, told_withdrawing}
 

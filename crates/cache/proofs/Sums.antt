@@ -7,13 +7,14 @@ use Rattle.budget.specs.Lobby.{Queue}
 use Rattle.budget.specs.Plain.{Plain, IsWithin, alive_in, kept_in}
 use Rattle.budget.specs.declared.permits.Held.{Held}
 use Rattle.conn_log.specs.declared.entry.Entry.{Entry}
-use Rattle.bundle.specs.Effects.{open_len, idle_len}
+use Rattle.host_rules.specs.Effects.{open_len, idle_len}
 use Rattle.conn_log.specs.declared.stamp.Stamp.{Stamp}
 use Rattle.conn_log.specs.Legal.{LimitAndFirst}
-use Rattle.bundle.specs.Laws.{IsSoundAndQuiet}
-use Rattle.bundle.specs.Lease.{HostShown, held_by}
+use Rattle.host_rules.specs.Laws.{IsSoundAndQuiet}
+use Rattle.bundle.specs.Lease.{HostShown}
+use Rattle.host_rules.specs.Counts.{held_by}
 use Rattle.bundle.specs.Passes.{Accounts}
-use Rattle.cache.specs.AllHosts.{terms}
+use Rattle.pool_rules.specs.AllHosts.{terms}
 use Rattle.cache.specs.Pools.{no_host, host_in, logs_of, AreKept}
 
 module _ {S : Type 0} where

@@ -2,7 +2,7 @@
 use Rattle.std.proofs.Common.{◌≡◌, ℕ, zero, suc, ◌+◌, Bool, true, false, List, [], ◌∷◌, Some, refl, sym, ap, ◌∙◌, slice_get, arith}
 use Rattle.std.specs.Prelude.{if◌then◌else◌}
 use Rattle.budget.specs.Limits.{Bounds}
-use Rattle.cache.specs.AllHosts.{AllHosts, may_turn, turn_of_first, after_turn_of, with_room, after_turns, served, total_waiting}
+use Rattle.pool_rules.specs.AllHosts.{AllHosts, may_turn, turn_of_first, after_turn_of, with_room, after_turns, served, total_waiting}
 use Rattle.cache.specs.Pools.{PoolShown, all_hosts, StaysPool, KeepsHosts}
 use Rattle.cache.specs.Turns.{KeepsSpent}
 use Rattle.cache.proofs.Keeping.{stays_pool, stays_pool_on, keeps_hosts, keeps_hosts_on, still_there}

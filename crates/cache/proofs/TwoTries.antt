@@ -5,10 +5,10 @@ use Rattle.std.proofs.lemmas.Bool.Decides.{nat_tests}
 use Rattle.persistence.specs.declared.facts.Facts.{Facts}
 use Rattle.budget.specs.Limits.{Bounds}
 use Rattle.conn_log.specs.declared.entry.Cause.TheVariants.{CacheFull}
-use Rattle.bundle.specs.Calls.{becomes_idle, after_give_back}
+use Rattle.host_rules.specs.Calls.{becomes_idle, after_give_back}
 use Rattle.bundle.specs.Lease.{Leasing, Spends}
-use Rattle.cache.specs.AllHosts.{AllHosts, log_at, with_log, terms, kept, can_keep, without_oldest, marked}
-use Rattle.cache.specs.Calls.{with_room_to_keep, given_back}
+use Rattle.pool_rules.specs.AllHosts.{AllHosts, log_at, with_log, terms, kept, can_keep, without_oldest, marked}
+use Rattle.pool_rules.specs.Calls.{with_room_to_keep, given_back}
 use Rattle.cache.specs.Pools.{PoolShown, host_at, all_hosts, StaysHost, StaysPool, KeepsHosts, KeepsOtherHosts, OtherStreamsStay}
 use Rattle.cache.proofs.StreamsStay.{but_one, others_on}
 use Rattle.cache.proofs.Keeping.{stays_host_on, spends_after, keeps_others_on, keeps_others}

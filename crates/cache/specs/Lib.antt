@@ -1,9 +1,3 @@
-pub mod Oldest
-pub mod Trees
-pub mod AllHosts
 pub mod Pools
 pub mod NewHosts
-pub mod Calls
-pub mod Laws
-pub mod Worked
 pub mod Turns

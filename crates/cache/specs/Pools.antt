@@ -10,15 +10,16 @@ use Rattle.conn_log.specs.declared.stamp.Stamp.{Stamp}
 use Rattle.conn_log.specs.Connections.{is_open}
 use Rattle.conn_log.specs.Fit.{oldest_stamp}
 use Rattle.host_state.specs.Idle.{stream_of}
-use Rattle.bundle.specs.Calls.{Reply, starts, waits_on, GrowsBy, is_queued}
-use Rattle.bundle.specs.Laws.{IsSoundAndQuiet}
-use Rattle.bundle.specs.Lease.{HostShown, IsNewHost, Leasing, Ticketed, StaysThere, KeepsAll, held_by}
+use Rattle.host_rules.specs.Calls.{Reply, starts, waits_on, GrowsBy, is_queued}
+use Rattle.host_rules.specs.Laws.{IsSoundAndQuiet}
+use Rattle.bundle.specs.Lease.{HostShown, IsNewHost, Leasing, Ticketed, StaysThere, KeepsAll}
+use Rattle.host_rules.specs.Counts.{held_by}
 use Rattle.bundle.specs.Passes.{Accounts}
 use Rattle.bundle.specs.Seats.{gone}
 use Rattle.cache.specs.declared.acquired.Acquired.{Acquired}
 use Rattle.cache.specs.declared.acquired.Acquired.TheVariants.{Lease, Wait}
-use Rattle.cache.specs.Oldest.{is_before, stamp_at}
-use Rattle.cache.specs.AllHosts.{AllHosts, terms}
+use Rattle.oldest.specs.Oldest.{is_before, stamp_at}
+use Rattle.pool_rules.specs.AllHosts.{AllHosts, terms}
 
 -- a pool: its limits, its hosts by index, and those that are queued for room in total, in order
 pub record PoolShown (S : Type 0) : Type 0 where

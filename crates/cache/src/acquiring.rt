@@ -2,11 +2,11 @@
 
 ghost use Rattle.std.specs.Prelude.{◌≡◌, ◌<◌, ◌⊎◌, length, is_some, Some, IfSome, IfErr};
 ghost use Rattle.std.specs.Prelude.{OnOk, OnErr};
-ghost use Rattle.bundle.specs.Calls.{refusal, GrowsBy};
-ghost use Rattle.bundle.specs.Lease.{IsBookedHere, HasItsStream, GetsLease, GetsTicket};
-ghost use Rattle.bundle.specs.Lease.{StaysThere, without_booked};
-ghost use Rattle.cache.specs.AllHosts.{total, with_room};
-ghost use Rattle.cache.specs.Calls.{acquired, started, reply_of};
+ghost use Rattle.host_rules.specs.Calls.{refusal, GrowsBy};
+ghost use Rattle.bundle.specs.Lease.{IsBookedHere, HasItsStream, GetsLease, GetsTicket, StaysThere};
+ghost use Rattle.host_rules.specs.Bookings.{without_booked};
+ghost use Rattle.pool_rules.specs.AllHosts.{total, with_room};
+ghost use Rattle.pool_rules.specs.Calls.{acquired, started, reply_of};
 ghost use Rattle.cache.specs.Pools.{IsAcquired, IfAcquired, GivesLease, GivesTicket, host_at};
 ghost use Rattle.cache.specs.Pools.{all_hosts, StaysHost, StaysPool, KeepsOtherHosts};
 ghost use Rattle.cache.specs.Pools.{StreamsStay, OtherStreamsStay};

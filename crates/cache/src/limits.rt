@@ -1,9 +1,9 @@
 //! How idle connections are pruned, and how a host's limit is changed.
 
 ghost use Rattle.std.specs.Prelude.{◌≡◌, ◌<◌, ◌⊎◌, length, Some, IfSome, IfErr, OnOk, OnErr};
-ghost use Rattle.bundle.specs.Calls.{limit_refusal};
-ghost use Rattle.cache.specs.AllHosts.{with_log, log_at};
-ghost use Rattle.cache.specs.Calls.{pruned, pruned_log, pruned_at, prune_count, limited};
+ghost use Rattle.host_rules.specs.Calls.{limit_refusal};
+ghost use Rattle.pool_rules.specs.AllHosts.{with_log, log_at};
+ghost use Rattle.pool_rules.specs.Calls.{pruned, pruned_log, pruned_at, prune_count, limited};
 ghost use Rattle.cache.specs.Pools.{host_at, all_hosts, StaysPool, KeepsHosts};
 
 use crate::hosts::Hosts;

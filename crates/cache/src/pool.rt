@@ -3,19 +3,20 @@
 ghost use Rattle.std.specs.Prelude.{◌≡◌, ◌<◌, ◌≤◌, ◌⊎◌, length, is_some, IsSome, Some, []};
 ghost use Rattle.std.specs.Prelude.{true, false, nat_lt, if◌then◌else◌};
 ghost use Rattle.std.specs.Prelude.{IfOk, IfErr, IfSome, IfNone, OnOk, OnErr};
-ghost use Rattle.bundle.specs.Calls.{refusal, limit_refusal, is_queued};
+ghost use Rattle.host_rules.specs.Calls.{refusal, limit_refusal, is_queued};
 ghost use Rattle.bundle.specs.Lease.{is_valid_ticket, is_unclaimed, WasGranted, HasItsStream};
-ghost use Rattle.bundle.specs.Lease.{GetsLease, GetsTicket, Spends, is_held_lease, snapshot_of};
-ghost use Rattle.bundle.specs.Lease.{KeepsItsStream};
+ghost use Rattle.bundle.specs.Lease.{GetsLease, GetsTicket, Spends, is_held_lease, KeepsItsStream};
+ghost use Rattle.host_rules.specs.Counts.{snapshot_of};
 ghost use Rattle.bundle.specs.Replies.{IfClaimed, IfStill};
 ghost use Rattle.bundle.specs.Seats.{gone};
-ghost use Rattle.cache.specs.AllHosts.{IsAtRest, terms};
-ghost use Rattle.cache.specs.Calls.{after_acquire, reply_of, after_giving_back, after_abandoning};
-ghost use Rattle.cache.specs.Calls.{after_withdrawing, after_prune, prune_count, after_limit_of};
+ghost use Rattle.pool_rules.specs.AllHosts.{IsAtRest, terms};
+ghost use Rattle.pool_rules.specs.Calls.{after_acquire, reply_of, after_giving_back};
+ghost use Rattle.pool_rules.specs.Calls.{after_abandoning};
+ghost use Rattle.pool_rules.specs.Calls.{after_withdrawing, after_prune, prune_count};
+ghost use Rattle.pool_rules.specs.Calls.{after_limit_of};
 ghost use Rattle.bundle.specs.Lease.{HasItsStreams, UnclaimedAreStarts};
-ghost use Rattle.cache.specs.Pools.{AreInPlace};
+ghost use Rattle.cache.specs.Pools.{AreInPlace, GivesLease, GivesTicket, StaysHost, StaysPool};
 ghost use Rattle.cache.specs.Pools.{IsNewPool, host_at, all_hosts, IsAcquired, IfAcquired};
-ghost use Rattle.cache.specs.Pools.{GivesLease, GivesTicket, StaysHost, StaysPool};
 ghost use Rattle.cache.specs.Pools.{KeepsHosts, KeepsOtherHosts, IsMadeHere};
 ghost use Rattle.cache.specs.Pools.{StreamsStay, OtherStreamsStay};
 
@@ -46,7 +47,7 @@ pub struct Pool<S: Drop> {
 
 impl<S: Drop> Model for Pool<S> {
     ghost use Rattle.std.specs.Prelude.{◌≡◌, ◌<◌, [], ℕ, length};
-    ghost use Rattle.cache.specs.AllHosts.{IsServed};
+    ghost use Rattle.pool_rules.specs.AllHosts.{IsServed};
     ghost use Rattle.cache.specs.Pools.{PoolShown, all_hosts, host_at};
 
     ghost Value = { PoolShown S };

@@ -4,12 +4,12 @@ ghost use Rattle.std.specs.Prelude.{◌≡◌, ◌<◌, true, false, [], length,
 ghost use Rattle.std.specs.Prelude.{IsSome, IfSome, IfNone, IfErr, OnOk, OnErr};
 ghost use Rattle.persistence.specs.declared.facts.Facts.{Facts};
 ghost use Rattle.conn_log.specs.Connections.{is_open};
-ghost use Rattle.bundle.specs.Calls.{becomes_idle, after_give_back};
+ghost use Rattle.host_rules.specs.Calls.{becomes_idle, after_give_back};
 ghost use Rattle.bundle.specs.Lease.{is_valid_ticket, is_unclaimed, WasGranted, HasItsStream};
 ghost use Rattle.bundle.specs.Lease.{GetsLease, Spends, is_held_lease, KeepsItsStream};
 ghost use Rattle.bundle.specs.Replies.{IfClaimed, IfStill};
-ghost use Rattle.cache.specs.AllHosts.{log_at, with_log, terms, kept, can_keep, marked};
-ghost use Rattle.cache.specs.Calls.{given_back, abandoned, withdrawn};
+ghost use Rattle.pool_rules.specs.AllHosts.{log_at, with_log, terms, kept, can_keep, marked};
+ghost use Rattle.pool_rules.specs.Calls.{given_back, abandoned, withdrawn};
 ghost use Rattle.cache.specs.Pools.{host_at, all_hosts, StaysHost, StaysPool, KeepsOtherHosts};
 ghost use Rattle.cache.specs.Pools.{StreamsStay, OtherStreamsStay};
 

@@ -1,12 +1,12 @@
 -- What an acquire gives is of its site and its want.
 use Rattle.std.proofs.Common.{◌≡◌, ℕ, ap, ◌∙◌}
 use Rattle.conn_log.specs.declared.entry.Want.{Want}
-use Rattle.bundle.specs.Calls.{Reply, Start, starts, waits_on, no_room, again}
+use Rattle.host_rules.specs.Calls.{Reply, Start, starts, waits_on, no_room, again}
 use Rattle.bundle.specs.Lease.{Leasing, Ticketed, HasItsStream}
 use Rattle.cache.specs.declared.acquired.Acquired.{Acquired}
 use Rattle.cache.specs.declared.acquired.Acquired.TheVariants.{Lease, Wait as Waits}
-use Rattle.cache.specs.Laws.{AnswersWant}
-use Rattle.cache.specs.Calls.{after_acquire, reply_of}
+use Rattle.pool_rules.specs.Laws.{AnswersWant}
+use Rattle.pool_rules.specs.Calls.{after_acquire, reply_of}
 use Rattle.cache.specs.Pools.{IsAcquired, GivesLease, all_hosts, host_at}
 use Rattle.exchange.specs.FakeCaches.{FakeShown, Keeps, Acquires}
 

@@ -5,10 +5,10 @@ use Rattle.budget.specs.declared.refusal.Refusal.{Refusal}
 use Rattle.budget.specs.declared.refusal.Refusal.TheVariants.{Memory, BadSite}
 use Rattle.conn_log.specs.declared.entry.Want.{Want}
 use Rattle.bundle.specs.Seats.{Tables}
-use Rattle.bundle.specs.Calls.{refusal}
+use Rattle.host_rules.specs.Calls.{refusal}
 use Rattle.bundle.specs.Lease.{HostShown, Leasing, Ticketed, WasGranted, HasItsStream, is_unclaimed, is_valid_ticket}
 use Rattle.cache.specs.Pools.{PoolShown, StaysPool, StaysHosts, IsAcquired, GivesLease, host_at, all_hosts}
-use Rattle.cache.specs.Calls.{after_acquire, reply_of, after_giving_back, after_abandoning, after_withdrawing}
+use Rattle.pool_rules.specs.Calls.{after_acquire, reply_of, after_giving_back, after_abandoning, after_withdrawing}
 use Rattle.cache.specs.declared.acquired.Acquired.{Acquired}
 use Rattle.cache.specs.declared.acquired.Acquired.TheVariants.{Lease, Wait}
 use Rattle.exchange.specs.declared.returned.Returned.{Returned}

@@ -1,5 +1,5 @@
 -- The elements of a value, one after another.
-use Rattle.std.proofs.Common.{◌≡◌, ℕ, Bool, List, [], ◌∷◌, not, length, map, take, codes, Option, None, Some, cond, ltb, unwrap_or, option_map, refl, sym, ap, ◌∙◌, arith}
+use Rattle.std.proofs.Common.{◌≡◌, ℕ, Bool, List, [], ◌∷◌, not, length, map, take, codes, Option, None, Some, cond, ltb, unwrap_or, option_map, refl, sym, ap, ◌∙◌, arith, inl, inr}
 use Rattle.std.specs.Option.{option_or}
 use Rattle.std.specs.List.{fold, slice_split, position_or_len, after_first}
 use Rattle.std.proofs.lemmas.Bool.{cases_lt}
@@ -7,7 +7,6 @@ use Rattle.std.proofs.lemmas.Bool.Decides.{nat_tests}
 use Rattle.std.proofs.lemmas.List.{take_all}
 use Rattle.std.proofs.lemmas.List.Sums.{prefix_len-le-length, fails_before_first}
 use Rattle.std.proofs.lemmas.List.Splits.{slice_split_first, slice_split_none}
-use Rattle.std.proofs.Common.{inl, inr}
 use Rattle.httparse.specs.Grammar.{trim_ows}
 use Rattle.persistence.specs.Fields.{elements, is_comma, is_word, later_coding, last_coding}
 use Rattle.persistence.specs.ReadingHeads.{chunked_after, FirstIs}

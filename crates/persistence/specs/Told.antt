@@ -1,6 +1,6 @@
 -- What the bytes of a response tell: its status, the length of its body, and the facts that decide
 -- whether its connection persists (RFC 9112, sections 6.3, 9.3 and 9.6).
-use Rattle.std.specs.Prelude.{◌≡◌, ℕ, ◌+◌, ◌≤◌, min, Bool, true, false, ◌==◌, nat_lt, if◌then◌else◌, List, length, sum, Option, Some, None, unwrap_or}
+use Rattle.std.specs.Prelude.{◌≡◌, ℕ, ◌+◌, ◌≤◌, min, Bool, true, false, ◌==◌, nat_lt, if◌then◌else◌, List, length, sum, Option, Some, None, unwrap_or, codes}
 use Rattle.httparse.specs.Grammar.{ResponseHead, status_code}
 use Rattle.persistence.specs.declared.facts.Facts.{Facts}
 use Rattle.persistence.specs.declared.facts.Framing.TheVariants.{Faulty}
@@ -9,7 +9,6 @@ use Rattle.persistence.specs.declared.body.kind.BodyKind.TheVariants.{NoBody, Co
 use Rattle.persistence.specs.declared.facts.Version.{Version}
 use Rattle.persistence.specs.declared.facts.Version.TheVariants.{V10, V11}
 use Rattle.persistence.specs.declared.method.Method.{Method}
-use Rattle.std.specs.Prelude.{codes}
 use Rattle.persistence.specs.Heads.{HasFinalHead}
 use Rattle.persistence.specs.Fields.{fields_of, has_option, has_both_lengths, counted_length}
 use Rattle.persistence.specs.Limits.{most_bytes}

@@ -13,10 +13,10 @@ use Rattle.script_text.specs.Grammar.{reading, reading_of, present, command_of, 
 use Rattle.std.specs.Str.{bytes_eq}
 use Rattle.std.specs.Prelude.{codes}
 use Rattle.script_text.specs.Lines.{lines}
-use Rattle.script_engine.specs.Meaning.{Run, start, step, with_limits, add_site, with_url, with_answer, answer_of, prune_all, upkeep_all}
+use Rattle.script_rules.specs.Meaning.{Run, start, step, with_limits, add_site, with_url, with_answer, answer_of, prune_all, upkeep_all}
 use Rattle.script_text.specs.Site.{site_named}
 use Rattle.conn_key.specs.declared.site.Site.{Site}
-use Rattle.script_engine.specs.Transcript.{Transcript, whole_text, text_up_to, text_before, IsRun, told, before_others, line_step, line_step_of, Ends, EndsByFault, FailsBy, transcript}
+use Rattle.script_rules.specs.Transcript.{Transcript, whole_text, text_up_to, text_before, IsRun, told, before_others, line_step, line_step_of, Ends, EndsByFault, FailsBy, transcript}
 use Rattle.pool_cli.specs.Running.{RunsLines, LineFails, RunsScript, RunsWithoutReading, ReadsAll, ReadsOn, WritesNothing, IsOfNoStream, read_failures, write_failures}
 use Rattle.pool_cli.specs.Streams.{Stream, ReadFails, SameFailures, in_memory}
 use Rattle.pool_cli.proofs.Streaming.{proper-front}

@@ -3,7 +3,7 @@ use Rattle.std.proofs.Common.{◌≡◌, ℕ, List, [], ◌∷◌, ◌++◌, len
 use Rattle.std.proofs.lemmas.List.{length-append}
 use Rattle.std.specs.Io.KnownBytes.{Appends}
 use Rattle.std.proofs.KnownBytes.{Appends-nil, Appends-trans}
-use Rattle.script_engine.specs.Transcript.{IsProperFront}
+use Rattle.script_rules.specs.Transcript.{IsProperFront}
 
 -- a front of the bytes is put, and the rest is left
 pub record PutSoFar (old new : Option (List ℕ)) (bytes rest : List ℕ) : Type 0 where

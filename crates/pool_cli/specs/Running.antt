@@ -4,8 +4,8 @@ use Rattle.std.specs.Io.KnownBytes.{Appends, Consumes, IsAtEnd}
 use Rattle.script_text.specs.declared.fault.FaultKind.{FaultKind}
 use Rattle.script_text.specs.declared.fault.FaultKind.TheVariants.{Memory, Read, Write, ScriptTooLong}
 use Rattle.script_text.specs.declared.fault.ScriptFault.{ScriptFault}
-use Rattle.script_engine.specs.Transcript.{Transcript, transcript, Ends, IsProperFront, LONGEST_SCRIPT}
-use Rattle.script_engine.specs.Meaning.{Run}
+use Rattle.script_rules.specs.Transcript.{Transcript, transcript, Ends, IsProperFront, LONGEST_SCRIPT}
+use Rattle.script_rules.specs.Meaning.{Run}
 use Rattle.pool_cli.specs.Streams.{Stream, SameFailures, OneMoreFailed}
 
 -- what a line wrote that means this, and the run after it

@@ -4,7 +4,7 @@ use Rattle.std.specs.Prelude.{◌≡◌, ℕ, ◌+◌, ◌-◌, ◌^◌, ◌<◌
 use Rattle.std.specs.Io.KnownBytes.{Appends, Consumes, IsAtEnd}
 use Rattle.script_text.specs.declared.fault.FaultKind.{FaultKind}
 use Rattle.script_text.specs.declared.fault.FaultKind.TheVariants.{Memory, Read, Write, ScriptTooLong}
-use Rattle.script_engine.specs.Transcript.{IsProperFront, LONGEST_SCRIPT}
+use Rattle.script_rules.specs.Transcript.{IsProperFront, LONGEST_SCRIPT}
 
 -- the bytes that reads will give, or that writes put, where they are known; how many reads or writes failed; and
 -- whether a write may lack memory

@@ -2,7 +2,7 @@
 
 ghost use Rattle.std.specs.Prelude.{◌≤◌, length, IfErr};
 ghost use Rattle.script_text.specs.Lines.{lines};
-ghost use Rattle.script_engine.specs.Transcript.{told, line_step, transcript};
+ghost use Rattle.script_rules.specs.Transcript.{told, line_step, transcript};
 ghost use Rattle.pool_cli.specs.Running.{IsOfNoStream, RunsLine, RunsLines, RunsScript};
 ghost use Rattle.pool_cli.specs.Running.{RunsWithoutReading};
 ghost use Rattle.pool_cli.specs.Streams.{CanCount, in_memory};

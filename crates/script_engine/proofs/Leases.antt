@@ -16,11 +16,12 @@ use Rattle.conn_log.proofs.Soundness.{holds_is}
 use Rattle.conn_log.specs.Legal.{LimitAndFirst}
 use Rattle.budget.specs.declared.refusal.Refusal.TheVariants as refusals
 use Rattle.host_state.specs.Steps.{is_exhausted}
-use Rattle.bundle.specs.Calls.{refusal, is_busy}
+use Rattle.host_rules.specs.Calls.{refusal, is_busy}
 use Rattle.host_state.specs.Queue.{waiting_want}
-use Rattle.bundle.specs.Lease.{HostShown, StaysThere, is_unclaimed, lease_number, granted_want, ticket_want, is_same_want, is_valid_ticket}
-use Rattle.cache.specs.AllHosts.{log_at}
-use Rattle.script_engine.specs.Meaning.{AtSite, claimed_number}
+use Rattle.bundle.specs.Lease.{HostShown, StaysThere, is_unclaimed, lease_number, ticket_want, is_same_want, is_valid_ticket}
+use Rattle.host_rules.specs.Grants.{granted_want}
+use Rattle.pool_rules.specs.AllHosts.{log_at}
+use Rattle.script_rules.specs.Meaning.{AtSite, claimed_number}
 use Rattle.script_engine.specs.Hosted.{whereabouts, kept_facts, leases_of, wanted_at, tickets_of, due_others}
 use Rattle.script_engine.proofs.Tickets.{at-key}
 

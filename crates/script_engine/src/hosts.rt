@@ -4,8 +4,8 @@ ghost use Rattle.std.specs.Prelude.{◌≡◌, ◌<◌, ◌≤◌, length, strin
 ghost use Rattle.budget.specs.Limits.{Bounds};
 ghost use Rattle.cache.specs.Pools.{all_hosts, StaysPool};
 ghost use Rattle.script_text.specs.declared.command.Action.TheVariants as actions;
-ghost use Rattle.script_engine.specs.Meaning.{new_hosts, at_site};
-ghost use Rattle.script_engine.specs.Ending.{IsEnding};
+ghost use Rattle.script_rules.specs.Meaning.{new_hosts, at_site};
+ghost use Rattle.script_rules.specs.Ending.{IsEnding};
 ghost use Rattle.script_engine.specs.Hosted.{GivesAt, GivesAll, asked_answer};
 ghost use Rattle.script_engine.specs.Hosted.{KeepsAllDue, NothingIsKept, tickets_kept};
 ghost use Rattle.script_engine.specs.declared.asked.Asked.TheVariants as asks;

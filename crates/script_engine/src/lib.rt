@@ -6,11 +6,9 @@ mod asked;
 mod facts;
 mod hosts;
 mod kept;
-pub mod law;
 mod line;
 mod machine;
 mod telling;
-pub mod worked;
 
 pub use line::line_text;
 pub use machine::{Engine, Machine};

@@ -5,11 +5,11 @@ ghost use Rattle.std.specs.Prelude.{IsSome, Some, None, true, string_bytes};
 ghost use Rattle.cache.specs.Pools.{all_hosts};
 ghost use Rattle.script_text.specs.Printing.{GivesText};
 ghost use Rattle.script_text.specs.declared.command.Limits.{Limits};
-ghost use Rattle.script_engine.specs.Meaning.{Run, start, step, begun, with_limits, with_url};
-ghost use Rattle.script_engine.specs.Meaning.{with_answer, at_script_end, at_no_host, are_good};
-ghost use Rattle.script_engine.specs.Meaning.{bounds_given};
-ghost use Rattle.script_engine.specs.Ending.{IsEnding};
-ghost use Rattle.script_engine.specs.Transcript.{Answers};
+ghost use Rattle.script_rules.specs.Meaning.{Run, start, step, begun, with_limits, with_url};
+ghost use Rattle.script_rules.specs.Meaning.{with_answer, at_script_end, at_no_host, are_good};
+ghost use Rattle.script_rules.specs.Meaning.{bounds_given};
+ghost use Rattle.script_rules.specs.Ending.{IsEnding};
+ghost use Rattle.script_rules.specs.Transcript.{Answers};
 ghost use Rattle.script_engine.specs.Hosted.{GivesAt, AnswersAsked, asked_answer};
 
 use crate::asked::Asked;
@@ -23,7 +23,7 @@ use std::mem;
 
 /// What answers a script's commands.
 pub trait Machine {
-    ghost use Rattle.script_engine.specs.Meaning.{Run};
+    ghost use Rattle.script_rules.specs.Meaning.{Run};
 
     /// What the commands so far came to.
     ghost run: { Self → Run };
@@ -57,7 +57,7 @@ impl Model for Engine {
     ghost use Rattle.std.specs.Prelude.{◌≡◌, None, true, false, if◌then◌else◌, IfSome};
     ghost use Rattle.std.specs.Option.{option_map, option_map_or};
     ghost use Rattle.script_engine.specs.Hosted.{Hosted};
-    ghost use Rattle.script_engine.specs.Meaning.{Run, new_hosts, bounds_given, are_good};
+    ghost use Rattle.script_rules.specs.Meaning.{Run, new_hosts, bounds_given, are_good};
 
     ghost Value = { Run };
 
@@ -77,7 +77,7 @@ impl Model for Engine {
 impl Machine for Engine {
     ghost run = { λ e. e };
 
-    #[tactic(auto, unfolding(crate::specs::Meaning::step))]
+    #[tactic(auto, unfolding(script_rules::specs::Meaning::step))]
     fn answer(&mut self, command: Command<'_>) -> Result<String, FaultKind> {
         match command {
             Command::Limits(limits) => self.set_limits(limits),

@@ -1,9 +1,9 @@
 use Rattle.std.proofs.Common.{◌≡◌, length, sym, ap, subst, ◌∙◌}
 use Rattle.bundle.specs.declared.answers.Got.TheVariants.{Lease}
-use Rattle.bundle.specs.Calls.{Acquired}
+use Rattle.host_rules.specs.Calls.{Acquired}
 use Rattle.bundle.specs.Lease.{Leasing, Using}
 use Rattle.bundle.specs.Replies.{IsGot}
-use Rattle.bundle.proofs.AtOnce.{reused_at_once}
+use Rattle.host_rules.proofs.LeasesAtOnce.{reused_at_once}
 use Rattle.bundle.proofs.Seating.{apart, start_fits, seated_leased, leased_granted}
 use Rattle.bundle.proofs.Starting.{begins_lease}
 use Rattle.bundle.proofs.acquiring.lease_at_once.Goals as goal

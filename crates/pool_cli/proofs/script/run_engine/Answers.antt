@@ -1,7 +1,7 @@
 use Rattle.std.proofs.Common.{sym, ◌∙◌, ap, subst}
 use Rattle.script_text.specs.Lines.{lines}
-use Rattle.script_engine.specs.Meaning.{Run}
-use Rattle.script_engine.specs.Transcript.{Transcript, told}
+use Rattle.script_rules.specs.Meaning.{Run}
+use Rattle.script_rules.specs.Transcript.{Transcript, told}
 use Rattle.pool_cli.specs.Running.{RunsWithoutReading}
 use Rattle.pool_cli.proofs.Running.{short-script}
 use Rattle.pool_cli.proofs.script.run_engine.Goals as goal

@@ -1,7 +1,7 @@
 use Rattle.std.proofs.Common.{◌+◌, arith, refl, subst}
 use Rattle.std.proofs.lemmas.Bool.Decides.{nat_tests}
 use Rattle.script_text.specs.Lines.{lines}
-use Rattle.script_engine.specs.Transcript.{told}
+use Rattle.script_rules.specs.Transcript.{told}
 use Rattle.pool_cli.proofs.Running.{RunSoFar, run-more, run-fails, run-end, run-short, no-lines}
 use Rattle.pool_cli.proofs.script.run_lines.Goals as goal
 

@@ -1,6 +1,6 @@
 use Rattle.std.proofs.Common.{◌≤◌, ◌+◌, length}
 use Rattle.script_text.specs.Lines.{lines}
-use Rattle.script_engine.specs.Transcript.{told}
+use Rattle.script_rules.specs.Transcript.{told}
 use Rattle.pool_cli.proofs.Running.{RunSoFar}
 use Rattle.pool_cli.proofs.script.run_lines.Given as goal
 

@@ -1,5 +1,5 @@
 use Rattle.std.proofs.Common.{ℕ, List, subst}
-use Rattle.script_engine.specs.Transcript.{transcript}
+use Rattle.script_rules.specs.Transcript.{transcript}
 use Rattle.pool_cli.specs.Running.{RunsWithoutReading}
 use Rattle.pool_cli.proofs.Running.{unread-script, run-read}
 use Rattle.pool_cli.proofs.script.run_script.Goals as goal

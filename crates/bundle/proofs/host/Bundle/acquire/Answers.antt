@@ -6,15 +6,16 @@ use Rattle.conn_log.specs.Waiting.{waiting}
 use Rattle.host_state.specs.State.{HostState}
 use Rattle.bundle.specs.declared.answers.Got.TheVariants.{Lease}
 use Rattle.bundle.specs.declared.did.Did.TheVariants.{Wrote}
-use Rattle.bundle.specs.Calls.{start_behind, refusal, is_queued, GrowsBy}
+use Rattle.host_rules.specs.Calls.{start_behind, refusal, is_queued, GrowsBy, start_entry}
 use Rattle.bundle.specs.Grants.{grant_starts, grant_streams, GrantsKept}
-use Rattle.bundle.specs.Laws.{IsSoundAndQuiet}
-use Rattle.bundle.specs.Lease.{HostShown, AreBooked, HasItsStream}
+use Rattle.host_rules.specs.Laws.{IsSoundAndQuiet}
+use Rattle.bundle.specs.Lease.{HostShown, HasItsStream}
+use Rattle.host_rules.specs.Bookings.{AreBooked}
 use Rattle.bundle.specs.Seats.{SeatsShown, IsSeated, AreUnclaimed, ended_starts, gone}
-use Rattle.bundle.specs.Passes.{start_entry, tells, got_did, refusal_did}
+use Rattle.bundle.specs.Passes.{tells, got_did, refusal_did}
 use Rattle.bundle.specs.Replies.{IsGot, GivesLease, GivesBooking, UnlessBooking}
-use Rattle.bundle.proofs.Bookings.{IsOut}
-use Rattle.bundle.proofs.KeptSound.{none_waits}
+use Rattle.host_rules.proofs.Bookings.{IsOut}
+use Rattle.host_rules.proofs.Soundness.{none_waits}
 use Rattle.bundle.proofs.Outcomes.{count_added, spare_after, bookings_added}
 use Rattle.bundle.proofs.Seating.{unclaimed_same, same_gone}
 use Rattle.bundle.proofs.Telling.{account_there, accounts_told}

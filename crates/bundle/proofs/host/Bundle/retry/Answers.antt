@@ -1,6 +1,6 @@
 use Rattle.std.proofs.Common.{subst}
-use Rattle.bundle.specs.Calls.{is_queued}
-use Rattle.bundle.specs.Lobbies.{IsMarked}
+use Rattle.host_rules.specs.Calls.{is_queued}
+use Rattle.host_rules.specs.Orders.{IsMarked}
 use Rattle.bundle.proofs.host.Bundle.retry.Goals as goal
 
 pub returns-in-Some-clause-marked : goal.returns-in-Some-clause-marked

@@ -1,14 +1,14 @@
 use Rattle.std.proofs.Common.{◌≡◌, ℕ, true, refl, sym, ap, subst, ◌∙◌, ◌++◌}
 use Rattle.conn_log.specs.declared.entry.Want.{Want}
 use Rattle.conn_log.specs.Connections.{is_among}
-use Rattle.bundle.specs.Calls.{is_queued, GrowsBy}
+use Rattle.host_rules.specs.Calls.{is_queued, GrowsBy}
 use Rattle.bundle.specs.Grants.{grant_starts, grant_streams}
-use Rattle.bundle.specs.Laws.{IsSoundAndQuiet}
+use Rattle.host_rules.specs.Laws.{IsSoundAndQuiet}
 use Rattle.bundle.specs.Lease.{HostShown, HasItsStream}
 use Rattle.bundle.specs.Passes.{tells, got_did}
 use Rattle.bundle.specs.Seats.{gone}
 use Rattle.bundle.specs.Replies.{GivesLease}
-use Rattle.bundle.proofs.Bookings.{out_by}
+use Rattle.host_rules.proofs.Bookings.{out_by}
 use Rattle.bundle.proofs.Outcomes.{count_left, spare_after, bookings_left}
 use Rattle.bundle.proofs.Seating.{unclaimed_same, same_gone}
 use Rattle.bundle.proofs.Telling.{account_there, accounts_told}

@@ -1,9 +1,9 @@
 use Rattle.std.proofs.Common.{◌≡◌, ◌<◌, length, sym, ap, ◌∙◌, rules}
 use Rattle.budget.specs.Plain.{KeepsOtherHosts, held_at_host}
-use Rattle.bundle.specs.Calls.{after_abandon}
-use Rattle.bundle.specs.Laws.{IsSoundAndQuiet}
-use Rattle.bundle.specs.Lease.{held_by}
-use Rattle.cache.specs.AllHosts.{marked}
+use Rattle.host_rules.specs.Calls.{after_abandon}
+use Rattle.host_rules.specs.Laws.{IsSoundAndQuiet}
+use Rattle.host_rules.specs.Counts.{held_by}
+use Rattle.pool_rules.specs.AllHosts.{marked}
 use Rattle.cache.proofs.OneHost.{all_marked, others_keep, stepped}
 use Rattle.cache.proofs.Calling.{kept_called, was_kept, told_spending, notes_oldest, marks_one}
 use Rattle.cache.proofs.hosts.Hosts.abandon.Goals as goal

@@ -1,20 +1,21 @@
-use Rattle.std.proofs.Common.{◌≡◌, ◌<◌, ℕ, [], ◌∷◌, ◌++◌, length, refl, sym, ap, subst, ◌∙◌, rules, arith, true, false, slice_set}
-use Rattle.std.proofs.Common.{Ok}
+use Rattle.std.proofs.Common.{◌≡◌, ◌<◌, ℕ, [], ◌∷◌, ◌++◌, length, refl, sym, ap, subst, ◌∙◌, rules, arith, true, false, slice_set, Ok}
 use Rattle.std.proofs.lemmas.List.{length-set, length-map}
 use Rattle.budget.specs.Limits.{Bounds}
 use Rattle.conn_log.specs.declared.entry.Want.{Want}
 use Rattle.conn_log.specs.Connections.{is_among, is_idle}
 use Rattle.bundle.specs.declared.answers.Got.TheVariants.{NoRoom}
 use Rattle.budget.specs.Plain.{KeepsOtherHosts, held_at_host}
-use Rattle.bundle.specs.Calls.{no_room, GrowsBy, acquired as acquired_at}
-use Rattle.bundle.specs.Laws.{IsSoundAndQuiet}
-use Rattle.bundle.specs.Lease.{HostShown, Booked, IsBookedHere, HasItsStream, KeepsStreams, KeepsAll, StaysThere, GetsLease, GetsTicket, without_booked, held_by}
+use Rattle.host_rules.specs.Calls.{no_room, GrowsBy, acquired as acquired_at}
+use Rattle.host_rules.specs.Laws.{IsSoundAndQuiet}
+use Rattle.bundle.specs.Lease.{HostShown, Booked, IsBookedHere, HasItsStream, KeepsStreams, KeepsAll, StaysThere, GetsLease, GetsTicket}
+use Rattle.host_rules.specs.Bookings.{without_booked}
+use Rattle.host_rules.specs.Counts.{held_by}
 use Rattle.bundle.specs.Replies.{IsGot, GivesBooking}
 use Rattle.conn_log.specs.Fit.{oldest_stamp}
-use Rattle.cache.specs.AllHosts.{terms, log_at, with_room}
-use Rattle.cache.specs.Calls.{Acquired, acquired, started, reply_of}
-use Rattle.cache.specs.Oldest.{is_before, stamp_at}
-use Rattle.cache.proofs.Asked.{once_as_told}
+use Rattle.pool_rules.specs.AllHosts.{terms, log_at, with_room}
+use Rattle.pool_rules.specs.Calls.{Acquired, acquired, started, reply_of}
+use Rattle.oldest.specs.Oldest.{is_before, stamp_at}
+use Rattle.pool_rules.proofs.BudgetRequests.{once_as_told}
 use Rattle.cache.specs.Pools.{PoolShown, all_hosts, host_at, host_in, IsAcquired, GivesLease, GivesTicket, StaysHost, StaysPool, StreamsStay, OtherStreamsStay, KeepsOtherHosts as KeepsOthers}
 use Rattle.cache.proofs.Booked.{among_last, not_booked, none_due, lease_so, ticket_so, ended_halfway}
 use Rattle.cache.proofs.Keeping.{lease_after, ticket_after, keeps_others_on}
@@ -23,7 +24,7 @@ use Rattle.cache.proofs.StreamsStay.{open_ones_stay, but_one, streams_on, others
 use Rattle.cache.proofs.OneHost.{others_keep, host_changed, read_is, log_is}
 use Rattle.cache.proofs.Calling.{kept_called, was_kept, told_so, marks_nothing, NotesOne}
 use Rattle.cache.proofs.LastTries.{IsToldAt, once_all, once_reply, lease_reply, wait_reply, begun_lease, begun_wait, same_order, no_room_reply, booking_is, half_full, half_goes_on, again_reply, never_again}
-use Rattle.cache.proofs.Rising.{still_not_later}
+use Rattle.pool_rules.proofs.OldestStamps.{still_not_later}
 use Rattle.cache.proofs.hosts.Hosts.acquire.Goals as goal
 
 pub acquire-got-requires-clause-enrolled : goal.acquire-got-requires-clause-enrolled
@@ -144,7 +145,7 @@ pub returns-in-Ok-Lease-clause-all : goal.returns-in-Ok-Lease-clause-all
 returns-in-Ok-Lease-clause-all g c =
     let was = c.index_mut-bundle.result.now in
     once_all c.args.self.now.limits c.self.inside.bundles.items c.args.site was c.acquire-got.new.self c.acquire-got.new.permits.budget.now c.self.inside.lobby.order c.self.inside.lobby.order c.args.want c.args.now c.in-Ok-Lease.ensures.told.0 (lease_told g c) (begun_lease g.row.S.Denot was.host c.args.want _ c.in-Ok-Lease.lease (lease_got g c))
-    ∙ ap (λ p. (Rattle.cache.specs.Calls.acquired c.args.self.now.limits c.args.site c.args.want c.args.now (all_hosts p)).all) c.self.view_is
+    ∙ ap (λ p. (Rattle.pool_rules.specs.Calls.acquired c.args.self.now.limits c.args.site c.args.want c.args.now (all_hosts p)).all) c.self.view_is
 
 pub returns-in-Ok-Lease-clause-others : goal.returns-in-Ok-Lease-clause-others
 returns-in-Ok-Lease-clause-others g c =
@@ -187,7 +188,7 @@ pub returns-in-Ok-Wait-clause-all : goal.returns-in-Ok-Wait-clause-all
 returns-in-Ok-Wait-clause-all g c =
     let was = c.index_mut-bundle.result.now in
     once_all c.args.self.now.limits c.self.inside.bundles.items c.args.site was c.acquire-got.new.self c.acquire-got.new.permits.budget.now c.self.inside.lobby.order c.self.inside.lobby.order c.args.want c.args.now c.in-Ok-Wait.ensures.told.0 (wait_told g c) (begun_wait g.row.S.Denot was.host c.args.want _ c.in-Ok-Wait.ticket (wait_got g c))
-    ∙ ap (λ p. (Rattle.cache.specs.Calls.acquired c.args.self.now.limits c.args.site c.args.want c.args.now (all_hosts p)).all) c.self.view_is
+    ∙ ap (λ p. (Rattle.pool_rules.specs.Calls.acquired c.args.self.now.limits c.args.site c.args.want c.args.now (all_hosts p)).all) c.self.view_is
 
 pub returns-in-Ok-Wait-clause-others : goal.returns-in-Ok-Wait-clause-others
 returns-in-Ok-Wait-clause-others g c =
@@ -198,14 +199,14 @@ pub returns-in-Ok-Lease-clause-reply : goal.returns-in-Ok-Lease-clause-reply
 returns-in-Ok-Lease-clause-reply g c =
     let was = c.index_mut-bundle.result.now in
     let same = once_reply c.args.self.now.limits c.self.inside.bundles.items c.args.site was c.acquire-got.new.self c.acquire-got.new.permits.budget.now c.self.inside.lobby.order c.self.inside.lobby.order c.args.want c.args.now c.in-Ok-Lease.ensures.told.0 (lease_told g c) (begun_lease g.row.S.Denot was.host c.args.want _ c.in-Ok-Lease.lease (lease_got g c)) in
-    let old = ap (λ p. (Rattle.cache.specs.Calls.acquired c.args.self.now.limits c.args.site c.args.want c.args.now (all_hosts p)).reply) c.self.view_is in
+    let old = ap (λ p. (Rattle.pool_rules.specs.Calls.acquired c.args.self.now.limits c.args.site c.args.want c.args.now (all_hosts p)).reply) c.self.view_is in
     subst (λ r. IsAcquired c.args.site r (Rattle.cache.specs.declared.acquired.Acquired.TheVariants.Lease c.in-Ok-Lease.lease)) (same ∙ old) (lease_reply g.row.S.Denot was.host c.args.site c.args.want _ c.in-Ok-Lease.lease (lease_told g c).place (lease_got g c))
 
 pub returns-in-Ok-Wait-clause-reply : goal.returns-in-Ok-Wait-clause-reply
 returns-in-Ok-Wait-clause-reply g c =
     let was = c.index_mut-bundle.result.now in
     let same = once_reply c.args.self.now.limits c.self.inside.bundles.items c.args.site was c.acquire-got.new.self c.acquire-got.new.permits.budget.now c.self.inside.lobby.order c.self.inside.lobby.order c.args.want c.args.now c.in-Ok-Wait.ensures.told.0 (wait_told g c) (begun_wait g.row.S.Denot was.host c.args.want _ c.in-Ok-Wait.ticket (wait_got g c)) in
-    let old = ap (λ p. (Rattle.cache.specs.Calls.acquired c.args.self.now.limits c.args.site c.args.want c.args.now (all_hosts p)).reply) c.self.view_is in
+    let old = ap (λ p. (Rattle.pool_rules.specs.Calls.acquired c.args.self.now.limits c.args.site c.args.want c.args.now (all_hosts p)).reply) c.self.view_is in
     subst (λ r. IsAcquired {S = g.row.S.Denot} c.args.site r (Rattle.cache.specs.declared.acquired.Acquired.TheVariants.Wait c.in-Ok-Wait.ticket)) (same ∙ old) (wait_reply g.row.S.Denot was.host c.args.site c.args.want _ c.in-Ok-Wait.ticket (wait_told g c).place (wait_got g c))
 
 half_told : (g : _) (c : goal.In-Ok-NoRoom g) → IsToldAt false c.args.self.now.limits c.self.inside.bundles.items c.args.site c.index_mut-bundle.result.now c.acquire-got.new.self c.acquire-got.new.permits.budget.now c.self.inside.lobby.order c.self.inside.lobby.order c.args.want c.args.now c.in-Ok-NoRoom.ensures.told.0

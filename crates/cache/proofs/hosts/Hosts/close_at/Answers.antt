@@ -2,10 +2,11 @@ use Rattle.std.proofs.Common.{◌≡◌, ◌+◌, ◌<◌, ℕ, length, slice_se
 use Rattle.budget.specs.Plain.{KeepsOtherHosts, held_at_host}
 use Rattle.budget.specs.Accounts.{spent_at}
 use Rattle.conn_log.specs.Fit.{oldest_stamp}
-use Rattle.bundle.specs.Calls.{is_queued}
-use Rattle.bundle.specs.Laws.{IsSoundAndQuiet}
-use Rattle.bundle.specs.Lease.{HostShown, KeepsAll, KeepsStreams, held_by}
-use Rattle.cache.specs.AllHosts.{without_oldest, oldest_of_all}
+use Rattle.host_rules.specs.Calls.{is_queued}
+use Rattle.host_rules.specs.Laws.{IsSoundAndQuiet}
+use Rattle.bundle.specs.Lease.{HostShown, KeepsAll, KeepsStreams}
+use Rattle.host_rules.specs.Counts.{held_by}
+use Rattle.pool_rules.specs.AllHosts.{without_oldest, oldest_of_all}
 use Rattle.cache.specs.Pools.{PoolShown, all_hosts, KeepsHost}
 use Rattle.cache.proofs.Calling.{kept_called, was_kept, tells_nothing, notes_set, marks_nothing}
 use Rattle.cache.proofs.Claims.{spent_where_one_changes}

@@ -1,9 +1,9 @@
 use Rattle.std.proofs.Common.{sym, ap, ◌∙◌}
 use Rattle.std.specs.Prelude.{is_some}
-use Rattle.cache.specs.AllHosts.{oldest_of_all}
+use Rattle.pool_rules.specs.AllHosts.{oldest_of_all}
 use Rattle.cache.specs.Pools.{PoolShown, all_hosts}
 use Rattle.cache.proofs.Closing.{found_at}
-use Rattle.cache.proofs.Oldests.{oldest_if_kept}
+use Rattle.pool_rules.proofs.OldestOfAll.{oldest_if_kept}
 use Rattle.cache.proofs.hosts.Hosts.close_oldest.Goals as goal
 
 pub returns-in_default-clause-any : goal.returns-in_default-clause-any

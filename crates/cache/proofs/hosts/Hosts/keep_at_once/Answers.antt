@@ -1,14 +1,14 @@
-use Rattle.bundle.specs.Effects.{idle_len}
+use Rattle.host_rules.specs.Effects.{idle_len}
 use Rattle.std.proofs.Common.{◌≡◌, ◌<◌, ℕ, true, length, slice_set, refl, sym, ap, subst, ◌∙◌, rules}
 use Rattle.std.specs.Prelude.{if◌then◌else◌}
-use Rattle.cache.specs.Oldest.{earlier_of, is_since_before, stamp_at}
-use Rattle.cache.proofs.Rising.{given_back_not_later}
+use Rattle.oldest.specs.Oldest.{earlier_of, is_since_before, stamp_at}
+use Rattle.pool_rules.proofs.OldestStamps.{given_back_not_later}
 use Rattle.budget.specs.Plain.{KeepsOtherHosts, held_at_host}
-use Rattle.bundle.specs.Calls.{after_give_back, becomes_idle, is_queued}
+use Rattle.host_rules.specs.Calls.{after_give_back, becomes_idle, is_queued}
 use Rattle.conn_log.specs.Fit.{oldest_stamp}
-use Rattle.bundle.specs.Laws.{IsSoundAndQuiet}
-use Rattle.bundle.specs.Lease.{held_by}
-use Rattle.cache.specs.AllHosts.{marked}
+use Rattle.host_rules.specs.Laws.{IsSoundAndQuiet}
+use Rattle.host_rules.specs.Counts.{held_by}
+use Rattle.pool_rules.specs.AllHosts.{marked}
 use Rattle.cache.proofs.OneHost.{all_marked, others_keep, stepped, log_was}
 use Rattle.cache.proofs.Calling.{kept_called, was_kept, told_spending, tells_nothing, notes_returned, marks_nothing, NotesOne, TellsOne}
 use Rattle.cache.proofs.NoneQueued.{none_in, not_queued, stays_so, same_order, pool_stays}

@@ -2,7 +2,7 @@ use Rattle.std.proofs.Common.{◌≡◌, Bool, false, sym, ap, ◌∙◌}
 use Rattle.std.specs.Prelude.{if◌then◌else◌}
 use Rattle.budget.specs.Plain.{alive_in}
 use Rattle.conn_log.specs.declared.entry.Cause.TheVariants.{TotalRoom}
-use Rattle.cache.specs.AllHosts.{has_room, without_oldest}
+use Rattle.pool_rules.specs.AllHosts.{has_room, without_oldest}
 use Rattle.cache.specs.Pools.{PoolShown, all_hosts}
 use Rattle.cache.proofs.HostSums.{total_is, no_room_at_limit}
 use Rattle.cache.proofs.hosts.Hosts.make_room.Goals as goal

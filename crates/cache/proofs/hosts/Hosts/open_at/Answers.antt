@@ -2,11 +2,12 @@ use Rattle.std.proofs.Common.{◌≡◌, ◌+◌, ◌<◌, ℕ, true, length, sl
 use Rattle.budget.specs.Plain.{KeepsOtherHosts, held_at_host}
 use Rattle.budget.specs.Accounts.{spent_at}
 use Rattle.budget.proofs.Queues.{listed_first}
-use Rattle.bundle.specs.Calls.{is_queued, after_turn}
-use Rattle.bundle.specs.Laws.{IsSoundAndQuiet}
-use Rattle.bundle.specs.Lease.{HostShown, KeepsAll, held_by}
+use Rattle.host_rules.specs.Calls.{is_queued, after_turn}
+use Rattle.host_rules.specs.Laws.{IsSoundAndQuiet}
+use Rattle.bundle.specs.Lease.{HostShown, KeepsAll}
+use Rattle.host_rules.specs.Counts.{held_by}
 use Rattle.bundle.specs.Replies.{answer_of}
-use Rattle.cache.specs.AllHosts.{has_room}
+use Rattle.pool_rules.specs.AllHosts.{has_room}
 use Rattle.cache.specs.Pools.{PoolShown, all_hosts, KeepsHost}
 use Rattle.cache.proofs.Calling.{kept_called, was_kept, tells_nothing}
 use Rattle.cache.proofs.Claims.{spent_where_one_changes}

@@ -2,9 +2,9 @@ use Rattle.std.proofs.Common.{◌≡◌, ◌<◌, length, Some, sym, ap, ◌∙�
 use Rattle.budget.specs.Plain.{KeepsOtherHosts, held_at_host}
 use Rattle.conn_log.specs.Fit.{oldest_stamp}
 use Rattle.bundle.specs.declared.did.Did.TheVariants.{Pruned as WasPruned}
-use Rattle.bundle.specs.Laws.{IsSoundAndQuiet}
-use Rattle.bundle.specs.Lease.{held_by}
-use Rattle.cache.specs.Calls.{pruned_log}
+use Rattle.host_rules.specs.Laws.{IsSoundAndQuiet}
+use Rattle.host_rules.specs.Counts.{held_by}
+use Rattle.pool_rules.specs.Calls.{pruned_log}
 use Rattle.cache.proofs.OneHost.{stepped}
 use Rattle.cache.proofs.Calling.{kept_called, was_kept, told_so, notes_set, marks_nothing}
 use Rattle.cache.proofs.Pruning.{all_keep, all_stepped}

@@ -4,12 +4,12 @@ use Rattle.std.specs.List.{sum_by}
 use Rattle.budget.specs.Lobby.{Queue}
 use Rattle.budget.specs.Plain.{KeepsOtherHosts, held_at_host}
 use Rattle.host_state.specs.Steps.{moment_at}
-use Rattle.bundle.specs.Calls.{after_limit, kept_limit, starts_due, is_queued}
-use Rattle.bundle.specs.Effects.{open_len}
-use Rattle.bundle.specs.Laws.{IsSoundAndQuiet}
-use Rattle.bundle.specs.Lease.{held_by}
+use Rattle.host_rules.specs.Calls.{after_limit, kept_limit, starts_due, is_queued}
+use Rattle.host_rules.specs.Effects.{open_len}
+use Rattle.host_rules.specs.Laws.{IsSoundAndQuiet}
+use Rattle.host_rules.specs.Counts.{held_by}
 use Rattle.bundle.specs.Passes.{limit_did}
-use Rattle.cache.specs.AllHosts.{marked}
+use Rattle.pool_rules.specs.AllHosts.{marked}
 use Rattle.cache.specs.Pools.{logs_of}
 use Rattle.cache.proofs.OneHost.{all_marked, stepped}
 use Rattle.cache.proofs.Calling.{kept_called, was_kept, told_so, notes_oldest, marks_one}

@@ -1,10 +1,11 @@
 use Rattle.std.proofs.Common.{◌≡◌, ◌<◌, length, refl, sym, ap, subst, ◌∙◌, rules, true, slice_set}
 use Rattle.budget.specs.Plain.{KeepsOtherHosts, held_at_host}
-use Rattle.bundle.specs.Calls.{acquired as acquired_at, GrowsBy}
-use Rattle.bundle.specs.Laws.{IsSoundAndQuiet}
-use Rattle.bundle.specs.Lease.{HostShown, HasItsStream, KeepsStreams, KeepsOthers, held_by}
-use Rattle.bundle.specs.Replies.{GivesLease as GotLease, GivesTicket as GotTicket}
-use Rattle.cache.specs.AllHosts.{terms}
+use Rattle.host_rules.specs.Calls.{acquired as acquired_at, GrowsBy}
+use Rattle.host_rules.specs.Laws.{IsSoundAndQuiet}
+use Rattle.bundle.specs.Lease.{HostShown, HasItsStream, KeepsStreams, KeepsOthers}
+use Rattle.host_rules.specs.Counts.{held_by}
+use Rattle.bundle.specs.Replies.{GivesLease as GotLease, GivesTicket as GotTicket, IsGot}
+use Rattle.pool_rules.specs.AllHosts.{terms}
 use Rattle.cache.specs.Pools.{all_hosts, host_at, logs_of, IsAcquired, GivesLease, GivesTicket, StreamsStay, OtherStreamsStay, KeepsHost}
 use Rattle.cache.proofs.StreamsStay.{open_ones_stay, open_others_stay, but_one, streams_on, others_on}
 use Rattle.cache.proofs.OneHost.{others_keep, read_is, host_changed}
@@ -13,9 +14,8 @@ use Rattle.cache.proofs.Calling.{kept_called, was_kept, told_so, marks_one, Note
 use Rattle.cache.proofs.Keeping.{keeps_others, keeps_others_on, grows_on}
 use Rattle.cache.proofs.LastTries.{MakesRoom, lease_reply, wait_reply, no_room_reply, again_reply, never_again, IsToldAt, last_all, last_reply}
 use Rattle.cache.specs.Turns.{IsOneFewer}
-use Rattle.bundle.specs.Replies.{IsGot}
-use Rattle.cache.proofs.Asked.{last_begins_as_told}
-use Rattle.cache.proofs.Rising.{still_not_later}
+use Rattle.pool_rules.proofs.BudgetRequests.{last_begins_as_told}
+use Rattle.pool_rules.proofs.OldestStamps.{still_not_later}
 use Rattle.cache.proofs.hosts.Hosts.start_with_room.Goals as goal
 use Rattle.cache.proofs.hosts.Hosts.start_with_room.Goals.{in-Lease, in-Wait}
 

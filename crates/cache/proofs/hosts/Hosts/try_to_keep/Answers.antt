@@ -1,10 +1,10 @@
-use Rattle.bundle.specs.Effects.{idle_len}
+use Rattle.host_rules.specs.Effects.{idle_len}
 use Rattle.std.proofs.Common.{◌≡◌, ◌<◌, true, length, sym, ap, ◌∙◌, rules}
 use Rattle.budget.specs.Plain.{KeepsOtherHosts, held_at_host}
-use Rattle.bundle.specs.Calls.{after_give_back, becomes_idle}
-use Rattle.bundle.specs.Laws.{IsSoundAndQuiet}
-use Rattle.bundle.specs.Lease.{held_by}
-use Rattle.cache.specs.AllHosts.{marked}
+use Rattle.host_rules.specs.Calls.{after_give_back, becomes_idle}
+use Rattle.host_rules.specs.Laws.{IsSoundAndQuiet}
+use Rattle.host_rules.specs.Counts.{held_by}
+use Rattle.pool_rules.specs.AllHosts.{marked}
 use Rattle.cache.proofs.OneHost.{all_marked, others_keep, stepped, log_was}
 use Rattle.cache.proofs.Calling.{kept_called, was_kept, told_spending, tells_nothing, notes_oldest, marks_one, TellsOne}
 use Rattle.cache.proofs.SameLog.{pool_same}

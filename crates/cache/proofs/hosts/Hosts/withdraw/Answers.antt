@@ -1,10 +1,10 @@
 use Rattle.std.proofs.Common.{◌≡◌, ◌<◌, length, Some, sym, ap, ◌∙◌, rules}
 use Rattle.budget.specs.Plain.{KeepsOtherHosts, held_at_host}
 use Rattle.bundle.specs.declared.did.Did.TheVariants.{Stranger}
-use Rattle.bundle.specs.Calls.{after_withdraw}
-use Rattle.bundle.specs.Laws.{IsSoundAndQuiet}
-use Rattle.bundle.specs.Lease.{held_by}
-use Rattle.cache.specs.AllHosts.{marked}
+use Rattle.host_rules.specs.Calls.{after_withdraw}
+use Rattle.host_rules.specs.Laws.{IsSoundAndQuiet}
+use Rattle.host_rules.specs.Counts.{held_by}
+use Rattle.pool_rules.specs.AllHosts.{marked}
 use Rattle.cache.proofs.OneHost.{all_marked, others_keep, stepped}
 use Rattle.cache.proofs.Calling.{kept_called, was_kept, notes_oldest, marks_one}
 use Rattle.cache.proofs.SameLog.{told_either, pool_same}

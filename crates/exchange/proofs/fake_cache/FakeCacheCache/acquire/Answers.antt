@@ -1,9 +1,9 @@
 use Rattle.std.proofs.Common.{rules, ◌≡◌, is_some}
 use Rattle.bundle.specs.Lease.{HasItsStream}
 use Rattle.cache.specs.declared.acquired.Acquired.TheVariants.{Lease, Wait}
-use Rattle.cache.specs.Calls.{reply_of, after_acquire}
+use Rattle.pool_rules.specs.Calls.{reply_of, after_acquire}
 use Rattle.cache.specs.Pools.{IsMadeHere, StaysPool, IsAcquired, all_hosts, host_at}
-use Rattle.cache.proofs.Replying.{acquire_starts_or_waits}
+use Rattle.pool_rules.proofs.Replies.{acquire_starts_or_waits}
 use Rattle.exchange.specs.Deeds.{none_out}
 use Rattle.exchange.specs.FakeCaches.{out_of}
 use Rattle.exchange.proofs.AcquiredFor.{lease_for, ticket_for, did_acquire}

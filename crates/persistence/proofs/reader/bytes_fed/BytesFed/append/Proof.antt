@@ -1,5 +1,5 @@
 -- An empty body. The borrow is opened and closed at another ghost value.
-use Rattle.std.proofs.Common.{ℕ, List, [], ◌∷◌, ◌++◌, refl, MutBor}
+use Rattle.std.proofs.Common.{ℕ, List, [], ◌∷◌, ◌++◌, refl, MutBor, ◌<◌, ◌^◌, length}
 use seplogic.Ra.Ura.{Ura}
 use mir.Syntax.{named}
 use mir.Val.{Val, vunit, vptr}
@@ -28,7 +28,6 @@ use denote.Triple.Walked.{says, Stays, stay_ref, stay_none_slice, walk_of, AllGo
 use denote.Builtin.{u8}
 use denote.Exit.{yes}
 use denote.Slice.{ShrSlice, slice_val, shr_slice_vals, shr_slice_Tells}
-use Rattle.std.proofs.Common.{◌<◌, ◌^◌, length}
 use Rattle.persistence.specs.declared.reader.bytes_fed.BytesFed.{BytesFed}
 use Rattle.persistence.specs.contracts.reader.bytes_fed.BytesFed as T
 use Rattle.persistence.specs.contracts.reader.bytes_fed.BytesFed.append.Key.{name as #it}

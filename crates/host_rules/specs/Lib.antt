@@ -1,0 +1,14 @@
+-- what calls of one host answer, and what they do
+-- the log after a call and its reply
+pub mod Calls
+-- what each call does as far as other hosts count it
+pub mod Effects
+-- what a log tells beside connections: what was granted, whose acquires are halfway, what is counted
+pub mod Grants
+pub mod Bookings
+pub mod Counts
+-- how a lobby lists a host
+pub mod Orders
+-- laws over all logs, and calls worked out
+pub mod Laws
+pub mod Worked

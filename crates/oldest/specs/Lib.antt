@@ -1,0 +1,2 @@
+pub mod Oldest
+pub mod Trees

@@ -1,0 +1,4 @@
+pub mod AllHosts
+pub mod Calls
+pub mod Laws
+pub mod Worked
