@@ -42,6 +42,15 @@ eof                 has a body that lasted until the connection ended
 cut                 was not read whole
 surplus             had bytes after its end
 
+After limits 1 0 1, with one site, who waited has to claim:
+get 1 0 0 at 0      opened 0.1 for 1 at 0
+get 2 0 0 at 1      waits 2 host 0 at 1
+back 1 0 keep at 2  returned 0.1 by 1 at 2
+                    leased 0.1 to 2 at 2
+back 2 0 keep at 3  refused stranger
+claim 2 0           claimed 0.1
+back 2 0 keep at 4  returned 0.1 by 2 at 4
+
 Number              From 0 to
 H and T of limits   65535, where 0 counts as 65535; N of limit too
 C of limits         65535, but at least 1
