@@ -1,25 +1,27 @@
 //! The words of a script, for who asks how to write one.
 
-/// The commands of a script, as a table of at most 80 columns.
+/// What a script says, what its transcript says, and why a script ends early, as tables of at most
+/// 80 columns.
 pub const COMMANDS: &str = "\
 A script is lines of words, each line a command; empty lines and lines that
-begin with # are skipped. T is a transfer, S a site (0 is the first), L a lane,
-which stands for all else that has to match, and M a moment in seconds.
+begin with # are skipped. Only spaces separate words: a tab, and a byte-order
+mark before the first line, belong to a word. T is a transfer, S a site (0 is
+the first), L a lane, which stands for all else that has to match, and M a
+moment in seconds; one before the host's last counts as that.
 
 Command             Meaning
 limits H T C        First of all: the most connections that are open to a host,
-                    open to all hosts, and kept idle; 0 is no limit for H and T
+                    open to all hosts, and kept idle
 site http://..      Names the next host, by a URL; a site that is there already
-                    is not named again
+                    is not named again; sites come before all other commands
 get T S L at M ..   Transfer T acquires a connection, or begins to wait for one
 claim T S           T takes what it was granted, or still waits
 back T S KIND at M  T gives its connection back after a response that ended as
-                    KIND says: keep, close, old, old-keep, eof, cut or surplus
+                    KIND says
 drop T S at M       T abandons its connection
 leave T S at M      T gives up its wait, or what it was granted
-limit S N at M      At most N connections, up to 65535, are open to S from now
-                    on (0, no limit); idle ones above N are closed; refused
-                    where more are in use
+limit S N at M      At most N connections are open to S from now on; idle ones
+                    above N are closed; refused where more are in use
 prune A F at M      Closes, at all sites, what is idle for more than A seconds,
                     or idle and open for more than F (0, no limit)
 upkeep              Keeps connections alive: with HTTP/1.1 there is no way to
@@ -29,4 +31,89 @@ After get, each at most once and in any order:
 age N               At most N seconds idle (118 where it is not given)
 life N              At most N seconds since it was opened (0, no limit)
 fresh               Only a new connection will do
-forbid              The connection is closed after this use";
+forbid              The connection is closed after this use
+
+KIND                The response
+keep                lets its connection persist
+close               has the connection option close
+old                 is of HTTP/1.0
+old-keep            is of HTTP/1.0, and keep-alive lets its connection persist
+eof                 has a body that lasted until the connection ended
+cut                 was not read whole
+surplus             had bytes after its end
+
+After limits 1 0 1, with one site, who waited has to claim:
+get 1 0 0 at 0      opened 0.1 for 1 at 0
+get 2 0 0 at 1      waits 2 host 0 at 1
+back 1 0 keep at 2  returned 0.1 by 1 at 2
+                    leased 0.1 to 2 at 2
+back 2 0 keep at 3  refused stranger
+claim 2 0           claimed 0.1
+back 2 0 keep at 4  returned 0.1 by 2 at 4
+
+Number              From 0 to
+H and T of limits   65535, where 0 counts as 65535; N of limit too
+C of limits         65535, but at least 1
+S                   1023, since there are at most 1024 sites
+L                   4294967295
+any other           18446744073709551615
+
+A script has at most 1048576 bytes, a line 2304, and a URL 2048.
+
+Line of transcript  Meaning, where H.C is connection C of site H
+opened H.C for T at M
+                    It was opened for T, who claims it first if T waited
+leased H.C to T at M
+                    It is reused by T, who claims it first if T waited
+returned H.C by T at M
+                    T gave it back
+closed H.C CAUSE at M
+                    It was closed, since CAUSE
+waits T host H at M
+                    T waits, behind all who wait there
+left T host H at M  T gave up its wait
+limit H N at M      At most N connections are open to H from now on
+claimed H.C         To claim: T has it
+still waiting       To claim: nothing was granted to T yet
+upkeep N            To upkeep: N connections were kept alive
+host H open N idle N leased N waiting N queued yes|no
+                    To look: open connections, those idle, those granted or in
+                    use, who waits, and whether that is for room in total
+refused busy        To get: T has a connection of the host, or waits there
+refused exhausted   To get: the host has no number left for a connection
+refused bad-site    To get, limit and look: there is no such site
+refused bad-limit   To limit: N is above 65535
+refused leased N    To limit: N connections are granted or in use
+refused stranger    To back, drop: T has no connection there, or has yet to
+                    claim it; to claim, leave: T neither waits there nor has
+                    one to claim
+
+CAUSE               Why the connection was closed
+cut                 The response was not read whole
+forbidden           Else: its get said forbid
+not-persistent      Else: KIND does not let it persist
+too-old             It was idle or open for longer than a get of its lane allows
+host-room           For another connection to its host, or for a lower limit
+total-room          For another connection, as the total was at its limit
+cache-full          It was idle for the longest as one came back and C were idle
+dropped             T abandoned it
+withdrawn           T left before it claimed it
+pruned              It was idle or open for longer than prune allows
+
+line N: ..          Why the script ended there (0: before its lines, or after)
+unknown command     The line's first word is no command
+wrong form          A word is missing, one is too many, or is not what belongs
+                    there, as a number too great
+wrong place         A limits that is not first, a site after other commands, or
+                    a command before limits
+bad limits          C is 0, or a number above 65535
+bad site            It is not UTF-8, no URL, not of http, or too long
+too many sites      It would be the 1025th
+line too long       It has more than 2304 bytes
+script too long     It has more than 1048576 bytes: no line was run
+cannot read         The script could not be read: no line was run
+cannot write        The transcript could not be written
+out of memory       Memory ran out
+
+Status              0: the script ran to its end; 2: the words are refused;
+                    3: the script ended early; 4: no memory to read the words";

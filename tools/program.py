@@ -1,0 +1,100 @@
+"""The program curlpool for the tools that build or run it: what it is built from, and whether it is built of that."""
+import os
+import shutil
+import signal
+import subprocess
+import sys
+
+TOP = os.path.dirname(os.path.dirname(os.path.abspath(__file__)))
+NAME = "pool_cli"
+FOLDER = os.path.join(TOP, "crates", NAME)
+BUILT = os.path.join(FOLDER, "out", NAME)
+
+
+def needed():
+    """The crates that the program stands on and the program itself, each with those of them that it stands on."""
+    listed = {}
+    with open(os.path.join(TOP, "crates.txt"), encoding="utf8") as lines:
+        for line in lines:
+            name, found, libraries = line.split("#")[0].partition(":")
+            if found:
+                listed[name.split()[0]] = libraries.split()
+    wanted = [NAME]
+    for name in wanted:
+        wanted += [below for below in listed[name] if below in listed and below not in wanted]
+    return {name: [below for below in listed[name] if below in wanted] for name in listed if name in wanted}
+
+
+def sources():
+    """The files and folders that the program is built from."""
+    yield os.path.join(TOP, "crates.txt")
+    for name in needed():
+        for part in ("src", "specs"):
+            for folder, _, files in os.walk(os.path.join(TOP, "crates", name, part)):
+                yield folder
+                yield from (os.path.join(folder, file) for file in files)
+
+
+def is_built():
+    return os.access(BUILT, os.X_OK)
+
+
+def is_current():
+    """Whether the program is built, and nothing that it is built from is newer."""
+    if not is_built():
+        return False
+    built = os.stat(BUILT).st_mtime_ns
+    return all(os.stat(source).st_mtime_ns <= built for source in sources())
+
+
+def build_unless_current():
+    """Builds the program where it is missing or older than its sources."""
+    if not is_current() and subprocess.run([os.path.join(TOP, "tools", "build-program")]).returncode != 0:
+        sys.exit("tools/build-program did not build the program")
+
+
+def say(text):
+    print(f"curlpool: {text}", file=sys.stderr, flush=True)
+
+
+def has_rt():
+    """Whether the kit's command is at hand; says so where it is not."""
+    if shutil.which("rt"):
+        return True
+    say("the Rattle kit's command rt is not on the path; docs/developing.md names the kit")
+    return False
+
+
+class Stopped(BaseException):
+    """A signal asks this process to end."""
+
+    def __init__(self, number):
+        super().__init__(number)
+        self.status = 128 + number
+
+
+ENDING = (signal.SIGINT, signal.SIGTERM, signal.SIGHUP)
+
+
+def stop_by_exception():
+    """From now on a signal that asks this process to end raises Stopped in the main thread."""
+    def stop(number, _):
+        # once is enough: what is done then is not to be cut short
+        for one in ENDING:
+            signal.signal(one, signal.SIG_IGN)
+        raise Stopped(number)
+
+    for number in ENDING:
+        signal.signal(number, stop)
+
+
+def start_rt(words, **streams):
+    """Starts rt with these words, in a process group of its own."""
+    return subprocess.Popen(["rt", *words], start_new_session=True, **streams)
+
+
+def end_rt(started):
+    """Ends rt and all that it started."""
+    if started.poll() is None:
+        os.killpg(started.pid, signal.SIGTERM)
+        started.wait()
