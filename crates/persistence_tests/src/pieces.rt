@@ -242,6 +242,18 @@ pub(crate) fn check_told(
     assert_eq!(rt; found, expected, "{case}, {way} {place}");
 }
 
+/// Checks what the reader shows in the case, whatever it told last.
+fn check_shown(
+    rt: &impl Abort,
+    case: &str,
+    way: &str,
+    place: usize,
+    reader: &ResponseReader,
+    expected: Response,
+) {
+    check_told(rt, case, way, place, Ok(response_of(reader)), Ok(expected));
+}
+
 /// Cuts the text at every place, and checks what is told of each two pieces.
 fn check_cuts(rt: &impl Abort, alloc: Global, case: &str, sent: Sent, told: Told) {
     for first in 0..sent.text.len() {
@@ -292,9 +304,9 @@ fn check_short(
 ) -> Result<(), ReadFault> {
     let len = sent.text.len();
     let at_once = told_in_pieces(rt, alloc, sent, len, 1);
-    check_told(rt, case, "at once, bytes:", len, at_once, told);
+    check_told(rt, case, "all of", len, at_once, told);
     let by_byte = told_in_pieces(rt, alloc, sent, 0, 1);
-    check_told(rt, case, "one by one, bytes:", len, by_byte, told);
+    check_told(rt, case, "each of", len, by_byte, told);
     check_cuts(rt, alloc, case, sent, told);
     check_fronts(rt, alloc, case, sent, 0)
 }
@@ -312,11 +324,11 @@ fn check_long(
     let len = sent.text.len();
     let last = len.saturating_sub(50);
     let at_once = told_in_pieces(rt, alloc, sent, len, 1);
-    check_told(rt, case, "at once, bytes:", len, at_once, told);
+    check_told(rt, case, "all of", len, at_once, told);
     let by_thousands = told_in_pieces(rt, alloc, sent, 0, 1_000);
-    check_told(rt, case, "by thousands, bytes:", len, by_thousands, told);
+    check_told(rt, case, "thousands of", len, by_thousands, told);
     let by_byte = told_in_pieces(rt, alloc, sent, last, 1);
-    check_told(rt, case, "one by one from", last, by_byte, told);
+    check_told(rt, case, "each from", last, by_byte, told);
     check_fronts(rt, alloc, case, sent, last)
 }
 
@@ -428,14 +440,7 @@ fn a_long_section_shows_one_of_two_faults(rt: HostRuntime) -> Result<(), Fail> {
         let at_once = told_in_pieces(&rt, rt.alloc(), sent, text.len(), 1);
         assert!(rt; at_once == Err(long) || at_once == Err(bad), "{case}");
         let by_byte = told_in_pieces(&rt, rt.alloc(), sent, 0, 1);
-        check_told(
-            &rt,
-            case,
-            "one by one, bytes:",
-            text.len(),
-            by_byte,
-            Err(long),
-        );
+        check_told(&rt, case, "each of", text.len(), by_byte, Err(long));
     }
     Ok(())
 }
@@ -452,25 +457,11 @@ fn check_fault_stays(
     fault: ReadFault,
     after: Response,
 ) {
-    check_told(
-        rt,
-        case,
-        "its fault shown,",
-        0,
-        Ok(response_of(reader)),
-        Ok(after),
-    );
+    check_shown(rt, case, "then bytes", 0, reader, after);
     for more in &MORE {
         let found = fed(rt, reader, more.as_bytes());
-        check_told(rt, case, "then bytes:", more.len(), found, Err(fault));
-        check_told(
-            rt,
-            case,
-            "then bytes:",
-            more.len(),
-            Ok(response_of(reader)),
-            Ok(after),
-        );
+        check_told(rt, case, "then bytes", more.len(), found, Err(fault));
+        check_shown(rt, case, "then bytes", more.len(), reader, after);
     }
     let found = at_end(rt, reader, Err(fault));
     check_told(rt, case, "ended", 0, found, Err(fault));
@@ -505,17 +496,10 @@ fn a_fault_stays(rt: HostRuntime) -> Result<(), Fail> {
             ended: false,
         };
         let (mut at_once, told) = reader_fed(&rt, rt.alloc(), sent, SHORT, SHORT)?;
-        check_told(&rt, case, "at once, bytes:", text.len(), told, Err(fault));
+        check_told(&rt, case, "all of", text.len(), told, Err(fault));
         check_fault_stays(&rt, &mut at_once, case, fault, after);
         let (mut by_byte, told) = reader_fed(&rt, rt.alloc(), sent, 0, 1)?;
-        check_told(
-            &rt,
-            case,
-            "one by one, bytes:",
-            text.len(),
-            told,
-            Err(fault),
-        );
+        check_told(&rt, case, "each of", text.len(), told, Err(fault));
         check_fault_stays(&rt, &mut by_byte, case, fault, after);
     }
     Ok(())
@@ -530,7 +514,7 @@ fn check_fed(
     expected: Response,
 ) {
     let found = fed(rt, reader, piece);
-    check_told(rt, case, "then bytes:", piece.len(), found, Ok(expected));
+    check_told(rt, case, "then bytes", piece.len(), found, Ok(expected));
 }
 
 #[test]
@@ -573,14 +557,7 @@ fn the_end_makes_whole_what_lasts_until_it(rt: HostRuntime) -> Result<(), Fail> 
         };
         let (mut reader, told) = reader_fed(&rt, rt.alloc(), sent, 0, 1)?;
         let before = response_of(&reader);
-        check_told(
-            &rt,
-            case,
-            "one by one, bytes:",
-            text.len(),
-            told,
-            Ok(before),
-        );
+        check_told(&rt, case, "each of", text.len(), told, Ok(before));
         assert_eq!(rt; before.facts.whole, whole_before, "{case}");
         let after = Response {
             facts: Facts {
@@ -592,7 +569,7 @@ fn the_end_makes_whole_what_lasts_until_it(rt: HostRuntime) -> Result<(), Fail> 
         let found = at_end(&rt, &mut reader, told);
         check_told(&rt, case, "ended", 1, found, Ok(after));
         reader.end();
-        check_told(&rt, case, "ended", 2, Ok(response_of(&reader)), Ok(after));
+        check_shown(&rt, case, "ended", 2, &reader, after);
         assert_eq!(rt; reader.any_byte(), !text.is_empty(), "{case}");
     }
     Ok(())
@@ -627,12 +604,11 @@ fn what_the_request_asked_is_told(rt: HostRuntime) -> Result<(), Fail> {
 fn any_byte_tells_of_the_first(rt: HostRuntime) -> Result<(), Fail> {
     let mut reader = ResponseReader::new(rt.alloc(), Method::Get, false)?;
     assert!(rt; !reader.any_byte());
-    assert!(rt; fed(&rt, &mut reader, b"").is_ok());
-    assert!(rt; !reader.any_byte());
-    assert!(rt; fed(&rt, &mut reader, b"\n").is_ok());
-    assert!(rt; reader.any_byte());
-    assert!(rt; fed(&rt, &mut reader, b"").is_ok());
-    assert!(rt; reader.any_byte());
+    for row in &[("", false), ("\n", true), ("", true)] {
+        let (piece, any) = *row;
+        assert!(rt; fed(&rt, &mut reader, piece.as_bytes()).is_ok());
+        assert_eq!(rt; reader.any_byte(), any);
+    }
     Ok(())
 }
 
@@ -660,38 +636,18 @@ fn check_as_new(
     case: &str,
     sent: Sent,
 ) -> Result<(), ReadFault> {
+    let len = sent.text.len();
     let mut new = ResponseReader::new(alloc, sent.method, sent.request_close)?;
     assert_eq!(rt;
         (reader.ended(), reader.any_byte()),
         (false, false),
         "{case}"
     );
-    check_told(
-        rt,
-        case,
-        "cleared",
-        0,
-        Ok(response_of(reader)),
-        Ok(response_of(&new)),
-    );
+    check_shown(rt, case, "as new before", len, reader, response_of(&new));
     let found = fed(rt, reader, sent.text);
     let expected = fed(rt, &mut new, sent.text);
-    check_told(
-        rt,
-        case,
-        "cleared, then bytes:",
-        sent.text.len(),
-        found,
-        expected,
-    );
-    check_told(
-        rt,
-        case,
-        "read again",
-        0,
-        Ok(response_of(reader)),
-        Ok(response_of(&new)),
-    );
+    check_told(rt, case, "as new at", len, found, expected);
+    check_shown(rt, case, "as new after", len, reader, response_of(&new));
     Ok(())
 }
 
