@@ -4,13 +4,9 @@
 
 mod key;
 mod memory;
-#[cfg(test)]
-mod memory_tests;
 mod site;
 mod sites;
 mod target;
-#[cfg(test)]
-mod tests;
 
 pub use key::Key;
 pub use memory::{CountedMemory, TargetMemory};

@@ -12,6 +12,3 @@ pub use entry::{Cause, Entry, Event, Want};
 pub use log::{Log, LogFault};
 pub use readers::{holder, idle_oldest, open_count, waiting_len};
 pub use stamp::Stamp;
-
-#[cfg(test)]
-mod tests;

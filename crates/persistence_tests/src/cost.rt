@@ -59,7 +59,8 @@ fn feeds_each(reader: &mut ResponseReader, text: &[u8], each: usize) -> bool {
 
 #[test]
 fn each_piece_is_read(rt: HostRuntime) -> Result<(), Fail> {
-    for (before, text, count, end, body_len) in PIECES {
+    for row in &PIECES {
+        let (before, text, count, end, body_len) = *row;
         let mut reader = ResponseReader::new(rt.alloc(), Method::Get, false)?;
         assert!(rt; !reader.ended());
         assert!(rt; reader.feed(before.as_bytes()).is_ok());
@@ -82,7 +83,8 @@ fn a_typical_response_is_read(rt: HostRuntime) -> Result<(), Fail> {
 
 #[test]
 fn each_head_is_read(rt: HostRuntime) -> Result<(), Fail> {
-    for (fields, value_len, len, each) in HEADS {
+    for row in &HEADS {
+        let (fields, value_len, len, each) = *row;
         let head = head_of(rt.alloc(), fields, value_len)?;
         assert_eq!(rt; head.len(), len);
         let mut reader = ResponseReader::new(rt.alloc(), Method::Get, false)?;

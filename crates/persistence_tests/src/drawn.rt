@@ -1,6 +1,6 @@
 //! Responses that are drawn and come cut at drawn places: of each a reader tells what a reader
 //! tells that is fed all its bytes at once, and of an undamaged one what it was drawn to be.
-use crate::pieces::{Sent, Told, at_end, fed, told_in_pieces};
+use crate::pieces::{Response, Sent, Told, at_end, check_told, fed, told_in_pieces};
 use persistence::{Method, ReadFault, ResponseReader};
 use std::alloc::{AllocError, Global};
 use std::process::Abort;
@@ -198,6 +198,54 @@ fn add_chunks(
     Ok(len)
 }
 
+/// What a body is drawn to be that does not come in chunks.
+fn draw_content(alloc: Global, draws: &mut Draws) -> Result<Vec<u8>, AllocError> {
+    let mut content = Vec::new(alloc);
+    add_some(&mut content, draws, 10, &CONTENT)?;
+    Ok(content)
+}
+
+/// Adds a field with the length, or another one.
+fn add_length(
+    alloc: Global,
+    text: &mut Vec<u8>,
+    draws: &mut Draws,
+    len: usize,
+    damage: Damage,
+) -> Result<(), AllocError> {
+    let count = told_length(draws, len, damage);
+    let field = format!(in alloc; "Content-Length: {count}\r\n")?;
+    text.extend_from_slice(field.as_bytes())
+}
+
+/// Adds the empty line behind the fields, and the content.
+fn add_content(text: &mut Vec<u8>, content: &[u8]) -> Result<(), AllocError> {
+    text.extend_from_slice(b"\r\n")?;
+    text.extend_from_slice(content)
+}
+
+/// Adds drawn fields, those that tell the body's length, and the body; answers how many bytes of
+/// content it has.
+fn add_rest(
+    alloc: Global,
+    text: &mut Vec<u8>,
+    draws: &mut Draws,
+    body: Body,
+    damage: Damage,
+) -> Result<usize, AllocError> {
+    add_some(text, draws, 4, &FIELDS)?;
+    if matches!(body, Body::Chunked) {
+        text.extend_from_slice(b"Transfer-Encoding: chunked\r\n\r\n")?;
+        return add_chunks(alloc, text, draws, damage);
+    }
+    let content = draw_content(alloc, draws)?;
+    if matches!(body, Body::Counted) {
+        add_length(alloc, text, draws, content.len(), damage)?;
+    }
+    add_content(text, &content)?;
+    Ok(content.len())
+}
+
 /// A response of that kind, before any damage but to its lengths; and how many bytes of content it
 /// has.
 fn draw_response(
@@ -208,22 +256,8 @@ fn draw_response(
     damage: Damage,
 ) -> Result<(Vec<u8>, usize), AllocError> {
     let mut text = Vec::from_slice(alloc, start.as_bytes())?;
-    add_some(&mut text, draws, 4, &FIELDS)?;
-    if matches!(body, Body::Chunked) {
-        text.extend_from_slice(b"Transfer-Encoding: chunked\r\n\r\n")?;
-        let len = add_chunks(alloc, &mut text, draws, damage)?;
-        return Ok((text, len));
-    }
-    let mut content = Vec::new(alloc);
-    add_some(&mut content, draws, 10, &CONTENT)?;
-    if matches!(body, Body::Counted) {
-        let count = told_length(draws, content.len(), damage);
-        let field = format!(in alloc; "Content-Length: {count}\r\n")?;
-        text.extend_from_slice(field.as_bytes())?;
-    }
-    text.extend_from_slice(b"\r\n")?;
-    text.extend_from_slice(&content)?;
-    Ok((text, content.len()))
+    let len = add_rest(alloc, &mut text, draws, body, damage)?;
+    Ok((text, len))
 }
 
 /// Does the damage at a drawn place.
@@ -284,6 +318,54 @@ fn told_in_drawn_pieces(
     next
 }
 
+/// Draws a response of that kind and does the damage; how many bytes of content it had before.
+fn draw_damaged(
+    alloc: Global,
+    draws: &mut Draws,
+    start: &str,
+    body: Body,
+    damage: Damage,
+) -> Result<(Vec<u8>, usize), AllocError> {
+    let (mut text, len) = draw_response(alloc, draws, start, body, damage)?;
+    damage_bytes(&mut text, draws, damage)?;
+    Ok((text, len))
+}
+
+/// What is told of the response of that number in drawn pieces, checked against what is told of all
+/// its bytes at once.
+fn told_both_ways(
+    rt: &impl Abort,
+    alloc: Global,
+    draws: &mut Draws,
+    number: usize,
+    sent: Sent,
+) -> Told {
+    let at_once = told_in_pieces(rt, alloc, sent, sent.text.len(), 1);
+    let reader = ResponseReader::new(alloc, sent.method, sent.request_close)?;
+    let found = told_in_drawn_pieces(rt, draws, reader, sent.text, sent.ended);
+    check_told(rt, "drawn", "response", number, found, at_once);
+    found
+}
+
+/// Checks that an undamaged response is what it was drawn to be: its status, where its body ends,
+/// and how many bytes of content it has.
+fn check_undamaged(
+    rt: &impl Abort,
+    number: usize,
+    sent: Sent,
+    response: Response,
+    status: u16,
+    body: Body,
+    len: usize,
+) {
+    let has_body = sent.method == Method::Get && status != 304;
+    let body_len = if has_body { len as u64 } else { 0 };
+    let whole = sent.ended || !has_body || !matches!(body, Body::UntilClose);
+    assert_eq!(rt; response.status, Some(status), "response {number}");
+    assert_eq!(rt; response.body_len, body_len, "response {number}");
+    assert_eq!(rt; response.facts.whole, whole, "response {number}");
+}
+
 /// Draws the response of that number, and checks what is told of it; of an undamaged one also what
 /// it was drawn to be.
 fn check_drawn(
@@ -292,12 +374,10 @@ fn check_drawn(
     draws: &mut Draws,
     number: usize,
 ) -> Result<(), ReadFault> {
-    let (method, start, status, body) = KINDS[number % KINDS.len()];
-    let damage = DAMAGES[number / KINDS.len() % DAMAGES.len()];
-    let Ok((mut text, len)) = draw_response(alloc, draws, start, body, damage) else {
-        return Err(ReadFault::Memory);
-    };
-    let Ok(()) = damage_bytes(&mut text, draws, damage) else {
+    let (kinds, damages) = (&KINDS, &DAMAGES);
+    let (method, start, status, body) = kinds[number % KINDS.len()];
+    let damage = damages[number / KINDS.len() % DAMAGES.len()];
+    let Ok((text, len)) = draw_damaged(alloc, draws, start, body, damage) else {
         return Err(ReadFault::Memory);
     };
     let request_close = draws.below(2) == 0;
@@ -308,18 +388,9 @@ fn check_drawn(
         text: &text,
         ended,
     };
-    let at_once = told_in_pieces(rt, alloc, sent, text.len(), 1);
-    let reader = ResponseReader::new(alloc, method, request_close)?;
-    let found = told_in_drawn_pieces(rt, draws, reader, &text, ended);
-    assert_eq!(rt; found, at_once, "response {number}");
+    let told = told_both_ways(rt, alloc, draws, number, sent);
     if damage == Damage::Nothing {
-        let response = found?;
-        let has_body = method == Method::Get && status != 304;
-        let body_len = if has_body { len as u64 } else { 0 };
-        let whole = ended || !has_body || !matches!(body, Body::UntilClose);
-        assert_eq!(rt; response.status, Some(status), "response {number}");
-        assert_eq!(rt; response.body_len, body_len, "response {number}");
-        assert_eq!(rt; response.facts.whole, whole, "response {number}");
+        check_undamaged(rt, number, sent, told?, status, body, len);
     }
     Ok(())
 }

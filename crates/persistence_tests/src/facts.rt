@@ -127,7 +127,8 @@ const ROWS: [(&str, Facts, bool); 14] = [
 
 #[test]
 fn persists_by_the_facts(rt: HostRuntime) {
-    for (case, facts, expected) in ROWS {
+    for row in &ROWS {
+        let (case, facts, expected) = *row;
         assert_eq!(rt; persists(&facts), expected, "{case}");
     }
 }

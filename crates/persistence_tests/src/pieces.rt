@@ -229,11 +229,36 @@ pub(crate) fn told_in_pieces(
     }
 }
 
+/// Checks what is told in the case. One that fails is printed with the way in which the bytes came
+/// and a place or count that goes with it.
+pub(crate) fn check_told(
+    rt: &impl Abort,
+    case: &str,
+    way: &str,
+    place: usize,
+    found: Told,
+    expected: Told,
+) {
+    assert_eq!(rt; found, expected, "{case}, {way} {place}");
+}
+
+/// Checks what the reader shows in the case, whatever it told last.
+fn check_shown(
+    rt: &impl Abort,
+    case: &str,
+    way: &str,
+    place: usize,
+    reader: &ResponseReader,
+    expected: Response,
+) {
+    check_told(rt, case, way, place, Ok(response_of(reader)), Ok(expected));
+}
+
 /// Cuts the text at every place, and checks what is told of each two pieces.
 fn check_cuts(rt: &impl Abort, alloc: Global, case: &str, sent: Sent, told: Told) {
     for first in 0..sent.text.len() {
         let found = told_in_pieces(rt, alloc, sent, first, SHORT);
-        assert_eq!(rt; found, told, "{case}, cut at {first}");
+        check_told(rt, case, "cut at", first, found, told);
     }
 }
 
@@ -249,11 +274,12 @@ fn check_fronts(
     let from = from.min(sent.text.len());
     let mut reader = ResponseReader::new(alloc, sent.method, sent.request_close)?;
     let start = fed(rt, &mut reader, &sent.text[..from]);
-    assert_eq!(rt; start, told_of_front(rt, alloc, sent, from), "{case}");
+    let at_once = told_of_front(rt, alloc, sent, from);
+    check_told(rt, case, "before byte", from, start, at_once);
     for place in from..sent.text.len() {
         let found = fed(rt, &mut reader, &sent.text[place..place + 1]);
         let at_once = told_of_front(rt, alloc, sent, place + 1);
-        assert_eq!(rt; found, at_once, "{case}, byte {place}");
+        check_told(rt, case, "after byte", place, found, at_once);
     }
     Ok(())
 }
@@ -276,10 +302,11 @@ fn check_short(
     sent: Sent,
     told: Told,
 ) -> Result<(), ReadFault> {
-    let at_once = told_in_pieces(rt, alloc, sent, sent.text.len(), 1);
-    assert_eq!(rt; at_once, told, "{case}, at once");
+    let len = sent.text.len();
+    let at_once = told_in_pieces(rt, alloc, sent, len, 1);
+    check_told(rt, case, "all of", len, at_once, told);
     let by_byte = told_in_pieces(rt, alloc, sent, 0, 1);
-    assert_eq!(rt; by_byte, told, "{case}, byte by byte");
+    check_told(rt, case, "each of", len, by_byte, told);
     check_cuts(rt, alloc, case, sent, told);
     check_fronts(rt, alloc, case, sent, 0)
 }
@@ -294,19 +321,21 @@ fn check_long(
     sent: Sent,
     told: Told,
 ) -> Result<(), ReadFault> {
-    let last = sent.text.len().saturating_sub(50);
-    let at_once = told_in_pieces(rt, alloc, sent, sent.text.len(), 1);
-    assert_eq!(rt; at_once, told, "{case}, at once");
+    let len = sent.text.len();
+    let last = len.saturating_sub(50);
+    let at_once = told_in_pieces(rt, alloc, sent, len, 1);
+    check_told(rt, case, "all of", len, at_once, told);
     let by_thousands = told_in_pieces(rt, alloc, sent, 0, 1_000);
-    assert_eq!(rt; by_thousands, told, "{case}, by thousands");
+    check_told(rt, case, "thousands of", len, by_thousands, told);
     let by_byte = told_in_pieces(rt, alloc, sent, last, 1);
-    assert_eq!(rt; by_byte, told, "{case}, the last 50 bytes one by one");
+    check_told(rt, case, "each from", last, by_byte, told);
     check_fronts(rt, alloc, case, sent, last)
 }
 
 #[test]
 fn responses_come_in_pieces(rt: HostRuntime) -> Result<(), Fail> {
-    for (case, method, text, ended, status, body_len, facts, persisting) in ROWS {
+    for row in &ROWS {
+        let (case, method, text, ended, status, body_len, facts, persisting) = *row;
         assert_eq!(rt; persists(&facts), persisting, "{case}");
         let told = Ok(Response {
             status,
@@ -328,7 +357,8 @@ fn responses_come_in_pieces(rt: HostRuntime) -> Result<(), Fail> {
 
 #[test]
 fn faults_come_in_pieces(rt: HostRuntime) -> Result<(), Fail> {
-    for (case, text, fault, _) in FAULTS {
+    for row in &FAULTS {
+        let (case, text, fault, _) = *row;
         let text = text.as_bytes();
         assert!(rt; text.len() <= SHORT, "{case}");
         let sent = Sent {
@@ -342,15 +372,24 @@ fn faults_come_in_pieces(rt: HostRuntime) -> Result<(), Fail> {
     Ok(())
 }
 
-/// The status, the number of body bytes and whether it is whole.
-fn columns_of(told: Told) -> Result<(Option<u16>, u64, bool), ReadFault> {
+/// The status, the number of body bytes and whether it is whole, or the fault.
+type Columns = Result<(Option<u16>, u64, bool), ReadFault>;
+
+/// What is told, as the rows at limits write it.
+fn columns_of(told: Told) -> Columns {
     let response = told?;
     Ok((response.status, response.body_len, response.facts.whole))
 }
 
+/// Checks the columns of what is told in the case.
+fn check_columns(rt: &impl Abort, case: &str, told: Told, expected: Columns) {
+    assert_eq!(rt; columns_of(told), expected, "{case}");
+}
+
 #[test]
 fn limits_are_kept_in_pieces(rt: HostRuntime) -> Result<(), Fail> {
-    for (case, start, piece, count, end, expected) in LIMITS {
+    for row in &LIMITS {
+        let (case, start, piece, count, end, expected) = *row;
         let text = repeated(rt.alloc(), start, piece, count, end)?;
         let sent = Sent {
             method: Method::Get,
@@ -359,7 +398,7 @@ fn limits_are_kept_in_pieces(rt: HostRuntime) -> Result<(), Fail> {
             ended: false,
         };
         let told = told_in_pieces(&rt, rt.alloc(), sent, text.len(), 1);
-        assert_eq!(rt; columns_of(told), expected, "{case}");
+        check_columns(&rt, case, told, expected);
         if text.len() <= SHORT {
             check_short(&rt, rt.alloc(), case, sent, told)?;
         } else {
@@ -372,7 +411,8 @@ fn limits_are_kept_in_pieces(rt: HostRuntime) -> Result<(), Fail> {
 /// Built without optimization this takes longer than a test may.
 #[test]
 fn limits_are_kept_byte_by_byte(rt: HostRuntime) -> Result<(), Fail> {
-    for (case, start, piece, count, end, expected) in LIMITS {
+    for row in &LIMITS {
+        let (case, start, piece, count, end, expected) = *row;
         let text = repeated(rt.alloc(), start, piece, count, end)?;
         let sent = Sent {
             method: Method::Get,
@@ -381,14 +421,15 @@ fn limits_are_kept_byte_by_byte(rt: HostRuntime) -> Result<(), Fail> {
             ended: false,
         };
         let by_byte = told_in_pieces(&rt, rt.alloc(), sent, 0, 1);
-        assert_eq!(rt; columns_of(by_byte), expected, "{case}");
+        check_columns(&rt, case, by_byte, expected);
     }
     Ok(())
 }
 
 #[test]
 fn a_long_section_shows_one_of_two_faults(rt: HostRuntime) -> Result<(), Fail> {
-    for (case, start, field, long, bad) in LONG_SECTIONS {
+    for row in &LONG_SECTIONS {
+        let (case, start, field, long, bad) = *row;
         let text = repeated(rt.alloc(), start, field, 101, "\u{1}")?;
         let sent = Sent {
             method: Method::Get,
@@ -399,10 +440,13 @@ fn a_long_section_shows_one_of_two_faults(rt: HostRuntime) -> Result<(), Fail> {
         let at_once = told_in_pieces(&rt, rt.alloc(), sent, text.len(), 1);
         assert!(rt; at_once == Err(long) || at_once == Err(bad), "{case}");
         let by_byte = told_in_pieces(&rt, rt.alloc(), sent, 0, 1);
-        assert_eq!(rt; by_byte, Err(long), "{case}, byte by byte");
+        check_told(&rt, case, "each of", text.len(), by_byte, Err(long));
     }
     Ok(())
 }
+
+/// What is fed to a reader that told a fault.
+const MORE: [&str; 4] = ["", "x", "\r\n", "HTTP/1.1 204 No Content\r\n\r\n"];
 
 /// Feeds more to a reader that told a fault; it tells the same fault, and nothing else of it
 /// changes.
@@ -413,30 +457,38 @@ fn check_fault_stays(
     fault: ReadFault,
     after: Response,
 ) {
-    assert_eq!(rt; response_of(reader), after, "{case}");
-    for more in ["", "x", "\r\n", "HTTP/1.1 204 No Content\r\n\r\n"] {
-        assert_eq!(rt; fed(rt, reader, more.as_bytes()), Err(fault), "{case}");
-        assert_eq!(rt; response_of(reader), after, "{case}");
+    check_shown(rt, case, "then bytes", 0, reader, after);
+    for more in &MORE {
+        let found = fed(rt, reader, more.as_bytes());
+        check_told(rt, case, "then bytes", more.len(), found, Err(fault));
+        check_shown(rt, case, "then bytes", more.len(), reader, after);
     }
-    assert_eq!(rt; at_end(rt, reader, Err(fault)), Err(fault), "{case}");
+    let found = at_end(rt, reader, Err(fault));
+    check_told(rt, case, "ended", 0, found, Err(fault));
     assert!(rt; reader.any_byte(), "{case}");
+}
+
+/// What a reader tells after a fault, where that many bytes of a body came or no final head.
+fn after_fault(came: Option<u64>) -> Response {
+    match came {
+        Some(body_len) => Response {
+            status: Some(200),
+            facts: FAULTY,
+            body_len,
+        },
+        None => Response {
+            status: None,
+            facts: NO_HEAD,
+            body_len: 0,
+        },
+    }
 }
 
 #[test]
 fn a_fault_stays(rt: HostRuntime) -> Result<(), Fail> {
-    for (case, text, fault, came) in FAULTS {
-        let after = match came {
-            Some(body_len) => Response {
-                status: Some(200),
-                facts: FAULTY,
-                body_len,
-            },
-            None => Response {
-                status: None,
-                facts: NO_HEAD,
-                body_len: 0,
-            },
-        };
+    for row in &FAULTS {
+        let (case, text, fault, came) = *row;
+        let after = after_fault(came);
         let sent = Sent {
             method: Method::Get,
             request_close: false,
@@ -444,18 +496,31 @@ fn a_fault_stays(rt: HostRuntime) -> Result<(), Fail> {
             ended: false,
         };
         let (mut at_once, told) = reader_fed(&rt, rt.alloc(), sent, SHORT, SHORT)?;
-        assert_eq!(rt; told, Err(fault), "{case}");
+        check_told(&rt, case, "all of", text.len(), told, Err(fault));
         check_fault_stays(&rt, &mut at_once, case, fault, after);
         let (mut by_byte, told) = reader_fed(&rt, rt.alloc(), sent, 0, 1)?;
-        assert_eq!(rt; told, Err(fault), "{case}, byte by byte");
+        check_told(&rt, case, "each of", text.len(), told, Err(fault));
         check_fault_stays(&rt, &mut by_byte, case, fault, after);
     }
     Ok(())
 }
 
+/// Feeds the bytes, and checks what the reader then tells.
+fn check_fed(
+    rt: &impl Abort,
+    reader: &mut ResponseReader,
+    case: &str,
+    piece: &[u8],
+    expected: Response,
+) {
+    let found = fed(rt, reader, piece);
+    check_told(rt, case, "then bytes", piece.len(), found, Ok(expected));
+}
+
 #[test]
 fn bytes_after_a_whole_response_are_surplus(rt: HostRuntime) -> Result<(), Fail> {
-    for (text, body_len, framing) in WHOLE {
+    for row in &WHOLE {
+        let (text, body_len, framing) = *row;
         let mut reader = ResponseReader::new(rt.alloc(), Method::Get, false)?;
         let whole = Response {
             status: Some(200),
@@ -469,24 +534,21 @@ fn bytes_after_a_whole_response_are_surplus(rt: HostRuntime) -> Result<(), Fail>
             },
             ..whole
         };
-        assert_eq!(rt; fed(&rt, &mut reader, text.as_bytes()), Ok(whole), "{text}");
-        assert_eq!(rt; fed(&rt, &mut reader, b""), Ok(whole), "{text}");
-        assert_eq!(rt; fed(&rt, &mut reader, b"\x01"), Ok(with_surplus), "{text}");
-        assert_eq!(rt; fed(&rt, &mut reader, b""), Ok(with_surplus), "{text}");
-        assert_eq!(rt;
-            fed(&rt, &mut reader, text.as_bytes()),
-            Ok(with_surplus),
-            "{text}"
-        );
+        check_fed(&rt, &mut reader, text, text.as_bytes(), whole);
+        check_fed(&rt, &mut reader, text, b"", whole);
+        check_fed(&rt, &mut reader, text, b"\x01", with_surplus);
+        check_fed(&rt, &mut reader, text, b"", with_surplus);
+        check_fed(&rt, &mut reader, text, text.as_bytes(), with_surplus);
         let told = at_end(&rt, &mut reader, Ok(with_surplus));
-        assert_eq!(rt; told, Ok(with_surplus), "{text}");
+        check_told(&rt, text, "ended", 0, told, Ok(with_surplus));
     }
     Ok(())
 }
 
 #[test]
 fn the_end_makes_whole_what_lasts_until_it(rt: HostRuntime) -> Result<(), Fail> {
-    for (case, text, whole_before, whole_after) in ENDS {
+    for row in &ENDS {
+        let (case, text, whole_before, whole_after) = *row;
         let sent = Sent {
             method: Method::Get,
             request_close: false,
@@ -495,7 +557,7 @@ fn the_end_makes_whole_what_lasts_until_it(rt: HostRuntime) -> Result<(), Fail> 
         };
         let (mut reader, told) = reader_fed(&rt, rt.alloc(), sent, 0, 1)?;
         let before = response_of(&reader);
-        assert_eq!(rt; told, Ok(before), "{case}");
+        check_told(&rt, case, "each of", text.len(), told, Ok(before));
         assert_eq!(rt; before.facts.whole, whole_before, "{case}");
         let after = Response {
             facts: Facts {
@@ -504,9 +566,10 @@ fn the_end_makes_whole_what_lasts_until_it(rt: HostRuntime) -> Result<(), Fail> 
             },
             ..before
         };
-        assert_eq!(rt; at_end(&rt, &mut reader, told), Ok(after), "{case}");
+        let found = at_end(&rt, &mut reader, told);
+        check_told(&rt, case, "ended", 1, found, Ok(after));
         reader.end();
-        assert_eq!(rt; response_of(&reader), after, "{case}");
+        check_shown(&rt, case, "ended", 2, &reader, after);
         assert_eq!(rt; reader.any_byte(), !text.is_empty(), "{case}");
     }
     Ok(())
@@ -533,7 +596,7 @@ fn what_the_request_asked_is_told(rt: HostRuntime) -> Result<(), Fail> {
         facts,
         body_len: 0,
     };
-    assert_eq!(rt; fed(&rt, &mut reader, text), Ok(told));
+    check_fed(&rt, &mut reader, "HEAD", text, told);
     Ok(())
 }
 
@@ -541,12 +604,11 @@ fn what_the_request_asked_is_told(rt: HostRuntime) -> Result<(), Fail> {
 fn any_byte_tells_of_the_first(rt: HostRuntime) -> Result<(), Fail> {
     let mut reader = ResponseReader::new(rt.alloc(), Method::Get, false)?;
     assert!(rt; !reader.any_byte());
-    assert!(rt; fed(&rt, &mut reader, b"").is_ok());
-    assert!(rt; !reader.any_byte());
-    assert!(rt; fed(&rt, &mut reader, b"\n").is_ok());
-    assert!(rt; reader.any_byte());
-    assert!(rt; fed(&rt, &mut reader, b"").is_ok());
-    assert!(rt; reader.any_byte());
+    for row in &[("", false), ("\n", true), ("", true)] {
+        let (piece, any) = *row;
+        assert!(rt; fed(&rt, &mut reader, piece.as_bytes()).is_ok());
+        assert_eq!(rt; reader.any_byte(), any);
+    }
     Ok(())
 }
 
@@ -574,32 +636,36 @@ fn check_as_new(
     case: &str,
     sent: Sent,
 ) -> Result<(), ReadFault> {
+    let len = sent.text.len();
     let mut new = ResponseReader::new(alloc, sent.method, sent.request_close)?;
     assert_eq!(rt;
         (reader.ended(), reader.any_byte()),
         (false, false),
         "{case}"
     );
-    assert_eq!(rt; response_of(reader), response_of(&new), "{case}");
+    check_shown(rt, case, "as new before", len, reader, response_of(&new));
     let found = fed(rt, reader, sent.text);
-    assert_eq!(rt; found, fed(rt, &mut new, sent.text), "{case}");
-    assert_eq!(rt; response_of(reader), response_of(&new), "{case}");
+    let expected = fed(rt, &mut new, sent.text);
+    check_told(rt, case, "as new at", len, found, expected);
+    check_shown(rt, case, "as new after", len, reader, response_of(&new));
     Ok(())
 }
 
+/// A fault in a head and one in a body, a part of a head, a whole response with surplus, and one
+/// that ended.
+const BEFORE: [&str; 5] = [
+    "HTTP/1.1 2x0 OK\r\n\r\n",
+    "HTTP/1.1 200 OK\r\nTransfer-Encoding: chunked\r\n\r\n2\r\nok\r\nz",
+    "\r\nHTTP/1.1 200 OK\r\nA: b\r\n",
+    "HTTP/1.1 200 OK\r\nContent-Length: 2\r\n\r\nokay",
+    "HTTP/1.1 200 OK\r\n\r\nok",
+];
+
 #[test]
 fn a_cleared_reader_is_as_new(rt: HostRuntime) -> Result<(), Fail> {
-    // a fault in a head and one in a body, a part of a head, a whole response with surplus, and one
-    // that ended
-    let before = [
-        "HTTP/1.1 2x0 OK\r\n\r\n",
-        "HTTP/1.1 200 OK\r\nTransfer-Encoding: chunked\r\n\r\n2\r\nok\r\nz",
-        "\r\nHTTP/1.1 200 OK\r\nA: b\r\n",
-        "HTTP/1.1 200 OK\r\nContent-Length: 2\r\n\r\nokay",
-        "HTTP/1.1 200 OK\r\n\r\nok",
-    ];
-    for text in before {
-        for (case, body_len, framing) in WHOLE {
+    for text in &BEFORE {
+        for row in &WHOLE {
+            let (case, body_len, framing) = *row;
             let sent = Sent {
                 method: Method::Get,
                 request_close: false,

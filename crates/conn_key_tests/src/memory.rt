@@ -1,7 +1,9 @@
+//! Memory that is short after so many calls, and what is then answered.
+
 ghost use Rattle.std.specs.Prelude.{◌≡◌, ◌≤◌, true};
 ghost use Rattle.conn_key.specs.Wants.{Rises};
 
-use super::*;
+use conn_key::{CountedMemory, KeyError, TargetMemory, read_target};
 use std::alloc::AllocError;
 use std::test::Fail;
 use url::{ParseError, Url};
@@ -76,7 +78,8 @@ const CALLS: [(&str, u32, Result<u16, KeyError>); 5] = [
 
 #[test]
 fn each_want_of_memory_is_answered_as_one(rt: HostRuntime) -> Result<(), Fail> {
-    for (text, needed, answer) in CALLS {
+    for row in &CALLS {
+        let (text, needed, answer) = *row;
         for calls in 0..=needed {
             let mut scarce = ScarceMemory {
                 memory: CountedMemory::new(rt.alloc()),

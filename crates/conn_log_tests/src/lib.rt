@@ -1,0 +1,9 @@
+//! Tests of `conn_log`: what no clause says, and worked rows.
+#![tactic(auto)]
+
+#[cfg(test)]
+mod entries;
+#[cfg(test)]
+mod log;
+#[cfg(test)]
+mod readers;
