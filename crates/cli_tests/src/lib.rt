@@ -1,7 +1,9 @@
-//! Tests of `cli`.
+//! Tests of `cli`: what no transcript and no clause shows.
 #![tactic(auto)]
 
 #[cfg(test)]
-mod test_scripts;
+mod limits;
 #[cfg(test)]
-mod tests;
+mod streams;
+#[cfg(test)]
+mod words;
