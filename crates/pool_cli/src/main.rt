@@ -2,27 +2,10 @@
 //! transcript.
 #![tactic(auto)]
 
-mod command_line;
-mod help;
-mod memory;
-mod program;
-mod request;
-mod script;
-mod streams;
-#[cfg(test)]
-mod test_scripts;
-#[cfg(test)]
-mod tests;
-mod watched;
-mod worked;
-
-use command_line::Words;
-use memory::CountedWordsMemory;
-use program::run_program;
+use cli::{CountedWordsMemory, Watched, Words, run_program};
 use std::env;
 use std::io::{ErrorKind, IsTerminal};
 use std::process::ExitCode;
-use watched::Watched;
 
 /// The words with which the program was started.
 fn given_words(rt: &HostRuntime) -> Words {

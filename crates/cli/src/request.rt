@@ -1,0 +1,82 @@
+//! What the words on the command line ask for.
+
+ghost use Rattle.std.specs.Prelude.{◌≡◌};
+ghost use Rattle.clap.specs.Words.{kind_of};
+ghost use Rattle.cli.specs.CommandLine.{AnswersError, Asks, manner_of, word_faults};
+
+use crate::command_line::Words;
+use crate::memory::WordsMemory;
+use clap::Error;
+use clap::error::ErrorKind;
+
+/// What the words ask for.
+#[derive(Drop)]
+pub enum Request {
+    /// To run a script.
+    Script,
+    /// To tell this on standard output: help, or the version.
+    Tell(String),
+    /// Nothing that the program does: this says why.
+    Refuse(String),
+    /// Nothing, since memory ran out.
+    NoMemory,
+}
+
+/// What an error of the words is.
+#[derive(Clone, Copy, Debug, PartialEq, Eq)]
+pub enum Manner {
+    /// Memory ran out.
+    Memory,
+    /// Help or the version was asked for.
+    Asked,
+    /// The words are wrong.
+    Mistake,
+}
+
+/// What the words ask for. `NoMemory` comes only where the words could not be had for want of
+/// memory, or the memory counted a want.
+pub fn asked_by<M: WordsMemory>(memory: &mut M, words: Words) -> Request
+    ensures { Asks (word_faults words) (M.wants memory.old) (M.wants memory.new) result }
+{
+    match words {
+        Words::Given(words) => match memory.parse(words.as_slice()) {
+            Ok(()) => Request::Script,
+            Err(error) => refused(memory, error),
+        },
+        Words::NotText => match memory.not_text() {
+            Ok(error) => refused(memory, error),
+            Err(_) => Request::NoMemory,
+        },
+        Words::NoMemory => Request::NoMemory,
+    }
+}
+
+/// What is asked for where reading the words gave that error.
+fn refused<M: WordsMemory>(memory: &mut M, error: Error) -> Request
+    ensures { AnswersError (manner_of (kind_of error)) (M.wants memory.old)
+        (M.wants memory.new) result }
+{
+    match manner_of(error.kind()) {
+        Manner::Memory => Request::NoMemory,
+        Manner::Asked => match memory.text(&error) {
+            Ok(text) => Request::Tell(text),
+            Err(_) => Request::NoMemory,
+        },
+        Manner::Mistake => match memory.text(&error) {
+            Ok(text) => Request::Refuse(text),
+            Err(_) => Request::NoMemory,
+        },
+    }
+}
+
+/// What an error of that kind is.
+fn manner_of(kind: ErrorKind) -> Manner
+    ensures { result ≡ manner_of kind }
+{
+    match kind {
+        ErrorKind::OutOfMemory => Manner::Memory,
+        ErrorKind::DisplayHelp => Manner::Asked,
+        ErrorKind::DisplayVersion => Manner::Asked,
+        _ => Manner::Mistake,
+    }
+}

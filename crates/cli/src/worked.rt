@@ -1,0 +1,16 @@
+//! Command lines of which it is known what they ask for, against which the definition of the
+//! program's command line was tried.
+
+ghost use Rattle.cli.specs.CommandLine.{TakesScript, WantsSubcommand, TellsHelpOnHelp};
+ghost use Rattle.cli.specs.CommandLine.{TellsVersionOnVersion, RefusesAnotherWord};
+
+/// What is wrong with small command lines, by computation: with `script` alone nothing; no word at
+/// all, and a word after `script`, are refused; `--help` and `--version` are asked for.
+#[tactic(auto, unfolding(clap::proofs::OnLiterals::clap_on_literals))]
+pub fn worked_command_lines()
+    ensures script { TakesScript }
+    ensures nothing { WantsSubcommand }
+    ensures help { TellsHelpOnHelp }
+    ensures version { TellsVersionOnVersion }
+    ensures another_word { RefusesAnotherWord }
+{}

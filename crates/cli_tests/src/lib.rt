@@ -1,0 +1,9 @@
+//! Tests of `cli`: what no transcript and no clause shows.
+#![tactic(auto)]
+
+#[cfg(test)]
+mod limits;
+#[cfg(test)]
+mod streams;
+#[cfg(test)]
+mod words;

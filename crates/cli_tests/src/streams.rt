@@ -1,0 +1,121 @@
+//! What readers and writers leave that fail, and want of memory.
+
+use cli::{Watched, run_script};
+use script_text::{FaultKind, ScriptFault};
+use std::io;
+use std::io::{Read, Write};
+use std::test::Fail;
+
+/// A connection is used again, and then abandoned.
+pub const REUSE_THEN_DROP: (&str, &str) = (
+    "limits 1 0 4\nsite http://a.test/\nget 1 0 0 at 0\nback 1 0 keep at 2\nget 2 0 0 at 3\n\
+        drop 2 0 at 4\nlook 0\n",
+    "opened 0.1 for 1 at 0\nreturned 0.1 by 1 at 2\nleased 0.1 to 2 at 3\n\
+        closed 0.1 dropped at 4\nhost 0 open 0 idle 0 leased 0 waiting 0 queued no\n",
+);
+
+/// Transfers that wait, claim and leave; two tickets are left at the script's end.
+const WAITING: (&str, &str) = (
+    "limits 1 0 4\nsite http://a.test/\nget 1 0 0 at 0\nget 2 0 0 at 1\nget 3 0 0 at 2\n\
+        get 4 0 0 at 3\nclaim 2 0\nback 1 0 keep at 4\nclaim 2 0\nleave 3 0 at 5\ndrop 2 0 at 6\n\
+        get 5 0 0 at 7\n",
+    "opened 0.1 for 1 at 0\nwaits 2 host 0 at 1\nwaits 3 host 0 at 2\nwaits 4 host 0 at 3\n\
+        still waiting\nreturned 0.1 by 1 at 4\nleased 0.1 to 2 at 4\nclaimed 0.1\n\
+        left 3 host 0 at 5\nclosed 0.1 dropped at 6\nopened 0.2 for 4 at 6\nwaits 5 host 0 at 7\n",
+);
+
+// Gives a few bytes and then fails.
+#[derive(Drop)]
+struct Failing {
+    bytes: &'static [u8],
+}
+
+impl Read for Failing {
+    fn read(&mut self, buf: &mut [u8]) -> io::Result<usize> {
+        if self.bytes.is_empty() || buf.is_empty() {
+            return Err(io::ErrorKind::Interrupted.into());
+        }
+        buf[0] = self.bytes[0];
+        self.bytes = &self.bytes[1..];
+        Ok(1)
+    }
+}
+
+#[test]
+fn a_reader_that_fails_in_the_middle(rt: HostRuntime) -> Result<(), Fail> {
+    let mut reader = Watched::new(Failing {
+        bytes: b"limits 4 0 4\nlook 0\n",
+    });
+    let mut out = Vec::new(rt.alloc());
+    let fault = ScriptFault {
+        line: 0,
+        kind: FaultKind::Read,
+    };
+    assert_eq!(rt; run_script(rt.alloc(), &mut reader, &mut out), Err(fault));
+    assert!(rt; out.is_empty());
+    Ok(())
+}
+
+// Takes what goes on as expected, a byte at a time, and then no byte, or fails.
+#[derive(Drop)]
+struct Expecting {
+    rest: &'static [u8],
+    takes_none: bool,
+}
+
+impl Write for Expecting {
+    fn write(&mut self, buf: &[u8]) -> io::Result<usize> {
+        if self.rest.is_empty() || buf.is_empty() || self.rest[0] != buf[0] {
+            if self.takes_none {
+                return Ok(0);
+            }
+            return Err(io::ErrorKind::Interrupted.into());
+        }
+        self.rest = &self.rest[1..];
+        Ok(1)
+    }
+
+    fn flush(&mut self) -> io::Result<()> {
+        Ok(())
+    }
+}
+
+#[test]
+fn a_writer_that_fails_in_the_middle(rt: HostRuntime) -> Result<(), Fail> {
+    let (script, _) = REUSE_THEN_DROP;
+    let fault = ScriptFault {
+        line: 4,
+        kind: FaultKind::Write,
+    };
+    for takes_none in [false, true] {
+        let mut reader = script.as_bytes();
+        let mut writer = Expecting {
+            rest: b"opened 0.1 for 1 at 0\nreturned 0",
+            takes_none,
+        };
+        assert_eq!(rt;
+            run_script(rt.alloc(), &mut reader, &mut Watched::new(&mut writer)),
+            Err(fault)
+        );
+        assert!(rt; writer.rest.is_empty());
+    }
+    Ok(())
+}
+
+// Under `rt try --test --fail-alloc N`: what is written is a front of the transcript.
+#[test]
+fn want_of_memory_leaves_a_front_of_the_transcript(rt: HostRuntime) -> Result<(), Fail> {
+    for row in &[REUSE_THEN_DROP, WAITING] {
+        let (script, transcript) = *row;
+        let mut reader = script.as_bytes();
+        let mut writer = Expecting {
+            rest: transcript.as_bytes(),
+            takes_none: false,
+        };
+        match run_script(rt.alloc(), &mut reader, &mut Watched::new(&mut writer)) {
+            Ok(()) => assert!(rt; writer.rest.is_empty()),
+            Err(fault) => assert_eq!(rt; fault.kind, FaultKind::Memory),
+        }
+    }
+    Ok(())
+}

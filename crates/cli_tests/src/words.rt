@@ -1,0 +1,122 @@
+//! What words ask for, and what the program then writes.
+
+use crate::streams::REUSE_THEN_DROP;
+use cli::{CountedWordsMemory, Words, run_program};
+use std::alloc::{AllocError, Global};
+use std::test::Fail;
+
+// The words after the program's name, of a text with spaces between them.
+fn words(alloc: Global, given: &str) -> Result<Words, AllocError> {
+    let mut words = Vec::new(alloc);
+    words.push(String::from_str(alloc, "curlpool")?)?;
+    for word in given.split_whitespace() {
+        words.push(String::from_str(alloc, word)?)?;
+    }
+    Ok(Words::Given(words))
+}
+
+// What the program does with these words and that script: its status, and what it writes on output
+// and on standard error.
+fn run_words(alloc: Global, words: Words, script: &str) -> (u8, Vec<u8>, Vec<u8>) {
+    run_typed(alloc, words, false, script)
+}
+
+// The same where the script may be typed on a terminal.
+fn run_typed(alloc: Global, words: Words, is_typed: bool, script: &str) -> (u8, Vec<u8>, Vec<u8>) {
+    let mut memory = CountedWordsMemory::new(alloc);
+    let mut input = script.as_bytes();
+    let mut output = Vec::new(alloc);
+    let mut errors = Vec::new(alloc);
+    let status = run_program(
+        alloc,
+        &mut memory,
+        words,
+        is_typed,
+        &mut input,
+        &mut output,
+        &mut errors,
+    );
+    (status, output, errors)
+}
+
+#[test]
+fn words_ask_for_a_script(rt: HostRuntime) -> Result<(), Fail> {
+    let (script, transcript) = REUSE_THEN_DROP;
+    let given = words(rt.alloc(), "script")?;
+    let (status, output, errors) = run_words(rt.alloc(), given, script);
+    assert_eq!(rt; status, 0);
+    assert_eq!(rt; output.as_slice(), transcript.as_bytes());
+    assert!(rt; errors.is_empty());
+    Ok(())
+}
+
+#[test]
+fn a_fault_is_told_on_standard_error(rt: HostRuntime) -> Result<(), Fail> {
+    let given = words(rt.alloc(), "script")?;
+    let (status, output, errors) = run_words(rt.alloc(), given, "limits 4 0 4\nlook x\n");
+    assert_eq!(rt; status, 3);
+    assert!(rt; output.is_empty());
+    assert_eq!(rt; errors.as_slice(), b"line 2: wrong form\n".as_slice());
+    Ok(())
+}
+
+#[test]
+fn how_to_end_a_script_is_told_on_a_terminal(rt: HostRuntime) -> Result<(), Fail> {
+    let (script, transcript) = REUSE_THEN_DROP;
+    let given = words(rt.alloc(), "script")?;
+    let (status, output, errors) = run_typed(rt.alloc(), given, true, script);
+    assert_eq!(rt; status, 0);
+    assert_eq!(rt; output.as_slice(), transcript.as_bytes());
+    let told = "Write a script, and end it with Ctrl-D on an empty line.\n";
+    assert_eq!(rt; errors.as_slice(), told.as_bytes());
+    let given = words(rt.alloc(), "--version")?;
+    let (_, _, errors) = run_typed(rt.alloc(), given, true, script);
+    assert!(rt; errors.is_empty());
+    Ok(())
+}
+
+#[test]
+fn other_words_are_refused(rt: HostRuntime) -> Result<(), Fail> {
+    for given in ["", "help", "scripts", "script again", "--verbose"] {
+        let given = words(rt.alloc(), given)?;
+        let (status, output, errors) = run_words(rt.alloc(), given, "");
+        assert_eq!(rt; status, 2);
+        assert!(rt; output.is_empty());
+        assert!(rt; errors.starts_with(b"error: ".as_slice()));
+    }
+    Ok(())
+}
+
+#[test]
+fn help_and_version_are_told_on_standard_output(rt: HostRuntime) -> Result<(), Fail> {
+    for (word, start) in [
+        ("--help", "libcurl's connection cache"),
+        ("--version", "curlpool 0.1.0\n"),
+    ] {
+        let given = words(rt.alloc(), word)?;
+        let (status, output, errors) = run_words(rt.alloc(), given, "");
+        assert_eq!(rt; status, 0);
+        assert!(rt; output.starts_with(start.as_bytes()));
+        assert!(rt; errors.is_empty());
+    }
+    Ok(())
+}
+
+#[test]
+fn words_that_could_not_be_had(rt: HostRuntime) -> Result<(), Fail> {
+    for (is_text, expected, start) in [
+        (false, 2, "error: invalid UTF-8"),
+        (true, 4, "run: out of memory\n"),
+    ] {
+        let given = if is_text {
+            Words::NoMemory
+        } else {
+            Words::NotText
+        };
+        let (status, output, errors) = run_words(rt.alloc(), given, "");
+        assert_eq!(rt; status, expected);
+        assert!(rt; output.is_empty());
+        assert!(rt; errors.starts_with(start.as_bytes()));
+    }
+    Ok(())
+}
