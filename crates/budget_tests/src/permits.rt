@@ -20,11 +20,11 @@ fn limits_are_kept_as_numbers_from_1_to_65535(rt: HostRuntime) {
         ((1, 2, 3), (1, 2, 3)),
         ((65_535, 65_535, 65_535), (65_535, 65_535, 65_535)),
     ];
-    for ((host, total, connects), kept) in good {
+    for &((host, total, connects), kept) in &good {
         let limits = Limits::new(host, total, connects).expect(&rt, "limits");
         assert_eq!(rt; (limits.host(), limits.total(), limits.connects()), kept);
     }
-    for (host, total, connects) in [(0, 0, 0), (65_536, 1, 1), (1, 65_536, 1), (1, 1, 65_536)] {
+    for &(host, total, connects) in &[(0, 0, 0), (65_536, 1, 1), (1, 65_536, 1), (1, 1, 65_536)] {
         assert_eq!(rt;
             Limits::new(host, total, connects),
             Err(LimitsFault::BadLimit)

@@ -148,7 +148,7 @@ fn the_last_try_takes_an_idle_one_of_the_host(rt: HostRuntime) -> Result<(), Fai
 
 #[test]
 fn another_try_may_find_room(rt: HostRuntime) -> Result<(), Fail> {
-    for is_idle in [true, false] {
+    for &is_idle in &[true, false] {
         let mut desk = Desk::new(rt.alloc(), (4, 1, 1), 1)?;
         let first = leased(&rt, &mut desk, 1, 0);
         let got = asked(&rt, &mut desk, want_of(2), 1);

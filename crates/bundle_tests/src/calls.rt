@@ -15,7 +15,7 @@ use std::test::Fail;
 
 #[test]
 fn streams_come_back_with_their_connections(rt: HostRuntime) -> Result<(), Fail> {
-    for first_is_returned_first in [true, false] {
+    for &first_is_returned_first in &[true, false] {
         let mut desk = Desk::of_host(rt.alloc(), 2, 1)?;
         let first = leased(&rt, &mut desk, 1, 0);
         let second = leased(&rt, &mut desk, 2, 0);
@@ -117,7 +117,7 @@ fn a_number_is_kept_for_each_that_waits(rt: HostRuntime) -> Result<(), Fail> {
 
 #[test]
 fn who_came_first_is_served_first(rt: HostRuntime) -> Result<(), Fail> {
-    for comes_back in [true, false] {
+    for &comes_back in &[true, false] {
         let mut desk = Desk::of_host(rt.alloc(), 1, 1)?;
         let first = leased(&rt, &mut desk, 1, 0);
         let second = waits(&rt, &mut desk, 2, 1);
@@ -226,7 +226,7 @@ fn unfit_wants() -> [(Want, Cause); 4] {
 
 #[test]
 fn what_does_not_fit_the_first_that_waits_is_closed(rt: HostRuntime) -> Result<(), Fail> {
-    for (want, cause) in unfit_wants() {
+    for &(want, cause) in &unfit_wants() {
         let mut desk = Desk::of_host(rt.alloc(), 1, 1)?;
         let first = leased(&rt, &mut desk, 1, 0);
         let ticket = waits_for(&rt, &mut desk, want, 1);
@@ -290,7 +290,7 @@ fn a_connection_of_another_lane_makes_room(rt: HostRuntime) -> Result<(), Fail> 
 
 #[test]
 fn a_claimed_connection_comes_back(rt: HostRuntime) -> Result<(), Fail> {
-    for is_passed_on in [true, false] {
+    for &is_passed_on in &[true, false] {
         let mut desk = Desk::of_host(rt.alloc(), 1, 1)?;
         let first = leased(&rt, &mut desk, 1, 0);
         let ticket = waits(&rt, &mut desk, 2, 1);

@@ -290,7 +290,7 @@ fn an_acquire_is_tried_again(rt: HostRuntime) -> Result<(), Fail> {
 
 #[test]
 fn a_give_back_comes_again(rt: HostRuntime) -> Result<(), Fail> {
-    for close_if_full in [true, false] {
+    for &close_if_full in &[true, false] {
         let mut host = ToldHost::new(rt.alloc(), 4, Try::Got)?;
         let got = host.acquire(1, 0)?;
         let mut lease = lease_of(&rt, got);

@@ -1,7 +1,9 @@
 //! What tests of calls share: two hosts with their budget and the lobby, and wants and responses.
 
-ghost use Rattle.std.specs.Prelude.{◌≡◌, ◌<◌, ◌≤◌, IsSome};
-ghost use Rattle.bundle.specs.Lease.{IsBookedHere, IsMadeAt};
+ghost use Rattle.std.specs.Prelude.{◌≡◌, ◌<◌, ◌≤◌, [], IsSome, IfOk, replicate};
+ghost use Rattle.budget.specs.Accounts.{vacant};
+ghost use Rattle.budget.specs.Plain.{nothing_held};
+ghost use Rattle.bundle.specs.Lease.{IsBookedHere, IsMadeAt, IsNewHost};
 ghost use Rattle.bundle.specs.Replies.{IfBack, IfClaimed, IfGot, GivesLease};
 
 use budget::{Limits, Lobby, Pass, Permits, PlainBudget, Refusal, Try};
@@ -126,12 +128,8 @@ impl<S: Drop> Desk<S> {
         let Ok(limits) = Limits::new(host, total, connects) else {
             return Err(Refusal::BadLimit);
         };
-        let first = first.max(1);
-        let mut bundle = Bundle::new(alloc, limits.host(), two.0, first)?;
-        let mut other = Bundle::new(alloc, limits.host(), two.1, first)?;
-        let budget = PlainBudget::new(alloc, limits, hosts)?;
-        let lobby = Lobby::new(alloc, hosts)?;
-        let mut pass = Pass::new(alloc, hosts as usize)?;
+        let (mut bundle, mut other) = new_hosts(alloc, limits.host(), two, first.max(1))?;
+        let (budget, lobby, mut pass) = new_shared(alloc, limits, hosts)?;
         bundle.enrol(&mut pass);
         other.enrol(&mut pass);
         Ok(Desk {
@@ -304,6 +302,36 @@ impl<S: Drop> Desk<S> {
         self.bundle
             .set_host_limit(limit, now, &mut permits, lobby, pass)
     }
+}
+
+// Two hosts without connections.
+fn new_hosts<S: Drop>(
+    alloc: Global,
+    limit: u32,
+    two: (u32, u32),
+    first: u32,
+) -> Result<(Bundle<S>, Bundle<S>), Refusal>
+    requires { 0 < first }
+    ensures here { IfOk result (λ made. IsNewHost limit two.0 first made.0) }
+    ensures there { IfOk result (λ made. IsNewHost limit two.1 first made.1) }
+{
+    let here = Bundle::new(alloc, limit, two.0, first)?;
+    Ok((here, Bundle::new(alloc, limit, two.1, first)?))
+}
+
+// What so many hosts share: a budget, a lobby, and a pass without a seat.
+fn new_shared(
+    alloc: Global,
+    limits: Limits,
+    hosts: u32,
+) -> Result<(PlainBudget, Lobby, Pass<Did>), Refusal>
+    ensures budget { IfOk result (λ made. made.0 ≡ nothing_held limits hosts) }
+    ensures lobby { IfOk result (λ made. made.1 ≡ record { hosts = hosts; order = [] }) }
+    ensures pass { IfOk result (λ made. made.2 ≡ replicate hosts vacant) }
+{
+    let budget = PlainBudget::new(alloc, limits, hosts)?;
+    let lobby = Lobby::new(alloc, hosts)?;
+    Ok((budget, lobby, Pass::new(alloc, hosts as usize)?))
 }
 
 // A host that is neither of the two.

@@ -178,7 +178,7 @@ fn a_queued_host_waits_for_its_turn(rt: HostRuntime) -> Result<(), Fail> {
 
 #[test]
 fn a_lease_outlasts_changes_of_the_limit(rt: HostRuntime) -> Result<(), Fail> {
-    for comes_back in [true, false] {
+    for &comes_back in &[true, false] {
         let mut desk = Desk::new(rt.alloc(), (3, 0, 4), 1)?;
         let first = leased(&rt, &mut desk, 1, 0);
         let second = leased(&rt, &mut desk, 2, 0);

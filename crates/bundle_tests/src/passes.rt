@@ -71,7 +71,7 @@ fn acquires_tell_what_came_of_them(rt: HostRuntime) -> Result<(), Fail> {
     assert_eq!(rt; told(&rt, &desk, 0), (opened(5, u32::MAX - 1, 1), 1, 0));
     let second = waits(&rt, &mut desk, 2, 5);
     assert_eq!(rt; told(&rt, &desk, 0), (waited(5, 2), 2, 0));
-    for (calls, transfer, answer) in [
+    for &(calls, transfer, answer) in &[
         (3, 1, Did::Busy(1)),
         (4, 2, Did::Busy(2)),
         (5, 3, Did::Exhausted(3)),
@@ -132,7 +132,7 @@ fn limits_and_prunes_tell_what_they_did(rt: HostRuntime) -> Result<(), Fail> {
     let first = leased(&rt, &mut desk, 1, 0);
     let second = leased(&rt, &mut desk, 2, 0);
     // 65,536 is no limit, so nothing is told
-    for (calls, limit, answer) in [
+    for &(calls, limit, answer) in &[
         (3, 1, Some(Did::Held(2))),
         (3, 65_536, Some(Did::Held(2))),
         (4, 0, wrote(1, Event::Limit { limit: 65_535 })),
@@ -143,7 +143,7 @@ fn limits_and_prunes_tell_what_they_did(rt: HostRuntime) -> Result<(), Fail> {
     }
     give_back(&rt, &mut desk, first, 5);
     give_back(&rt, &mut desk, second, 6);
-    for (calls, now, max_age, max_life, closed) in [
+    for &(calls, now, max_age, max_life, closed) in &[
         (8, 15, 10, 0, 0),
         (9, 16, 10, 0, 1),
         (10, 17, 100, 16, 1),
