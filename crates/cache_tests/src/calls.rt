@@ -13,7 +13,7 @@ use std::test::Fail;
 #[test]
 fn the_oldest_of_all_makes_room(rt: HostRuntime) -> Result<(), Fail> {
     // of two idle since one moment, whichever came back first, that of the lower host is the oldest
-    for (first, second, since) in [(1, 2, (5, 6)), (2, 1, (5, 5))] {
+    for &(first, second, since) in &[(1, 2, (5, 6)), (2, 1, (5, 5))] {
         let mut desk = Desk::new(rt.alloc(), (0, 2, 4), 3)?;
         desk.get(&rt, 1, 0, 0);
         desk.get(&rt, 2, 1, 0);
@@ -124,7 +124,7 @@ fn another_lane_makes_room(rt: HostRuntime) -> Result<(), Fail> {
         lane: 1,
         ..want_of(2)
     };
-    for (limits, cause) in [((1, 0, 4), Cause::HostRoom), ((0, 1, 4), Cause::TotalRoom)] {
+    for &(limits, cause) in &[((1, 0, 4), Cause::HostRoom), ((0, 1, 4), Cause::TotalRoom)] {
         let mut desk = Desk::new(rt.alloc(), limits, 1)?;
         desk.get(&rt, 1, 0, 0);
         desk.back(&rt, 1, 2);
@@ -168,7 +168,7 @@ fn a_transfer_is_busy_and_a_site_is_bad(rt: HostRuntime) -> Result<(), Fail> {
 
 #[test]
 fn a_prune_closes_what_is_too_old(rt: HostRuntime) -> Result<(), Fail> {
-    for is_pruned in [true, false] {
+    for &is_pruned in &[true, false] {
         let mut desk = Desk::new(rt.alloc(), (0, 0, 4), 1)?;
         desk.get(&rt, 1, 0, 0);
         desk.get(&rt, 2, 0, 0);
@@ -202,7 +202,7 @@ fn a_prune_closes_what_is_too_old(rt: HostRuntime) -> Result<(), Fail> {
 #[test]
 fn a_prune_is_of_all_hosts(rt: HostRuntime) -> Result<(), Fail> {
     let mut desk = Desk::new(rt.alloc(), (0, 0, 4), 3)?;
-    for (transfer, site) in [(1, 0), (2, 1), (3, 2)] {
+    for &(transfer, site) in &[(1, 0), (2, 1), (3, 2)] {
         desk.get(&rt, transfer, site, 0);
         desk.back(&rt, transfer, 5 * transfer);
     }
@@ -269,7 +269,7 @@ fn with_two_queued(rt: &impl Abort, alloc: Global) -> Result<Desk, Refusal> {
     for transfer in 1..=4 {
         desk.get(rt, transfer, 0, 0);
     }
-    for (transfer, site) in [(5, 1), (6, 1), (7, 2), (8, 2)] {
+    for &(transfer, site) in &[(5, 1), (6, 1), (7, 2), (8, 2)] {
         desk.get(rt, transfer, site, 1);
     }
     Ok(desk)
@@ -277,7 +277,7 @@ fn with_two_queued(rt: &impl Abort, alloc: Global) -> Result<Desk, Refusal> {
 
 #[test]
 fn queued_hosts_take_turns(rt: HostRuntime) -> Result<(), Fail> {
-    for comes_back in [true, false] {
+    for &comes_back in &[true, false] {
         let mut desk = with_two_queued(&rt, rt.alloc())?;
         for transfer in 1..=4 {
             if comes_back {

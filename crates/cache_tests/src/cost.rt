@@ -125,7 +125,7 @@ fn new_one(transfer: u64) -> Want {
 
 #[test]
 fn a_warm_connection_is_used_often(rt: HostRuntime) -> Result<(), Fail> {
-    for (hosts, idle) in WARM {
+    for &(hosts, idle) in &WARM {
         let mut pool = warm(rt.alloc(), hosts, idle, 0)?;
         assert_eq!(rt; uses_often(&mut pool, hosts / 2, 0, BEFORE), BEFORE);
         let used = uses_often(&mut pool, hosts / 2, BEFORE, BEFORE + ROUNDS);
@@ -136,7 +136,7 @@ fn a_warm_connection_is_used_often(rt: HostRuntime) -> Result<(), Fail> {
 
 #[test]
 fn the_oldest_of_all_is_closed_often(rt: HostRuntime) -> Result<(), Fail> {
-    for hosts in FULL {
+    for &hosts in &FULL {
         let mut pool = warm(rt.alloc(), hosts, 1, hosts)?;
         assert_eq!(rt; opens_often(&mut pool, hosts, 0, BEFORE), BEFORE);
         let used = opens_often(&mut pool, hosts, BEFORE, BEFORE + ROUNDS);

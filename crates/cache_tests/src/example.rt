@@ -19,7 +19,7 @@ fn the_second_request_to_a_host_reuses_its_connection(rt: HostRuntime) -> Result
     // kept idle.
     let limits = Limits::new(6, 20, 4)?;
     let mut pool = Pool::new(rt.alloc(), limits, 2)?;
-    for (transfer, site) in [(1, 0), (2, 1), (3, 0)] {
+    for &(transfer, site) in &[(1, 0), (2, 1), (3, 0)] {
         let now = 10 * transfer;
         let want = Want {
             transfer,
@@ -36,7 +36,7 @@ fn the_second_request_to_a_host_reuses_its_connection(rt: HostRuntime) -> Result
                 if !lease.has_stream() {
                     lease.attach(Stream);
                 }
-                for piece in PIECES {
+                for piece in &PIECES {
                     let _ = reader.feed(piece);
                 }
                 pool.give_back(lease, reader.facts(), now);

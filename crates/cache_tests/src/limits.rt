@@ -12,7 +12,7 @@ use std::test::Fail;
 #[test]
 fn a_pool_has_1024_hosts_at_most(rt: HostRuntime) -> Result<(), Fail> {
     let limits = Limits::new(0, 0, 4)?;
-    for (hosts, refusal) in [(0, None), (1_024, None), (1_025, Some(Refusal::BadSite))] {
+    for &(hosts, refusal) in &[(0, None), (1_024, None), (1_025, Some(Refusal::BadSite))] {
         let made: Result<Pool<()>, Refusal> = Pool::new(rt.alloc(), limits, hosts);
         assert_eq!(rt; made.err(), refusal);
     }
@@ -130,7 +130,7 @@ fn with_three_waiting(rt: &impl Abort, alloc: Global, total: u32) -> Result<Desk
 #[test]
 fn a_raised_limit_takes_several_turns(rt: HostRuntime) -> Result<(), Fail> {
     // the total has room for one of the three, or for none
-    for (total, last) in [(4, 4), (3, 3)] {
+    for &(total, last) in &[(4, 4), (3, 3)] {
         let mut desk = with_three_waiting(&rt, rt.alloc(), total)?;
         assert_eq!(rt; desk.set_host_limit(0, 4, 7), Ok(()));
         let made_room = closed(1, Cause::TotalRoom, 7);

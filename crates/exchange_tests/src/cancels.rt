@@ -11,7 +11,7 @@ use std::test::Fail;
 
 #[test]
 fn a_cancel_abandons_a_lease(rt: HostRuntime) -> Result<(), Fail> {
-    for stage in [Stage::Dialling, Stage::Sending, Stage::Reading, Stage::Turn] {
+    for &stage in &[Stage::Dialling, Stage::Sending, Stage::Reading, Stage::Turn] {
         let mut wire = wire_of(&rt, OK);
         match stage {
             Stage::Sending => wire.halt_write(1, Halt::NotYet),

@@ -25,7 +25,7 @@ const GOOD: Answer = Answer {
 fn a_request_has_its_text(rt: HostRuntime) -> Result<(), Fail> {
     let plain = "http://Example.COM/a?b=1";
     let other = "http://Example.COM:8080/a?b=1";
-    for (method, url, forbid_reuse, text) in [
+    for &(method, url, forbid_reuse, text) in &[
         (
             Method::Get,
             plain,
@@ -102,7 +102,7 @@ fn a_wire_carries_two_requests(rt: HostRuntime) -> Result<(), Fail> {
     wire.set_most_read(OK.len());
     let mut dial = dial_of(&rt, wire);
     let mut cache = cache_of(&rt);
-    for reused in [false, true] {
+    for &reused in &[false, true] {
         assert_eq!(rt; cache.leases(), 0);
         assert_eq!(rt; cache.tickets(), 0);
         let done = run_at_once(&rt, prepared(&rt), &mut cache, &mut dial);
@@ -119,7 +119,7 @@ fn a_wire_carries_two_requests(rt: HostRuntime) -> Result<(), Fail> {
 
 #[test]
 fn a_wire_counts_its_failures(rt: HostRuntime) -> Result<(), Fail> {
-    for (halt, read, written, failures) in [
+    for &(halt, read, written, failures) in &[
         (Halt::NotYet, Read::NotYet, Written::NotYet, 0),
         (Halt::End, Read::End, Written::Fault, 1),
         (Halt::Fault, Read::Fault, Written::Fault, 2),
@@ -187,7 +187,7 @@ fn a_poll_takes_64_steps(rt: HostRuntime) -> Result<(), Fail> {
 
 #[test]
 fn a_pending_exchange_goes_on(rt: HostRuntime) -> Result<(), Fail> {
-    for stage in [Stage::Dialling, Stage::Sending, Stage::Reading] {
+    for &stage in &[Stage::Dialling, Stage::Sending, Stage::Reading] {
         let mut wire = wire_of(&rt, OK);
         if stage == Stage::Sending {
             wire.halt_write(1, Halt::NotYet);
@@ -247,7 +247,7 @@ fn a_reused_connection_that_ended_is_tried_again(rt: HostRuntime) -> Result<(), 
         retried: true,
         ..GOOD
     };
-    for (second, done) in [(OK, Done::Good(answer)), (&[], Done::Bad(Fault::Cut))] {
+    for &(second, done) in &[(OK, Done::Good(answer)), (&[], Done::Bad(Fault::Cut))] {
         let mut dial = dial_of(&rt, wire_of(&rt, second));
         let mut cache = cache_with_idle(&rt, wire_of(&rt, &[]));
         let ended = run_at_once(&rt, prepared(&rt), &mut cache, &mut dial);
@@ -257,7 +257,7 @@ fn a_reused_connection_that_ended_is_tried_again(rt: HostRuntime) -> Result<(), 
             ..want_of(1)
         };
         let log = cache.pool().log(0).expect(&rt, "a host");
-        for (place, entry) in [
+        for &(place, entry) in &[
             (0, opened(1, want_of(BEFORE), 0)),
             (1, returned(1, KEEP, 0)),
             (2, leased(1, want_of(1), NOW)),
@@ -281,7 +281,7 @@ fn a_failed_wire_is_tried_again_before_any_byte(rt: HostRuntime) -> Result<(), F
     let (read, write) = (Done::Bad(Fault::Read), Done::Bad(Fault::Write));
     // The request and the response have more bytes than that.
     for nth in 1..37 {
-        for (reused, is_read, done) in [
+        for &(reused, is_read, done) in &[
             (false, false, write),
             (false, true, read),
             (true, false, retried),
@@ -341,7 +341,7 @@ fn a_response_that_is_bad(rt: HostRuntime) -> Result<(), Fail> {
     let chunked = b"HTTP/1.1 200 OK\r\nTransfer-Encoding: chunked\r\n\r\n";
     let chunk = repeated(&rt, chunked, b"1;", 1)?;
     let size = repeated(&rt, chunked, b"10000000000000000\r\n", 1)?;
-    for response in [
+    for response in &[
         // a head of 16,384 bytes that does not end there
         repeated(&rt, &repeated(&rt, head, b"A: ", 1)?, b"x", 16_364)?,
         // a 101st field
@@ -353,7 +353,7 @@ fn a_response_that_is_bad(rt: HostRuntime) -> Result<(), Fail> {
         // a chunk of 2^64 bytes
         size,
     ] {
-        let mut dial = dial_of(&rt, wire_of(&rt, &response));
+        let mut dial = dial_of(&rt, wire_of(&rt, response));
         let mut cache = cache_of(&rt);
         let done = run_at_once(&rt, prepared(&rt), &mut cache, &mut dial);
         assert_eq!(rt;
@@ -384,7 +384,7 @@ fn a_response_at_a_limit(rt: HostRuntime) -> Result<(), Fail> {
     // a chunk line of 1,024 bytes
     let mut chunk = repeated(&rt, &repeated(&rt, chunked, b"2;", 1)?, b"x", 1_020)?;
     chunk.extend_from_slice(b"\r\nok\r\n0\r\n\r\n")?;
-    for (response, body_len, framing) in [
+    for &(response, body_len, framing) in &[
         (&long, 0, Framing::Counted),
         (&many, 0, Framing::Counted),
         (&interim, 2, Framing::Counted),
@@ -408,7 +408,7 @@ fn a_response_at_a_limit(rt: HostRuntime) -> Result<(), Fail> {
 
 #[test]
 fn a_cache_refuses(rt: HostRuntime) -> Result<(), Fail> {
-    for (site, transfer, refusal) in [
+    for &(site, transfer, refusal) in &[
         (1, 1, Refusal::BadSite),
         (0, BEFORE, Refusal::TransferBusy),
     ] {
