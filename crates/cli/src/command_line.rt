@@ -1,13 +1,17 @@
 //! The program's command line, and the words that it reads.
 
-ghost use Rattle.std.specs.Prelude.{◌≡◌, IfOk, map, string_bytes};
+ghost use Rattle.std.specs.Prelude.{◌≡◌, IfOk, map, option_map, string_bytes};
 ghost use Rattle.clap.specs.Words.{FailsBy, app_of, fault_of, kind_of};
-ghost use Rattle.cli.specs.CommandLine.{curlpool};
+ghost use Rattle.cli.specs.CommandLine.{curlpool, file_in, name_of, script_file};
 
 use crate::help::COMMANDS;
+use crate::input::{ScriptInput, input_of};
 use clap::error::ErrorKind;
-use clap::{Command, Error};
+use clap::{Arg, ArgMatches, Command, Error};
 use std::alloc::{AllocError, Global};
+
+/// What `--help` says of the file.
+const FILE_HELP: &str = "The script's file; standard input, where it is - or left out";
 
 /// The words with which the program was started, its name first, or why they could not be had.
 #[derive(Drop)]
@@ -24,9 +28,11 @@ pub enum Words {
 fn command<'a>(alloc: Global) -> Result<Command<'a>, AllocError>
     ensures { IfOk result (λ command. app_of command ≡ curlpool) }
 {
+    let file = Arg::new(alloc, "FILE").help(FILE_HELP);
     let script = Command::new(alloc, "script")
-        .about("Runs the script on standard input and writes its transcript")
-        .after_help(COMMANDS);
+        .about("Runs a script and writes its transcript")
+        .after_help(COMMANDS)
+        .arg(file)?;
     Ok(
         Command::new(alloc, "curlpool")
             .bin_name("curlpool")?
@@ -38,12 +44,24 @@ fn command<'a>(alloc: Global) -> Result<Command<'a>, AllocError>
     )
 }
 
-/// Reads the words; those that it takes ask for a script.
-pub fn parse(alloc: Global, words: &[String]) -> Result<(), Error>
-    ensures { FailsBy (fault_of curlpool (map string_bytes words.now)) result }
+/// The file that the matches name, if they name one.
+fn named_file<'a>(matches: &ArgMatches<'a>) -> Option<&'a str>
+    ensures { option_map (λ name. name.now) result ≡ file_in matches.now }
 {
-    let _ = command(alloc)?.try_get_matches_from(words)?;
-    Ok(())
+    match matches.subcommand() {
+        Some((_, script)) => script.get_str("FILE"),
+        None => None,
+    }
+}
+
+/// Reads the words; those that it takes ask for a script, which is read from there.
+pub fn parse(alloc: Global, words: &[String]) -> Result<ScriptInput, Error>
+    ensures fails { FailsBy (fault_of curlpool (map string_bytes words.now)) result }
+    ensures input { IfOk result (λ input.
+        name_of input ≡ script_file (map string_bytes words.now)) }
+{
+    let matches = command(alloc)?.try_get_matches_from(words)?;
+    Ok(input_of(alloc, named_file(&matches))?)
 }
 
 /// The error for a word that is not UTF-8.

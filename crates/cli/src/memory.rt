@@ -3,9 +3,10 @@
 ghost use Rattle.std.specs.Prelude.{◌≡◌, ◌≤◌, IfOk, IfErr, map, string_bytes};
 ghost use Rattle.clap.specs.Words.{FailsBy, fault_of, kind_of};
 ghost use Rattle.conn_key.specs.Wants.{Rises};
-ghost use Rattle.cli.specs.CommandLine.{curlpool};
+ghost use Rattle.cli.specs.CommandLine.{curlpool, name_of, script_file};
 
 use crate::command_line::{not_text, parse};
+use crate::input::ScriptInput;
 use clap::Error;
 use clap::error::ErrorKind;
 use std::alloc::{AllocError, Global};
@@ -18,10 +19,12 @@ pub trait WordsMemory {
     /// How many wants of memory it answered; at the greatest u64 the count stays.
     ghost wants: { Self → ℕ };
 
-    /// Reads the words; those that it takes ask for a script. An error of `clap`'s kind for want of
-    /// memory counts as one.
-    fn parse(&mut self, words: &[String]) -> Result<(), Error>
+    /// Reads the words; those that it takes ask for a script, which is read from there. An error of
+    /// `clap`'s kind for want of memory counts as one.
+    fn parse(&mut self, words: &[String]) -> Result<ScriptInput, Error>
         ensures fails { FailsBy (fault_of curlpool (map string_bytes words.now)) result }
+        ensures input { IfOk result (λ input.
+            name_of input ≡ script_file (map string_bytes words.now)) }
         ensures wants { IfErr result (λ error. kind_of error ≡ ErrorKind.OutOfMemory
             → Rises (wants self.old) (wants self.new)) }
         ensures kept { wants self.old ≤ wants self.new };
@@ -57,7 +60,7 @@ impl CountedWordsMemory {
 impl WordsMemory for CountedWordsMemory {
     ghost wants = { λ memory. memory.wants };
 
-    fn parse(&mut self, words: &[String]) -> Result<(), Error> {
+    fn parse(&mut self, words: &[String]) -> Result<ScriptInput, Error> {
         let parsed = parse(self.alloc, words);
         if let Err(error) = &parsed {
             if error.kind() == ErrorKind::OutOfMemory {

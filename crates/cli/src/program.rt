@@ -1,12 +1,17 @@
 //! What the program does with its words, and the status with which it ends.
 
-ghost use Rattle.cli.specs.CommandLine.{AnswersRequest, RunsProgram, word_faults};
+ghost use Rattle.std.specs.Prelude.{◌≡◌, None};
+ghost use Rattle.cli.specs.CommandLine.{AnswersRequest, AnswersScript, RunsProgram};
+ghost use Rattle.cli.specs.CommandLine.{file_asked, name_of, request_file, status_of};
+ghost use Rattle.cli.specs.CommandLine.{word_faults};
 ghost use Rattle.cli.specs.Streams.{CanCount};
 
 use crate::command_line::Words;
+use crate::files::ScriptFiles;
+use crate::input::ScriptInput;
 use crate::memory::WordsMemory;
 use crate::request::{Request, asked_by};
-use crate::script::run_script;
+use crate::script::{run_file, run_script};
 use crate::streams::{Sink, Source};
 use script_text::ScriptFault;
 use std::alloc::Global;
@@ -29,57 +34,57 @@ const HOW_TO_END: &str = "Write a script, and end it with Ctrl-D on an empty lin
 
 /// Does what the words ask for, and answers the status with which the program ends: 0 where it did
 /// so, 2 where the words are refused, 3 where the script has a fault, and 4 where memory ran out
-/// while reading words. What goes wrong is told on `errors`, and there too how to end a script
+/// while reading words. The script is read from the file among `files` that the words name, or
+/// else from `input`. What goes wrong is told on `errors`, and there too how to end a script
 /// that `is_typed` on a terminal, since it is read whole; on `output` stands the transcript or the
 /// help that was asked for, and nothing else.
-pub fn run_program<M: WordsMemory, R: Source, W: Sink, E: Write>(
+pub fn run_program<M: WordsMemory, F: ScriptFiles, R: Source, W: Sink, E: Write>(
     alloc: Global,
     memory: &mut M,
     words: Words,
     is_typed: bool,
+    files: &mut F,
     input: &mut R,
     output: &mut W,
     errors: &mut E,
 ) -> u8
     requires input { CanCount (R.source input.old) }
     requires output { CanCount (W.sink output.old) }
-    ensures { RunsProgram (word_faults words) (M.wants memory.old) (M.wants memory.new)
-        (R.source input.old) (R.source input.new) (W.sink output.old) (W.sink output.new) result }
+    ensures runs { RunsProgram (F.opens files.old files.new) (word_faults words) (file_asked words)
+        (M.wants memory.old) (M.wants memory.new) (R.source input.old) (R.source input.new)
+        (W.sink output.old) (W.sink output.new) result }
+    ensures unopened { file_asked words ≡ None → files.new ≡ files.old }
 {
     let request = asked_by(memory, words);
-    if is_typed && asks_for_script(&request) {
+    if is_typed && asks_for_input(&request) {
         say(errors, HOW_TO_END);
     }
-    answer_request(alloc, request, input, output, errors)
+    answer_request(alloc, request, files, input, output, errors)
 }
 
-/// Whether a script is to be run.
-fn asks_for_script(request: &Request) -> bool {
-    matches!(request, Request::Script)
+/// Whether the script on standard input is to be run.
+fn asks_for_input(request: &Request) -> bool {
+    matches!(request, Request::Script(ScriptInput::Standard))
 }
 
 /// Does what is asked for, and answers the status: runs the script, tells help or the version on
 /// `output`, or tells on `errors` why nothing is done.
-pub fn answer_request<R: Source, W: Sink, E: Write>(
+pub fn answer_request<F: ScriptFiles, R: Source, W: Sink, E: Write>(
     alloc: Global,
     request: Request,
+    files: &mut F,
     input: &mut R,
     output: &mut W,
     errors: &mut E,
 ) -> u8
     requires input { CanCount (R.source input.old) }
     requires output { CanCount (W.sink output.old) }
-    ensures { AnswersRequest request (R.source input.old) (R.source input.new)
+    ensures answers { AnswersRequest (F.opens files.old files.new) request (R.source input.old) (R.source input.new)
         (W.sink output.old) (W.sink output.new) result }
+    ensures unopened { request_file request ≡ None → files.new ≡ files.old }
 {
     match request {
-        Request::Script => match run_script(alloc, input, output) {
-            Ok(()) => DONE,
-            Err(fault) => {
-                say_fault(errors, fault);
-                BAD_SCRIPT
-            }
-        },
+        Request::Script(from) => answer_script(alloc, from, files, input, output, errors),
         Request::Tell(text) => {
             // Where that fails there is nobody left to tell.
             let _ = output.put(text.as_bytes());
@@ -96,9 +101,40 @@ pub fn answer_request<R: Source, W: Sink, E: Write>(
     }
 }
 
-/// Tells of a script's fault.
-fn say_fault<E: Write>(errors: &mut E, fault: ScriptFault) {
-    let _ = writeln!(errors, "{fault}");
+/// Runs the script that is read from there, tells of its fault on `errors`, and answers the status.
+fn answer_script<F: ScriptFiles, R: Source, W: Sink, E: Write>(
+    alloc: Global,
+    from: ScriptInput,
+    files: &mut F,
+    input: &mut R,
+    output: &mut W,
+    errors: &mut E,
+) -> u8
+    requires input { CanCount (R.source input.old) }
+    requires output { CanCount (W.sink output.old) }
+    ensures answers { AnswersScript (F.opens files.old files.new) (name_of from) (R.source input.old)
+        (R.source input.new) (W.sink output.old) (W.sink output.new) result }
+    ensures unopened { name_of from ≡ None → files.new ≡ files.old }
+{
+    match from {
+        ScriptInput::Standard => status_told(errors, run_script(alloc, input, output)),
+        ScriptInput::File(name) => {
+            status_told(errors, run_file(alloc, files, name.as_str(), output))
+        }
+    }
+}
+
+/// The status of a program that ran a script; a fault is told.
+fn status_told<E: Write>(errors: &mut E, ran: Result<(), ScriptFault>) -> u8
+    ensures { result ≡ status_of ran }
+{
+    match ran {
+        Ok(()) => DONE,
+        Err(fault) => {
+            let _ = writeln!(errors, "{fault}");
+            BAD_SCRIPT
+        }
+    }
 }
 
 /// Tells what goes wrong. Where that fails there is nobody left to tell.

@@ -2,9 +2,10 @@
 
 ghost use Rattle.std.specs.Prelude.{◌≡◌};
 ghost use Rattle.clap.specs.Words.{kind_of};
-ghost use Rattle.cli.specs.CommandLine.{AnswersError, Asks, manner_of, word_faults};
+ghost use Rattle.cli.specs.CommandLine.{AnswersError, Asks, file_asked, manner_of, word_faults};
 
 use crate::command_line::Words;
+use crate::input::ScriptInput;
 use crate::memory::WordsMemory;
 use clap::Error;
 use clap::error::ErrorKind;
@@ -12,8 +13,8 @@ use clap::error::ErrorKind;
 /// What the words ask for.
 #[derive(Drop)]
 pub enum Request {
-    /// To run a script.
-    Script,
+    /// To run the script that is read from there.
+    Script(ScriptInput),
     /// To tell this on standard output: help, or the version.
     Tell(String),
     /// Nothing that the program does: this says why.
@@ -36,11 +37,12 @@ pub enum Manner {
 /// What the words ask for. `NoMemory` comes only where the words could not be had for want of
 /// memory, or the memory counted a want.
 pub fn asked_by<M: WordsMemory>(memory: &mut M, words: Words) -> Request
-    ensures { Asks (word_faults words) (M.wants memory.old) (M.wants memory.new) result }
+    ensures { Asks (word_faults words) (file_asked words) (M.wants memory.old)
+        (M.wants memory.new) result }
 {
     match words {
         Words::Given(words) => match memory.parse(words.as_slice()) {
-            Ok(()) => Request::Script,
+            Ok(input) => Request::Script(input),
             Err(error) => refused(memory, error),
         },
         Words::NotText => match memory.not_text() {

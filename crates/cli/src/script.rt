@@ -5,8 +5,10 @@ ghost use Rattle.script_text.specs.Lines.{lines};
 ghost use Rattle.script_rules.specs.Transcript.{told, line_step, transcript};
 ghost use Rattle.cli.specs.Running.{IsOfNoStream, RunsLine, RunsLines, RunsScript};
 ghost use Rattle.cli.specs.Running.{RunsWithoutReading};
+ghost use Rattle.cli.specs.Files.{RunsFile};
 ghost use Rattle.cli.specs.Streams.{CanCount, in_memory};
 
+use crate::files::ScriptFiles;
 use crate::streams::{Sink, Source, read_script};
 use script_engine::{Engine, Machine, line_text};
 use script_text::{FaultKind, ScriptFault, first_line};
@@ -29,6 +31,27 @@ pub fn run_script<R: Source, W: Sink>(
     match read_script(alloc, reader) {
         Ok(script) => run_engine(alloc, script.as_slice(), writer),
         Err(kind) => Err(ScriptFault { line: 0, kind }),
+    }
+}
+
+/// Runs the script in the file of that name, as `run_script` does. Where the file can't be opened,
+/// the fault is `Read`, at no line, and nothing is written.
+pub fn run_file<F: ScriptFiles, W: Sink>(
+    alloc: Global,
+    files: &mut F,
+    name: &str,
+    writer: &mut W,
+) -> Result<(), ScriptFault>
+    requires { CanCount (W.sink writer.old) }
+    ensures { RunsFile (F.opens files.old files.new name.now) (W.sink writer.old)
+        (W.sink writer.new) result }
+{
+    match files.open(name) {
+        Some(mut file) => run_script(alloc, &mut file, writer),
+        None => Err(ScriptFault {
+            line: 0,
+            kind: FaultKind::Read,
+        }),
     }
 }
 

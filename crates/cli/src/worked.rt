@@ -3,9 +3,11 @@
 
 ghost use Rattle.cli.specs.CommandLine.{TakesScript, WantsSubcommand, TellsHelpOnHelp};
 ghost use Rattle.cli.specs.CommandLine.{TellsVersionOnVersion, RefusesAnotherWord};
+ghost use Rattle.cli.specs.CommandLine.{TakesFile, TakesStandardInput, TakesDash};
 
-/// What is wrong with small command lines, by computation: with `script` alone nothing; no word at
-/// all, and a word after `script`, are refused; `--help` and `--version` are asked for.
+/// What is wrong with small command lines, by computation: with `script` alone, or a file after it,
+/// nothing; no word at all, and a word after the file, are refused; `--help` and `--version` are
+/// asked for. Of `script` alone and `script -` the script is read from standard input.
 #[tactic(auto, unfolding(clap::proofs::OnLiterals::clap_on_literals))]
 pub fn worked_command_lines()
     ensures script { TakesScript }
@@ -13,4 +15,7 @@ pub fn worked_command_lines()
     ensures help { TellsHelpOnHelp }
     ensures version { TellsVersionOnVersion }
     ensures another_word { RefusesAnotherWord }
+    ensures file { TakesFile }
+    ensures standard_input { TakesStandardInput }
+    ensures dash { TakesDash }
 {}

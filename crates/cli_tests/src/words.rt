@@ -1,7 +1,9 @@
 //! What words ask for, and what the program then writes.
 
+ghost use Rattle.std.specs.Prelude.{⊤};
+
 use crate::streams::REUSE_THEN_DROP;
-use cli::{CountedWordsMemory, Words, run_program};
+use cli::{CountedWordsMemory, ScriptFiles, Words, run_program};
 use std::alloc::{AllocError, Global};
 use std::test::Fail;
 
@@ -15,8 +17,29 @@ fn words(alloc: Global, given: &str) -> Result<Words, AllocError> {
     Ok(Words::Given(words))
 }
 
-// What the program does with these words and that script: its status, and what it writes on output
-// and on standard error.
+// One file in memory.
+#[derive(Drop)]
+struct OneFile {
+    name: &'static str,
+    bytes: &'static [u8],
+}
+
+impl ScriptFiles for OneFile {
+    type File = &'static [u8];
+
+    ghost opens = { λ _ _ _ _. ⊤ };
+
+    fn open(&mut self, name: &str) -> Option<&'static [u8]> {
+        if name == self.name {
+            Some(self.bytes)
+        } else {
+            None
+        }
+    }
+}
+
+// What the program does with these words and that script on standard input, where `reuse` is the
+// one file that there is: its status, and what it writes on output and on standard error.
 fn run_words(alloc: Global, words: Words, script: &str) -> (u8, Vec<u8>, Vec<u8>) {
     run_typed(alloc, words, false, script)
 }
@@ -24,6 +47,10 @@ fn run_words(alloc: Global, words: Words, script: &str) -> (u8, Vec<u8>, Vec<u8>
 // The same where the script may be typed on a terminal.
 fn run_typed(alloc: Global, words: Words, is_typed: bool, script: &str) -> (u8, Vec<u8>, Vec<u8>) {
     let mut memory = CountedWordsMemory::new(alloc);
+    let mut files = OneFile {
+        name: "reuse",
+        bytes: REUSE_THEN_DROP.0.as_bytes(),
+    };
     let mut input = script.as_bytes();
     let mut output = Vec::new(alloc);
     let mut errors = Vec::new(alloc);
@@ -32,6 +59,7 @@ fn run_typed(alloc: Global, words: Words, is_typed: bool, script: &str) -> (u8, 
         &mut memory,
         words,
         is_typed,
+        &mut files,
         &mut input,
         &mut output,
         &mut errors,
@@ -46,6 +74,36 @@ fn words_ask_for_a_script(rt: HostRuntime) -> Result<(), Fail> {
     let (status, output, errors) = run_words(rt.alloc(), given, script);
     assert_eq!(rt; status, 0);
     assert_eq!(rt; output.as_slice(), transcript.as_bytes());
+    assert!(rt; errors.is_empty());
+    Ok(())
+}
+
+#[test]
+fn a_file_is_read_in_place_of_standard_input(rt: HostRuntime) -> Result<(), Fail> {
+    let given = words(rt.alloc(), "script reuse")?;
+    let (status, output, errors) = run_typed(rt.alloc(), given, true, "look x\n");
+    assert_eq!(rt; status, 0);
+    assert_eq!(rt; output.as_slice(), REUSE_THEN_DROP.1.as_bytes());
+    assert!(rt; errors.is_empty());
+    Ok(())
+}
+
+#[test]
+fn a_file_that_is_not_there_cannot_be_read(rt: HostRuntime) -> Result<(), Fail> {
+    let given = words(rt.alloc(), "script gone")?;
+    let (status, output, errors) = run_words(rt.alloc(), given, REUSE_THEN_DROP.0);
+    assert_eq!(rt; status, 3);
+    assert!(rt; output.is_empty());
+    assert_eq!(rt; errors.as_slice(), b"line 0: cannot read\n".as_slice());
+    Ok(())
+}
+
+#[test]
+fn a_dash_stands_for_standard_input(rt: HostRuntime) -> Result<(), Fail> {
+    let given = words(rt.alloc(), "script -")?;
+    let (status, output, errors) = run_words(rt.alloc(), given, "limits 4 0 4\nlook 0\n");
+    assert_eq!(rt; status, 0);
+    assert_eq!(rt; output.as_slice(), b"refused bad-site\n".as_slice());
     assert!(rt; errors.is_empty());
     Ok(())
 }
@@ -77,7 +135,7 @@ fn how_to_end_a_script_is_told_on_a_terminal(rt: HostRuntime) -> Result<(), Fail
 
 #[test]
 fn other_words_are_refused(rt: HostRuntime) -> Result<(), Fail> {
-    for given in ["", "help", "scripts", "script again", "--verbose"] {
+    for given in ["", "help", "scripts", "script a again", "--verbose"] {
         let given = words(rt.alloc(), given)?;
         let (status, output, errors) = run_words(rt.alloc(), given, "");
         assert_eq!(rt; status, 2);

@@ -2,7 +2,7 @@
 //! transcript.
 #![tactic(auto)]
 
-use cli::{CountedWordsMemory, Watched, Words, run_program};
+use cli::{CountedWordsMemory, SystemFiles, Watched, Words, run_program};
 use std::env;
 use std::io::{ErrorKind, IsTerminal};
 use std::process::ExitCode;
@@ -27,6 +27,7 @@ fn given_words(rt: &HostRuntime) -> Words {
 fn main(rt: HostRuntime) -> ExitCode {
     let words = given_words(&rt);
     let mut memory = CountedWordsMemory::new(rt.alloc());
+    let mut files = SystemFiles::new(&rt);
     let stdin = rt.stdin();
     let is_typed = stdin.is_terminal();
     let mut input = Watched::new(stdin);
@@ -37,6 +38,7 @@ fn main(rt: HostRuntime) -> ExitCode {
         &mut memory,
         words,
         is_typed,
+        &mut files,
         &mut input,
         &mut output,
         &mut errors,
