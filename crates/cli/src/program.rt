@@ -79,8 +79,8 @@ pub fn answer_request<F: ScriptFiles, R: Source, W: Sink, E: Write>(
 ) -> u8
     requires input { CanCount (R.source input.old) }
     requires output { CanCount (W.sink output.old) }
-    ensures answers { AnswersRequest (F.opens files.old files.new) request (R.source input.old) (R.source input.new)
-        (W.sink output.old) (W.sink output.new) result }
+    ensures answers { AnswersRequest (F.opens files.old files.new) request
+        (R.source input.old) (R.source input.new) (W.sink output.old) (W.sink output.new) result }
     ensures unopened { request_file request ≡ None → files.new ≡ files.old }
 {
     match request {
@@ -112,8 +112,8 @@ fn answer_script<F: ScriptFiles, R: Source, W: Sink, E: Write>(
 ) -> u8
     requires input { CanCount (R.source input.old) }
     requires output { CanCount (W.sink output.old) }
-    ensures answers { AnswersScript (F.opens files.old files.new) (name_of from) (R.source input.old)
-        (R.source input.new) (W.sink output.old) (W.sink output.new) result }
+    ensures answers { AnswersScript (F.opens files.old files.new) (name_of from)
+        (R.source input.old) (R.source input.new) (W.sink output.old) (W.sink output.new) result }
     ensures unopened { name_of from ≡ None → files.new ≡ files.old }
 {
     match from {
