@@ -14,4 +14,4 @@ mod example;
 #[cfg(test)]
 mod limits;
 #[cfg(test)]
-mod oldest;
+mod oldest_of_all;
