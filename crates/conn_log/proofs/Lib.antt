@@ -10,3 +10,5 @@ pub mod Soundness
 pub mod Firsts
 pub mod Order
 pub mod StartCounts
+pub mod Extremes
+pub mod CountSums

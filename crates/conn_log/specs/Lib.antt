@@ -7,3 +7,5 @@ pub mod Worked
 pub mod Log
 pub mod Sound
 pub mod Starts
+pub mod Counts
+pub mod Laws

@@ -2,12 +2,15 @@
 //! and the plain readers that answer them by scanning.
 #![tactic(auto)]
 
+mod counts;
 mod entry;
+pub mod laws;
 mod log;
 mod readers;
 mod stamp;
 pub mod worked;
 
+pub use counts::Counts;
 pub use entry::{Cause, Entry, Event, Want};
 pub use log::{Log, LogFault};
 pub use readers::{holder, idle_oldest, open_count, waiting_len};

@@ -1,4 +1,7 @@
-//! Plain readers of a log: each scans the entries for its answer.
+//! Plain readers of a log: each scans the entries for its answer, whatever the log. In one that is
+//! not legal a connection that was opened twice counts twice, one that was closed stays closed
+//! though it is opened again, and one that is leased after it was closed has a holder though it is
+//! not open.
 
 ghost use Rattle.std.specs.Prelude.{◌≡◌, ℕ, ◌+◌, ◌<◌, ◌≤◌, List, ◌∷◌, length, reverse, filter, not};
 ghost use Rattle.conn_log.specs.Connections.{open_connections, is_closed, holder as holder_of};

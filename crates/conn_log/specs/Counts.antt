@@ -1,0 +1,19 @@
+-- What happened to connections and to those who wait for one, counted by kind.
+use Rattle.std.specs.Prelude.{◌+◌, List, [], ◌∷◌}
+use Rattle.conn_log.specs.declared.entry.Event.{Event}
+use Rattle.conn_log.specs.declared.entry.Event.TheVariants.{Opened, Leased, Closed, Waited}
+use Rattle.conn_log.specs.declared.entry.Entry.{Entry}
+use Rattle.conn_log.specs.declared.counts.Counts.{Counts}
+
+-- counts: how many connections were opened, how many idle ones were leased, how many were closed, and how
+-- many transfers began to wait
+abbrev pub counts_after : Event → Counts → Counts
+counts_after (Opened c want) so_far = record so_far { opened = so_far.opened + 1 }
+counts_after (Leased c want) so_far = record so_far { reused = so_far.reused + 1 }
+counts_after (Closed c cause) so_far = record so_far { closed = so_far.closed + 1 }
+counts_after (Waited want) so_far = record so_far { waited = so_far.waited + 1 }
+counts_after _ so_far = so_far
+
+abbrev pub counts : List Entry → Counts
+counts [] = record { opened = 0; reused = 0; closed = 0; waited = 0 }
+counts (e ∷ before) = counts_after e.event (counts before)
