@@ -8,3 +8,5 @@ pub mod NotedStamps
 pub mod Tournaments
 -- how a tree is played again from a leaf up
 pub mod Replays
+-- the earliest stamp is one of them, and none is before it
+pub mod EarliestStamps

@@ -1,2 +1,3 @@
 pub mod Oldest
 pub mod Trees
+pub mod Laws

@@ -1,6 +1,7 @@
 //! Which of many stamps is the earliest: at once over a list, or in a tournament tree.
 #![tactic(auto)]
 
+pub mod laws;
 mod oldest;
 mod winner_tree;
 

@@ -25,6 +25,8 @@ pub mod SpentTransfers
 -- Which connection is the oldest of all?
 -- it is its own host's oldest, and there is one where anything is idle
 pub mod OldestOfAll
+-- it is idle, and goes before each other idle connection
+pub mod OldestIdle
 -- a host's oldest is no earlier after a call that makes nothing idle
 pub mod OldestStamps
 -- what becomes of all hosts when it is closed

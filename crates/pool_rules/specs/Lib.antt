@@ -1,4 +1,5 @@
 pub mod AllHosts
 pub mod Calls
 pub mod Laws
+pub mod OldestLaws
 pub mod Worked

@@ -12,6 +12,7 @@ ghost use Rattle.pool_rules.specs.Laws.{AbandonOnlyServesOthers, WithdrawOnlySer
 ghost use Rattle.pool_rules.specs.Laws.{LimitOnlyServesOthers, PruneOnlyServes, ServingOnlyServes};
 ghost use Rattle.pool_rules.specs.Laws.{AcquireGrows, GiveBackGrows, AbandonGrows};
 ghost use Rattle.pool_rules.specs.Laws.{WithdrawGrows, PruneGrows, LimitGrows};
+ghost use Rattle.pool_rules.specs.OldestLaws.{OldestOfAllGoesFirst, NoOldestOfAllIfNoneIsIdle};
 
 /// Hosts without connections are at rest, and lawful hosts are after each call that is not refused,
 /// whatever the limits: each log is sound, both sums are within their limits, and a host is queued
@@ -68,4 +69,13 @@ pub fn calls_only_serve_others()
     ensures withdraw { WithdrawOnlyServesOthers }
     ensures limit { LimitOnlyServesOthers }
     ensures prune { PruneOnlyServes }
+{}
+
+/// Whatever the logs, the oldest connection of all, which is closed for room in total or as the
+/// cache is full, is idle, and each other idle one at any host is idle for less long, or as long
+/// at a host of a greater index, or there with a greater number; there is none only if nothing is
+/// idle at any host.
+pub fn oldest_of_all_goes_first()
+    ensures oldest { OldestOfAllGoesFirst }
+    ensures none { NoOldestOfAllIfNoneIsIdle }
 {}
