@@ -9,7 +9,7 @@ use Rattle.atomic_table.proofs.Lists.{at_set, at_snoc, exchanged}
 use Rattle.budget.specs.declared.words.view.WordView.{WordView}
 use Rattle.budget.specs.declared.words.view.SeatView.{SeatView}
 use Rattle.budget.specs.Limits.{Bounds}
-use Rattle.budget.specs.Words.{Words, Rule, Sitter, Looks, Compares, Takes, GivesBack, noted, one_more, one_less, missed, on_total, on_kept, total_of, kept_of, share_of, after_split, joined, empty_seat}
+use Rattle.budget.specs.Words.{Words, Rule, Sitter, Looks, Compares, Takes, GivesBack, noted, one_more, one_less, missed, compared, on_total, on_kept, total_of, kept_of, share_of, after_split, joined, empty_seat}
 use Rattle.budget.proofs.Sums.{sum-set, sum-cut, sum-join, at-le-sum, only}
 
 -- a list of two words, with one of them set
@@ -131,13 +131,11 @@ module _ (limits : Bounds) where
         let part = held_within s r seat me.0 at in
         (word.on (noted n) me.0, keeps, tt, word.steps s r seat me.0 (noted n) n me.1 at some_share refl (word.within s r), (refl, part.0, part.1))
 
-    pub compares : (slots seat : ℕ) (me : Sitter) → 0 < me.0.share → ((v : SeatView) → word.on (λ (w : WordView). w) v ≡ v)
-        → Allows (Rule limits) slots seat me word.index (λ n. n) (Compares (λ (v : SeatView). (word.word_of v).held) me)
-    compares slots seat me some_share unchanged s r _ at _ =
+    pub compares : (slots seat : ℕ) (me : Sitter) → 0 < me.0.share → Allows (Rule limits) slots seat me word.index (λ n. n) (Compares word.on (λ (v : SeatView). (word.word_of v).held) me)
+    compares slots seat me some_share s r _ at _ =
         let n : ℕ = get_or s.words word.index 0 in
         let part = held_within s r seat me.0 at in
-        let kept = word.steps s r seat me.0 (λ (w : WordView). w) n me.1 at some_share refl (word.within s r) in
-        (me.0, keeps, tt, subst (λ (v : SeatView). Rule limits (stepped s word.index n seat me.1 v keeps)) (unchanged me.0) kept, (refl, part.0, part.1))
+        (word.on compared me.0, keeps, tt, word.steps s r seat me.0 compared n me.1 at some_share refl (word.within s r), (refl, part.0, part.1))
 
     pub takes : (slots seat : ℕ) (me : Sitter) (old : ℕ) → 0 < me.0.share → old ≡ (word.word_of me.0).seen → old ≢ word.limit
         → Allows (Rule limits) slots seat me word.index (λ n. either (eqb n old) (old + 1) n) (Takes word.on word.word_of me)
@@ -150,7 +148,7 @@ module _ (limits : Bounds) where
         (λ hit. (
           word.on one_more me.0,
           word.steps s r seat me.0 one_more (old + 1) me.1 at some_share (omega arith) (omega arith),
-          record { hit = λ _. (refl, part.0); miss = λ not. absurd (not (hit ∙ noted_it)) },
+          record { hit = λ _. (refl, part.0, omega (arith, word.fits s r)); miss = λ not. absurd (not (hit ∙ noted_it)) },
         ))
         (λ miss. (
           word.on missed me.0,

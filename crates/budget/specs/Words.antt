@@ -15,7 +15,7 @@ use Rattle.budget.specs.Permits.{held}
 
 -- a word of which nothing is held, and which was never read
 abbrev pub unread : WordView
-unread = record { held = 0; seen = 0; loads = 0; misses = 0 }
+unread = record { held = 0; seen = 0; loads = 0; exchanges = 0; misses = 0; subtractions = 0; compares = 0 }
 
 -- a seat that holds nothing
 abbrev pub empty_seat : ℕ → SeatView
@@ -24,19 +24,23 @@ empty_seat share = record { share = share; total = unread; kept = unread }
 abbrev pub whole : ℕ
 whole = 65536
 
--- One step of a seat on a word: a load read n; it took a permit; it gave one back; its exchange found
--- another value than it had seen.
+-- One step of a seat on a word, each of which it counts: a load read n; its exchange took a permit; its
+-- exchange found another value than it had seen; a subtraction gave a permit back; it compared the word
+-- with what it holds.
 abbrev pub noted : ℕ → WordView → WordView
-noted n w = record { held = w.held; seen = n; loads = w.loads + 1; misses = w.misses }
+noted n w = record w { seen = n; loads = w.loads + 1 }
 
 abbrev pub one_more : WordView → WordView
-one_more w = record { held = w.held + 1; seen = w.seen; loads = w.loads; misses = w.misses }
-
-abbrev pub one_less : WordView → WordView
-one_less w = record { held = w.held - 1; seen = w.seen; loads = w.loads; misses = w.misses }
+one_more w = record w { held = w.held + 1; exchanges = w.exchanges + 1 }
 
 abbrev pub missed : WordView → WordView
-missed w = record { held = w.held; seen = w.seen; loads = w.loads; misses = w.misses + 1 }
+missed w = record w { exchanges = w.exchanges + 1; misses = w.misses + 1 }
+
+abbrev pub one_less : WordView → WordView
+one_less w = record w { held = w.held - 1; subtractions = w.subtractions + 1 }
+
+abbrev pub compared : WordView → WordView
+compared w = record w { compares = w.compares + 1 }
 
 abbrev pub on_total : (WordView → WordView) → SeatView → SeatView
 on_total step v = record { share = v.share; total = step v.total; kept = v.kept }
@@ -48,12 +52,16 @@ on_kept step v = record { share = v.share; total = v.total; kept = step v.kept }
 abbrev pub after_split : SeatView → SeatView
 after_split v = record { share = v.share - 1; total = v.total; kept = v.kept }
 
--- A join adds shares and permits up. What the second seat had seen counts for nothing.
+-- A join adds shares and permits up. What the second seat had seen and done counts for nothing.
 abbrev pub with_more : ℕ → WordView → WordView
-with_more n w = record { held = w.held + n; seen = w.seen; loads = w.loads; misses = w.misses }
+with_more n w = record w { held = w.held + n }
 
 abbrev pub joined : SeatView → SeatView → SeatView
 joined v w = record { share = v.share + w.share; total = with_more w.total.held v.total; kept = with_more w.kept.held v.kept }
+
+-- then each word is compared with what the seat holds
+abbrev pub joined_and_compared : SeatView → SeatView → SeatView
+joined_and_compared v w = on_kept compared (on_total compared (joined v w))
 
 abbrev pub total_of : SeatView → ℕ
 total_of v = v.total.held
@@ -85,15 +93,15 @@ Sitter = Me (Unit {0}) SeatView
 abbrev pub Looks : ((WordView → WordView) → SeatView → SeatView) → (SeatView → ℕ) → Sitter → ℕ → Sitter → Type 0
 Looks on held_of me found after = (after ≡ (on (noted found) me.0, me.1)) × (held_of me.0 ≤ found) × (found ≤ 65535)
 
--- What the loads after a join tell, which the view neither notes nor counts: the word is no less than what
--- the seat holds.
-abbrev pub Compares : (SeatView → ℕ) → Sitter → ℕ → Sitter → Type 0
-Compares held_of me found after = (after ≡ me) × (held_of me.0 ≤ found) × (found ≤ 65535)
+-- What the loads after a join tell, whose value the view does not note: the word is no less than what the
+-- seat holds.
+abbrev pub Compares : ((WordView → WordView) → SeatView → SeatView) → (SeatView → ℕ) → Sitter → ℕ → Sitter → Type 0
+Compares on held_of me found after = (after ≡ (on compared me.0, me.1)) × (held_of me.0 ≤ found) × (found ≤ 65535)
 
--- What an exchange for one more tells: where it found what the seat had seen, the permit is taken; where
--- it found another value, nothing is, and the seat counts the miss.
+-- What an exchange for one more tells: where it found what the seat had seen, which is below the limit, the
+-- permit is taken; where it found another value, nothing is, and the seat counts the miss.
 pub record Takes (on : (WordView → WordView) → SeatView → SeatView) (word_of : SeatView → WordView) (me : Sitter) (found : ℕ) (after : Sitter) : Type 0 where
-  pub hit : found ≡ (word_of me.0).seen → (after ≡ (on one_more me.0, me.1)) × ((word_of me.0).held ≤ found)
+  pub hit : found ≡ (word_of me.0).seen → (after ≡ (on one_more me.0, me.1)) × ((word_of me.0).held ≤ found) × (found < 65535)
   pub miss : found ≢ (word_of me.0).seen → after ≡ (on missed me.0, me.1)
 
 -- What a subtraction tells.
@@ -119,8 +127,8 @@ held_by place = held place.view.total.held place.view.kept.held
 
 -- What asking for a permit does to the seat's view of the word: one load, and then
 --   Full: nothing more, and the load read the limit;
---   Got: the permit;
---   Contended: the exchange found another value.
+--   Got: one exchange, which took the permit;
+--   Contended: one exchange, which found another value.
 abbrev pub Tries : ℕ → WordView → Try → WordView → Type 0
 Tries limit old Full new = (new ≡ noted new.seen old) × (new.seen ≡ limit)
 Tries limit old Got new = new ≡ one_more (noted new.seen old)
@@ -155,6 +163,12 @@ pub record Stays (b : Shared) (p : SeatShown) (c : Shared) (q : SeatShown) : Typ
   pub table : q.table ≡ p.table
   pub number : q.number ≡ p.number
   pub later : IsLater p.view q.view
+
+-- Between the two times of a seat the budget was asked this often for an open connection, and this often to
+-- keep one: so many loads were made.
+pub record LoadsMore (x y : SeatView) (opens keeps : ℕ) : Type 0 where
+  pub total : y.total.loads ≡ x.total.loads + opens
+  pub kept : y.kept.loads ≡ x.kept.loads + keeps
 
 abbrev pub Opening : Shared → SeatShown → SeatShown → Try → Type 0
 Opening b p q answer = Answers b.limits.total p.view.total q.view.total answer

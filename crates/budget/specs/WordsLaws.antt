@@ -1,11 +1,11 @@
 -- Why a seat with its budget keeps the laws of permits.
-use Rattle.std.specs.Prelude.{◌≡◌, ℕ, ◌≤◌, refl}
+use Rattle.std.specs.Prelude.{◌≡◌, ℕ, ◌+◌, ◌≤◌, refl}
 use Rattle.std.proofs.Common.{sym, ◌∙◌, ap, arith}
 use Rattle.budget.specs.declared.permits.Try.{Try}
 use Rattle.budget.specs.declared.permits.Try.TheVariants.{Got, Full, Contended}
 use Rattle.budget.specs.declared.words.view.WordView.{WordView}
 use Rattle.budget.specs.declared.words.view.SeatView.{SeatView}
-use Rattle.budget.specs.Words.{Shared, SeatShown, Answers, IsLater, Stays, Opening, Keeping}
+use Rattle.budget.specs.Words.{Shared, SeatShown, Answers, IsLater, Stays, LoadsMore, Opening, Keeping}
 
 later_from_start : (x : SeatView) → IsLater x x
 later_from_start x = record {
@@ -65,3 +65,13 @@ contended_to_open b c p q r told s = let misses = s.later.total_misses in omega 
 
 pub contended_to_keep : (b c : Shared) (p q r : SeatShown) → Keeping b p q Contended → Stays b q c r → Keeping c p r Contended
 contended_to_keep b c p q r told s = let misses = s.later.kept_misses in omega arith
+
+pub asked_from_start : (p : SeatShown) → LoadsMore p.view p.view 0 0
+asked_from_start p = record { total = omega arith; kept = omega arith }
+
+pub asked_on : (p q r : SeatShown) (opens keeps more_opens more_keeps : ℕ) → LoadsMore p.view q.view opens keeps → LoadsMore q.view r.view more_opens more_keeps
+    → LoadsMore p.view r.view (opens + more_opens) (keeps + more_keeps)
+asked_on p q r opens keeps more_opens more_keeps first later = record {
+  total = let a = first.total in let b = later.total in omega arith;
+  kept = let a = first.kept in let b = later.kept in omega arith;
+}

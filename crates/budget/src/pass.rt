@@ -82,6 +82,8 @@ impl<D: Copy + Drop> Pass<D> {
     }
 
     /// Takes the seat at the host's tally, where it has none yet.
+    ///
+    /// Asked of the caller: the account has no seat, and nothing was spent with this one yet.
     pub fn enrol(&mut self, host: usize, seat: PassSeat)
         requires host { host < length self.old }
         requires apart { (account_at self.old host).seat ≡ None }
@@ -119,9 +121,13 @@ impl<D: Copy + Drop> Pass<D> {
         self.accounts[host].calls
     }
 
-    /// Remembers what a call at this host answers.
-    pub fn tell(&mut self, host: usize, did: D)
-        requires { host < length self.old }
+    /// Remembers what a call at this host answers. It asks for the tally at which the pass is
+    /// enrolled there: whoever has that, and nobody else, tells the pass anything.
+    ///
+    /// Asked of the caller: the pass is enrolled at this tally.
+    pub fn tell(&mut self, host: usize, tally: &Tally, did: D)
+        requires host { host < length self.old }
+        requires enrolled { IsEnrolledAt self.old host tally.now.table }
         ensures account { self.new ≡ change_at self.old host (told did) }
         ensures seats { KeepsSeats self.old self.new }
     {
@@ -130,6 +136,9 @@ impl<D: Copy + Drop> Pass<D> {
     }
 
     /// Spends a lease at this host, where it is enrolled, and remembers what the call answers.
+    ///
+    /// Asked of the caller: the pass is enrolled at this tally, and the lease's start was split off
+    /// there.
     pub fn spend(&mut self, host: usize, tally: &Tally, start: StartSeat, did: D)
         requires host { host < length self.old }
         requires enrolled { IsEnrolledAt self.old host tally.now.table }

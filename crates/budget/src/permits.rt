@@ -1,4 +1,4 @@
-ghost use Rattle.std.specs.Prelude.{◌≡◌, ◌<◌};
+ghost use Rattle.std.specs.Prelude.{◌≡◌, ℕ, ◌+◌, ◌<◌};
 
 /// What a budget answers where it is asked for one permit more.
 #[derive(Clone, Copy, Debug, PartialEq, Eq)]
@@ -56,6 +56,10 @@ pub trait Permits {
     /// The same for a kept connection.
     ghost asks_kept: { Self → Self → Try → Type 0 };
 
+    /// From the one time to the other the budget was asked this often for an open connection, and
+    /// this often to keep one. To give a permit back asks for nothing.
+    ghost asked: { Self → Self → ℕ → ℕ → Type 0 };
+
     /// No step between the two times touched the number of open connections.
     ghost same_total: { Self → Self → Type 0 };
 
@@ -67,7 +71,8 @@ pub trait Permits {
         requires stands { stands self.old }
         ensures stands { stands self.new }
         ensures stays { stays self.old self.new }
-        ensures asked { asks_open self.old self.new result }
+        ensures asks { asks_open self.old self.new result }
+        ensures asked { asked self.old self.new 1 0 }
         ensures told { opening self.old self.new result }
         ensures held { held self.new ≡ if_got result one_more_open (held self.old) }
         ensures same_kept { same_kept self.old self.new };
@@ -77,7 +82,8 @@ pub trait Permits {
         requires stands { stands self.old }
         ensures stands { stands self.new }
         ensures stays { stays self.old self.new }
-        ensures asked { asks_kept self.old self.new result }
+        ensures asks { asks_kept self.old self.new result }
+        ensures asked { asked self.old self.new 0 1 }
         ensures told { keeping self.old self.new result }
         ensures held { held self.new ≡ if_got result one_more_kept (held self.old) }
         ensures same_total { same_total self.old self.new };
@@ -88,6 +94,7 @@ pub trait Permits {
         requires one { 0 < (held self.old).alive }
         ensures stands { stands self.new }
         ensures stays { stays self.old self.new }
+        ensures asked { asked self.old self.new 0 0 }
         ensures held { held self.new ≡ one_less_open (held self.old) }
         ensures same_kept { same_kept self.old self.new };
 
@@ -97,6 +104,7 @@ pub trait Permits {
         requires one { 0 < (held self.old).kept }
         ensures stands { stands self.new }
         ensures stays { stays self.old self.new }
+        ensures asked { asked self.old self.new 0 0 }
         ensures held { held self.new ≡ one_less_kept (held self.old) }
         ensures same_total { same_total self.old self.new };
 
@@ -108,6 +116,12 @@ pub trait Permits {
     ghost stays_from_start: { (x : Self) → stays x x };
 
     ghost stays_on: { (x y z : Self) → stays x y → stays y z → stays x z };
+
+    ghost asked_from_start: { (x : Self) → asked x x 0 0 };
+
+    ghost asked_on: { (x y z : Self) (opens keeps more_opens more_keeps : ℕ)
+        → asked x y opens keeps → asked y z more_opens more_keeps
+        → asked x z (opens + more_opens) (keeps + more_keeps) };
 
     /// Not asked reads as Got.
     ghost not_asked_to_open: { (x y : Self) → stays x y → opening x y Got };

@@ -161,7 +161,8 @@ impl PlainBudget {
 }
 
 /// One host's part of a budget of one thread. It is never answered Contended, and Full only where
-/// the total, or the number kept, is at its limit.
+/// the total, or the number kept, is at its limit. How often it is asked nobody else can tell, so
+/// that is not counted.
 #[derive(Drop)]
 pub struct HostPermits<'a> {
     budget: &'a mut PlainBudget,
@@ -193,6 +194,8 @@ impl Permits for HostPermits<'_> {
 
     ghost asks_kept = { λ x y. AsksKept x.host x.budget.now y.budget.now };
 
+    ghost asked = { λ x y opens keeps. Unit {0} };
+
     ghost same_total = { λ x y. alive_in y.budget.now.hosts ≡ alive_in x.budget.now.hosts };
 
     ghost same_kept = { λ x y. kept_in y.budget.now.hosts ≡ kept_in x.budget.now.hosts };
@@ -220,6 +223,10 @@ impl Permits for HostPermits<'_> {
     ghost stays_from_start = { λ x. (refl, refl, keeps_from_start x.host x.budget.now) };
 
     ghost stays_on = { λ x y z p q. (q.0 ∙ p.0, q.1 ∙ p.1, keeps_on p.1 p.2 q.2) };
+
+    ghost asked_from_start = { λ x. tt };
+
+    ghost asked_on = { λ x y z opens keeps more_opens more_keeps first later. tt };
 
     ghost not_asked_to_open = { λ x y s. tt };
 

@@ -117,9 +117,11 @@ fn two_seats_share_one_permit(rt: HostRuntime) {
     let Try::Got = budget.try_open(&mut b) else {
         panic!(rt; "b could not open");
     };
+    assert!(rt; !budget.keeps_any());
     let Try::Got = budget.try_keep(&mut b) else {
         panic!(rt; "b could not keep");
     };
+    assert!(rt; budget.keeps_any());
     assert_eq!(rt; budget.try_keep(&mut a), Try::Full);
     assert_eq!(rt; b.held(), Held { alive: 1, kept: 1 });
     budget.free_keep(&mut b);

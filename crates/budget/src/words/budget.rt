@@ -1,6 +1,6 @@
 ghost use Rattle.std.specs.Prelude.{◌≡◌, ℕ, ◌+◌, ◌<◌, ◌≤◌, [], IfOk, IfErr};
 ghost use Rattle.budget.specs.Words.{empty_seat, one_less, on_total, on_kept, after_split};
-ghost use Rattle.budget.specs.Words.{joined, whole};
+ghost use Rattle.budget.specs.Words.{joined_and_compared, whole};
 ghost use Rattle.budget.specs.Words.{seated, held_by, TriesOpen, TriesKept};
 
 use crate::limits::Limits;
@@ -58,7 +58,7 @@ pub struct BudgetSeat {
 }
 
 impl Model for BudgetSeat {
-    ghost use Rattle.std.specs.Prelude.{◌≡◌, ◌<◌, []};
+    ghost use Rattle.std.specs.Prelude.{◌≡◌, ◌<◌, ◌≤◌, []};
     ghost use Rattle.budget.specs.Words.{SeatShown};
 
     ghost Value = { SeatShown };
@@ -74,6 +74,8 @@ impl Model for BudgetSeat {
       share : 0 < shown.seat.me.0.share;
       alive : shown.alive ≡ shown.seat.me.0.total.held;
       kept : shown.kept ≡ shown.seat.me.0.kept.held;
+      alive_fits : shown.seat.me.0.total.held ≤ 65535;
+      kept_fits : shown.seat.me.0.kept.held ≤ 65535;
       seen_total : shown.seen.total ≡ shown.seat.me.0.total.seen;
       seen_kept : shown.seen.kept ≡ shown.seat.me.0.kept.seen;
     } };
@@ -188,6 +190,12 @@ impl WordBudget {
         seat.seen
     }
 
+    /// Whether any connection is kept at this moment, over all seats. No seat notes it, and other
+    /// threads may change it at once, so that no contract says anything of it: use it as a hint.
+    pub fn keeps_any(&self) -> bool {
+        self.table.shared.peek(KEPT) != 0
+    }
+
     /// A new seat, with one unit of the seat's share and no permit.
     pub fn split(&self, seat: &mut BudgetSeat) -> BudgetSeat
         requires table { seat.old.table ≡ self.now.table }
@@ -202,7 +210,7 @@ impl WordBudget {
     pub fn join(&self, seat: &mut BudgetSeat, other: BudgetSeat)
         requires table { seat.old.table ≡ self.now.table }
         requires other { other.table ≡ self.now.table }
-        ensures { seat.new ≡ seated seat.old (joined seat.old.view other.view) }
+        ensures { seat.new ≡ seated seat.old (joined_and_compared seat.old.view other.view) }
     {
         let BudgetSeat {
             seat: others,
@@ -264,9 +272,11 @@ impl BudgetSeat {
         }
     }
 
-    /// What it holds.
+    /// What it holds, which is never more of either than a limit may be.
     pub fn held(&self) -> Held
-        ensures { result ≡ held_by self.now }
+        ensures held { result ≡ held_by self.now }
+        ensures alive_fits { result.alive ≤ 65535 }
+        ensures kept_fits { result.kept ≤ 65535 }
     {
         Held {
             alive: self.alive,

@@ -27,6 +27,7 @@ impl Permits for SeatPermits<'_> {
     ghost use Rattle.std.specs.Prelude.{◌≡◌, refl};
     ghost use Rattle.std.proofs.Common.{◌∙◌};
     ghost use Rattle.budget.specs.Words.{Stays, Opening, Keeping, TriesOpen, TriesKept, held_by};
+    ghost use Rattle.budget.specs.Words.{LoadsMore};
     ghost use Rattle.budget.specs.WordsLaws as laws;
 
     ghost stands = { λ part. part.seat.now.table ≡ part.budget.now.table };
@@ -45,6 +46,8 @@ impl Permits for SeatPermits<'_> {
 
     ghost asks_kept = { λ x y answer.
         TriesKept y.budget.now.limits.connects x.seat.now answer y.seat.now };
+
+    ghost asked = { λ x y. LoadsMore x.seat.now.view y.seat.now.view };
 
     ghost same_total = { λ x y. y.seat.now.view.total ≡ x.seat.now.view.total };
 
@@ -77,6 +80,10 @@ impl Permits for SeatPermits<'_> {
     ghost stays_from_start = { λ x. (refl, laws.stays_from_start x.budget.now x.seat.now) };
 
     ghost stays_on = { λ x y z p q. (q.0 ∙ p.0, laws.stays_on p.1 q.1) };
+
+    ghost asked_from_start = { λ x. laws.asked_from_start x.seat.now };
+
+    ghost asked_on = { λ x y z. laws.asked_on x.seat.now y.seat.now z.seat.now };
 
     ghost not_asked_to_open = { λ x y s. tt };
 

@@ -33,22 +33,22 @@ impl Play<(), SeatView> for LooksAtKept {
     ghost then = { λ _. Looks on_kept kept_of };
 }
 
-/// A load of the total after a join, which the seat does not note.
+/// A load of the total after a join, whose value the seat does not note.
 pub struct ComparesTotal;
 
 impl Play<(), SeatView> for ComparesTotal {
-    ghost use Rattle.budget.specs.Words.{Compares, total_of};
+    ghost use Rattle.budget.specs.Words.{Compares, on_total, total_of};
 
-    ghost then = { λ _. Compares total_of };
+    ghost then = { λ _. Compares on_total total_of };
 }
 
-/// A load of the number kept after a join, which the seat does not note.
+/// A load of the number kept after a join, whose value the seat does not note.
 pub struct ComparesKept;
 
 impl Play<(), SeatView> for ComparesKept {
-    ghost use Rattle.budget.specs.Words.{Compares, kept_of};
+    ghost use Rattle.budget.specs.Words.{Compares, on_kept, kept_of};
 
-    ghost then = { λ _. Compares kept_of };
+    ghost then = { λ _. Compares on_kept kept_of };
 }
 
 /// An exchange of the total to one more.

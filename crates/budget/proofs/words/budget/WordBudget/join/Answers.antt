@@ -1,4 +1,4 @@
-use Rattle.std.proofs.Common.{rules, refl}
+use Rattle.std.proofs.Common.{rules}
 use Rattle.budget.proofs.Keeps.{total_word, kept_word, joins, compares}
 use Rattle.budget.proofs.words.budget.WordBudget.join.Goals as goal
 
@@ -6,7 +6,7 @@ pub join_seat-requires : goal.join_seat-requires
 join_seat-requires c = (search rules, search rules, search rules, search rules, joins _ _ _ _ _ c.seat.invariant.share)
 
 pub load-requires : goal.load-requires
-load-requires c = (search rules, search rules, compares _ (total_word _) _ _ _ (search rules) (λ _. refl))
+load-requires c = (search rules, search rules, compares _ (total_word _) _ _ _ (search rules))
 
 pub load-requires-2 : goal.load-requires-2
-load-requires-2 c = (search rules, search rules, compares _ (kept_word _) _ _ _ (search rules) (λ _. refl))
+load-requires-2 c = (search rules, search rules, compares _ (kept_word _) _ _ _ (search rules))
