@@ -1,5 +1,5 @@
 -- What an owed close tells of the use, and that there is room once what was held is gone.
-use Rattle.std.proofs.Common.{◌≡◌, ℕ, ◌<◌, Bool, true, false, List, [], ◌∷◌, ◌++◌, length, Option, Some, None, is_some, refl, sym, ap, ◌∙◌, arith, ◌+◌, not, ◌&&◌}
+use Rattle.std.proofs.Common.{◌≡◌, ℕ, ◌<◌, Bool, true, false, List, length, Option, Some, None, is_some, refl, sym, ap, ◌∙◌, arith}
 use Rattle.std.specs.Prelude.{◌==◌, if◌then◌else◌}
 use Rattle.std.proofs.lemmas.Bool.Decides.{nat_tests}
 use Rattle.persistence.specs.declared.facts.Facts.{Facts}
@@ -8,7 +8,7 @@ use Rattle.conn_log.specs.declared.entry.Cause.{Cause}
 use Rattle.conn_log.specs.declared.entry.Entry.{Entry}
 use Rattle.conn_log.specs.Connections.{open_connections, held_number, holder_want}
 use Rattle.conn_log.specs.Waiting.{waits}
-use Rattle.conn_log.specs.Legal.{LimitAndFirst, limit_in_force, ends_use, ending_cause, owed, owed_for}
+use Rattle.conn_log.specs.Legal.{LimitAndFirst, limit_in_force, ends_use, ending_cause, owed_for}
 use Rattle.conn_log.specs.Sound.{IsSound}
 use Rattle.conn_log.proofs.Steps.{IsGone, fewer_open}
 use Rattle.host_state.specs.Steps.{is_full, moment_at}

@@ -7,9 +7,15 @@ pub mod Outcomes
 pub mod Bookings
 -- once what is too old is closed none of it is left
 pub mod TooOldCloses
+-- of what want and moment it gives a start or a wait
+pub mod RepliesInKind
+-- the one idle for the longest is closed first
+pub mod ClosingOrder
 -- What is left when a use ends?
 -- what is owed, and that there is room
 pub mod EndsOfUses
+-- whether the budget is asked to keep it
+pub mod AsksToKeep
 -- what the budget's part holds, and whether a permit was freed
 pub mod FreedPermits
 -- What holds of each log that a call leaves?
@@ -19,6 +25,8 @@ pub mod Soundness
 pub mod Growth
 -- how many are open and idle, and who waits
 pub mod Counts
+-- the limit in force is the one before
+pub mod LimitsInForce
 -- what it tells of a transfer, entry by entry
 pub mod Transfers
 -- what a pass is told stands in it

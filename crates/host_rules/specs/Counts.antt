@@ -1,5 +1,5 @@
 -- What a log counts: what a budget's part holds for its host, and what a look tells.
-use Rattle.std.specs.Prelude.{ℕ, ◌-◌, Bool, List, length}
+use Rattle.std.specs.Prelude.{◌-◌, Bool, List, length}
 use Rattle.conn_log.specs.declared.entry.Entry.{Entry}
 use Rattle.conn_log.specs.Connections.{open_connections, idle_connections}
 use Rattle.conn_log.specs.Waiting.{waiting}

@@ -1,5 +1,5 @@
 -- How a lobby lists a host, and the order after the host is marked or had its turn.
-use Rattle.std.specs.Prelude.{◌≡◌, ℕ, ◌<◌, Bool, true, false, List, [], ◌∷◌, ◌++◌, ◌⊎◌}
+use Rattle.std.specs.Prelude.{◌≡◌, ℕ, ◌<◌, Bool, true, false, List, [], ◌∷◌, ◌++◌}
 use Rattle.budget.specs.Lobby.{Queue, is_listed, without_host, turned}
 
 -- the lobby lists the host exactly where it is queued

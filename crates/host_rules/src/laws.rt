@@ -1,5 +1,6 @@
 //! Laws of what calls answer, for every log.
 
+ghost use Rattle.host_rules.specs.ClosingOrder.{ClosingsCloseTheOldestFirst};
 ghost use Rattle.host_rules.specs.Effects.{AcquireTidies, AcquireDoesAsReplied, GiveBackSpendsOne};
 ghost use Rattle.host_rules.specs.Effects.{AbandonSpendsOne, WithdrawSpendsOne, WithdrawLeaves};
 ghost use Rattle.host_rules.specs.Effects.{TurnOpensForHead, EvictingClosesOne, PruneCloses};
@@ -12,6 +13,12 @@ ghost use Rattle.host_rules.specs.Laws.{AcquireWritesItsStart, AcquireWritesItsW
 ghost use Rattle.host_rules.specs.Laws.{GiveBackWritesItsReturn, AbandonWritesItsClosing};
 ghost use Rattle.host_rules.specs.Laws.{WithdrawWritesItsClosing, WithdrawWritesItsLeaving};
 ghost use Rattle.host_rules.specs.Laws.{LimitIsWritten};
+ghost use Rattle.host_rules.specs.Asks.{GiveBackAsksForWhatStays};
+ghost use Rattle.host_rules.specs.LimitsInForce.{AcquireKeepsTheLimit, GiveBackKeepsTheLimit};
+ghost use Rattle.host_rules.specs.LimitsInForce.{AbandonKeepsTheLimit, WithdrawKeepsTheLimit};
+ghost use Rattle.host_rules.specs.LimitsInForce.{TurnKeepsTheLimit, EvictingKeepsTheLimit};
+ghost use Rattle.host_rules.specs.LimitsInForce.{PruneKeepsTheLimit, LimitBecomesTheOneInForce};
+ghost use Rattle.host_rules.specs.LimitsInForce.{AllowedLimitsAreWithin, MomentsAreNotBefore};
 
 /// A sound and quiet log stays so, and so legal, by each call that is not refused, whatever the
 /// log.
@@ -54,4 +61,38 @@ pub fn calls_write_what_they_tell()
     ensures withdraw_granted { WithdrawWritesItsClosing }
     ensures withdraw_waiting { WithdrawWritesItsLeaving }
     ensures limit { LimitIsWritten }
+{}
+
+/// The most connections that the host may have open stays by each call but a changed limit,
+/// whatever the log; and what it is changed to is at most 65,535.
+pub fn calls_keep_the_limit()
+    ensures acquire { AcquireKeepsTheLimit }
+    ensures give_back { GiveBackKeepsTheLimit }
+    ensures abandon { AbandonKeepsTheLimit }
+    ensures withdraw { WithdrawKeepsTheLimit }
+    ensures turn { TurnKeepsTheLimit }
+    ensures evict { EvictingKeepsTheLimit }
+    ensures prune { PruneKeepsTheLimit }
+    ensures limit { LimitBecomesTheOneInForce }
+    ensures within { AllowedLimitsAreWithin }
+{}
+
+/// The moment at which a call acts is not before the one that it was handed, nor before the last
+/// moment of the log, whatever the log.
+pub fn moments_are_clamped()
+    ensures { MomentsAreNotBefore }
+{}
+
+/// A give back of a lease whose want is the recorded one asks the budget to keep a connection
+/// exactly where that is to be idle, whatever the log.
+pub fn give_backs_ask_for_what_stays()
+    ensures { GiveBackAsksForWhatStays }
+{}
+
+/// What a call closes as too old, what a prune closes, and what is closed for a lower limit comes
+/// in order: of two idle connections of a legal log that a call closes so, the one that came back
+/// earlier is closed first, and of two that came back in the same moment the one with the lower
+/// number.
+pub fn closings_close_the_oldest_first()
+    ensures order { ClosingsCloseTheOldestFirst }
 {}

@@ -299,7 +299,8 @@ impl<S: Drop> State<S> {
 
     /// Leases the connection that came back last to the transfer, where nothing else has to be
     /// done: the transfer holds nothing, nobody waits, numbers are left, nothing that is idle is
-    /// too old, and that connection fits. Where memory runs out nothing has changed.
+    /// too old, and that connection fits. It may always decline, as where memory runs out; then
+    /// nothing has changed.
     #[inline(always)]
     pub fn lease_last(&mut self, want: &Want, moment: u64) -> Option<(u32, S)>
         requires none { self.old.booked ≡ 0 }
