@@ -28,7 +28,7 @@ use Rattle.host_rules.proofs.Bookings.{IsOut}
 use Rattle.host_rules.proofs.Growth.{grows_acquired}
 use Rattle.host_rules.proofs.Soundness.{kept_acquired, none_waits}
 use Rattle.host_rules.proofs.Marks.{mark_acquired}
-use Rattle.bundle.proofs.Acquired.{Outcome, outcome}
+use Rattle.bundle.proofs.OutcomesOfAcquires.{Outcome, outcome}
 
 -- what it leaves: a log that is sound and quiet, and what that tells by what it gives
 pub record Leaves {S : Type 0} (is_last : Bool) (settings : LimitAndFirst) (log after : List Entry) (want : Want) (got : Got S) : Type 0 where

@@ -13,10 +13,12 @@ pub mod Halfway
 pub mod Passing
 pub mod Resting
 pub mod Outcomes
-pub mod Acquired
+pub mod OutcomesOfAcquires
 pub mod Answering
 pub mod Settling
 pub mod AcquiredHosts
 pub mod TurnLogs
 pub mod LimitLogs
 pub mod ComingBack
+pub mod Asking
+pub mod RepliesInKind

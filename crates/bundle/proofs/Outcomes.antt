@@ -11,7 +11,7 @@ use Rattle.host_rules.specs.Bookings.{AreBooked, without_booked}
 use Rattle.bundle.specs.Replies.{GivesBooking, UnlessBooking}
 use Rattle.host_rules.proofs.Transfers.{told}
 use Rattle.host_rules.proofs.Bookings.{IsOut, out_still, fewer_booked, more_booked, booked_left, booked_others, booked_still, booked_last}
-use Rattle.bundle.proofs.Acquired.{Outcome}
+use Rattle.bundle.proofs.OutcomesOfAcquires.{Outcome}
 use Rattle.host_rules.proofs.Outcomes.{IsHalfway}
 
 module _ (want : Want) (log after : List Entry) where

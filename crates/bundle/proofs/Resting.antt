@@ -69,7 +69,7 @@ ended_given_back settings log c facts now settings' e_terms m e_m cause owes clo
     ∙ sym (ap (settle settings c n (returned log c facts now)) owes)
 
 -- it is to be idle where it would stay open, and nobody waits
-forbids_as : (log : List Entry) (transfer : ℕ) (kept : Held) → held_facts log transfer ≡ Some (facts_of_held kept) → option_map_or (λ (want : Want). want.forbid_reuse) (holder_want log kept.number) false ≡ kept.forbids_reuse
+pub forbids_as : (log : List Entry) (transfer : ℕ) (kept : Held) → held_facts log transfer ≡ Some (facts_of_held kept) → option_map_or (λ (want : Want). want.forbid_reuse) (holder_want log kept.number) false ≡ kept.forbids_reuse
 forbids_as log transfer kept is = by_number (held_number log transfer) is
   where
     by_number : (n : Option ℕ) → option_map (facts_if_held log) n ≡ Some (facts_of_held kept) → option_map_or (λ (want : Want). want.forbid_reuse) (holder_want log kept.number) false ≡ kept.forbids_reuse

@@ -21,6 +21,10 @@ tells_spends_none pass host table (Some did) seat =
 pub account_there : {S : Type 0} (pass : Accounts) (host : HostShown S) (index : ℕ) → index ≡ host.host → IsEnrolledAt pass host.host host.tables.starts → index < length pass
 account_there pass host index is seat = subst (λ (n : ℕ). n < length pass) (sym is) (enrolled_there pass host.host host.tables.starts seat)
 
+-- the pass is enrolled under each index that is its host's, at each table that is its host's
+pub enrolled_at : {S : Type 0} (pass : Accounts) (host : HostShown S) (index : ℕ) (table : TableId) → index ≡ host.host → table ≡ host.tables.starts → IsEnrolledAt pass host.host host.tables.starts → IsEnrolledAt pass index table
+enrolled_at pass host index table is its seat = subst (λ (n : ℕ). IsEnrolledAt pass n table) (sym is) (subst (IsEnrolledAt pass host.host) (sym its) seat)
+
 -- where no start is gone more, a pass that is only told something accounts for them
 pub accounts_told : {S : Type 0} (old : HostShown S) (log : List Entry) (before after : Accounts) (did : Option Did) → IsEnrolledAt before old.host old.tables.starts → after ≡ tells old.host did before → gone log ≡ gone old.log → gone log + spent_at before old.host ≡ gone old.log + spent_at after old.host
 accounts_told old log before after did seat told same =

@@ -1,5 +1,5 @@
 -- What calls tell the pass that they are lent, and what is spent with it.
-use Rattle.std.specs.Prelude.{◌≡◌, ℕ, ◌+◌, ◌≤◌, if◌then◌else◌, List, [], ◌∷◌, ◌++◌, Option, Some, None, Result, Ok, Err}
+use Rattle.std.specs.Prelude.{◌≡◌, ℕ, ◌+◌, ◌≤◌, List, [], ◌∷◌, ◌++◌, Option, Some, None, Result, Ok, Err}
 use Rattle.std.specs.List.{sum_by}
 use Rattle.budget.specs.declared.pass.Account.{Account}
 use Rattle.budget.specs.declared.refusal.Refusal.{Refusal}

@@ -25,6 +25,13 @@ IsGot host want no_room (NoRoom booking) = booking ≡ record { site = host; wan
 IsGot host want again (Again booking) = booking ≡ record { site = host; want = want }
 IsGot host want reply got = ⊥
 
+-- what an acquire gives is of this host, for that want, and of that moment
+abbrev pub IsFor : {S : Type 0} → ℕ → Want → ℕ → Got S → Type 0
+IsFor host want moment (Lease lease) = (lease.site ≡ host) × (lease.start.want ≡ want) × (lease.start.moment ≡ moment)
+IsFor host want moment (Wait ticket) = ticket ≡ record { site = host; wait = record { want = want; moment = moment } }
+IsFor host want moment (NoRoom booking) = booking ≡ record { site = host; want = want }
+IsFor host want moment (Again booking) = booking ≡ record { site = host; want = want }
+
 -- an acquire, or another try of one, where the budget answered so
 pub record Acquires {S : Type 0} (is_last : Bool) (told : Try) (old new : HostShown S) (want : Want) (now : ℕ) (got : Got S) : Type 0 where
   pub log : new.log ≡ (acquired is_last told old.settings old.log want now).log
@@ -40,6 +47,14 @@ IsBack old new lease returning back = ⊥
 -- a lease of what the transfer holds is given back, where the budget answered so
 abbrev pub GivesBack : {S : Type 0} → Bool → Try → HostShown S → HostShown S → Leasing S → Facts → ℕ → Back S → Type 0
 GivesBack close_if_full told old new lease facts now back = IsBack old new lease (given_back close_if_full told old.settings old.log lease.start.number facts now) back
+
+-- what a give back may answer: the lease itself comes back, where the budget has to be asked again, or keeps none and
+-- the call may not close; it is never a stranger
+abbrev pub IsBackAs : {S : Type 0} → Bool → Leasing S → Back S → Type 0
+IsBackAs close_if_full lease (Spent freed) = Unit {0}
+IsBackAs close_if_full lease (NoKeep same) = (close_if_full ≡ false) × (same ≡ lease)
+IsBackAs close_if_full lease (KeepAgain same) = same ≡ lease
+IsBackAs close_if_full lease (Strange stray) = ⊥
 
 -- where a lease comes back
 abbrev pub IfBack : {S : Type 0} → Back S → (Leasing S → Type 0) → Type 0

@@ -7,9 +7,11 @@ ghost use Rattle.budget.specs.declared.permits.Try.{Try};
 ghost use Rattle.budget.specs.declared.permits.Try.TheVariants.{Got as TryGot};
 ghost use Rattle.conn_log.specs.Connections.{held_number, is_among, last_moment};
 ghost use Rattle.conn_log.specs.Waiting.{waiting, waits};
-ghost use Rattle.host_state.specs.Steps.{is_exhausted};
+ghost use Rattle.host_state.specs.Steps.{is_exhausted, moment_at};
 ghost use Rattle.host_state.specs.State.{IsSameHost, KeepsOpenBut};
 ghost use Rattle.host_rules.specs.Calls.{refusal, is_queued, start_behind, GrowsBy};
+ghost use Rattle.host_rules.specs.Asks.{asks_to_open, open_asks};
+ghost use Rattle.host_rules.specs.Laws.{IsSoundAndQuiet};
 ghost use Rattle.bundle.specs.Lease.{HasItsStream, KeepsStreams, KeepsOthers, GetsLease};
 ghost use Rattle.bundle.specs.Lease.{GetsTicket, KeepsAll, StaysThere, IsBookedHere};
 ghost use Rattle.host_rules.specs.Counts.{held_by};
@@ -18,7 +20,7 @@ ghost use Rattle.bundle.specs.Lobbies.{IfLent, IfLeft, is_lent};
 ghost use Rattle.host_rules.specs.Orders.{Lists, IsMarked};
 ghost use Rattle.bundle.specs.Seats.{IsSeated, KeepsGranted};
 ghost use Rattle.bundle.specs.Replies.{Acquires, GivesLease, GivesTicket, GivesBooking};
-ghost use Rattle.bundle.specs.Replies.{UnlessBooking, IfGot, IsGot};
+ghost use Rattle.bundle.specs.Replies.{UnlessBooking, IfGot, IsGot, IsFor};
 ghost use Rattle.budget.specs.Accounts.{IsEnrolledAt, KeepsSeats};
 ghost use Rattle.bundle.specs.Passes.{tells, got_did, acquire_did, AccountsForStarts};
 
@@ -88,10 +90,14 @@ impl<S: Drop> Bundle<S> {
 
         ensures stands { P.stands permits.new }
         ensures stays { P.stays permits.old permits.new }
+        ensures asked { let asks = open_asks self.old.settings self.old.log want now in
+            OnOk result (P.asked permits.old permits.new asks 0) }
         ensures part { P.held permits.new ≡ held_by self.new.log }
         ensures mark { is_queued self.new.settings self.new.log
             ≡ is_queued self.old.settings self.old.log }
 
+        ensures is_for { let moment = moment_at self.old.log now in
+            IfGot result (IsFor self.old.host want moment) }
         ensures made_here { IfGot result (λ got. GivesLease got
             (λ lease. lease.tables ≡ self.old.tables)) }
 
@@ -104,6 +110,7 @@ impl<S: Drop> Bundle<S> {
         ensures gets_booking { IfGot result (λ got. GivesBooking got
             (λ booking. KeepsAll self.old self.new)) }
         ensures grew { OnOk result (GrowsBy self.old.log self.new.log) }
+        ensures settled { IsSoundAndQuiet self.new.settings self.new.log }
         ensures same { StaysThere self.old self.new }
 
         ensures tells { pass.new
@@ -122,11 +129,12 @@ impl<S: Drop> Bundle<S> {
             permits,
         ) {
             let start = Did::Wrote(start_entry(&lease));
-            pass.tell(self.state.host() as usize, start);
+            pass.tell(self.state.host() as usize, self.seats.tally(), start);
             return Ok(Got::Lease(lease));
         }
         if let Some(reason) = reason_against(&self.state, &self.bookings, &want) {
-            tell_refused(pass, self.state.host(), want.transfer, reason);
+            let (host, tally) = (self.state.host(), self.seats.tally());
+            tell_refused(pass, host, tally, want.transfer, reason);
             return Err(reason);
         }
         let waiting = self.state.waiting_len() as usize;
@@ -142,7 +150,7 @@ impl<S: Drop> Bundle<S> {
         let seats = &mut self.seats;
         let got = start_or_wait(&mut self.state, seats, want, moment, permits, false);
         add_booking(&mut self.bookings, &got, want.transfer);
-        tell_got(pass, self.state.host(), &got);
+        tell_got(pass, self.state.host(), self.seats.tally(), &got);
         Ok(got)
     }
 
@@ -176,12 +184,16 @@ impl<S: Drop> Bundle<S> {
         ensures streams { GivesLease result
             (λ lease. KeepsOthers lease.start.number self.old self.new) }
         ensures kept { GivesTicket result (λ ticket. KeepsStreams self.old self.new) }
+        ensures is_for { let moment = moment_at self.old.log now in
+            IsFor self.old.host booking.want moment result }
         ensures halfway { GivesBooking result (λ booking. KeepsStreams self.old self.new) }
         ensures booked { GivesBooking result (λ again. self.new.booked ≡ self.old.booked) }
         ensures not_booked { let transfer = booking.want.transfer in
             UnlessBooking result (self.new.booked ≡ without_booked transfer self.old.booked) }
         ensures stands { P.stands permits.new }
         ensures stays { P.stays permits.old permits.new }
+        ensures asked { let asks = open_asks self.old.settings self.old.log booking.want now in
+            P.asked permits.old permits.new asks 0 }
         ensures part { P.held permits.new ≡ held_by self.new.log }
         ensures marked { let was = is_queued self.old.settings self.old.log in
             let is = is_queued self.new.settings self.new.log in
@@ -196,6 +208,7 @@ impl<S: Drop> Bundle<S> {
             (λ ticket. GetsTicket self.old self.new booking.want) }
         ensures gets_booking { GivesBooking result (λ again. KeepsAll self.old self.new) }
         ensures grew { GrowsBy self.old.log self.new.log }
+        ensures settled { IsSoundAndQuiet self.new.settings self.new.log }
         ensures same { StaysThere self.old self.new }
         ensures tells { pass.new ≡ tells self.old.host (got_did result) pass.old }
         ensures seats { KeepsSeats pass.old pass.new }
@@ -233,12 +246,16 @@ impl<S: Drop> Bundle<S> {
         ensures streams { GivesLease result
             (λ lease. KeepsOthers lease.start.number self.old self.new) }
         ensures kept { GivesTicket result (λ ticket. KeepsStreams self.old self.new) }
+        ensures is_for { let moment = moment_at self.old.log now in
+            IsFor self.old.host booking.want moment result }
         ensures halfway { GivesBooking result (λ booking. KeepsStreams self.old self.new) }
         ensures booked { GivesBooking result (λ again. self.new.booked ≡ self.old.booked) }
         ensures not_booked { let transfer = booking.want.transfer in
             UnlessBooking result (self.new.booked ≡ without_booked transfer self.old.booked) }
         ensures stands { P.stands permits.new }
         ensures stays { P.stays permits.old permits.new }
+        ensures asked { let asks = open_asks self.old.settings self.old.log booking.want now in
+            P.asked permits.old permits.new asks 0 }
         ensures part { P.held permits.new ≡ held_by self.new.log }
         ensures mark { let was = is_queued self.old.settings self.old.log in
             is_last ≡ false → is_queued self.new.settings self.new.log ≡ was }
@@ -250,6 +267,7 @@ impl<S: Drop> Bundle<S> {
             (λ ticket. GetsTicket self.old self.new booking.want) }
         ensures gets_booking { GivesBooking result (λ again. KeepsAll self.old self.new) }
         ensures grew { GrowsBy self.old.log self.new.log }
+        ensures settled { IsSoundAndQuiet self.new.settings self.new.log }
         ensures same { StaysThere self.old self.new }
         ensures tells { pass.new ≡ tells self.old.host (got_did result) pass.old }
         ensures seats { KeepsSeats pass.old pass.new }
@@ -260,7 +278,7 @@ impl<S: Drop> Bundle<S> {
         let seats = &mut self.seats;
         let got = start_or_wait(&mut self.state, seats, want, moment, permits, is_last);
         take_booking(&mut self.bookings, &got, want.transfer);
-        tell_got(pass, self.state.host(), &got);
+        tell_got(pass, self.state.host(), self.seats.tally(), &got);
         got
     }
 
@@ -317,6 +335,9 @@ fn lease_at_once<S: Drop, P: Permits>(
     ensures booked { state.new.booked ≡ state.old.booked }
     ensures stands { P.stands permits.new }
     ensures stays { P.stays permits.old permits.new }
+    ensures not_due { OnSome result
+        (asks_to_open state.old.settings state.old.log want moment ≡ false) }
+    ensures unasked { P.asked permits.old permits.new 0 0 }
     ensures part { P.held permits.new ≡ held_by state.new.log }
     ensures same { IsSameHost state.old state.new }
 {

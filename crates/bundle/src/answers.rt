@@ -29,6 +29,14 @@ impl<S> Got<S> {
     }
 }
 
+/// What an acquire comes to that has been tried to its end.
+pub enum Acquired<S> {
+    /// A connection.
+    Lease(Lease<S>),
+    /// A ticket: the transfer waits at its host.
+    Wait(Ticket),
+}
+
 /// What a claim gives.
 pub enum Claimed<S> {
     /// The connection that the transfer was granted.

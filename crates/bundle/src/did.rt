@@ -1,12 +1,12 @@
 ghost use Rattle.std.specs.Prelude.{◌≡◌, ◌<◌, length};
-ghost use Rattle.budget.specs.Accounts.{KeepsSeats};
+ghost use Rattle.budget.specs.Accounts.{IsEnrolledAt, KeepsSeats};
 ghost use Rattle.bundle.specs.Passes.{tells, got_did, refusal_did, held_did};
 ghost use Rattle.host_rules.specs.Calls.{start_entry, wait_entry};
 
 use crate::answers::Got;
 use crate::lease::Lease;
 use crate::ticket::Ticket;
-use budget::{Pass, Refusal};
+use budget::{Pass, Refusal, Tally};
 use conn_log::{Entry, Event};
 
 /// What a call tells the pass that it is lent: what it answered at this host. An acquire that is
@@ -71,38 +71,47 @@ fn wait_entry(ticket: &Ticket) -> Entry
 }
 
 // Tells the pass what an acquire gave, unless it is halfway.
-pub(crate) fn tell_got<S>(pass: &mut Pass<Did>, host: u32, got: &Got<S>)
+pub(crate) fn tell_got<S>(pass: &mut Pass<Did>, host: u32, tally: &Tally, got: &Got<S>)
     requires there { host < length pass.old }
+    requires enrolled { IsEnrolledAt pass.old host tally.now.table }
     ensures told { pass.new ≡ tells host (got_did got.now) pass.old }
     ensures seats { KeepsSeats pass.old pass.new }
 {
     match got {
-        Got::Lease(lease) => pass.tell(host as usize, Did::Wrote(start_entry(lease))),
-        Got::Wait(ticket) => pass.tell(host as usize, Did::Wrote(wait_entry(ticket))),
+        Got::Lease(lease) => pass.tell(host as usize, tally, Did::Wrote(start_entry(lease))),
+        Got::Wait(ticket) => pass.tell(host as usize, tally, Did::Wrote(wait_entry(ticket))),
         Got::NoRoom(_) | Got::Again(_) => {}
     }
 }
 
 // Tells the pass why an acquire of the transfer is refused.
-pub(crate) fn tell_refused(pass: &mut Pass<Did>, host: u32, transfer: u64, reason: Refusal)
+pub(crate) fn tell_refused(
+    pass: &mut Pass<Did>,
+    host: u32,
+    tally: &Tally,
+    transfer: u64,
+    reason: Refusal,
+)
     requires there { host < length pass.old }
+    requires enrolled { IsEnrolledAt pass.old host tally.now.table }
     ensures told { pass.new ≡ tells host (refusal_did transfer reason) pass.old }
     ensures seats { KeepsSeats pass.old pass.new }
 {
     match reason {
-        Refusal::TransferBusy => pass.tell(host as usize, Did::Busy(transfer)),
-        Refusal::Exhausted => pass.tell(host as usize, Did::Exhausted(transfer)),
+        Refusal::TransferBusy => pass.tell(host as usize, tally, Did::Busy(transfer)),
+        Refusal::Exhausted => pass.tell(host as usize, tally, Did::Exhausted(transfer)),
         _ => {}
     }
 }
 
 // Tells the pass how many connections are held, where a new limit is refused for that.
-pub(crate) fn tell_held(pass: &mut Pass<Did>, host: u32, reason: Refusal)
+pub(crate) fn tell_held(pass: &mut Pass<Did>, host: u32, tally: &Tally, reason: Refusal)
     requires there { host < length pass.old }
+    requires enrolled { IsEnrolledAt pass.old host tally.now.table }
     ensures told { pass.new ≡ tells host (held_did reason) pass.old }
     ensures seats { KeepsSeats pass.old pass.new }
 {
     if let Refusal::Busy(held) = reason {
-        pass.tell(host as usize, Did::Held(held));
+        pass.tell(host as usize, tally, Did::Held(held));
     }
 }

@@ -1,4 +1,4 @@
-ghost use Rattle.std.specs.Prelude.{◌≡◌, ℕ, ◌-◌, ◌<◌, ◌≤◌, ◌==◌, ◌&&◌, length, IfOk, IfErr};
+ghost use Rattle.std.specs.Prelude.{◌≡◌, ℕ, false, ◌-◌, ◌<◌, ◌≤◌, ◌==◌, ◌&&◌, length, IfOk, IfErr};
 ghost use Rattle.conn_log.specs.Connections.{open_connections, idle_connections, is_among};
 ghost use Rattle.conn_log.specs.Fit.{oldest_stamp};
 ghost use Rattle.conn_log.specs.Legal.{IsLegal, IsQuiet, limit_in_force};
@@ -23,6 +23,9 @@ use host_rules::Snapshot;
 use host_state::State;
 use std::alloc::Global;
 use std::marker::Model;
+
+/// The most hosts that a cache may have.
+pub const MOST_HOSTS: u32 = 1_024;
 
 /// The connections of one host, with the streams of type `S` of those that no lease has.
 #[derive(Drop)]
@@ -141,6 +144,17 @@ impl<S: Drop> Bundle<S> {
         booking.site() == self.host() && self.bookings.contains(&booking.transfer())
     }
 
+    /// Gives a booking up that is not this host's, so that it need not be kept where its own host
+    /// is gone. Nothing changes here; at its host the transfer stays booked.
+    ///
+    /// Asked of the caller: [`Bundle::has_booked`] is false of it.
+    pub fn scrap_stranger(&self, booking: Booking)
+        requires { let is_here = booking.site == self.now.host in
+            (is_here && is_among booking.want.transfer self.now.booked) ≡ false }
+    {
+        let _want = booking.spend();
+    }
+
     /// Gives the pass a seat in the host's tally, with which it can spend leases here. It takes no
     /// memory.
     ///
@@ -158,8 +172,9 @@ impl<S: Drop> Bundle<S> {
         pass.enrol(self.state.host() as usize, self.seats.seat_pass());
     }
 
-    /// How many starts there were: connections opened for a transfer, or leased to one again. Read
-    /// off the tally's word.
+    /// How many starts there were: connections opened for a transfer, or leased to one again. The
+    /// clause speaks of the log: that the tally's word, which is read, agrees with it is an
+    /// invariant.
     pub fn starts(&mut self) -> u64
         ensures same { self.new ≡ self.old }
         ensures starts { result ≡ start_count self.old.log }
@@ -168,7 +183,7 @@ impl<S: Drop> Bundle<S> {
     }
 
     /// How many starts are over: all, but for one for each connection that is held. Read off the
-    /// words of the two tables.
+    /// words of the two tables. That they agree with the log is an invariant.
     pub fn gone(&mut self) -> u64
         ensures same { self.new ≡ self.old }
         ensures gone { result ≡ gone self.old.log }
@@ -179,7 +194,8 @@ impl<S: Drop> Bundle<S> {
         starts - self.held()
     }
 
-    /// How many connections transfers hold, read off the lease word.
+    /// How many connections transfers hold, read off the lease word. That it agrees with the log is
+    /// an invariant.
     pub fn held(&mut self) -> u64
         ensures same { self.new ≡ self.old }
         ensures held { let idle = length (idle_connections self.old.log) in

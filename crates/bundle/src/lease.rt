@@ -153,6 +153,13 @@ impl<S> Use<S> {
     {
         self.wanted.transfer
     }
+
+    #[inline(always)]
+    pub(crate) fn forbids_reuse(&self) -> bool
+        ensures { result ≡ self.now.start.want.forbid_reuse }
+    {
+        self.wanted.forbid_reuse
+    }
 }
 
 impl<S: Drop> Use<S> {
@@ -277,7 +284,9 @@ impl<S: Drop> Lease<S> {
     }
 }
 
-/// What was not taken: it comes back, to be kept or scrapped. Only a refusal makes one.
+/// What was not taken: it comes back, to be kept or scrapped. A refusal makes one, and of a ticket
+/// [`Ticket::into_stray`]. It does not show who refused: a ticket that another bundle than its own
+/// refused may be let go too.
 pub struct Stray<T> {
     value: T,
 }
@@ -305,7 +314,8 @@ impl<T> Stray<T> {
 }
 
 impl<S: Drop> Stray<Lease<S>> {
-    /// Gives the lease up, and drops the stream that it may have.
+    /// Gives the lease up, and drops the stream that it may have. Its host counts the connection as
+    /// held for good.
     pub fn scrap(self) {
         let _ = self.keep().into_stream();
     }

@@ -16,10 +16,10 @@ mod serving;
 mod spending;
 mod ticket;
 
-pub use answers::{Back, Changed, Claimed, Got, Served};
+pub use answers::{Acquired, Back, Changed, Claimed, Got, Served};
 pub use booking::Booking;
 pub use did::Did;
-pub use host::Bundle;
+pub use host::{Bundle, MOST_HOSTS};
 pub use host_rules::Snapshot;
 pub use lease::{Lease, Stray};
 pub use ticket::Ticket;

@@ -17,6 +17,8 @@ ghost use Rattle.host_state.specs.Steps.{moment_at};
 ghost use Rattle.bundle.specs.Seats.{IsSeated, AreUnclaimed, OnlyStarts};
 ghost use Rattle.bundle.specs.Lease.{KeepsStreams, KeepsAll, StaysThere};
 ghost use Rattle.host_rules.specs.Counts.{held_by};
+ghost use Rattle.host_rules.specs.Asks.{limit_asks};
+ghost use Rattle.host_rules.specs.Laws.{IsSoundAndQuiet};
 ghost use Rattle.host_rules.specs.Orders.{Lists, IsMarked};
 ghost use Rattle.bundle.specs.Replies.{IfChanged, OnChangeAgain};
 
@@ -68,12 +70,18 @@ impl<S: Drop> Bundle<S> {
             let starts_due = starts_due queued most self.old.log in
             IfChanged result (λ freed. (given : ℕ) × (given ≤ starts_due)
             × (given < starts_due → P.opening permits.old permits.new Full)
-            × (self.new.log ≡ after_limit most given self.old.settings self.old.log now)) }
+            × (self.new.log ≡ after_limit most given self.old.settings self.old.log now)
+            × P.asked permits.old permits.new (limit_asks given starts_due) 0) }
         ensures freed { IfChanged result (λ freed. freed ≡ is_freed self.old.log self.new.log) }
         ensures contended { let most = kept_limit limit in
             let queued = is_queued self.old.settings self.old.log in
             OnChangeAgain result ((0 < starts_due queued most self.old.log)
             × P.opening permits.old permits.new Contended) }
+        ensures asked_again { let most = kept_limit limit in
+            let queued = is_queued self.old.settings self.old.log in
+            let due = starts_due queued most self.old.log in
+            OnChangeAgain result ((asks : ℕ) × (0 < asks) × (asks ≤ due)
+            × P.asked permits.old permits.new asks 0) }
         ensures again { OnChangeAgain result ((self.new ≡ self.old) × (lobby.new ≡ lobby.old)) }
         ensures err { OnErr result ((self.new ≡ self.old) × (lobby.new ≡ lobby.old)) }
         ensures err_permits { OnErr result (permits.new ≡ permits.old) }
@@ -87,6 +95,7 @@ impl<S: Drop> Bundle<S> {
         ensures part { P.held permits.new ≡ held_by self.new.log }
         ensures keeps { KeepsAll self.old self.new }
         ensures grew { GrowsBy self.old.log self.new.log }
+        ensures settled { IsSoundAndQuiet self.new.settings self.new.log }
         ensures same { StaysThere self.old self.new }
         ensures tells { let did = limit_did (kept_limit limit) (moment_at self.old.log now) result
             in pass.new ≡ tells self.old.host did pass.old }
@@ -94,7 +103,7 @@ impl<S: Drop> Bundle<S> {
         ensures account { AccountsForStarts self.old self.new pass.old pass.new }
     {
         if let Some(reason) = reason_against(&self.state, limit) {
-            tell_held(pass, self.state.host(), reason);
+            tell_held(pass, self.state.host(), self.seats.tally(), reason);
             return Err(reason);
         }
         let most = kept_limit(limit);
@@ -114,7 +123,11 @@ impl<S: Drop> Bundle<S> {
             moment,
             event: Event::Limit { limit: most },
         };
-        pass.tell(self.state.host() as usize, Did::Wrote(limited));
+        pass.tell(
+            self.state.host() as usize,
+            self.seats.tally(),
+            Did::Wrote(limited),
+        );
         Ok(Changed::Done { freed })
     }
 }
@@ -189,6 +202,7 @@ fn change_limit<S: Drop, P: Permits>(
     ensures booked { state.new.booked ≡ state.old.booked }
     ensures stands { P.stands permits.new }
     ensures stays { P.stays permits.old permits.new }
+    ensures unasked { P.asked permits.old permits.new 0 0 }
     ensures part { P.held permits.new ≡ held_by state.new.log }
     ensures same { IsSameHost state.old state.new }
 {
@@ -213,6 +227,9 @@ fn reserve_up_to<P: Permits>(count: u32, permits: &mut P) -> Option<u32>
     ensures got { IfSome result (λ got. let before = P.held permits.old in
         P.held permits.new ≡ held (before.alive + got) before.kept) }
     ensures none { IfNone result (P.held permits.new ≡ P.held permits.old) }
+    ensures asks { IfSome result (λ got. P.asked permits.old permits.new (limit_asks got count) 0) }
+    ensures asks_again { IfNone result ((asks : ℕ) × (0 < asks) × (asks ≤ count)
+        × P.asked permits.old permits.new asks 0) }
     ensures stands { P.stands permits.new }
     ensures stays { P.stays permits.old permits.new }
 {
@@ -237,6 +254,7 @@ fn release_opens<P: Permits>(count: u32, permits: &mut P)
     ensures held { let before = P.held permits.old in
         P.held permits.new ≡ held (before.alive - count) before.kept }
     ensures none { count ≡ 0 → permits.new ≡ permits.old }
+    ensures unasked { P.asked permits.old permits.new 0 0 }
     ensures stands { P.stands permits.new }
     ensures stays { P.stays permits.old permits.new }
 {
@@ -255,6 +273,7 @@ fn release_closed<P: Permits>(count: u32, permits: &mut P)
     ensures held { let before = P.held permits.old in
         P.held permits.new ≡ held (before.alive - count) (before.kept - count) }
     ensures none { count ≡ 0 → permits.new ≡ permits.old }
+    ensures unasked { P.asked permits.old permits.new 0 0 }
     ensures stands { P.stands permits.new }
     ensures stays { P.stays permits.old permits.new }
 {

@@ -1,7 +1,6 @@
 //! How a host gets room among all hosts, and makes room for others.
 
-ghost use Rattle.std.specs.Prelude.{◌≡◌, ℕ, length, slice_get, Some, None, true, false};
-ghost use Rattle.std.specs.Prelude.{if◌then◌else◌};
+ghost use Rattle.std.specs.Prelude.{◌≡◌, ◌≤◌, length, slice_get, Some, true, false};
 ghost use Rattle.budget.specs.declared.permits.Try.{Try};
 ghost use Rattle.conn_log.specs.declared.entry.Event.TheVariants.{Closed};
 ghost use Rattle.conn_log.specs.Fit.{oldest_stamp};
@@ -10,6 +9,7 @@ ghost use Rattle.host_state.specs.declared.closing.Closing.TheVariants.{Pruned};
 ghost use Rattle.host_rules.specs.Calls.{after_turn, is_queued, makes_room_for_others, GrowsBy};
 ghost use Rattle.bundle.specs.Lease.{KeepsStreams, KeepsAll, StaysThere};
 ghost use Rattle.host_rules.specs.Counts.{held_by};
+ghost use Rattle.host_rules.specs.Laws.{IsSoundAndQuiet};
 ghost use Rattle.host_rules.specs.Orders.{Lists, HadTurn};
 ghost use Rattle.bundle.specs.Lobbies.{IsServed};
 ghost use Rattle.bundle.specs.Passes.{tells, AccountsForStarts};
@@ -53,12 +53,16 @@ impl<S: Drop> Bundle<S> {
         ensures booked { self.new.booked ≡ self.old.booked }
         ensures stands { P.stands permits.new }
         ensures stays { P.stays permits.old permits.new }
+        ensures asked { P.asked permits.old permits.new 1 0 }
         ensures part { P.held permits.new ≡ held_by self.new.log }
         ensures keeps { KeepsAll self.old self.new }
         ensures grew { GrowsBy self.old.log self.new.log }
+        ensures settled { IsSoundAndQuiet self.new.settings self.new.log }
         ensures same { StaysThere self.old self.new }
         ensures gone { gone self.new.log ≡ gone self.old.log }
     {
+        // The log is sound and quiet.
+        let _log = self.log();
         match permits.reserve_open() {
             Try::Got => {}
             Try::Full => return Served::Full,
@@ -109,14 +113,18 @@ impl<S: Drop> Bundle<S> {
         ensures booked { self.new.booked ≡ self.old.booked }
         ensures stands { P.stands permits.new }
         ensures stays { P.stays permits.old permits.new }
+        ensures unasked { P.asked permits.old permits.new 0 0 }
         ensures part { P.held permits.new ≡ held_by self.new.log }
         ensures mark { is_queued self.new.settings self.new.log
             ≡ is_queued self.old.settings self.old.log }
         ensures keeps { KeepsAll self.old self.new }
         ensures grew { GrowsBy self.old.log self.new.log }
+        ensures settled { IsSoundAndQuiet self.new.settings self.new.log }
         ensures same { StaysThere self.old self.new }
         ensures gone { gone self.new.log ≡ gone self.old.log }
     {
+        // The log is sound and quiet.
+        let _log = self.log();
         let Some(oldest) = self.oldest() else {
             return false;
         };
@@ -132,7 +140,8 @@ impl<S: Drop> Bundle<S> {
 
     /// Closes every idle connection that has been idle for longer than `max_age`, or open for
     /// longer than `max_life` where that is not 0, in seconds, and frees their permits; it answers
-    /// how many it closed, and tells the pass. `now` is in seconds. It takes no memory.
+    /// how many it closed, no more than its part of the budget kept, and tells the pass. `now` is in
+    /// seconds. It takes no memory.
     ///
     /// Asked of the caller: the pass is enrolled here.
     pub fn prune<P: Permits>(
@@ -150,15 +159,18 @@ impl<S: Drop> Bundle<S> {
             self.new.log ≡ without_picked (Pruned max_age max_life) moment self.old.log }
         ensures count { let moment = moment_at self.old.log now in
             result ≡ length (picked (Pruned max_age max_life) moment self.old.log) }
+        ensures within { result ≤ (P.held permits.old).kept }
         ensures streams { KeepsStreams self.old self.new }
         ensures booked { self.new.booked ≡ self.old.booked }
         ensures stands { P.stands permits.new }
         ensures stays { P.stays permits.old permits.new }
+        ensures unasked { P.asked permits.old permits.new 0 0 }
         ensures part { P.held permits.new ≡ held_by self.new.log }
         ensures mark { is_queued self.new.settings self.new.log
             ≡ is_queued self.old.settings self.old.log }
         ensures keeps { KeepsAll self.old self.new }
         ensures grew { GrowsBy self.old.log self.new.log }
+        ensures settled { IsSoundAndQuiet self.new.settings self.new.log }
         ensures same { StaysThere self.old self.new }
         ensures tells { let did = WasPruned now max_age max_life result in
             pass.new ≡ tells self.old.host (Some did) pass.old }
@@ -174,7 +186,7 @@ impl<S: Drop> Bundle<S> {
             max_life,
             closed,
         };
-        pass.tell(self.state.host() as usize, pruned);
+        pass.tell(self.state.host() as usize, self.seats.tally(), pruned);
         closed
     }
 }

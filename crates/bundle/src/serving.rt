@@ -20,6 +20,8 @@ ghost use Rattle.bundle.specs.Grants.{with_new, with_granted, with_first, IsAlon
 ghost use Rattle.bundle.specs.Grants.{grant_starts};
 ghost use Rattle.bundle.specs.Lease.{HasItsStream};
 ghost use Rattle.host_rules.specs.Counts.{held_by};
+ghost use Rattle.host_rules.specs.Asks.{asks_to_open};
+ghost use Rattle.host_rules.specs.Effects.{one_if};
 ghost use Rattle.bundle.specs.Seats.{IsSeated, AreUnclaimed, KeepsGranted, OnlyStarts};
 ghost use Rattle.host_state.specs.Idle.{stream_of};
 ghost use Rattle.bundle.specs.Replies.{GivesLease, GivesTicket, GivesBooking, UnlessBooking, IsGot};
@@ -51,8 +53,10 @@ pub(crate) fn close_idle<S: Drop, P: Permits>(
     ensures log { state.new.log ≡ without_picked closing.now moment state.old.log }
     ensures count { result ≡ length (picked closing.now moment state.old.log) }
     ensures closes { ClosesIdle moment state.old state.new }
+    ensures fewer_idle { idle_len state.old ≡ idle_len state.new + result }
     ensures stands { P.stands permits.new }
     ensures stays { P.stays permits.old permits.new }
+    ensures unasked { P.asked permits.old permits.new 0 0 }
     ensures part { P.held permits.new ≡ held_by state.new.log }
     ensures as_many_held { open_len state.new + idle_len state.old
         ≡ open_len state.old + idle_len state.new }
@@ -106,6 +110,8 @@ pub(crate) fn start_or_wait<S: Drop, P: Permits>(
     ensures still_booked { GivesBooking result (λ booking. state.new.booked ≡ state.old.booked) }
     ensures stands { P.stands permits.new }
     ensures stays { P.stays permits.old permits.new }
+    ensures asked { let asks = one_if (asks_to_open state.old.settings state.old.log want moment) in
+        P.asked permits.old permits.new asks 0 }
     ensures part { P.held permits.new ≡ held_by state.new.log }
     ensures same { IsSameHost state.old state.new }
 {
@@ -164,6 +170,7 @@ fn start_as_told<S: Drop, P: Permits>(
     ensures still_booked { GivesBooking result (λ booking. state.new.booked ≡ state.old.booked) }
     ensures stands { P.stands permits.new }
     ensures stays { P.stays permits.old permits.new }
+    ensures asked { P.asked permits.old permits.new 1 0 }
     ensures part { P.held permits.new ≡ held_by state.new.log }
     ensures same { IsSameHost state.old state.new }
 {
@@ -223,6 +230,7 @@ fn start_in_place<S: Drop, P: Permits>(
     ensures same_total { P.same_total permits.old permits.new }
     ensures stands { P.stands permits.new }
     ensures stays { P.stays permits.old permits.new }
+    ensures unasked { P.asked permits.old permits.new 0 0 }
     ensures part { P.held permits.new ≡ held_by state.new.log }
     ensures same { IsSameHost state.old state.new }
 {
@@ -344,6 +352,7 @@ pub(crate) fn hand_on<S: Drop, P: Permits>(
     ensures same_kept { P.same_kept permits.old permits.new }
     ensures stands { P.stands permits.new }
     ensures stays { P.stays permits.old permits.new }
+    ensures unasked { P.asked permits.old permits.new 0 0 }
     ensures part { P.held permits.new ≡ held_by state.new.log }
     ensures same { IsSameHost state.old state.new }
 {

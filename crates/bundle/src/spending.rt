@@ -2,7 +2,6 @@
 
 ghost use Rattle.std.specs.Prelude.{◌≡◌, ◌<◌, [], true, false, is_some, IsSome};
 ghost use Rattle.std.specs.Prelude.{Some, None, OnOk, OnErr, IfOk, IfErr, IfSome, IfNone};
-ghost use Rattle.persistence.specs.Persistent.{is_persistent};
 ghost use Rattle.budget.specs.declared.permits.Try.{Try};
 ghost use Rattle.budget.specs.declared.permits.Try.TheVariants.{Got, Contended};
 ghost use Rattle.budget.specs.Permits.{if_got, one_more_kept, one_less_kept};
@@ -13,9 +12,13 @@ ghost use Rattle.bundle.specs.Lease.{is_unclaimed, is_valid_ticket, is_same_want
 ghost use Rattle.bundle.specs.Lease.{is_held_lease, HasItsStream, KeepsItsStream, KeepsStreams};
 ghost use Rattle.bundle.specs.Lease.{KeepsOthers, GetsLease, Spends, StaysThere, lease_at};
 ghost use Rattle.host_rules.specs.Counts.{held_by};
+ghost use Rattle.host_rules.specs.Asks.{recorded_forbids, forbids_reuse, may_stay};
+ghost use Rattle.host_rules.specs.Asks.{keep_asks};
+ghost use Rattle.host_rules.specs.Laws.{IsSoundAndQuiet};
 ghost use Rattle.bundle.specs.Lobbies.{IfLent, IfLeft, is_lent};
 ghost use Rattle.host_rules.specs.Orders.{Lists, IsMarked};
 ghost use Rattle.bundle.specs.Replies.{IfClaimed, IfStill, GivesBack, OnSpent, UnlessSpent};
+ghost use Rattle.bundle.specs.Replies.{IsBackAs};
 ghost use Rattle.bundle.specs.declared.did.Did.TheVariants.{Stranger};
 ghost use Rattle.bundle.specs.Lease.{start_for};
 ghost use Rattle.bundle.specs.Passes.{tells, spends, withdraws, claim_did, AccountsForStarts};
@@ -84,6 +87,7 @@ impl<S: Drop> Bundle<S> {
         ensures gets_lease { IfClaimed result (λ lease.
             GetsLease self.old self.new ticket.wait.want.transfer lease.start.number) }
         ensures booked { self.new.booked ≡ self.old.booked }
+        ensures settled { IsSoundAndQuiet self.new.settings self.new.log }
         ensures same { StaysThere self.old self.new }
         ensures tells { let did = claim_did ticket.wait.want.transfer result in
             pass.new ≡ tells self.old.host did pass.old }
@@ -93,14 +97,14 @@ impl<S: Drop> Bundle<S> {
         let want = ticket.want();
         let (host, transfer) = (self.state.host() as usize, want.transfer);
         if !self.is_valid_ticket(&want) {
-            pass.tell(host, Did::Stranger(transfer));
+            pass.tell(host, self.seats.tally(), Did::Stranger(transfer));
             return Err(Stray::new(ticket));
         }
         let Some(grant) = take_grant(&mut self.grants, transfer) else {
-            pass.tell(host, Did::Still(transfer));
+            pass.tell(host, self.seats.tally(), Did::Still(transfer));
             return Ok(Claimed::Still(ticket));
         };
-        pass.tell(host, Did::Claimed(transfer));
+        pass.tell(host, self.seats.tally(), Did::Claimed(transfer));
         ticket.spend();
         let seat = self.seats.claim(grant.number, transfer);
         let used = Use::granted(self.state.host(), grant);
@@ -141,6 +145,9 @@ impl<S: Drop> Bundle<S> {
         requires part { P.held permits.old ≡ held_by self.old.log }
         ensures told { (told : Try) × P.keeping permits.old permits.new told
             × GivesBack close_if_full told self.old self.new lease facts now result }
+        ensures back { IsBackAs close_if_full lease result }
+        ensures asked { let asks = keep_asks self.old.log lease.start facts in
+            P.asked permits.old permits.new 0 asks }
         ensures known { is_held_lease self.old lease ≡ true }
         ensures stream { OnSpent result (KeepsItsStream self.new lease) }
         ensures streams { OnSpent result (KeepsOthers lease.start.number self.old self.new) }
@@ -156,6 +163,7 @@ impl<S: Drop> Bundle<S> {
         ensures mark { is_queued self.old.settings self.old.log ≡ false →
             is_queued self.new.settings self.new.log ≡ false }
         ensures grew { GrowsBy self.old.log self.new.log }
+        ensures settled { IsSoundAndQuiet self.new.settings self.new.log }
         ensures same { StaysThere self.old self.new }
         ensures spent { let moment = moment_at self.old.log now in
             let returned = CameBack lease.start.number facts in
@@ -190,6 +198,9 @@ impl<S: Drop> Bundle<S> {
         requires part { P.held permits.old ≡ held_by self.old.log }
         ensures told { (told : Try) × P.keeping permits.old permits.new told
             × GivesBack close_if_full told self.old self.new lease facts now result }
+        ensures back { IsBackAs close_if_full lease result }
+        ensures asked { let asks = keep_asks self.old.log lease.start facts in
+            P.asked permits.old permits.new 0 asks }
         ensures known { is_held_lease self.old lease ≡ true }
         ensures stream { OnSpent result (KeepsItsStream self.new lease) }
         ensures streams { OnSpent result (KeepsOthers lease.start.number self.old self.new) }
@@ -202,6 +213,7 @@ impl<S: Drop> Bundle<S> {
         ensures mark { is_queued self.old.settings self.old.log ≡ false →
             is_queued self.new.settings self.new.log ≡ false }
         ensures grew { GrowsBy self.old.log self.new.log }
+        ensures settled { IsSoundAndQuiet self.new.settings self.new.log }
         ensures same { StaysThere self.old self.new }
         ensures spent { let moment = moment_at self.old.log now in
             let returned = CameBack lease.start.number facts in
@@ -214,7 +226,7 @@ impl<S: Drop> Bundle<S> {
         let start = self.seats.take_back(seat);
         let (transfer, number) = (used.transfer(), used.number());
         let moment = self.state.moment(now);
-        let asked = ask_to_keep(&self.state, &facts, permits);
+        let asked = ask_to_keep(&self.state, &used, &facts, permits);
         let stream = used.detach();
         let back = self
             .state
@@ -278,6 +290,7 @@ impl<S: Drop> Bundle<S> {
         requires stands { P.stands permits.old }
         requires part { P.held permits.old ≡ held_by self.old.log }
         ensures known { is_held_lease self.old lease ≡ true }
+        ensures unasked { P.asked permits.old permits.new 0 0 }
         ensures log { let number = lease.start.number in
             self.new.log ≡ after_abandon self.old.settings self.old.log number now }
         ensures freed { result ≡ Ok (is_freed self.old.log self.new.log) }
@@ -293,6 +306,7 @@ impl<S: Drop> Bundle<S> {
         ensures mark { is_queued self.old.settings self.old.log ≡ false →
             is_queued self.new.settings self.new.log ≡ false }
         ensures grew { GrowsBy self.old.log self.new.log }
+        ensures settled { IsSoundAndQuiet self.new.settings self.new.log }
         ensures same { StaysThere self.old self.new }
         ensures spent { let moment = moment_at self.old.log now in
             let closed = Closed lease.start.number Dropped in
@@ -324,6 +338,7 @@ impl<S: Drop> Bundle<S> {
         requires stands { P.stands permits.old }
         requires part { P.held permits.old ≡ held_by self.old.log }
         ensures known { is_held_lease self.old lease ≡ true }
+        ensures unasked { P.asked permits.old permits.new 0 0 }
         ensures log { let number = lease.start.number in
             self.new.log ≡ after_abandon self.old.settings self.old.log number now }
         ensures freed { result ≡ is_freed self.old.log self.new.log }
@@ -336,6 +351,7 @@ impl<S: Drop> Bundle<S> {
         ensures mark { is_queued self.old.settings self.old.log ≡ false →
             is_queued self.new.settings self.new.log ≡ false }
         ensures grew { GrowsBy self.old.log self.new.log }
+        ensures settled { IsSoundAndQuiet self.new.settings self.new.log }
         ensures same { StaysThere self.old self.new }
         ensures spent { let moment = moment_at self.old.log now in
             let closed = Closed lease.start.number Dropped in
@@ -389,6 +405,7 @@ impl<S: Drop> Bundle<S> {
         ensures ok { OnOk result (is_valid_ticket self.old ticket.wait.want ≡ true) }
         ensures strange { IfErr result (λ stray.
             (is_valid_ticket self.old ticket.wait.want ≡ false) × (stray ≡ ticket)) }
+        ensures unasked { P.asked permits.old permits.new 0 0 }
         ensures log { let transfer = ticket.wait.want.transfer in
             OnOk result
             (self.new.log ≡ after_withdraw self.old.settings self.old.log transfer now) }
@@ -407,6 +424,7 @@ impl<S: Drop> Bundle<S> {
         ensures mark { is_queued self.old.settings self.old.log ≡ false →
             is_queued self.new.settings self.new.log ≡ false }
         ensures grew { GrowsBy self.old.log self.new.log }
+        ensures settled { IsSoundAndQuiet self.new.settings self.new.log }
         ensures same { StaysThere self.old self.new }
         ensures withdrawn { let transfer = ticket.wait.want.transfer in
             let granted = start_for self.old.unclaimed transfer in
@@ -442,6 +460,7 @@ impl<S: Drop> Bundle<S> {
         ensures ok { OnOk result (is_valid_ticket self.old ticket.wait.want ≡ true) }
         ensures strange { IfErr result (λ stray.
             (is_valid_ticket self.old ticket.wait.want ≡ false) × (stray ≡ ticket)) }
+        ensures unasked { P.asked permits.old permits.new 0 0 }
         ensures log { let transfer = ticket.wait.want.transfer in
             OnOk result
             (self.new.log ≡ after_withdraw self.old.settings self.old.log transfer now) }
@@ -457,6 +476,7 @@ impl<S: Drop> Bundle<S> {
         ensures mark { is_queued self.old.settings self.old.log ≡ false →
             is_queued self.new.settings self.new.log ≡ false }
         ensures grew { GrowsBy self.old.log self.new.log }
+        ensures settled { IsSoundAndQuiet self.new.settings self.new.log }
         ensures same { StaysThere self.old self.new }
         ensures withdrawn { let transfer = ticket.wait.want.transfer in
             let granted = start_for self.old.unclaimed transfer in
@@ -470,7 +490,7 @@ impl<S: Drop> Bundle<S> {
         let want = ticket.want();
         let (host, transfer) = (self.state.host() as usize, want.transfer);
         if !self.is_valid_ticket(&want) {
-            pass.tell(host, Did::Stranger(transfer));
+            pass.tell(host, self.seats.tally(), Did::Stranger(transfer));
             return Err(Stray::new(ticket));
         }
         ticket.spend();
@@ -478,7 +498,11 @@ impl<S: Drop> Bundle<S> {
         let Some(grant) = take_grant(&mut self.grants, transfer) else {
             self.state.leave(transfer, moment);
             let event = Event::Left { transfer };
-            pass.tell(host, Did::Wrote(Entry { moment, event }));
+            pass.tell(
+                host,
+                self.seats.tally(),
+                Did::Wrote(Entry { moment, event }),
+            );
             return Ok(false);
         };
         let held = self.state.held(transfer, grant.number).unwrap();
@@ -498,24 +522,53 @@ impl<S: Drop> Bundle<S> {
     }
 }
 
-// Asks the budget to keep one connection more, where nobody waits and its response lets it persist.
+// Asks the budget to keep one connection more, where nobody waits, its response lets it persist and
+// reuse is not forbidden.
 #[inline(always)]
-fn ask_to_keep<S: Drop, P: Permits>(state: &State<S>, facts: &Facts, permits: &mut P) -> Option<Try>
+fn ask_to_keep<S: Drop, P: Permits>(
+    state: &State<S>,
+    used: &Use<S>,
+    facts: &Facts,
+    permits: &mut P,
+) -> Option<Try>
     requires stands { P.stands permits.old }
     ensures not_asked { IfNone result (permits.new ≡ permits.old) }
     ensures nobody { IfSome result (λ told. waiting state.now.log ≡ []) }
-    ensures asked { IfNone result (waiting state.now.log ≡ [] →
-        is_persistent facts.now ≡ false) }
+    ensures not_idle { IfNone result (waiting state.now.log ≡ [] →
+        may_stay state.now.log used.now.start facts.now ≡ false) }
+    ensures asked { let asks = keep_asks state.now.log used.now.start facts.now in
+        P.asked permits.old permits.new 0 asks }
     ensures told { IfSome result (P.keeping permits.old permits.new) }
     ensures held { IfSome result (λ told.
         P.held permits.new ≡ if_got told one_more_kept (P.held permits.old)) }
     ensures stands { P.stands permits.new }
     ensures stays { P.stays permits.old permits.new }
 {
-    if state.anyone_waits() || !persists(facts) {
+    if state.anyone_waits() || !persists(facts) || forbids_reuse(state, used) {
         return None;
     }
     Some(permits.reserve_kept())
+}
+
+// Whether reuse is forbidden: by the lease's own want, which is a flag, and where that does, by the
+// recorded one, which takes a search.
+#[inline(always)]
+fn forbids_reuse<S: Drop>(state: &State<S>, used: &Use<S>) -> bool
+    ensures { result ≡ forbids_reuse state.now.log used.now.start }
+{
+    used.forbids_reuse() && recorded_forbids(state, used.transfer(), used.number())
+}
+
+// Whether the transfer holds the connection with a want that forbids reuse, as the log shows it.
+#[cold]
+#[inline(never)]
+fn recorded_forbids<S: Drop>(state: &State<S>, transfer: u64, number: u32) -> bool
+    ensures { result ≡ recorded_forbids state.now.log transfer number }
+{
+    match state.held(transfer, number) {
+        Some(held) => held.forbids_reuse,
+        None => false,
+    }
 }
 
 // Drops the stream of a lease that is spent: its pair is held no longer, and its start is spent
@@ -618,6 +671,7 @@ fn release_unused<P: Permits>(asked: Option<Try>, permits: &mut P)
     requires one { asked ≡ Some Got → 0 < (P.held permits.old).kept }
     ensures stands { P.stands permits.new }
     ensures stays { P.stays permits.old permits.new }
+    ensures unasked { P.asked permits.old permits.new 0 0 }
     ensures got { asked ≡ Some Got → P.held permits.new ≡ one_less_kept (P.held permits.old) }
     ensures not_asked { IfNone asked (P.held permits.new ≡ P.held permits.old) }
     ensures not_got { IfSome asked (λ told. (told ≡ Got → ⊥) →

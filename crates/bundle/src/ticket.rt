@@ -1,12 +1,12 @@
-ghost use Rattle.std.specs.Prelude.{◌≡◌};
+ghost use Rattle.std.specs.Prelude.{◌≡◌, ◌≤◌};
 ghost use Rattle.bundle.specs.Lease.{Ticketed};
 
 use crate::lease::Stray;
 use conn_log::Want;
 use std::marker::Model;
 
-/// What a transfer has that waits at a host. It has to be spent: claimed until it gives
-/// a lease, or withdrawn.
+/// What a transfer has that waits at a host. It has to be spent, claimed until it gives a lease or
+/// withdrawn, or let go as a stranger.
 pub struct Ticket {
     host: u32,
     wanted: Want,
@@ -45,8 +45,12 @@ impl Ticket {
         } = self;
     }
 
-    /// The ticket as a stranger, where a cache has no host of that index.
-    pub fn into_stray(self) -> Stray<Ticket>
+    /// The ticket as a stranger, for a cache of so many hosts, which has no such site.
+    ///
+    /// Asked of the caller: the ticket's site is not below that number. Nothing ties it to a cache:
+    /// who names one that is too small lets go of a ticket that could be spent.
+    pub fn into_stray(self, hosts: usize) -> Stray<Ticket>
+        requires { hosts ≤ self.site }
         ensures { result ≡ self }
     {
         Stray::new(self)

@@ -12,8 +12,8 @@ use Rattle.conn_log.specs.Legal.{LimitAndFirst}
 use Rattle.host_rules.specs.Calls.{refusal, is_busy, GrowsBy}
 use Rattle.bundle.specs.Lease.{HostShown, Leasing, Ticketed, StaysThere}
 use Rattle.host_rules.specs.Bookings.{without_booked}
-use Rattle.cache.specs.declared.acquired.Acquired.{Acquired as AcquiredOf}
-use Rattle.cache.specs.declared.acquired.Acquired.TheVariants.{Lease as LeaseOf, Wait as WaitOf}
+use Rattle.bundle.specs.declared.answers.Acquired.{Acquired as AcquiredOf}
+use Rattle.bundle.specs.declared.answers.Acquired.TheVariants.{Lease as LeaseOf, Wait as WaitOf}
 use Rattle.cache.specs.Pools.{StaysHost, GivesLease, GivesTicket}
 use Rattle.cache.proofs.Keeping.{stays_there_on, grows_on}
 

@@ -24,7 +24,7 @@ use Rattle.host_rules.specs.Laws.{IsSoundAndQuiet}
 use Rattle.bundle.specs.Lease.{HostShown, Leasing, Ticketed, Booked}
 use Rattle.host_rules.specs.Counts.{held_by}
 use Rattle.bundle.specs.Replies.{IsGot}
-use Rattle.cache.specs.declared.acquired.Acquired.TheVariants.{Lease, Wait}
+use Rattle.bundle.specs.declared.answers.Acquired.TheVariants.{Lease, Wait}
 use Rattle.pool_rules.specs.AllHosts.{AllHosts, log_at, with_log, terms, total, kept, has_room, with_room, without_oldest, marked}
 use Rattle.pool_rules.specs.Calls.{Acquired, acquired, started}
 use Rattle.cache.specs.Pools.{all_hosts, logs_of, IsAcquired}

@@ -71,9 +71,9 @@ module _ {S : Type 0} (n now : ℕ) (limits : Bounds) (hosts : List (HostShown S
   abbrev due : ℕ
   due = starts_due (is_queued was.settings was.log) (kept_limit n) was.log
 
-  -- what the bundle tells of the change under this budget
+  -- what the bundle tells of the change under this budget, of which it is nothing how often that was asked
   abbrev pub Told : Type 0
-  Told = (given : ℕ) × (given ≤ due) × (given < due → alive_in later.hosts ≡ later.limits.total) × (new.log ≡ after_limit (kept_limit n) given was.settings was.log now)
+  Told = (given : ℕ) × (given ≤ due) × (given < due → alive_in later.hosts ≡ later.limits.total) × (new.log ≡ after_limit (kept_limit n) given was.settings was.log now) × Unit {0}
 
   limited_as_told : limit_refusal n was.log ≡ None → Told → IsSoundAndQuiet was.settings was.log → site < length hosts → was ≡ slice_index_or hosts site was
       → later.hosts ≡ map (λ (h : HostShown S). held_by h.log) (slice_set hosts site new) → later.limits ≡ limits → IsWithin later

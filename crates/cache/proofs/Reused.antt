@@ -28,8 +28,8 @@ use Rattle.host_rules.specs.Effects.{tidied}
 use Rattle.bundle.specs.Lease.{HostShown, Leasing, HasItsStream, KeepsStreams}
 use Rattle.bundle.specs.Replies.{IsGot}
 use Rattle.pool_rules.specs.AllHosts.{AllHosts, log_at, has_room, with_room, without_oldest, closed_of, oldest_of_all}
-use Rattle.cache.specs.declared.acquired.Acquired.{Acquired as AcquiredOf}
-use Rattle.cache.specs.declared.acquired.Acquired.TheVariants.{Lease as LeaseOf, Wait as WaitOf}
+use Rattle.bundle.specs.declared.answers.Acquired.{Acquired as AcquiredOf}
+use Rattle.bundle.specs.declared.answers.Acquired.TheVariants.{Lease as LeaseOf, Wait as WaitOf}
 use Rattle.cache.specs.Pools.{PoolShown, host_in, host_at, IsAcquired, GivesLease}
 use Rattle.cache.specs.Turns.{KeepStreams}
 use Rattle.cache.proofs.OneHost.{host_changed, other_host}

@@ -1,6 +1,6 @@
 -- What becomes of all that a pool keeps where the log of the one host that changes stays as it was.
 use Rattle.std.proofs.Common.{◌≡◌, ℕ, ◌<◌, Bool, true, false, List, [], length, map, slice_set, slice_index_or, Option, Result, Ok, Err, refl, sym, ap, subst, ◌∙◌}
-use Rattle.std.specs.Prelude.{IfSome, OnOk, OnErr}
+use Rattle.std.specs.Prelude.{OnOk, OnErr}
 use Rattle.std.proofs.Math.Seq.{map-set_same}
 use Rattle.std.proofs.lemmas.List.{get_or_default, set-get_or, length-map}
 use Rattle.std.proofs.Math.ListN.{get_or-map}
@@ -24,7 +24,6 @@ use Rattle.bundle.specs.Passes.{Accounts, tells, withdraws, AccountsForStarts}
 use Rattle.pool_rules.specs.AllHosts.{AllHosts}
 use Rattle.oldest.specs.Oldest.{is_before, stamp_at}
 use Rattle.cache.specs.Pools.{PoolShown, no_host, logs_of, all_hosts, AreKept}
-use Rattle.oldest.proofs.StampOrder.{own_host}
 use Rattle.cache.proofs.OneHost.{read_is}
 use Rattle.cache.proofs.Calling.{TellsOne, NotesOne, marks_nothing, kept_called, was_kept, told_so, told_withdrawing}
 

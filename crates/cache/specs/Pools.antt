@@ -16,8 +16,8 @@ use Rattle.bundle.specs.Lease.{HostShown, IsNewHost, Leasing, Ticketed, StaysThe
 use Rattle.host_rules.specs.Counts.{held_by}
 use Rattle.bundle.specs.Passes.{Accounts}
 use Rattle.bundle.specs.Seats.{gone}
-use Rattle.cache.specs.declared.acquired.Acquired.{Acquired}
-use Rattle.cache.specs.declared.acquired.Acquired.TheVariants.{Lease, Wait}
+use Rattle.bundle.specs.declared.answers.Acquired.{Acquired}
+use Rattle.bundle.specs.declared.answers.Acquired.TheVariants.{Lease, Wait}
 use Rattle.oldest.specs.Oldest.{is_before, stamp_at}
 use Rattle.pool_rules.specs.AllHosts.{AllHosts, terms}
 

@@ -11,10 +11,9 @@ ghost use Rattle.cache.specs.Pools.{IsAcquired, IfAcquired, GivesLease, GivesTic
 ghost use Rattle.cache.specs.Pools.{all_hosts, StaysHost, StaysPool, KeepsOtherHosts};
 ghost use Rattle.cache.specs.Pools.{StreamsStay, OtherStreamsStay};
 
-use crate::acquired::Acquired;
 use crate::hosts::Hosts;
 use budget::Refusal;
-use bundle::{Booking, Got};
+use bundle::{Acquired, Booking, Got};
 use conn_log::{Cause, Want};
 
 impl<S: Drop> Hosts<S> {
@@ -62,8 +61,6 @@ impl<S: Drop> Hosts<S> {
         let bundle = &mut self.bundles[site as usize];
         let mut permits = self.budget.at(site);
         let got = bundle.acquire(want, now, &mut permits, &mut self.pass);
-        // The host's log is sound.
-        let _log = bundle.log();
         match got {
             Ok(Got::Lease(lease)) => Ok(Acquired::Lease(lease)),
             Ok(Got::Wait(ticket)) => Ok(Acquired::Wait(ticket)),
@@ -74,11 +71,53 @@ impl<S: Drop> Hosts<S> {
         }
     }
 
-    // Closes the oldest idle connection of all, where there is one, and tries the acquire for the
-    // last time that found no room in total. Inlined, so that the room for what it moves is cleared
-    // here, and not before each acquire.
+    // Where the total has no room. Inlined, so that the room for what it moves is cleared here, and
+    // not before each acquire; what it does is not, so that an acquire stays small.
     #[inline(always)]
     fn start_with_room(&mut self, booking: Booking, now: u64) -> Acquired<S>
+        requires there { booking.site < length self.old.hosts }
+        requires here { IsBookedHere (host_at self.old booking.site) booking }
+        requires full { total (all_hosts self.old) ≡ self.old.limits.total }
+        ensures all { let roomy = with_room self.old.limits now (all_hosts self.old) in
+            all_hosts self.new ≡ (started self.old.limits booking.site booking.want now roomy).all }
+        ensures reply { let roomy = with_room self.old.limits now (all_hosts self.old) in
+            let started = started self.old.limits booking.site booking.want now roomy in
+            IsAcquired booking.site started.reply result }
+        ensures made_here { GivesLease result
+            (λ lease. lease.tables ≡ (host_at self.old booking.site).tables) }
+        ensures has_stream { GivesLease result
+            (λ lease. is_some lease.stream ≡ lease.start.reused) }
+        ensures stream { GivesLease result (HasItsStream (host_at self.old booking.site).streams) }
+        ensures streams { let old = host_at self.old booking.site in
+            let new = host_at self.new booking.site in
+            GivesLease result (λ lease. OtherStreamsStay lease.start.number old new) }
+        ensures kept { let old = host_at self.old booking.site in
+            let new = host_at self.new booking.site in
+            GivesTicket result (λ ticket. StreamsStay old new) }
+        ensures gets_lease { let old = host_at self.old booking.site in
+            let new = host_at self.new booking.site in
+            let transfer = booking.want.transfer in
+            GivesLease result (λ lease. GetsLease old new transfer lease.start.number) }
+        ensures gets_ticket { let old = host_at self.old booking.site in
+            let new = host_at self.new booking.site in
+            GivesTicket result (λ ticket. GetsTicket old new booking.want) }
+        ensures same { StaysThere (host_at self.old booking.site) (host_at self.new booking.site) }
+        ensures booked { let old = host_at self.old booking.site in
+            let new = host_at self.new booking.site in
+            new.booked ≡ without_booked booking.want.transfer old.booked }
+        ensures grew { let old = host_at self.old booking.site in
+            GrowsBy old.log (host_at self.new booking.site).log }
+        ensures others { KeepsOtherHosts booking.site self.old self.new }
+        ensures stays { StaysPool self.old self.new }
+    {
+        self.start_in_place_of_oldest(booking, now)
+    }
+
+    // Closes the oldest idle connection of all, where there is one, and tries the acquire for the
+    // last time that found no room in total.
+    #[cold]
+    #[inline(never)]
+    fn start_in_place_of_oldest(&mut self, booking: Booking, now: u64) -> Acquired<S>
         requires there { booking.site < length self.old.hosts }
         requires here { IsBookedHere (host_at self.old booking.site) booking }
         requires full { total (all_hosts self.old) ≡ self.old.limits.total }
@@ -120,7 +159,6 @@ impl<S: Drop> Hosts<S> {
         let mut permits = self.budget.at(site);
         let lobby = Some(&mut self.lobby);
         let got = bundle.retry(booking, now, &mut permits, lobby, &mut self.pass);
-        let _log = bundle.log();
         match got {
             Got::Lease(lease) => Acquired::Lease(lease),
             Got::Wait(ticket) => Acquired::Wait(ticket),

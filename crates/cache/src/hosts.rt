@@ -117,7 +117,8 @@ impl<S: Drop> Hosts<S> {
         }
     }
 
-    /// How many leases were spent at a host: as many as starts are gone there.
+    /// How many leases were spent with the pass at a host. The clause counts the starts that are
+    /// gone in the log: that the pass has spent as many is an invariant.
     pub fn spent(&self, site: u32) -> Option<u64>
         ensures there { IfSome result (λ spent. (site < length self.now.hosts)
             × (spent ≡ gone (host_at self.now site).log)) }

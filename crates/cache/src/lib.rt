@@ -1,7 +1,6 @@
 //! The connection cache: the connections of many hosts, under limits for each host and for all.
 #![tactic(auto)]
 
-mod acquired;
 mod acquiring;
 mod hosts;
 mod limits;
@@ -10,6 +9,5 @@ mod pool;
 mod serving;
 mod spending;
 
-pub use acquired::Acquired;
 pub use oldest::oldest_of;
-pub use pool::{MOST_HOSTS, Pool};
+pub use pool::Pool;

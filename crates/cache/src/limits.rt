@@ -46,7 +46,6 @@ impl<S: Drop> Hosts<S> {
         let bundle = &mut self.bundles[site as usize];
         let mut permits = self.budget.at(site);
         let closed = bundle.prune(now, max_age, max_life, &mut permits, &mut self.pass);
-        let _log = bundle.log();
         let oldest = bundle.oldest();
         self.noted.set(site as usize, oldest);
         closed
@@ -70,7 +69,6 @@ impl<S: Drop> Hosts<S> {
         let mut permits = self.budget.at(site);
         let (pass, lobby) = (&mut self.pass, &mut self.lobby);
         let changed = bundle.set_host_limit(limit, now, &mut permits, lobby, pass);
-        let _log = bundle.log();
         note_oldest(&mut self.noted, bundle);
         match changed {
             Ok(Changed::Done { freed: _ }) => Ok(()),

@@ -20,17 +20,13 @@ ghost use Rattle.cache.specs.Pools.{IsNewPool, host_at, all_hosts, IsAcquired, I
 ghost use Rattle.cache.specs.Pools.{KeepsHosts, KeepsOtherHosts, IsMadeHere};
 ghost use Rattle.cache.specs.Pools.{StreamsStay, OtherStreamsStay};
 
-use crate::acquired::Acquired;
 use crate::hosts::Hosts;
 use budget::{Limits, Refusal};
-use bundle::{Bundle, Claimed, Lease, Snapshot, Stray, Ticket};
+use bundle::{Acquired, Bundle, Claimed, Lease, MOST_HOSTS, Snapshot, Stray, Ticket};
 use conn_log::{Log, Want};
 use persistence::Facts;
 use std::alloc::Global;
 use std::marker::Model;
-
-/// The most hosts that a pool may have.
-pub const MOST_HOSTS: u32 = 1_024;
 
 /// The connections of several hosts, with the streams of type `S` of those that no lease has, under
 /// limits for each host, for the total and for what is kept idle. A host's site is its index. It
@@ -126,8 +122,9 @@ impl<S: Drop> Pool<S> {
         }
     }
 
-    /// How many leases were spent at a host: as many as starts are gone there. `None` where there
-    /// is no such site.
+    /// How many leases were spent with the pool's pass at a host. The clause counts the starts that
+    /// are gone in the log: that the pass has spent as many is an invariant. `None` where there is
+    /// no such site.
     pub fn spent(&self, site: u32) -> Option<u64>
         ensures there { IfSome result (λ spent. (site < length self.now.hosts)
             × (spent ≡ gone (host_at self.now site).log)) }
@@ -242,7 +239,7 @@ impl<S: Drop> Pool<S> {
         ensures stays { StaysPool self.old self.new }
     {
         if ticket.site() as usize >= self.hosts.len() {
-            return Err(ticket.into_stray());
+            return Err(ticket.into_stray(self.hosts.len()));
         }
         self.hosts.claim(ticket)
     }
@@ -330,7 +327,7 @@ impl<S: Drop> Pool<S> {
         ensures stays { StaysPool self.old self.new }
     {
         if ticket.site() as usize >= self.hosts.len() {
-            return Err(ticket.into_stray());
+            return Err(ticket.into_stray(self.hosts.len()));
         }
         self.hosts.withdraw(ticket, now)?;
         self.hosts.serve(now);

@@ -206,7 +206,6 @@ impl<S: Drop> Hosts<S> {
         let mut permits = self.budget.at(site);
         let pass = &mut self.pass;
         let back = bundle.give_back(lease, facts, now, pass, &mut permits, None, false);
-        let _log = bundle.log();
         match back {
             Back::Spent { freed: _ } => {
                 note_after_return(&mut self.noted, bundle, now);
@@ -256,7 +255,6 @@ impl<S: Drop> Hosts<S> {
         let mut permits = self.budget.at(site);
         let (pass, lobby) = (&mut self.pass, Some(&mut self.lobby));
         let back = bundle.give_back(lease, facts, now, pass, &mut permits, lobby, false);
-        let _log = bundle.log();
         note_oldest(&mut self.noted, bundle);
         match back {
             Back::Spent { freed: _ } => None,
@@ -289,7 +287,6 @@ impl<S: Drop> Hosts<S> {
         let mut permits = self.budget.at(site);
         let (pass, lobby) = (&mut self.pass, Some(&mut self.lobby));
         let abandoned = bundle.abandon(lease, now, pass, &mut permits, lobby);
-        let _log = bundle.log();
         note_oldest(&mut self.noted, bundle);
         match abandoned {
             Ok(_freed) => {}
@@ -326,7 +323,6 @@ impl<S: Drop> Hosts<S> {
         let mut permits = self.budget.at(site);
         let (pass, lobby) = (&mut self.pass, Some(&mut self.lobby));
         let withdrawn = bundle.withdraw(ticket, now, pass, &mut permits, lobby);
-        let _log = bundle.log();
         note_oldest(&mut self.noted, bundle);
         match withdrawn {
             Ok(_freed) => Ok(()),

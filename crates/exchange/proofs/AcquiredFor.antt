@@ -3,8 +3,8 @@ use Rattle.std.proofs.Common.{◌≡◌, ℕ, ap, ◌∙◌}
 use Rattle.conn_log.specs.declared.entry.Want.{Want}
 use Rattle.host_rules.specs.Calls.{Reply, Start, starts, waits_on, no_room, again}
 use Rattle.bundle.specs.Lease.{Leasing, Ticketed, HasItsStream}
-use Rattle.cache.specs.declared.acquired.Acquired.{Acquired}
-use Rattle.cache.specs.declared.acquired.Acquired.TheVariants.{Lease, Wait as Waits}
+use Rattle.bundle.specs.declared.answers.Acquired.{Acquired}
+use Rattle.bundle.specs.declared.answers.Acquired.TheVariants.{Lease, Wait as Waits}
 use Rattle.pool_rules.specs.Laws.{AnswersWant}
 use Rattle.pool_rules.specs.Calls.{after_acquire, reply_of}
 use Rattle.cache.specs.Pools.{IsAcquired, GivesLease, all_hosts, host_at}

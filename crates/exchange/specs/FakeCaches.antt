@@ -9,8 +9,8 @@ use Rattle.host_rules.specs.Calls.{refusal}
 use Rattle.bundle.specs.Lease.{HostShown, Leasing, Ticketed, WasGranted, HasItsStream, is_unclaimed, is_valid_ticket}
 use Rattle.cache.specs.Pools.{PoolShown, StaysPool, StaysHosts, IsAcquired, GivesLease, host_at, all_hosts}
 use Rattle.pool_rules.specs.Calls.{after_acquire, reply_of, after_giving_back, after_abandoning, after_withdrawing}
-use Rattle.cache.specs.declared.acquired.Acquired.{Acquired}
-use Rattle.cache.specs.declared.acquired.Acquired.TheVariants.{Lease, Wait}
+use Rattle.bundle.specs.declared.answers.Acquired.{Acquired}
+use Rattle.bundle.specs.declared.answers.Acquired.TheVariants.{Lease, Wait}
 use Rattle.exchange.specs.declared.returned.Returned.{Returned}
 use Rattle.exchange.specs.Deeds.{Out, Deed}
 use Rattle.exchange.specs.Deeds.Deed.{leases, begins_wait, grants, keeps_waiting, gives_back, abandons, withdraws, refuses, finds_strange_lease, finds_strange_ticket}

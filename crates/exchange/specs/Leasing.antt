@@ -5,8 +5,8 @@ use Rattle.bundle.specs.Seats.{Tables}
 use Rattle.bundle.specs.Lease.{Leasing, Ticketed}
 use Rattle.bundle.specs.declared.answers.Claimed.{Claimed}
 use Rattle.bundle.specs.declared.answers.Claimed.TheVariants.{Lease as Granted, Still}
-use Rattle.cache.specs.declared.acquired.Acquired.{Acquired}
-use Rattle.cache.specs.declared.acquired.Acquired.TheVariants.{Lease, Wait}
+use Rattle.bundle.specs.declared.answers.Acquired.{Acquired}
+use Rattle.bundle.specs.declared.answers.Acquired.TheVariants.{Lease, Wait}
 use Rattle.exchange.specs.Deeds.{Out, lease_out, ticket_out, Deed}
 use Rattle.exchange.specs.Deeds.Deed.{leases, begins_wait, grants, keeps_waiting, abandons, withdraws, finds_strange_lease, finds_strange_ticket}
 

@@ -17,8 +17,7 @@ use crate::leasing::Cache;
 use crate::state::{State, Step};
 use crate::wire::{Clock, Dial, Dialled, Wire};
 use budget::Refusal;
-use bundle::{Claimed, Lease, Ticket};
-use cache::Acquired;
+use bundle::{Acquired, Claimed, Lease, Ticket};
 use futures::task::{Context, Poll, Waker};
 
 // Where a lease begins: its connection is dialled, or its wire is used again.

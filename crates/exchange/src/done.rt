@@ -36,7 +36,8 @@ pub enum Fault {
     /// The connection ended before the response was whole. It was given back with the facts of the
     /// bytes that came.
     Cut,
-    /// The cache refused to give a connection, or took a lease or a ticket for a stranger.
+    /// The cache refused to give a connection, or took a lease or a ticket for a stranger, which
+    /// was let go.
     Refused(Refusal),
     /// The exchange was cancelled. Whoever cancels it may say so: a poll never does.
     Cancelled,

@@ -4,12 +4,12 @@ ghost use Rattle.std.specs.Prelude.{◌≡◌, ℕ, IsSome, OnOk, OnErr, IfOk, I
 
 use crate::wire::Wire;
 use budget::Refusal;
-use bundle::{Claimed, Lease, Stray, Ticket};
-use cache::Acquired;
+use bundle::{Acquired, Claimed, Lease, Stray, Ticket};
 use conn_log::Want;
 use persistence::Facts;
 
-/// A cache of connections, as an exchange uses it: it asks for one only while it has none.
+/// A cache of connections, as an exchange uses it: it asks for one only while it has none. What it
+/// takes for a stranger the exchange lets go, its own lease too.
 ///
 /// The ghost members tell contracts how many leases and tickets are out, which leases were made
 /// here (by their site and the tables that they have seats in), and what was done from one time to

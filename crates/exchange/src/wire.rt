@@ -49,7 +49,9 @@ pub enum Turned {
     Fault,
 }
 
-/// A connection that bytes go over, which waits for nothing.
+/// A connection that bytes go over, which waits for nothing. What comes on it after a whole
+/// response is read as the next one: a wire that can look for it before a request is written should
+/// fail.
 ///
 /// The ghost members tell contracts to which site's host it was dialled, where nothing has happened
 /// on it yet, what happened on it from one time to another, how often it failed, and the name of

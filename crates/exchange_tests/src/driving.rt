@@ -5,8 +5,8 @@ ghost use Rattle.cache.specs.Pools.{IsMadeHere};
 ghost use Rattle.exchange.specs.Answers.{IsUnused};
 
 use budget::Limits;
-use bundle::Lease;
-use cache::{Acquired, Pool};
+use bundle::{Acquired, Lease};
+use cache::Pool;
 use conn_key::{CountedMemory, read_target};
 use conn_log::{Cause, Entry, Event, Want};
 use exchange::{
@@ -122,10 +122,7 @@ pub(crate) fn lease_of<R: Abort>(
 {
     match pool.acquire(0, want_of(transfer), now) {
         Ok(Acquired::Lease(lease)) => lease,
-        Ok(Acquired::Wait(ticket)) => {
-            ticket.into_stray().scrap();
-            panic!(rt; "it has to wait");
-        }
+        Ok(Acquired::Wait(_ticket)) => panic!(rt; "it has to wait"),
         Err(refusal) => panic!(rt; "{refusal:?}"),
     }
 }

@@ -12,7 +12,7 @@ use Rattle.host_rules.specs.Calls.{refusal, Reply, Start, starts, Wait, waits_on
 use Rattle.bundle.specs.Lease.{HostShown, Leasing, Ticketed, is_unclaimed, lease_number, ticket_want, is_valid_ticket, GetsLease, GetsTicket, WasGranted}
 use Rattle.pool_rules.specs.AllHosts.{AllHosts, log_at, terms, IsAtRest}
 use Rattle.pool_rules.specs.Calls.{after_acquire, reply_of, after_abandoning, after_withdrawing}
-use Rattle.cache.specs.declared.acquired.Acquired.TheVariants as gives
+use Rattle.bundle.specs.declared.answers.Acquired.TheVariants as gives
 use Rattle.cache.specs.Pools.{PoolShown, host_at, all_hosts, IsAcquired, AreInPlace, StaysHost, StaysPool, KeepsOtherHosts}
 use Rattle.cache.proofs.OneHost.{log_is}
 use Rattle.cache.proofs.Keeping.{stays_host_on, keeps_others_on}

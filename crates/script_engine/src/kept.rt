@@ -23,8 +23,8 @@ ghost use Rattle.script_rules.specs.Telling.{AllGrowAfter};
 
 use crate::facts::facts_of_ending;
 use budget::Refusal;
-use bundle::{Claimed, Lease, Ticket};
-use cache::{Acquired, Pool};
+use bundle::{Acquired, Claimed, Lease, Ticket};
+use cache::Pool;
 use conn_log::Want;
 use script_text::{Ending, FaultKind, claimed, reply, still_waiting};
 use std::alloc::Global;

@@ -6,7 +6,14 @@ use Rattle.bundle.specs.Replies.{IsGot}
 use Rattle.host_rules.proofs.LeasesAtOnce.{reused_at_once}
 use Rattle.bundle.proofs.Seating.{apart, start_fits, seated_leased, leased_granted}
 use Rattle.bundle.proofs.Starting.{begins_lease}
+use Rattle.bundle.proofs.Asking.{leased_at_once}
 use Rattle.bundle.proofs.acquiring.lease_at_once.Goals as goal
+
+pub returns-clause-not_due : goal.returns-clause-not_due
+returns-clause-not_due g c =
+    let state = c.args.state.now in
+    let last = c.in-Some.ensures in
+    leased_at_once state.settings state.log c.args.want c.args.moment c.in-Some.number last.none_too_old last.some.newest
 
 pub lease-seat-requires-clause-apart : goal.lease-seat-requires-clause-apart
 lease-seat-requires-clause-apart g c = apart c.args.state.now.log c.args.seats.now c.requires.seated c.in-Some.number c.args.want.transfer c.in-Some.ensures.free

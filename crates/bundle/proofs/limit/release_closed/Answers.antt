@@ -17,4 +17,5 @@ loop-left-preserved g c =
       none = λ all. absurd (omega (arith, all, more, kept.most));
       stands = both.stands;
       stays = g.met.P.Permits.stays_on _ _ _ kept.stays (g.met.P.Permits.stays_on _ _ _ one.stays both.stays);
+      unasked = g.met.P.Permits.asked_on _ _ _ 0 0 0 0 kept.unasked (g.met.P.Permits.asked_on _ _ _ 0 0 0 0 one.asked both.asked);
     }

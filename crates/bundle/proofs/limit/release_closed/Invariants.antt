@@ -12,4 +12,5 @@ invariant-loop-left g l = record {
   none : l.left ≡ l.count → l.permits ≡ l.fn.permits;
   stands : g.P.Permits.stands l.permits;
   stays : g.P.Permits.stays l.fn.permits l.permits;
+  unasked : g.P.Permits.asked l.fn.permits l.permits 0 0;
 }

@@ -11,4 +11,5 @@ invariant-loop-got g l = record {
   kept : (g.P.Permits.held l.permits).kept ≡ (g.P.Permits.held l.fn.permits).kept;
   stands : g.P.Permits.stands l.permits;
   stays : g.P.Permits.stays l.fn.permits l.permits;
+  asks : g.P.Permits.asked l.fn.permits l.permits l.got 0;
 }

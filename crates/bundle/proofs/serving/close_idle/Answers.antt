@@ -20,6 +20,7 @@ loop-permits-preserved g c =
       closes = closes_then moment c.args.state.now between after kept.closes next.closes;
       stands = both.stands;
       stays = g.met.P.Permits.stays_on _ _ _ kept.stays (g.met.P.Permits.stays_on _ _ _ one.stays both.stays);
+      unasked = g.met.P.Permits.asked_on _ _ _ 0 0 0 0 kept.unasked (g.met.P.Permits.asked_on _ _ _ 0 0 0 0 one.asked both.asked);
       as_many_held = omega (arith, kept.as_many_held, next.fewer_open, next.fewer_idle);
       part = both.held ∙ ap one_less_open (one.held ∙ ap one_less_kept kept.part) ∙ both_freed _ _ _ _ next.fewer_open next.fewer_idle;
     }

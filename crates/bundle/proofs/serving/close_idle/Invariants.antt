@@ -15,6 +15,7 @@ invariant-loop-permits g l = record {
   closes : ClosesIdle l.moment l.fn.state l.state;
   stands : g.P.Permits.stands l.permits;
   stays : g.P.Permits.stays l.fn.permits l.permits;
+  unasked : g.P.Permits.asked l.fn.permits l.permits 0 0;
   as_many_held : open_len l.state + idle_len l.fn.state ≡ open_len l.fn.state + idle_len l.state;
   part : g.P.Permits.held l.permits ≡ held_by l.state.log;
 }

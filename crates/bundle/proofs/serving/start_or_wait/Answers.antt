@@ -4,6 +4,9 @@ use Rattle.conn_log.specs.Connections.{is_open}
 use Rattle.bundle.specs.Lease.{Leasing, Using}
 use Rattle.bundle.proofs.Seating.{apart, start_fits, seated_same, seated_leased, leased_granted}
 use Rattle.bundle.proofs.Starting.{same_closed, begins_lease}
+use Rattle.host_state.specs.State.{HostState}
+use Rattle.host_state.specs.Steps.{is_full}
+use Rattle.bundle.proofs.Asking.{not_due, is_due, waits_behind, one_fits, at_limit, has_room}
 use Rattle.bundle.proofs.serving.start_or_wait.Goals as goal
 
 pub lease-seat-requires-clause-apart : goal.lease-seat-requires-clause-apart
@@ -41,3 +44,33 @@ lease-seat-requires-clause-few g c =
     let leased = c.in-Some.ensures.some in
     let begins = begins_lease young after c.in-Some.number c.args.moment c.args.want leased.log leased.as_many_open leased.fewer_idle in
     start_fits before.log after.log c.args.seats.now c.requires.seated (omega (arith, begins.starts, closed.closes.starts)) c.len-entries.result (c.len-entries.ensures ∙ ap length c.log.ensures.entries) c.len-entries.type_inv
+
+pub returns-then-anyone_waits-clause-asked : goal.returns-then-anyone_waits-clause-asked
+returns-then-anyone_waits-clause-asked g c =
+    let state = c.args.state.now in
+    let behind = waits_behind state.settings state.log c.args.want c.args.moment (c.anyone_waits.ensures.yes c.if-anyone_waits.true) in
+    not_due (λ n. g.P.Permits.asked c.args.permits.now c.args.permits.now n 0) _ behind (g.met.P.Permits.asked_from_start _)
+
+pub returns-in-Some-clause-asked : goal.returns-in-Some-clause-asked
+returns-in-Some-clause-asked g c =
+    let state = c.args.state.now in
+    let fits = one_fits state.settings state.log c.args.want c.args.moment c.close_idle.new.state.log c.close_idle.ensures.log c.in-Some.number c.in-Some.ensures.some.newest in
+    not_due (λ n. g.P.Permits.asked c.args.permits.now c.release_kept.new.self n 0) _ fits (g.met.P.Permits.asked_on _ _ _ 0 0 0 0 c.close_idle.ensures.unasked c.release_kept.ensures.asked)
+
+pub returns-then-is_full-clause-asked : goal.returns-then-is_full-clause-asked
+returns-then-is_full-clause-asked g c =
+    let state = c.args.state.now in
+    let young = c.close_idle.new.state in
+    let full = ap (λ settings. is_full settings young.log) (sym c.close_idle.ensures.closes.same.settings)
+    ∙ ap (λ (s : HostState g.row.S.Denot). is_full s.settings s.log) (sym c.in_default.ensures.none.1) ∙ sym c.is_full.ensures ∙ c.if-is_full.true in
+    let limited = at_limit state.settings state.log c.args.want c.args.moment young.log c.close_idle.ensures.log full in
+    not_due (λ n. g.P.Permits.asked c.args.permits.now c.start_in_place.new.permits n 0) _ limited (g.met.P.Permits.asked_on _ _ _ 0 0 0 0 c.close_idle.ensures.unasked c.start_in_place.ensures.unasked)
+
+pub returns-clause-asked : goal.returns-clause-asked
+returns-clause-asked g c =
+    let state = c.args.state.now in
+    let young = c.close_idle.new.state in
+    let room = ap (λ settings. is_full settings young.log) (sym c.close_idle.ensures.closes.same.settings)
+    ∙ ap (λ (s : HostState g.row.S.Denot). is_full s.settings s.log) (sym c.in_default.ensures.none.1) ∙ sym c.is_full.ensures ∙ c.if-is_full.false in
+    let due = has_room state.settings state.log c.args.want c.args.moment young.log c.close_idle.ensures.log (c.anyone_waits.ensures.no c.if-anyone_waits.false) c.in_default.ensures.none.0 room in
+    is_due (λ n. g.P.Permits.asked c.args.permits.now c.start_as_told.new.permits n 0) _ due (g.met.P.Permits.asked_on _ _ _ 0 0 1 0 c.close_idle.ensures.unasked c.start_as_told.ensures.asked)

@@ -11,14 +11,18 @@ use Rattle.bundle.specs.Grants.{grant_starts, grant_streams, GrantsKept}
 use Rattle.host_rules.specs.Laws.{IsSoundAndQuiet}
 use Rattle.bundle.specs.Lease.{HostShown, HasItsStream}
 use Rattle.host_rules.specs.Bookings.{AreBooked}
-use Rattle.bundle.specs.Seats.{SeatsShown, IsSeated, AreUnclaimed, ended_starts, gone}
+use Rattle.bundle.specs.Seats.{Tables, SeatsShown, IsSeated, AreUnclaimed, ended_starts, gone}
 use Rattle.bundle.specs.Passes.{tells, got_did, refusal_did}
 use Rattle.bundle.specs.Replies.{IsGot, GivesLease, GivesBooking, UnlessBooking}
 use Rattle.host_rules.proofs.Bookings.{IsOut}
 use Rattle.host_rules.proofs.Soundness.{none_waits}
 use Rattle.bundle.proofs.Outcomes.{count_added, spare_after, bookings_added}
 use Rattle.bundle.proofs.Seating.{unclaimed_same, same_gone}
-use Rattle.bundle.proofs.Telling.{account_there, accounts_told}
+use Rattle.bundle.proofs.Telling.{account_there, enrolled_at, accounts_told}
+use Rattle.bundle.proofs.Asking.{not_due}
+use Rattle.bundle.proofs.RepliesInKind.{acquired_for}
+use Rattle.host_rules.specs.Effects.{one_if}
+use Rattle.host_rules.specs.Asks.{asks_to_open, open_asks}
 use Rattle.bundle.proofs.AcquiredHosts.{Leaves, leaves, acquires, not_refused_at_once, grants_after, stream_got, lease_got, ticket_got, booking_got, others_kept, all_kept, halfway_kept}
 use Rattle.bundle.proofs.host.Bundle.acquire.Given.{Over}
 use Rattle.bundle.proofs.host.Bundle.acquire.Goals as goal
@@ -261,17 +265,20 @@ returns-clause-gets_booking g c =
 pub tell-requires : goal.tell-requires
 tell-requires g c =
     let host_is = c.host.ensures ∙ c.in-Some.ensures.same.host ∙ ap (λ (v : HostShown g.row.S.Denot). v.host) c.self.view_is in
-    account_there c.args.pass.now c.args.self.now c.host.result host_is c.requires.enrolled
+    let table_is = c.tally.ensures ∙ ap (λ (t : Tables). t.starts) (c.in-Some.ensures.granted.tables ∙ ap (λ (v : HostShown g.row.S.Denot). v.tables) c.self.view_is) in
+    record { host = account_there c.args.pass.now c.args.self.now c.host.result host_is c.requires.enrolled; enrolled = enrolled_at c.args.pass.now c.args.self.now c.host.result _ host_is table_is c.requires.enrolled }
 
 pub tell_refused-requires : goal.tell_refused-requires
 tell_refused-requires g c =
-    let host_is = c.host-in-Some-reason_against.ensures ∙ c.lease_at_once.ensures.same.host ∙ ap (λ (v : HostShown g.row.S.Denot). v.host) c.self.view_is in
-    record { there = account_there c.args.pass.now c.args.self.now c.host-in-Some-reason_against.result host_is c.requires.enrolled }
+    let host_is = c.host-host.ensures ∙ c.lease_at_once.ensures.same.host ∙ ap (λ (v : HostShown g.row.S.Denot). v.host) c.self.view_is in
+    let table_is = c.tally-tally.ensures ∙ ap (λ (t : Tables). t.starts) (c.lease_at_once.ensures.granted.tables ∙ ap (λ (v : HostShown g.row.S.Denot). v.tables) c.self.view_is) in
+    record { there = account_there c.args.pass.now c.args.self.now c.host-host.result host_is c.requires.enrolled; enrolled = enrolled_at c.args.pass.now c.args.self.now c.host-host.result _ host_is table_is c.requires.enrolled }
 
 pub tell_got-requires : goal.tell_got-requires
 tell_got-requires g c =
     let host_is = c.host-2.ensures ∙ c.start_or_wait-got.ensures.same.host ∙ ap (λ (v : HostState g.row.S.Denot). v.host) c.in-Ok-book.ensures.ok ∙ c.lease_at_once.ensures.same.host ∙ ap (λ (v : HostShown g.row.S.Denot). v.host) c.self.view_is in
-    record { there = account_there c.args.pass.now c.args.self.now c.host-2.result host_is c.requires.enrolled }
+    let table_is = c.tally-2.ensures ∙ ap (λ (t : Tables). t.starts) (c.start_or_wait-got.ensures.granted.tables ∙ c.lease_at_once.ensures.granted.tables ∙ ap (λ (v : HostShown g.row.S.Denot). v.tables) c.self.view_is) in
+    record { there = account_there c.args.pass.now c.args.self.now c.host-2.result host_is c.requires.enrolled; enrolled = enrolled_at c.args.pass.now c.args.self.now c.host-2.result _ host_is table_is c.requires.enrolled }
 
 tells_lease : (g : Over) (c : goal.After-tell g) → c.tell.new.self ≡ tells c.args.self.now.host (Some (Wrote (start_entry c.in-Some.lease.start))) c.args.pass.now
 tells_lease g c =
@@ -282,7 +289,7 @@ tells_lease g c =
 
 tells_refusal : (g : Over) (c : goal.After-tell_refused g) → c.tell_refused.new.pass ≡ tells c.args.self.now.host (refusal_did c.args.want.transfer c.in-Some-reason_against.reason) c.args.pass.now
 tells_refusal g c =
-    let host_is = c.host-in-Some-reason_against.ensures ∙ c.lease_at_once.ensures.same.host ∙ ap (λ (v : HostShown g.row.S.Denot). v.host) c.self.view_is in
+    let host_is = c.host-host.ensures ∙ c.lease_at_once.ensures.same.host ∙ ap (λ (v : HostShown g.row.S.Denot). v.host) c.self.view_is in
     c.tell_refused.ensures.told
     ∙ ap (λ (host : ℕ). tells host (refusal_did c.args.want.transfer c.in-Some-reason_against.reason) c.args.pass.now) host_is
 
@@ -333,3 +340,53 @@ returns-clause-account g c =
     let told = c.start_or_wait-got.ensures in
     let same = same_gone inside.state.log new.state.log inside.seats new.seats c.self.invariant.seated told.seated (told.granted.ended ∙ ap ended_starts c.in_default.ensures.none_seats) in
     accounts_told c.args.self.now new.state.log c.args.pass.now c.tell_got.new.pass (got_did c.start_or_wait-got.result) c.requires.enrolled (tells_got g c) (same ∙ ap (λ (v : HostShown g.row.S.Denot). gone v.log) c.self.view_is)
+
+-- what it gives is for its want
+pub returns-in-Some-clause-is_for : goal.returns-in-Some-clause-is_for
+returns-in-Some-clause-is_for g c =
+    let inside = c.self.inside in
+    let leased = c.in-Some.ensures in
+    let after = record c.args.self.now { log = c.lease_at_once.new.state.log } in
+    acquired_for false Given c.args.self.now after c.args.want c.args.now _ (acquires false Given inside.state.settings inside.state.log inside.state.host (grant_streams inside.grants.items ++ inside.state.streams) inside.grants.items inside.bookings.items inside.seats.tables c.args.self.now after c.args.want c.args.now c.moment-moment.result (Lease c.in-Some.lease) c.self.view_is c.moment-moment.ensures leased.due.0 leased.due.1)
+
+pub returns-clause-is_for : goal.returns-clause-is_for
+returns-clause-is_for g c =
+    let inside = c.self.inside in
+    let got = c.start_or_wait-got in
+    let after = record c.args.self.now { log = got.new.state.log } in
+    acquired_for false got.ensures.told.0 c.args.self.now after c.args.want c.args.now got.result (acquires false got.ensures.told.0 inside.state.settings inside.state.log inside.state.host (grant_streams inside.grants.items ++ inside.state.streams) inside.grants.items inside.bookings.items inside.seats.tables c.args.self.now after c.args.want c.args.now c.moment-moment.result got.result c.self.view_is c.moment-moment.ensures (due_log g c) (due_got g c))
+
+-- the log that it leaves
+pub returns-in-Some-clause-settled : goal.returns-in-Some-clause-settled
+returns-in-Some-clause-settled g c = (invariant_of-self g c).settled
+
+pub returns-in-Some-reason_against-clause-settled : goal.returns-in-Some-reason_against-clause-settled
+returns-in-Some-reason_against-clause-settled g c = (invariant_of-self-in-Some-reason_against g c).settled
+
+pub returns-in_default-reserve-clause-settled : goal.returns-in_default-reserve-clause-settled
+returns-in_default-reserve-clause-settled g c = (invariant_of-self-in_default-reserve g c).settled
+
+pub returns-in_default-reserve-2-clause-settled : goal.returns-in_default-reserve-2-clause-settled
+returns-in_default-reserve-2-clause-settled g c = (invariant_of-self-in_default-reserve-2 g c).settled
+
+pub returns-in_default-book-clause-settled : goal.returns-in_default-book-clause-settled
+returns-in_default-book-clause-settled g c = (invariant_of-self-in_default-book g c).settled
+
+pub returns-clause-settled : goal.returns-clause-settled
+returns-clause-settled g c = (invariant_of-self-2 g c).settled
+
+-- how often it asked the budget
+pub returns-in-Some-clause-asked : goal.returns-in-Some-clause-asked
+returns-in-Some-clause-asked g c =
+    let state = c.self.inside.state in
+    let none = ap (asks_to_open state.settings state.log c.args.want) (sym c.moment-moment.ensures) ∙ c.in-Some.ensures.not_due in
+    subst (λ (v : HostShown g.row.S.Denot). g.P.Permits.asked c.args.permits.now c.lease_at_once.new.permits (open_asks v.settings v.log c.args.want c.args.now) 0) c.self.view_is (not_due (λ n. g.P.Permits.asked c.args.permits.now c.lease_at_once.new.permits n 0) _ none c.lease_at_once.ensures.unasked)
+
+pub returns-clause-asked : goal.returns-clause-asked
+returns-clause-asked g c =
+    let state = c.self.inside.state in
+    let so_often = ap (λ (v : HostState g.row.S.Denot). one_if (asks_to_open v.settings v.log c.args.want c.moment-moment.result)) (booked g c)
+    ∙ ap (λ m. one_if (asks_to_open state.settings state.log c.args.want m)) c.moment-moment.ensures
+    ∙ ap (λ (v : HostShown g.row.S.Denot). open_asks v.settings v.log c.args.want c.args.now) c.self.view_is in
+    let asked = subst (λ p. g.P.Permits.asked p c.start_or_wait-got.new.permits (one_if (asks_to_open c.book.new.self.settings c.book.new.self.log c.args.want c.moment-moment.result)) 0) c.in_default.ensures.none_permits c.start_or_wait-got.ensures.asked in
+    subst (λ n. g.P.Permits.asked c.args.permits.now c.start_or_wait-got.new.permits n 0) so_often asked

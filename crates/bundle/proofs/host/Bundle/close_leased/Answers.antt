@@ -127,3 +127,6 @@ returns-clause-account g c =
     let pair_is = apart_pair c.args.lease _ _ c.take_apart-used.ensures.used n t c.number-connection.ensures c.transfer-transfer.ensures _ c.take_apart-used.ensures.pair in
     let more = gone_spent state.log c.self.inside.seats _ n t pair_is c.self.invariant.seated c.take_back-start.ensures.leased c.take_back-start.new.self c.spend.new.seats c.take_back-start.ensures.back c.spend.ensures.cleared c.hand_on.new.state.log c.hand_on.new.seats c.hand_on.ensures.seated c.hand_on.ensures.starts.ended in
     accounts_spent c.args.self.now state.log c.hand_on.new.state.log (ap (λ (v : HostShown g.row.S.Denot). v.log) c.self.view_is) more c.args.pass.now _ _ (c.host-host.ensures ∙ ap (λ (v : HostShown g.row.S.Denot). v.host) c.self.view_is) _ _ c.requires.enrolled c.spend.ensures.spent
+
+pub returns-clause-settled : goal.returns-clause-settled
+returns-clause-settled g c = (invariant_of-self g c).settled

@@ -278,3 +278,9 @@ returns-in_default-clause-mark g c =
     let waits_here = waited g c in
     let is = left_log state.settings state.log t c.args.now c.moment-moment.result c.leave.new.self.log waits_here c.moment-moment.ensures c.leave.ensures.log in
     unmarked_from state.settings c.args.self.now.settings c.leave.new.self.settings state.log c.args.self.now.log c.leave.new.self.log c.leave.ensures.same.settings (ap (λ (v : HostShown g.row.S.Denot). v.settings) c.self.view_is) (ap (λ (v : HostShown g.row.S.Denot). v.log) c.self.view_is) (λ unmarked. ap (is_queued state.settings) is ∙ mark_withdraw state.settings state.log t c.args.now inv.settled unmarked)
+
+pub returns-in_default-clause-settled : goal.returns-in_default-clause-settled
+returns-in_default-clause-settled g c = (invariant_of-self g c).settled
+
+pub returns-clause-settled : goal.returns-clause-settled
+returns-clause-settled g c = (invariant_of-self-2 g c).settled

@@ -57,3 +57,9 @@ returns-clause-gone g c =
     let seated = seated_same c.self.inside.state.log c.close_oldest.new.self.log c.self.inside.seats inv.seated (record { same = closes.holders; lengths = omega (arith, closed.fewer_open, closed.fewer_idle); starts = closes.starts }) in
     same_gone c.self.inside.state.log c.close_oldest.new.self.log c.self.inside.seats c.self.inside.seats inv.seated seated refl
     ∙ ap (λ (v : HostShown g.row.S.Denot). gone v.log) c.self.view_is
+
+pub returns-clause-settled : goal.returns-clause-settled
+returns-clause-settled g c = (invariant_of-self g c).settled
+
+pub returns-clause-unasked : goal.returns-clause-unasked
+returns-clause-unasked g c = g.met.P.Permits.asked_on _ _ _ 0 0 0 0 c.release_kept.ensures.asked c.release_open.ensures.asked

@@ -7,9 +7,11 @@ use Rattle.budget.specs.Accounts.{change_at, told}
 use Rattle.bundle.specs.declared.did.Did.TheVariants.{Pruned}
 use Rattle.bundle.specs.Seats.{gone}
 use Rattle.bundle.proofs.Seating.{seated_same, same_gone}
-use Rattle.bundle.proofs.Telling.{account_there, accounts_told}
+use Rattle.bundle.proofs.Telling.{account_there, enrolled_at, accounts_told}
 use Rattle.bundle.proofs.Answering.{behind_same}
 use Rattle.bundle.proofs.TurnLogs.{prune_keeps, grants_keep, keeps_at, grows_at}
+use Rattle.budget.specs.declared.permits.Held.{Held as Part}
+use Rattle.host_rules.specs.Counts.{held_by}
 use Rattle.bundle.proofs.host.Bundle.prune.Goals as goal
 
 pub invariant_of-self : goal.invariant_of-self
@@ -49,7 +51,8 @@ returns-clause-grew g c =
 pub tell-requires : goal.tell-requires
 tell-requires g c =
     let host_is = c.host.ensures ∙ c.close_idle-closed.ensures.closes.same.host ∙ ap (λ (v : HostShown g.row.S.Denot). v.host) c.self.view_is in
-    account_there c.args.pass.now c.args.self.now c.host.result host_is c.requires.enrolled
+    let table_is = c.tally.ensures ∙ ap (λ (v : HostShown g.row.S.Denot). v.tables.starts) c.self.view_is in
+    record { host = account_there c.args.pass.now c.args.self.now c.host.result host_is c.requires.enrolled; enrolled = enrolled_at c.args.pass.now c.args.self.now c.host.result _ host_is table_is c.requires.enrolled }
 
 pub returns-clause-account : goal.returns-clause-account
 returns-clause-account g c =
@@ -64,3 +67,12 @@ returns-clause-account g c =
     let seated = seated_same inside.state.log after inside.seats inv.seated (record { same = closes.holders; lengths = sym closed.as_many_held; starts = closes.starts }) in
     let same = same_gone inside.state.log after inside.seats inside.seats inv.seated seated refl ∙ ap (λ (v : HostShown g.row.S.Denot). gone v.log) c.self.view_is in
     accounts_told c.args.self.now after c.args.pass.now c.tell.new.self (Some did) c.requires.enrolled tells_so same
+
+pub returns-clause-settled : goal.returns-clause-settled
+returns-clause-settled g c = (invariant_of-self g c).settled
+
+-- what is kept is what is idle
+pub returns-clause-within : goal.returns-clause-within
+returns-clause-within g c =
+    let kept = ap (λ (h : Part). h.kept) (c.requires.part ∙ ap (λ (v : HostShown g.row.S.Denot). held_by v.log) (sym c.self.view_is)) in
+    omega (arith, kept, c.close_idle-closed.ensures.fewer_idle)

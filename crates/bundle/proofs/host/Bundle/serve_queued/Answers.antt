@@ -50,3 +50,9 @@ returns-clause-gone g c =
     let served = c.open_for_head.ensures in
     same_gone c.self.inside.state.log c.open_for_head.new.state.log c.self.inside.seats c.open_for_head.new.seats c.self.invariant.seated served.seated served.starts.ended
     ∙ ap (λ (v : HostShown g.row.S.Denot). gone v.log) c.self.view_is
+
+pub returns-clause-settled : goal.returns-clause-settled
+returns-clause-settled g c =
+    let inv = c.self.invariant in
+    let queued = ap (λ (v : HostShown g.row.S.Denot). is_queued v.settings v.log) c.self.view_is ∙ c.requires.queued in
+    (turn_keeps _ _ _ _ _ _ _ c.args.now _ inv.settled queued inv.grants inv.bookings c.open_for_head.ensures.same.settings c.moment-moment.ensures c.open_for_head.ensures.log c.open_for_head.ensures.grants).settled

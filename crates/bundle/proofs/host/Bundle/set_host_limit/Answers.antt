@@ -19,6 +19,8 @@ use Rattle.bundle.proofs.TurnLogs.{grants_keep, keeps_at, grows_at}
 use Rattle.bundle.proofs.LimitLogs.{AfterLimit, room_left, limit_keeps}
 use Rattle.bundle.proofs.Seating.{same_gone}
 use Rattle.bundle.proofs.Telling.{accounts_told}
+use Rattle.bundle.proofs.Asking.{then_none}
+use Rattle.host_rules.specs.Asks.{limit_asks}
 use Rattle.bundle.proofs.host.Bundle.set_host_limit.Given.{Over}
 use Rattle.bundle.proofs.host.Bundle.set_host_limit.Goals as goal
 
@@ -122,6 +124,7 @@ returns-clause-log g c =
           ∙ ap (λ (v : HostState g.row.S.Denot). after_limit most.result given v.settings v.log c.args.now) reserved
           ∙ ap (λ n. after_limit n given c.self.inside.state.settings c.self.inside.state.log c.args.now) most.ensures
           ∙ ap (λ (v : HostShown g.row.S.Denot). after_limit (kept_limit c.args.limit) given v.settings v.log c.args.now) c.self.view_is,
+      subst (λ n. g.P.Permits.asked c.args.permits.now c.change_limit-freed.new.permits (limit_asks given n) 0) so_many (then_none g.P.Permits.asked g.met.P.Permits.asked_on _ _ _ _ _ c.in-Some-reserve_up_to.ensures.asks changed.unasked),
     )
 
 pub returns-clause-streams : goal.returns-clause-streams
@@ -149,3 +152,15 @@ returns-clause-account g c =
     let tells_so = c.tell.ensures.account ∙ ap (λ (n : ℕ). change_at c.args.pass.now n (told (Wrote entry))) host_is in
     let same = same_gone inside.state.log changed.new.state.log inside.seats changed.new.seats c.self.invariant.seated changed.ensures.seated changed.ensures.starts.ended in
     accounts_told c.args.self.now changed.new.state.log c.args.pass.now c.tell.new.self (Some (Wrote entry)) c.requires.enrolled tells_so (same ∙ ap (λ (v : HostShown g.row.S.Denot). gone v.log) c.self.view_is)
+
+pub returns-clause-settled : goal.returns-clause-settled
+returns-clause-settled g c = (invariant_of-self-3 g c).settled
+
+pub returns-in_default-reserve_up_to-clause-asked_again : goal.returns-in_default-reserve_up_to-clause-asked_again
+returns-in_default-reserve_up_to-clause-asked_again g c =
+    let before = c.args.self.now in
+    let again = c.in_default-reserve_up_to.ensures.asks_again in
+    let most = c.kept_limit-most in
+    let queued = is_queued before.settings before.log in
+    let so_many : c.starts_due-count.result ≡ starts_due queued (kept_limit c.args.limit) before.log = c.starts_due-count.ensures ∙ ap (λ b. starts_due b most.result c.self.inside.state.log) c.queued-was_queued.ensures ∙ ap (λ n. starts_due queued n c.self.inside.state.log) most.ensures ∙ ap (λ (v : HostShown g.row.S.Denot). starts_due queued (kept_limit c.args.limit) v.log) c.self.view_is in
+    (again.0, again.1, subst (λ n. again.0 ≤ n) so_many again.2, again.3)

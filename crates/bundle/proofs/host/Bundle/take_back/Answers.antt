@@ -1,7 +1,6 @@
 use Rattle.std.proofs.Common.{◌≡◌, ℕ, true, false, not, length, Some, refl, sym, ap, subst, ◌∙◌, arith}
 use Rattle.std.specs.Prelude.{◌==◌}
 use mathlib.Core.Bool.{false≢true}
-use Rattle.persistence.specs.Persistent.{is_persistent}
 use Rattle.budget.specs.declared.permits.Try.TheVariants.{Got, Full, Contended}
 use Rattle.budget.specs.Permits.{held, if_got, one_more_kept, one_less_open}
 use Rattle.conn_log.specs.declared.entry.Cause.TheVariants.{CacheFull}
@@ -9,7 +8,6 @@ use Rattle.conn_log.specs.declared.entry.Event.TheVariants.{Returned, Closed}
 use Rattle.conn_log.specs.Connections.{is_open, open_connections, idle_connections}
 use Rattle.conn_log.specs.Waiting.{waiting}
 use Rattle.conn_log.specs.Starts.{start_count}
-use Rattle.conn_log.proofs.Soundness.{and_left}
 use Rattle.host_state.specs.State.{HostState, ComesBackUnkept}
 use Rattle.host_state.specs.Steps.{add, moment_at}
 use Rattle.host_rules.specs.Calls.{after_give_back, returned, becomes_idle, is_freed}
@@ -28,6 +26,9 @@ use Rattle.host_rules.proofs.FreedPermits.{part_fewer, freed_end}
 use Rattle.bundle.proofs.Resting.{back_spent, passed_given_back, ended_given_back, would_rest, back_again, back_not_kept, back_closed, shown, same_lease, full_told, freed_one, if_none, if_some, if_there, passed_open, not_freed, passed_part, released_part}
 use Rattle.bundle.proofs.LeaseEnds.{grants_kept, gone_spent, lease_held, ends_closed, ends_idle, handed_back, seated_spent, unclaimed_spent, tables_here, apart_number, apart_transfer, apart_pair}
 use Rattle.bundle.proofs.Accounting.{accounts_spent}
+use Rattle.bundle.proofs.Asking.{then_none, same_asks, recorded_as, would_stay}
+use Rattle.bundle.proofs.RepliesInKind.{given_back_as}
+use Rattle.host_rules.specs.Asks.{recorded_forbids, may_stay}
 use Rattle.bundle.proofs.host.Bundle.take_back.Given.{Over}
 use Rattle.bundle.proofs.host.Bundle.take_back.Goals as goal
 
@@ -204,12 +205,23 @@ returns-in-Idle-clause-told g c =
     let opens = passed_open c.give_back-back.new.self.log c.grant_to_head.new.state.log c.grant_to_head.ensures.taken (λ none. ap (λ (s : HostState g.row.S.Denot). s.log) (c.grant_to_head.ensures.nobody none)) ∙ back.as_many_open ∙ ap (λ (v : HostShown g.row.S.Denot). length (open_connections v.log)) c.self.view_is in
     (Got, g.met.P.Permits.not_asked_to_keep _ _ c.ask_to_keep-asked.ensures.stays, back_spent c.args.self.now (shown c.grant_to_head.new.state c.grant_to_head.new.grants.items c.self.inside.bookings.items c.grant_to_head.new.seats.tables) c.args.lease c.args.facts c.args.now c.args.close_if_full false log_is (not_freed c.args.self.now.log c.grant_to_head.new.state.log opens))
 
+-- what stays open may stay
+may_stay_there : (g : Over) (c : goal.After-grant_to_head g) → may_stay c.self.inside.state.log c.take_apart-used.result.0.start c.args.facts ≡ true
+may_stay_there g c =
+    let state = c.self.inside.state in
+    let back = c.in-Idle.ensures.idle in
+    let held = c.in-Idle.held in
+    let t = c.transfer-transfer.result in
+    let n = c.number-number.result in
+    let recorded = recorded_as state.log t n held c.in-Idle.ensures.number back.was_held c.in-Idle.ensures.known in
+    would_stay state.log c.take_apart-used.result.0.start c.args.facts held.forbids_reuse (ap (λ (k : ℕ). recorded_forbids state.log k c.take_apart-used.result.0.start.number) (sym c.transfer-transfer.ensures) ∙ ap (recorded_forbids state.log t) (sym c.number-number.ensures) ∙ recorded) back.stays
+
 pub returns-in-Idle-clause-part : goal.returns-in-Idle-clause-part
 returns-in-Idle-clause-part g c =
     let state = c.self.inside.state in
     let back = c.in-Idle.ensures.idle in
     let asked = c.ask_to_keep-asked in
-    passed_part state.log c.give_back-back.new.self.log c.grant_to_head.new.state.log asked.result (g.P.Permits.held c.args.permits.now) (g.P.Permits.held asked.new.permits) (is_persistent c.args.facts) (ap waiting back.log) back.as_many_open back.more_idle c.grant_to_head.ensures.taken (λ none. ap (λ (s : HostState g.row.S.Denot). s.log) (c.grant_to_head.ensures.nobody none)) (c.requires.part ∙ ap (λ (v : HostShown g.row.S.Denot). held_by v.log) (sym c.self.view_is)) (and_left (is_persistent c.args.facts) (not c.in-Idle.held.forbids_reuse) back.stays) (if_none asked.result (ap g.P.Permits.held) asked.ensures.not_asked) asked.ensures.asked asked.ensures.nobody asked.ensures.held (c.may_keep.ensures.yes c.in-Idle.ensures.kept)
+    passed_part state.log c.give_back-back.new.self.log c.grant_to_head.new.state.log asked.result (g.P.Permits.held c.args.permits.now) (g.P.Permits.held asked.new.permits) (may_stay state.log c.take_apart-used.result.0.start c.args.facts) (ap waiting back.log) back.as_many_open back.more_idle c.grant_to_head.ensures.taken (λ none. ap (λ (s : HostState g.row.S.Denot). s.log) (c.grant_to_head.ensures.nobody none)) (c.requires.part ∙ ap (λ (v : HostShown g.row.S.Denot). held_by v.log) (sym c.self.view_is)) (may_stay_there g c) (if_none asked.result (ap g.P.Permits.held) asked.ensures.not_asked) asked.ensures.not_idle asked.ensures.nobody asked.ensures.held (c.may_keep.ensures.yes c.in-Idle.ensures.kept)
 
 pub returns-in-Idle-clause-mark : goal.returns-in-Idle-clause-mark
 returns-in-Idle-clause-mark g c =
@@ -461,3 +473,45 @@ returns-else-not-close_if_full-clause-part g c =
     let after = c.give_back_to_close.new.self.log in
     let held_is = as_before ∙ c.requires.part ∙ ap (λ (v : HostShown g.row.S.Denot). held_by v.log) (sym c.self.view_is) ∙ part_fewer c.self.inside.state.log after closed.fewer_open closed.as_many_idle in
     c.release_open.ensures.held ∙ ap one_less_open held_is ∙ ap (λ (n : ℕ). held n (length (idle_connections after))) (omega arith)
+
+-- the log that it leaves
+pub returns-in-Idle-clause-settled : goal.returns-in-Idle-clause-settled
+returns-in-Idle-clause-settled g c = (invariant_of-self g c).settled
+
+pub returns-in-Ended-clause-settled : goal.returns-in-Ended-clause-settled
+returns-in-Ended-clause-settled g c = (invariant_of-self-in-Ended g c).settled
+
+pub returns-then-must_ask_again-clause-settled : goal.returns-then-must_ask_again-clause-settled
+returns-then-must_ask_again-clause-settled g c = (invariant_of-self-then-must_ask_again g c).settled
+
+pub returns-then-not-close_if_full-clause-settled : goal.returns-then-not-close_if_full-clause-settled
+returns-then-not-close_if_full-clause-settled g c = (invariant_of-self-then-not-close_if_full g c).settled
+
+pub returns-else-not-close_if_full-clause-settled : goal.returns-else-not-close_if_full-clause-settled
+returns-else-not-close_if_full-clause-settled g c = (invariant_of-self-in-Unkept g c).settled
+
+-- what comes back
+pub returns-then-must_ask_again-clause-back : goal.returns-then-must_ask_again-clause-back
+returns-then-must_ask_again-clause-back g c = given_back_as c.args.self.now _ c.args.lease c.args.close_if_full _ c.args.facts c.args.now _ (returns-then-must_ask_again-clause-told g c).2
+
+pub returns-then-not-close_if_full-clause-back : goal.returns-then-not-close_if_full-clause-back
+returns-then-not-close_if_full-clause-back g c = given_back_as c.args.self.now _ c.args.lease c.args.close_if_full _ c.args.facts c.args.now _ (returns-then-not-close_if_full-clause-told g c).2
+
+-- how often the budget was asked
+pub returns-in-Idle-clause-asked : goal.returns-in-Idle-clause-asked
+returns-in-Idle-clause-asked g c = subst (g.P.Permits.asked c.args.permits.now c.ask_to_keep-asked.new.permits 0) (same_asks c.args.self.now c.self.inside.state.log c.args.lease _ _ c.args.facts (ap (λ (v : HostShown g.row.S.Denot). v.log) c.self.view_is) c.take_apart-used.ensures.used) c.ask_to_keep-asked.ensures.asked
+
+pub returns-then-must_ask_again-clause-asked : goal.returns-then-must_ask_again-clause-asked
+returns-then-must_ask_again-clause-asked g c = subst (g.P.Permits.asked c.args.permits.now c.ask_to_keep-asked.new.permits 0) (same_asks c.args.self.now c.self.inside.state.log c.args.lease _ _ c.args.facts (ap (λ (v : HostShown g.row.S.Denot). v.log) c.self.view_is) c.take_apart-used.ensures.used) c.ask_to_keep-asked.ensures.asked
+
+pub returns-then-not-close_if_full-clause-asked : goal.returns-then-not-close_if_full-clause-asked
+returns-then-not-close_if_full-clause-asked g c = subst (g.P.Permits.asked c.args.permits.now c.ask_to_keep-asked.new.permits 0) (same_asks c.args.self.now c.self.inside.state.log c.args.lease _ _ c.args.facts (ap (λ (v : HostShown g.row.S.Denot). v.log) c.self.view_is) c.take_apart-used.ensures.used) c.ask_to_keep-asked.ensures.asked
+
+pub returns-in-Ended-clause-asked : goal.returns-in-Ended-clause-asked
+returns-in-Ended-clause-asked g c =
+    let later = g.met.P.Permits.asked_on _ _ _ 0 0 0 0 c.release_unused.ensures.unasked c.hand_on.ensures.unasked in
+    subst (g.P.Permits.asked c.args.permits.now c.hand_on.new.permits 0) (same_asks c.args.self.now c.self.inside.state.log c.args.lease _ _ c.args.facts (ap (λ (v : HostShown g.row.S.Denot). v.log) c.self.view_is) c.take_apart-used.ensures.used) (then_none g.P.Permits.asked g.met.P.Permits.asked_on _ _ _ _ _ c.ask_to_keep-asked.ensures.asked later)
+
+pub returns-else-not-close_if_full-clause-asked : goal.returns-else-not-close_if_full-clause-asked
+returns-else-not-close_if_full-clause-asked g c =
+    subst (g.P.Permits.asked c.args.permits.now c.release_open.new.self 0) (same_asks c.args.self.now c.self.inside.state.log c.args.lease _ _ c.args.facts (ap (λ (v : HostShown g.row.S.Denot). v.log) c.self.view_is) c.take_apart-used.ensures.used) (then_none g.P.Permits.asked g.met.P.Permits.asked_on _ _ _ _ _ c.ask_to_keep-asked.ensures.asked c.release_open.ensures.asked)

@@ -6,13 +6,17 @@ use Rattle.bundle.specs.Grants.{grant_starts, grant_streams}
 use Rattle.host_rules.specs.Laws.{IsSoundAndQuiet}
 use Rattle.bundle.specs.Lease.{HostShown, HasItsStream}
 use Rattle.bundle.specs.Passes.{tells, got_did}
-use Rattle.bundle.specs.Seats.{gone}
-use Rattle.bundle.specs.Replies.{GivesLease}
+use Rattle.bundle.specs.Seats.{Tables, gone}
+use Rattle.bundle.specs.Replies.{GivesLease, IsFor}
+use Rattle.host_state.specs.Steps.{moment_at}
 use Rattle.host_rules.proofs.Bookings.{out_by}
 use Rattle.bundle.proofs.Outcomes.{count_left, spare_after, bookings_left}
 use Rattle.bundle.proofs.Seating.{unclaimed_same, same_gone}
-use Rattle.bundle.proofs.Telling.{account_there, accounts_told}
-use Rattle.bundle.proofs.AcquiredHosts.{Leaves, leaves, grants_after, stream_got, lease_got, ticket_got, booking_got, others_kept, all_kept, halfway_kept}
+use Rattle.bundle.proofs.Telling.{account_there, enrolled_at, accounts_told}
+use Rattle.bundle.proofs.RepliesInKind.{acquired_for}
+use Rattle.host_rules.specs.Effects.{one_if}
+use Rattle.host_rules.specs.Asks.{asks_to_open, open_asks}
+use Rattle.bundle.proofs.AcquiredHosts.{Leaves, leaves, acquires, grants_after, stream_got, lease_got, ticket_got, booking_got, others_kept, all_kept, halfway_kept}
 use Rattle.bundle.proofs.host.Bundle.try_again.Given.{Over}
 use Rattle.bundle.proofs.host.Bundle.try_again.Goals as goal
 
@@ -118,7 +122,8 @@ tells_so g c = c.tell_got.ensures.told ∙ ap (λ (host : ℕ). tells host (got_
 pub tell_got-requires : goal.tell_got-requires
 tell_got-requires g c =
     let host_is = c.host.ensures ∙ c.start_or_wait-got.ensures.same.host ∙ ap (λ (v : HostShown g.row.S.Denot). v.host) c.self.view_is in
-    record { there = account_there c.args.pass.now c.args.self.now c.host.result host_is c.requires.enrolled }
+    let table_is = c.tally.ensures ∙ ap (λ (t : Tables). t.starts) (c.start_or_wait-got.ensures.granted.tables ∙ ap (λ (v : HostShown g.row.S.Denot). v.tables) c.self.view_is) in
+    record { there = account_there c.args.pass.now c.args.self.now c.host.result host_is c.requires.enrolled; enrolled = enrolled_at c.args.pass.now c.args.self.now c.host.result _ host_is table_is c.requires.enrolled }
 
 pub returns-clause-tells : goal.returns-clause-tells
 returns-clause-tells g c = tells_so g c
@@ -129,3 +134,23 @@ returns-clause-account g c =
     let tried = c.start_or_wait-got in
     let same = same_gone inside.state.log tried.new.state.log inside.seats tried.new.seats c.self.invariant.seated tried.ensures.seated tried.ensures.granted.ended in
     accounts_told c.args.self.now tried.new.state.log c.args.pass.now c.tell_got.new.pass (got_did tried.result) c.requires.enrolled (tells_so g c) (same ∙ ap (λ (v : HostShown g.row.S.Denot). gone v.log) c.self.view_is)
+
+pub returns-clause-is_for : goal.returns-clause-is_for
+returns-clause-is_for g c =
+    let inside = c.self.inside in
+    let tried = c.start_or_wait-got in
+    let told = tried.ensures.told in
+    let after = record c.args.self.now { log = tried.new.state.log } in
+    let does = acquires c.args.is_last told.0 inside.state.settings inside.state.log inside.state.host (grant_streams inside.grants.items ++ inside.state.streams) inside.grants.items inside.bookings.items inside.seats.tables c.args.self.now after c.spend-want.result c.args.now c.moment-moment.result tried.result c.self.view_is c.moment-moment.ensures told.2.0 told.2.1 in
+    subst (λ (w : Want). IsFor c.args.self.now.host w (moment_at c.args.self.now.log c.args.now) tried.result) c.spend-want.ensures (acquired_for c.args.is_last told.0 c.args.self.now after c.spend-want.result c.args.now tried.result does)
+
+pub returns-clause-settled : goal.returns-clause-settled
+returns-clause-settled g c = (invariant_of-self g c).settled
+
+pub returns-clause-asked : goal.returns-clause-asked
+returns-clause-asked g c =
+    let state = c.self.inside.state in
+    let so_often = ap (λ m. one_if (asks_to_open state.settings state.log c.spend-want.result m)) c.moment-moment.ensures
+    ∙ ap (λ (w : Want). open_asks state.settings state.log w c.args.now) c.spend-want.ensures
+    ∙ ap (λ (v : HostShown g.row.S.Denot). open_asks v.settings v.log c.args.booking.want c.args.now) c.self.view_is in
+    subst (λ n. g.P.Permits.asked c.args.permits.now c.start_or_wait-got.new.permits n 0) so_often c.start_or_wait-got.ensures.asked

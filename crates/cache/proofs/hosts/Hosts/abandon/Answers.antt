@@ -25,7 +25,7 @@ invariant_of-self g c =
     let others : KeepsOtherHosts site inside.budget later = search rules in
     let part : held_at_host later.hosts site ≡ held_by new.log = search rules in
     let it = was_kept site hosts was new inside.budget later inside.lobby after inside.pass told inside.noted lowered c.self.invariant there read in
-    let settled : IsSoundAndQuiet new.settings new.log = record { sound = c.log-log.ensures.sound; quiet = c.log-log.ensures.quiet } in
+    let settled : IsSoundAndQuiet new.settings new.log = done.settled in
     let marks = marks_one was.host site _ _ inside.lobby after it.place done.marked in
     let tells = told_spending was.host _ _ inside.pass told done.spent in
     let notes = notes_oldest _ site inside.noted lowered new.log (rw c.self.invariant.stamps there) (done.same.host ∙ it.place) c.note_oldest.ensures in

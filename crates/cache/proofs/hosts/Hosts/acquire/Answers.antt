@@ -49,7 +49,7 @@ invariant_of-self g c =
     let others : KeepsOtherHosts site inside.budget later = search rules in
     let part : held_at_host later.hosts site ≡ held_by new.log = search rules in
     let it = was_kept site hosts was new inside.budget later inside.lobby inside.lobby inside.pass pass inside.noted inside.noted c.self.invariant there read in
-    let settled : IsSoundAndQuiet new.settings new.log = record { sound = c.log-log.ensures.sound; quiet = c.log-log.ensures.quiet } in
+    let settled : IsSoundAndQuiet new.settings new.log = done.settled in
     let marks = marks_nothing site _ _ inside.lobby it.listed done.mark in
     let tells = told_so was.host _ inside.pass pass done.tells in
     let notes : NotesOne site inside.noted inside.noted _ = record {
@@ -74,7 +74,7 @@ invariant_of-self-in-Ok-Wait g c =
     let others : KeepsOtherHosts site inside.budget later = search rules in
     let part : held_at_host later.hosts site ≡ held_by new.log = search rules in
     let it = was_kept site hosts was new inside.budget later inside.lobby inside.lobby inside.pass pass inside.noted inside.noted c.self.invariant there read in
-    let settled : IsSoundAndQuiet new.settings new.log = record { sound = c.log-log.ensures.sound; quiet = c.log-log.ensures.quiet } in
+    let settled : IsSoundAndQuiet new.settings new.log = done.settled in
     let marks = marks_nothing site _ _ inside.lobby it.listed done.mark in
     let tells = told_so was.host _ inside.pass pass done.tells in
     let notes : NotesOne site inside.noted inside.noted _ = record {
@@ -99,7 +99,7 @@ invariant_of-self-in-Ok-NoRoom g c =
     let others : KeepsOtherHosts site inside.budget later = search rules in
     let part : held_at_host later.hosts site ≡ held_by new.log = search rules in
     let it = was_kept site hosts was new inside.budget later inside.lobby inside.lobby inside.pass pass inside.noted inside.noted c.self.invariant there read in
-    let settled : IsSoundAndQuiet new.settings new.log = record { sound = c.log-log.ensures.sound; quiet = c.log-log.ensures.quiet } in
+    let settled : IsSoundAndQuiet new.settings new.log = done.settled in
     let marks = marks_nothing site _ _ inside.lobby it.listed done.mark in
     let tells = told_so was.host _ inside.pass pass done.tells in
     let notes : NotesOne site inside.noted inside.noted _ = record {
@@ -200,14 +200,14 @@ returns-in-Ok-Lease-clause-reply g c =
     let was = c.index_mut-bundle.result.now in
     let same = once_reply c.args.self.now.limits c.self.inside.bundles.items c.args.site was c.acquire-got.new.self c.acquire-got.new.permits.budget.now c.self.inside.lobby.order c.self.inside.lobby.order c.args.want c.args.now c.in-Ok-Lease.ensures.told.0 (lease_told g c) (begun_lease g.row.S.Denot was.host c.args.want _ c.in-Ok-Lease.lease (lease_got g c)) in
     let old = ap (λ p. (Rattle.pool_rules.specs.Calls.acquired c.args.self.now.limits c.args.site c.args.want c.args.now (all_hosts p)).reply) c.self.view_is in
-    subst (λ r. IsAcquired c.args.site r (Rattle.cache.specs.declared.acquired.Acquired.TheVariants.Lease c.in-Ok-Lease.lease)) (same ∙ old) (lease_reply g.row.S.Denot was.host c.args.site c.args.want _ c.in-Ok-Lease.lease (lease_told g c).place (lease_got g c))
+    subst (λ r. IsAcquired c.args.site r (Rattle.bundle.specs.declared.answers.Acquired.TheVariants.Lease c.in-Ok-Lease.lease)) (same ∙ old) (lease_reply g.row.S.Denot was.host c.args.site c.args.want _ c.in-Ok-Lease.lease (lease_told g c).place (lease_got g c))
 
 pub returns-in-Ok-Wait-clause-reply : goal.returns-in-Ok-Wait-clause-reply
 returns-in-Ok-Wait-clause-reply g c =
     let was = c.index_mut-bundle.result.now in
     let same = once_reply c.args.self.now.limits c.self.inside.bundles.items c.args.site was c.acquire-got.new.self c.acquire-got.new.permits.budget.now c.self.inside.lobby.order c.self.inside.lobby.order c.args.want c.args.now c.in-Ok-Wait.ensures.told.0 (wait_told g c) (begun_wait g.row.S.Denot was.host c.args.want _ c.in-Ok-Wait.ticket (wait_got g c)) in
     let old = ap (λ p. (Rattle.pool_rules.specs.Calls.acquired c.args.self.now.limits c.args.site c.args.want c.args.now (all_hosts p)).reply) c.self.view_is in
-    subst (λ r. IsAcquired {S = g.row.S.Denot} c.args.site r (Rattle.cache.specs.declared.acquired.Acquired.TheVariants.Wait c.in-Ok-Wait.ticket)) (same ∙ old) (wait_reply g.row.S.Denot was.host c.args.site c.args.want _ c.in-Ok-Wait.ticket (wait_told g c).place (wait_got g c))
+    subst (λ r. IsAcquired {S = g.row.S.Denot} c.args.site r (Rattle.bundle.specs.declared.answers.Acquired.TheVariants.Wait c.in-Ok-Wait.ticket)) (same ∙ old) (wait_reply g.row.S.Denot was.host c.args.site c.args.want _ c.in-Ok-Wait.ticket (wait_told g c).place (wait_got g c))
 
 half_told : (g : _) (c : goal.In-Ok-NoRoom g) → IsToldAt false c.args.self.now.limits c.self.inside.bundles.items c.args.site c.index_mut-bundle.result.now c.acquire-got.new.self c.acquire-got.new.permits.budget.now c.self.inside.lobby.order c.self.inside.lobby.order c.args.want c.args.now c.in-Ok-NoRoom.ensures.told.0
 half_told g c =
@@ -302,7 +302,7 @@ invariant_of-self-in-Err g c =
     let others : KeepsOtherHosts site inside.budget later = search rules in
     let part : held_at_host later.hosts site ≡ held_by new.log = search rules in
     let it = was_kept site hosts was new inside.budget later inside.lobby inside.lobby inside.pass pass inside.noted inside.noted c.self.invariant there read in
-    let settled : IsSoundAndQuiet new.settings new.log = record { sound = c.log-log.ensures.sound; quiet = c.log-log.ensures.quiet } in
+    let settled : IsSoundAndQuiet new.settings new.log = done.settled in
     let marks = marks_nothing site _ _ inside.lobby it.listed done.mark in
     let tells = told_so was.host _ inside.pass pass done.tells in
     let notes : NotesOne site inside.noted inside.noted (oldest_stamp new.log site) = record {

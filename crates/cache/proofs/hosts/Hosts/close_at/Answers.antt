@@ -30,7 +30,7 @@ invariant_of-self g c =
     let others : KeepsOtherHosts site inside.budget later = search rules in
     let part : held_at_host later.hosts site ≡ held_by new.log = search rules in
     let it = was_kept site hosts was new inside.budget later inside.lobby inside.lobby inside.pass inside.pass inside.noted c.set.new.self c.self.invariant there read in
-    let settled : IsSoundAndQuiet new.settings new.log = record { sound = c.log-log.ensures.sound; quiet = c.log-log.ensures.quiet } in
+    let settled : IsSoundAndQuiet new.settings new.log = done.settled in
     let marks = marks_nothing site (is_queued was.settings was.log) (is_queued new.settings new.log) inside.lobby it.listed done.mark in
     let notes = notes_set site inside.noted c.set.new.self _ _ (rw c.self.invariant.stamps there) (c.oldest-oldest.ensures ∙ ap (oldest_stamp new.log) (done.same.host ∙ it.place)) c.set.ensures in
     kept_called site hosts was new inside.budget later inside.lobby inside.lobby inside.pass inside.pass inside.noted c.set.new.self c.self.invariant there read done.same settled others part marks
@@ -99,7 +99,7 @@ returns-clause-spent g c =
     let was_is = read_is hosts site was there c.index_mut-bundle.ensures.value in
     let before : PoolShown g.row.S.Denot = record { limits = inside.budget.limits; hosts = hosts; queue = inside.lobby.order } in
     let after : PoolShown g.row.S.Denot = record { limits = c.evict_oldest-closed.new.permits.budget.now.limits; hosts = slice_set hosts site new; queue = inside.lobby.order } in
-    rw (sym c.self.view_is) (spent_where_one_changes before after site new there refl c.log-log.ensures.sound c.log-log.ensures.unclaimed
+    rw (sym c.self.view_is) (spent_where_one_changes before after site new there refl done.settled.sound c.log-log.ensures.unclaimed
     (subst (λ (h : HostShown g.row.S.Denot). KeepsAll h new) was_is done.keeps))
 
 pub returns-clause-streams : goal.returns-clause-streams

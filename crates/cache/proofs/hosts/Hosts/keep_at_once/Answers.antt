@@ -39,7 +39,7 @@ invariant_of-self g c =
     let others : KeepsOtherHosts site inside.budget later = search rules in
     let part : held_at_host later.hosts site ≡ held_by new.log = search rules in
     let it = was_kept site hosts was new inside.budget later inside.lobby inside.lobby inside.pass told inside.noted inside.noted c.self.invariant there read in
-    let settled : IsSoundAndQuiet new.settings new.log = record { sound = c.log-log.ensures.sound; quiet = c.log-log.ensures.quiet } in
+    let settled : IsSoundAndQuiet new.settings new.log = done.settled in
     let not_was = not_queued inside.lobby.order site (is_queued was.settings was.log) (none_in _ _ c.self.view_is c.requires.none_queued) it.listed in
     let marks = marks_nothing site (is_queued was.settings was.log) (is_queued new.settings new.log) inside.lobby it.listed (stays_so _ _ not_was done.mark) in
     let tells = told_spending was.host _ _ inside.pass told c.in-Spent.ensures.spent in
@@ -65,7 +65,7 @@ invariant_of-self-in-NoKeep g c =
     let others : KeepsOtherHosts site inside.budget later = search rules in
     let part : held_at_host later.hosts site ≡ held_by new.log = search rules in
     let it = was_kept site hosts was new inside.budget later inside.lobby inside.lobby inside.pass told inside.noted inside.noted c.self.invariant there read in
-    let settled : IsSoundAndQuiet new.settings new.log = record { sound = c.log-log.ensures.sound; quiet = c.log-log.ensures.quiet } in
+    let settled : IsSoundAndQuiet new.settings new.log = done.settled in
     let not_was = not_queued inside.lobby.order site (is_queued was.settings was.log) (none_in _ _ c.self.view_is c.requires.none_queued) it.listed in
     let marks = marks_nothing site (is_queued was.settings was.log) (is_queued new.settings new.log) inside.lobby it.listed (stays_so _ _ not_was done.mark) in
     let tells : TellsOne was.host inside.pass told = rw c.in-NoKeep.ensures.unspent (tells_nothing was.host inside.pass) in

@@ -52,7 +52,7 @@ invariant_of-self g c =
     let others : KeepsOtherHosts site inside.budget later = search rules in
     let part : held_at_host later.hosts site ≡ held_by new.log = search rules in
     let it = was_kept site hosts was new inside.budget later inside.lobby after inside.pass inside.pass inside.noted inside.noted c.self.invariant there read in
-    let settled : IsSoundAndQuiet new.settings new.log = record { sound = c.log-log.ensures.sound; quiet = c.log-log.ensures.quiet } in
+    let settled : IsSoundAndQuiet new.settings new.log = done.settled in
     let room = ap (λ (p : PoolShown g.row.S.Denot). has_room p.limits (all_hosts p)) c.self.view_is ∙ c.requires.room in
     let got = turn_given hosts site was new inside.budget later there read c.self.invariant.parts others part done.told.0 c.args.now room done.told.1 done.told.3 in
     let turn = served_turn was.host c.serve_queued-given.result (is_queued new.settings new.log) inside.lobby after (done.told.2 ∙ ap answer_of got) done.turned in
@@ -135,5 +135,5 @@ returns-clause-spent g c =
     let was_is = read_is hosts site was there c.index_mut-bundle.ensures.value in
     let before : PoolShown g.row.S.Denot = record { limits = inside.budget.limits; hosts = hosts; queue = inside.lobby.order } in
     let later : PoolShown g.row.S.Denot = record { limits = c.serve_queued-given.new.permits.budget.now.limits; hosts = slice_set hosts site new; queue = c.serve_queued-given.new.lobby.order } in
-    rw (sym c.self.view_is) (spent_where_one_changes before later site new there refl c.log-log.ensures.sound c.log-log.ensures.unclaimed
+    rw (sym c.self.view_is) (spent_where_one_changes before later site new there refl done.settled.sound c.log-log.ensures.unclaimed
     (subst (λ (h : HostShown g.row.S.Denot). KeepsAll h new) was_is done.keeps))

@@ -33,7 +33,7 @@ invariant_of-self g c =
     let others : KeepsOtherHosts site inside.budget later = search rules in
     let part : held_at_host later.hosts site ≡ held_by new.log = search rules in
     let it = was_kept site hosts was new inside.budget later inside.lobby inside.lobby inside.pass told inside.noted lowered c.self.invariant there read in
-    let settled : IsSoundAndQuiet new.settings new.log = record { sound = c.log-log.ensures.sound; quiet = c.log-log.ensures.quiet } in
+    let settled : IsSoundAndQuiet new.settings new.log = done.settled in
     let marks = marks_nothing site _ _ inside.lobby it.listed done.mark in
     let tells = told_so was.host (Some (WasPruned c.args.now c.args.max_age c.args.max_life c.prune-closed.result)) inside.pass told done.tells in
     let notes = notes_set site inside.noted lowered _ _ (rw c.self.invariant.stamps there) (c.oldest-oldest.ensures ∙ ap (oldest_stamp new.log) (done.same.host ∙ it.place)) c.set.ensures in

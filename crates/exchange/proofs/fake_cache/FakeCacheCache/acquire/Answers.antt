@@ -1,6 +1,6 @@
 use Rattle.std.proofs.Common.{rules, ◌≡◌, is_some}
 use Rattle.bundle.specs.Lease.{HasItsStream}
-use Rattle.cache.specs.declared.acquired.Acquired.TheVariants.{Lease, Wait}
+use Rattle.bundle.specs.declared.answers.Acquired.TheVariants.{Lease, Wait}
 use Rattle.pool_rules.specs.Calls.{reply_of, after_acquire}
 use Rattle.cache.specs.Pools.{IsMadeHere, StaysPool, IsAcquired, all_hosts, host_at}
 use Rattle.pool_rules.proofs.Replies.{acquire_starts_or_waits}

@@ -1,7 +1,6 @@
 -- What an acquire that is not refused, or another try of one, tells of transfers: one starts, or begins to
 -- wait, or nothing more is told.
-use Rattle.std.proofs.Common.{◌≡◌, ℕ, ◌+◌, ◌≤◌, Bool, false, List, [], ◌∷◌, None, sym, subst, ◌∙◌}
-use Rattle.std.specs.Prelude.{◌==◌, if◌then◌else◌}
+use Rattle.std.proofs.Common.{◌≡◌, ℕ, Bool, false, List, None, sym, subst}
 use Rattle.budget.specs.declared.permits.Try.{Try}
 use Rattle.conn_log.specs.declared.entry.Want.{Want}
 use Rattle.conn_log.specs.declared.entry.Entry.{Entry}

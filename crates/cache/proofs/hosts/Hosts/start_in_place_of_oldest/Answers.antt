@@ -16,8 +16,8 @@ use Rattle.cache.proofs.LastTries.{MakesRoom, lease_reply, wait_reply, no_room_r
 use Rattle.cache.specs.Turns.{IsOneFewer}
 use Rattle.pool_rules.proofs.BudgetRequests.{last_begins_as_told}
 use Rattle.pool_rules.proofs.OldestStamps.{still_not_later}
-use Rattle.cache.proofs.hosts.Hosts.start_with_room.Goals as goal
-use Rattle.cache.proofs.hosts.Hosts.start_with_room.Goals.{in-Lease, in-Wait}
+use Rattle.cache.proofs.hosts.Hosts.start_in_place_of_oldest.Goals as goal
+use Rattle.cache.proofs.hosts.Hosts.start_in_place_of_oldest.Goals.{in-Lease, in-Wait}
 
 pub unreachable-requires : goal.unreachable-requires
 unreachable-requires g c =
@@ -51,7 +51,7 @@ invariant_of-self g c =
     let others : KeepsOtherHosts site inside.budget later = search rules in
     let part : held_at_host later.hosts site ≡ held_by new.log = search rules in
     let it = was_kept site hosts was new inside.budget later inside.lobby after inside.pass pass inside.noted inside.noted c.self.invariant there read in
-    let settled : IsSoundAndQuiet new.settings new.log = record { sound = c.log-log.ensures.sound; quiet = c.log-log.ensures.quiet } in
+    let settled : IsSoundAndQuiet new.settings new.log = done.settled in
     let marks = marks_one was.host site _ _ inside.lobby after it.place done.marked in
     let tells = told_so was.host _ inside.pass pass done.tells in
     let notes : NotesOne site inside.noted inside.noted _ = record {

@@ -1,0 +1,18 @@
+use Rattle.std.proofs.Common.{rules, sym, subst, ◌∙◌}
+use Rattle.budget.specs.Accounts.{IsEnrolledAt}
+use Rattle.bundle.specs.Seats.{Tables}
+use Rattle.bundle_measure.proofs.give_back_unqueued.Goals as goal
+
+pub invariant_of-host : goal.invariant_of-host
+invariant_of-host c =
+    let was = c.host.inside.bundle in
+    let new = c.give_back-back.new.self in
+    let pass = c.give_back-back.new.pass in
+    let done = c.give_back-back.ensures in
+    record {
+      index = done.same.host ∙ c.host.invariant.index;
+      there = search rules;
+      part = search rules;
+      lists = search rules;
+      enrolled = subst (λ n. IsEnrolledAt pass n new.tables.starts) (sym done.same.host) (subst (λ (t : Tables). IsEnrolledAt pass was.host t.starts) (sym done.same.tables) (done.seats _ _ c.host.invariant.enrolled));
+    }
