@@ -107,6 +107,10 @@ part_of_new new hosts index parts log host there none = rw (log, host, none) (ge
 lists_new : {S : Type 0} (new : HostShown S) (hosts index : ℕ) (lobby : Queue) → new.log ≡ [] → new.host ≡ index → index < hosts → lobby ≡ record { hosts = hosts; order = [] } → Lists new.host (is_queued new.settings new.log) lobby
 lists_new new hosts index lobby log host there empty = rw (log, host, empty) (record { there = there; listed = refl })
 
+-- a new host that is as it was is new
+pub new_still : {S : Type 0} (limit index first : ℕ) (old new : HostShown S) → new ≡ old → IsNewHost limit index first old → IsNewHost limit index first new
+new_still {S} limit index first old new same made = subst (λ (b : HostShown S). IsNewHost limit index first b) (sym same) made
+
 -- a desk of two new hosts, with a pass that was enrolled at one and then at the other
 pub new_desk : {S : Type 0} (bundle other : HostShown S) (limit other_limit first hosts here there : ℕ) (limits : Bounds) (budget : Plain) (lobby : Queue) (middle pass : Accounts) → IsNewHost limit here first bundle → IsNewHost other_limit there first other → 3 ≤ hosts → here < hosts → there < hosts → (here ≡ there → ⊥) → budget ≡ nothing_held limits hosts → lobby ≡ record { hosts = hosts; order = [] } → IsEnrolledAt middle bundle.host bundle.tables.starts → IsEnrolledAt pass other.host other.tables.starts → KeepsSeats middle pass → Tells bundle other budget lobby pass
 new_desk {S} bundle other limit other_limit first hosts here there limits budget lobby middle pass new_bundle new_other many here_is there_is two none empty first_seat second_seat kept =

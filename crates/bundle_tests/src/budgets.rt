@@ -1,350 +1,343 @@
-//! What no clause says of a host under a budget: that calls succeed in ample memory, what comes of
-//! them where the budget has no room, and that each closing drops one stream.
+//! What no clause says of a host under a budget: that calls succeed in ample memory, and what comes
+//! of them where the budget has no room.
 
-ghost use Rattle.std.specs.Prelude.{◌≡◌};
-
-use crate::desk::{
-    Desk, KEEP, Stream, asked, attach_new, booking_of, claimed, closed, drop_lease, give_back,
-    lease_of, leased, leased_for, leave, not_kept, refused, spent, stream_under, ticket_of, waits,
-    want_of,
-};
+use crate::desk::{Desk, WANT};
+use crate::keeper::{Row, Said, Step, run};
 use budget::{Refusal, Try};
-use bundle::{Served, Snapshot, Ticket};
-use conn_log::{Cause, Stamp, Want};
-use persistence::Facts;
-use std::process::Abort;
+use bundle::Served;
+use conn_log::{Cause, Want};
 use std::test::Fail;
 
-// The ticket of a transfer that has to wait for the total: its first tries are left halfway.
-fn queued(rt: &impl Abort, desk: &mut Desk<Stream>, transfer: u64, now: u64) -> Ticket
-    ensures same { desk.new ≡ desk.old }
-{
-    let got = asked(rt, desk, want_of(transfer), now);
-    let booking = booking_of(rt, got);
-    let booking = booking_of(rt, desk.retry(rt, booking, now));
-    ticket_of(rt, desk.retry_at_last(rt, booking, now))
-}
+// Wants of another lane, which no connection of lane 0 fits.
+const OTHER_LANE: Want = Want {
+    transfer: 2,
+    lane: 1,
+    ..WANT
+};
 
-#[test]
-fn two_hosts_share_one_connection(rt: HostRuntime) -> Result<(), Fail> {
-    let mut desk = Desk::new(rt.alloc(), (0, 1, 4), 1)?;
-    let first = leased(&rt, &mut desk, 1, 0);
-    desk.turn_to_other();
-    let got = asked(&rt, &mut desk, want_of(2), 1);
-    let booking = booking_of(&rt, got);
-    assert_eq!(rt; (booking.site(), booking.transfer()), (3, 2));
-    assert_eq!(rt; booking.want(), want_of(2));
-    let booking = booking_of(&rt, desk.retry(&rt, booking, 1));
-    assert_eq!(rt; refused(&rt, &mut desk, 2, 1), Refusal::TransferBusy);
-    let second = ticket_of(&rt, desk.retry_at_last(&rt, booking, 1));
-    assert_eq!(rt; (second.site(), second.moment()), (3, 1));
-    assert_eq!(rt; desk.bundle.queued(), true);
-    assert_eq!(rt; desk.lobby.first(), Some(3));
-    assert_eq!(rt; desk.serve_queued(2), Some(Served::Full));
-    desk.turn_to_other();
-    assert_eq!(rt; drop_lease(&rt, &mut desk, first, 3), true);
-    desk.turn_to_other();
-    assert_eq!(rt; desk.serve_queued(3), Some(Served::Given));
-    assert_eq!(rt; desk.bundle.queued(), false);
-    assert_eq!(rt; desk.lobby.first(), None);
-    let lease = claimed(&rt, &mut desk, second);
-    assert_eq!(rt; (lease.number(), lease.key().site), (1, 3));
-    drop_lease(&rt, &mut desk, lease, 4);
-    Ok(())
-}
+const FOURTH: Want = Want {
+    transfer: 4,
+    ..OTHER_LANE
+};
 
-#[test]
-fn hosts_take_turns(rt: HostRuntime) -> Result<(), Fail> {
-    let mut desk = Desk::new(rt.alloc(), (0, 1, 4), 1)?;
-    let first = leased(&rt, &mut desk, 1, 0);
-    desk.turn_to_other();
-    let second = queued(&rt, &mut desk, 2, 1);
-    // where another one waits the budget is not asked
-    let third = waits(&rt, &mut desk, 3, 2);
-    let fourth = waits(&rt, &mut desk, 4, 2);
-    desk.turn_to_other();
-    let mut freed = drop_lease(&rt, &mut desk, first, 5);
-    let fifth = leased(&rt, &mut desk, 5, 5);
-    let sixth = queued(&rt, &mut desk, 6, 5);
-    assert_eq!(rt; (freed, desk.serve_queued(5)), (true, None));
-    freed = drop_lease(&rt, &mut desk, fifth, 6);
-    // the permit of the fifth went to the sixth, which leaves the lobby with it
-    assert_eq!(rt; (freed, desk.bundle.queued()), (false, false));
-    freed = leave(&rt, &mut desk, sixth, 7);
-    assert_eq!(rt; freed, true);
-    desk.turn_to_other();
-    assert_eq!(rt; desk.serve_queued(7), Some(Served::Given));
-    assert_eq!(rt; desk.lobby.first(), Some(3));
-    assert_eq!(rt; leave(&rt, &mut desk, third, 8), false);
-    assert_eq!(rt; desk.lobby.listed(3), true);
-    // who is granted what it waited for leaves, and the next one has its permit
-    assert_eq!(rt; leave(&rt, &mut desk, second, 8), false);
-    assert_eq!(rt; desk.lobby.first(), None);
-    let last = claimed(&rt, &mut desk, fourth);
-    assert_eq!(rt; (last.number(), last.moment()), (2, 8));
-    assert_eq!(rt; drop_lease(&rt, &mut desk, last, 9), true);
-    Ok(())
-}
+const FIFTH: Want = Want {
+    transfer: 5,
+    ..OTHER_LANE
+};
 
-#[test]
-fn the_first_host_goes_to_the_end(rt: HostRuntime) -> Result<(), Fail> {
-    let mut desk = Desk::new(rt.alloc(), (0, 1, 4), 1)?;
-    assert_eq!(rt; desk.open_elsewhere(), Try::Got);
-    let second = queued(&rt, &mut desk, 2, 1);
-    let third = waits(&rt, &mut desk, 3, 1);
-    desk.turn_to_other();
-    let fourth = queued(&rt, &mut desk, 4, 1);
-    assert_eq!(rt; desk.lobby.first(), Some(7));
-    desk.close_elsewhere();
-    desk.turn_to_other();
-    assert_eq!(rt; desk.serve_queued(2), Some(Served::Given));
-    assert_eq!(rt; desk.lobby.first(), Some(3));
-    assert_eq!(rt; desk.lobby.listed(7), true);
-    let counts = Snapshot {
-        alive: 1,
-        idle: 0,
-        leased: 1,
-        waiting: 1,
-        queued: true,
-    };
-    assert_eq!(rt; desk.bundle.look(), counts);
+// What transfer 3 wants of connections that may have been idle for so long.
+const OF_AGE: Want = Want {
+    transfer: 3,
+    max_age: 118,
+    ..WANT
+};
+
+// What the total limits, at two hosts.
+const TOTALS: [Row; 8] = [
+    (
+        "two hosts share one connection",
+        (0, 1, 4),
+        1,
+        &[
+            (Step::Get(1, 0), Said::Opened(1, 0)),
+            (Step::Other, Said::Done),
+            (Step::Get(2, 1), Said::NoRoom),
+            (Step::Retry(1), Said::NoRoom),
+            (Step::Get(2, 1), Said::Refused(Refusal::TransferBusy)),
+            (Step::LastTry(1), Said::Waits),
+            (Step::Lobby, Said::Lobby(true, Some(3))),
+            (Step::Serve(2), Said::Turn(Some(Served::Full))),
+            (Step::Other, Said::Done),
+            (Step::Drop(1, 3), Said::Freed(true)),
+            (Step::Other, Said::Done),
+            (Step::Serve(3), Said::Turn(Some(Served::Given))),
+            (Step::Lobby, Said::Lobby(false, None)),
+            (Step::Claim(2), Said::Opened(1, 3)),
+            (Step::Drop(2, 4), Said::Freed(true)),
+        ],
+    ),
+    // where another one waits the budget is not asked; the permit of the fifth goes to the sixth,
+    // which leaves the lobby with it; who is granted what it waited for leaves, and the next one
+    // has its permit
+    (
+        "hosts take turns",
+        (0, 1, 4),
+        1,
+        &[
+            (Step::Get(1, 0), Said::Opened(1, 0)),
+            (Step::Other, Said::Done),
+            (Step::Get(2, 1), Said::NoRoom),
+            (Step::Retry(1), Said::NoRoom),
+            (Step::LastTry(1), Said::Waits),
+            (Step::Get(3, 2), Said::Waits),
+            (Step::Get(4, 2), Said::Waits),
+            (Step::Other, Said::Done),
+            (Step::Drop(1, 5), Said::Freed(true)),
+            (Step::Get(5, 5), Said::Opened(2, 5)),
+            (Step::Get(6, 5), Said::NoRoom),
+            (Step::Retry(5), Said::NoRoom),
+            (Step::LastTry(5), Said::Waits),
+            (Step::Serve(5), Said::Turn(None)),
+            (Step::Drop(5, 6), Said::Freed(false)),
+            (Step::Lobby, Said::Lobby(false, Some(3))),
+            (Step::Leave(6, 7), Said::Freed(true)),
+            (Step::Other, Said::Done),
+            (Step::Serve(7), Said::Turn(Some(Served::Given))),
+            (Step::Lobby, Said::Lobby(true, Some(3))),
+            (Step::Leave(3, 8), Said::Freed(false)),
+            (Step::Listed(3), Said::Was(true)),
+            (Step::Leave(2, 8), Said::Freed(false)),
+            (Step::Lobby, Said::Lobby(false, None)),
+            (Step::Claim(4), Said::Opened(2, 8)),
+            (Step::Drop(4, 9), Said::Freed(true)),
+        ],
+    ),
     // what its holder closes goes to the next one of the host, which leaves the lobby
-    let second = claimed(&rt, &mut desk, second);
-    assert_eq!(rt; drop_lease(&rt, &mut desk, second, 3), false);
-    assert_eq!(rt; desk.lobby.listed(7), false);
-    assert_eq!(rt; leave(&rt, &mut desk, third, 4), true);
-    desk.turn_to_other();
-    assert_eq!(rt; desk.serve_queued(5), Some(Served::Given));
-    assert_eq!(rt; desk.lobby.first(), None);
-    let fourth = claimed(&rt, &mut desk, fourth);
-    give_back(&rt, &mut desk, fourth, 6);
-    Ok(())
-}
+    (
+        "the first host goes to the end",
+        (0, 1, 4),
+        1,
+        &[
+            (Step::OpenElsewhere, Said::Elsewhere(Try::Got)),
+            (Step::Get(2, 1), Said::NoRoom),
+            (Step::Retry(1), Said::NoRoom),
+            (Step::LastTry(1), Said::Waits),
+            (Step::Get(3, 1), Said::Waits),
+            (Step::Other, Said::Done),
+            (Step::Get(4, 1), Said::NoRoom),
+            (Step::Retry(1), Said::NoRoom),
+            (Step::LastTry(1), Said::Waits),
+            (Step::Lobby, Said::Lobby(true, Some(7))),
+            (Step::CloseElsewhere, Said::Done),
+            (Step::Other, Said::Done),
+            (Step::Serve(2), Said::Turn(Some(Served::Given))),
+            (Step::Lobby, Said::Lobby(true, Some(3))),
+            (Step::Listed(7), Said::Was(true)),
+            (Step::Look, Said::Look(1, 0, 1, 1, true)),
+            (Step::Claim(2), Said::Opened(1, 2)),
+            (Step::Drop(2, 3), Said::Freed(false)),
+            (Step::Listed(7), Said::Was(false)),
+            (Step::Leave(3, 4), Said::Freed(true)),
+            (Step::Other, Said::Done),
+            (Step::Serve(5), Said::Turn(Some(Served::Given))),
+            (Step::Lobby, Said::Lobby(false, None)),
+            (Step::Claim(4), Said::Opened(1, 5)),
+            (Step::Back(4, 6), Said::Freed(false)),
+        ],
+    ),
+    (
+        "the last try takes an idle one of the host",
+        (4, 1, 4),
+        1,
+        &[
+            (Step::Get(1, 0), Said::Opened(1, 0)),
+            (Step::Back(1, 2), Said::Freed(false)),
+            (Step::Ask(OTHER_LANE, 3), Said::NoRoom),
+            (Step::Length, Said::Length(2)),
+            (Step::LastTry(3), Said::Opened(2, 3)),
+            (Step::Entry(2), Said::Closed(3, 1, Cause::TotalRoom)),
+            (Step::Back(2, 4), Said::Freed(false)),
+        ],
+    ),
+    // the transfer is free again, and so are the permits
+    (
+        "another try may find an idle one",
+        (4, 1, 1),
+        1,
+        &[
+            (Step::Get(1, 0), Said::Opened(1, 0)),
+            (Step::Get(2, 1), Said::NoRoom),
+            (Step::Back(1, 2), Said::Freed(false)),
+            (Step::Retry(3), Said::Reused(1, 3)),
+            (Step::Drop(2, 4), Said::Freed(true)),
+            (Step::Get(2, 5), Said::Opened(2, 5)),
+            (Step::Back(2, 6), Said::Freed(false)),
+            (Step::Look, Said::Look(1, 1, 0, 0, false)),
+        ],
+    ),
+    (
+        "another try may find room",
+        (4, 1, 1),
+        1,
+        &[
+            (Step::Get(1, 0), Said::Opened(1, 0)),
+            (Step::Get(2, 1), Said::NoRoom),
+            (Step::Drop(1, 2), Said::Freed(true)),
+            (Step::Retry(3), Said::Opened(2, 3)),
+            (Step::Drop(2, 4), Said::Freed(true)),
+            (Step::Get(2, 5), Said::Opened(3, 5)),
+            (Step::Back(2, 6), Said::Freed(false)),
+            (Step::Look, Said::Look(1, 1, 0, 0, false)),
+        ],
+    ),
+    (
+        "a number is kept for who is halfway",
+        (0, 1, 4),
+        u32::MAX - 1,
+        &[
+            (Step::Get(1, 0), Said::Opened(4_294_967_294, 0)),
+            (Step::Get(2, 1), Said::NoRoom),
+            (Step::Get(2, 1), Said::Refused(Refusal::TransferBusy)),
+            (Step::Get(3, 1), Said::Refused(Refusal::Exhausted)),
+            (Step::Drop(1, 2), Said::Freed(true)),
+            (Step::Retry(2), Said::Opened(4_294_967_295, 2)),
+            (Step::Drop(2, 3), Said::Freed(true)),
+        ],
+    ),
+    // nothing is kept for what came back
+    (
+        "a use that ends frees its permit",
+        (1, 1, 1),
+        1,
+        &[
+            (Step::Get(1, 0), Said::Opened(1, 0)),
+            (Step::Get(2, 0), Said::Waits),
+            (Step::BackToClose(1, 1), Said::Freed(false)),
+            (Step::Claim(2), Said::Opened(2, 1)),
+            (Step::BackToClose(2, 2), Said::Freed(true)),
+            (Step::Get(3, 3), Said::Opened(3, 3)),
+            (Step::Back(3, 3), Said::Freed(false)),
+            (Step::Look, Said::Look(1, 1, 0, 0, false)),
+        ],
+    ),
+];
 
-// A want of another lane, which no connection of lane 0 fits.
-fn other_lane(transfer: u64) -> Want {
-    Want {
-        lane: 1,
-        ..want_of(transfer)
-    }
-}
-
-#[test]
-fn the_last_try_takes_an_idle_one_of_the_host(rt: HostRuntime) -> Result<(), Fail> {
-    let mut desk = Desk::new(rt.alloc(), (4, 1, 4), 1)?;
-    let first = leased(&rt, &mut desk, 1, 0);
-    give_back(&rt, &mut desk, first, 2);
-    let got = asked(&rt, &mut desk, other_lane(2), 3);
-    let booking = booking_of(&rt, got);
-    assert_eq!(rt; desk.bundle.log().len(), 2);
-    let mut second = lease_of(&rt, desk.retry_at_last(&rt, booking, 3));
-    assert_eq!(rt; (second.number(), second.reused()), (2, false));
-    let made_room = closed(3, 1, Cause::TotalRoom);
-    assert_eq!(rt; desk.bundle.log().get(2), Some(made_room));
-    attach_new(&mut second);
-    give_back(&rt, &mut desk, second, 4);
-    Ok(())
-}
-
-#[test]
-fn another_try_may_find_room(rt: HostRuntime) -> Result<(), Fail> {
-    for &is_idle in &[true, false] {
-        let mut desk = Desk::new(rt.alloc(), (4, 1, 1), 1)?;
-        let first = leased(&rt, &mut desk, 1, 0);
-        let got = asked(&rt, &mut desk, want_of(2), 1);
-        let booking = booking_of(&rt, got);
-        if is_idle {
-            give_back(&rt, &mut desk, first, 2);
-        } else {
-            drop_lease(&rt, &mut desk, first, 2);
-        }
-        let second = lease_of(&rt, desk.retry(&rt, booking, 3));
-        let stream = if is_idle { Some(Stream(1)) } else { None };
-        assert_eq!(rt; second.reused(), is_idle);
-        assert_eq!(rt; stream_under(&rt, &mut desk, second, 4).1, stream);
-        // the transfer is free again, and so are the permits
-        let again = leased(&rt, &mut desk, 2, 5);
-        give_back(&rt, &mut desk, again, 6);
-        assert_eq!(rt; desk.bundle.look().idle, 1);
-    }
-    Ok(())
-}
-
-#[test]
-fn a_number_is_kept_for_who_is_halfway(rt: HostRuntime) -> Result<(), Fail> {
-    let mut desk = Desk::new(rt.alloc(), (0, 1, 4), u32::MAX - 1)?;
-    let first = leased(&rt, &mut desk, 1, 0);
-    let got = asked(&rt, &mut desk, want_of(2), 1);
-    let booking = booking_of(&rt, got);
-    assert_eq!(rt; refused(&rt, &mut desk, 2, 1), Refusal::TransferBusy);
-    assert_eq!(rt; refused(&rt, &mut desk, 3, 1), Refusal::Exhausted);
-    drop_lease(&rt, &mut desk, first, 2);
-    let last = lease_of(&rt, desk.retry(&rt, booking, 2));
-    assert_eq!(rt; last.number(), u32::MAX);
-    drop_lease(&rt, &mut desk, last, 3);
-    Ok(())
-}
-
-#[test]
-fn the_oldest_goes_where_no_more_are_kept(rt: HostRuntime) -> Result<(), Fail> {
-    let mut desk = Desk::new(rt.alloc(), (0, 0, 1), 1)?;
-    let first = leased(&rt, &mut desk, 1, 0);
-    let second = leased(&rt, &mut desk, 2, 0);
-    give_back(&rt, &mut desk, first, 4);
-    let back = desk.give_back(&rt, second, KEEP, 5);
-    let second = not_kept(&rt, back);
-    assert_eq!(rt; second.has_stream(), true);
-    assert_eq!(rt; desk.bundle.log().len(), 3);
-    let oldest = Stamp {
-        since: 4,
-        host: 7,
-        number: 1,
-    };
-    let other = Stamp { since: 5, ..oldest };
-    assert_eq!(rt; desk.evict_oldest(other, 5), false);
-    assert_eq!(rt; desk.evict_oldest(oldest, 5), true);
-    assert_eq!(rt; desk.evict_oldest(oldest, 5), false);
-    let full = closed(5, 1, Cause::CacheFull);
-    assert_eq!(rt; desk.bundle.log().get(3), Some(full));
-    give_back(&rt, &mut desk, second, 5);
-    assert_eq!(rt; desk.bundle.oldest(), Some(Stamp { number: 2, ..other }));
-    Ok(())
-}
-
-#[test]
-fn what_was_not_kept_comes_again(rt: HostRuntime) -> Result<(), Fail> {
-    let mut desk = Desk::new(rt.alloc(), (0, 0, 1), 1)?;
-    let first = leased(&rt, &mut desk, 1, 0);
-    let second = leased(&rt, &mut desk, 2, 0);
-    give_back(&rt, &mut desk, first, 1);
-    let back = desk.give_back(&rt, second, KEEP, 2);
-    let second = not_kept(&rt, back);
-    // its transfer holds it still
-    assert_eq!(rt; refused(&rt, &mut desk, 2, 2), Refusal::TransferBusy);
-    let third = leased(&rt, &mut desk, 3, 3);
-    assert_eq!(rt; third.number(), 1);
-    give_back(&rt, &mut desk, second, 4);
-    let back = desk.give_back(&rt, third, KEEP, 5);
-    let third = not_kept(&rt, back);
-    assert_eq!(rt; drop_lease(&rt, &mut desk, third, 6), true);
-    let last = leased(&rt, &mut desk, 4, 7);
-    assert_eq!(rt; stream_under(&rt, &mut desk, last, 8), (2, Some(Stream(2))));
-    Ok(())
-}
-
-#[test]
-fn what_is_not_kept_is_closed_where_that_is_asked(rt: HostRuntime) -> Result<(), Fail> {
-    let mut desk = Desk::new(rt.alloc(), (0, 0, 1), 1)?;
-    let first = leased(&rt, &mut desk, 1, 0);
-    let second = leased(&rt, &mut desk, 2, 0);
-    let back = desk.give_back_or_close(&rt, first, KEEP, 4);
-    assert_eq!(rt; spent(&rt, back), false);
-    let back = desk.give_back_or_close(&rt, second, KEEP, 5);
-    assert_eq!(rt; spent(&rt, back), true);
-    let full = closed(5, 2, Cause::CacheFull);
-    assert_eq!(rt; desk.bundle.log().get(4), Some(full));
-    assert_eq!(rt; (desk.bundle.look().alive, desk.bundle.look().idle), (1, 1));
-    Ok(())
-}
-
-#[test]
-fn what_is_handed_on_is_not_kept(rt: HostRuntime) -> Result<(), Fail> {
-    let mut desk = Desk::new(rt.alloc(), (2, 0, 1), 1)?;
-    let first = leased(&rt, &mut desk, 1, 0);
-    let second = leased(&rt, &mut desk, 2, 0);
-    let third = waits(&rt, &mut desk, 3, 1);
-    assert_eq!(rt; give_back(&rt, &mut desk, first, 2), false);
-    let third = claimed(&rt, &mut desk, third);
-    assert_eq!(rt; (third.number(), third.reused()), (1, true));
-    // one may be kept still: nothing was kept for the third
-    give_back(&rt, &mut desk, second, 3);
-    let back = desk.give_back_or_close(&rt, third, KEEP, 3);
-    assert_eq!(rt; spent(&rt, back), true);
-    // a lease of what is kept gives its place back
-    let fourth = leased(&rt, &mut desk, 4, 4);
-    assert_eq!(rt; (fourth.number(), fourth.reused()), (2, true));
-    let fifth = leased(&rt, &mut desk, 5, 4);
-    give_back(&rt, &mut desk, fifth, 5);
-    drop_lease(&rt, &mut desk, fourth, 6);
-    Ok(())
-}
-
-#[test]
-fn a_prune_goes_on_behind_the_young(rt: HostRuntime) -> Result<(), Fail> {
-    let mut desk = Desk::new(rt.alloc(), (0, 0, 3), 1)?;
-    let first = leased(&rt, &mut desk, 1, 0);
-    let second = leased(&rt, &mut desk, 2, 0);
-    let third = leased(&rt, &mut desk, 3, 50);
-    give_back(&rt, &mut desk, third, 60);
-    give_back(&rt, &mut desk, second, 65);
-    give_back(&rt, &mut desk, first, 70);
-    assert_eq!(rt; desk.prune(99, 118, 100), 0);
-    assert_eq!(rt; desk.prune(100, 118, 80), 2);
-    assert_eq!(rt;
-        desk.bundle.log().get(6),
-        Some(closed(100, 2, Cause::Pruned))
-    );
-    assert_eq!(rt;
-        desk.bundle.log().get(7),
-        Some(closed(100, 1, Cause::Pruned))
-    );
-    assert_eq!(rt; desk.bundle.look().idle, 1);
-    // their places are free again
-    for transfer in 4..=5 {
-        let lease = leased_for(&rt, &mut desk, other_lane(transfer), 101);
-        give_back(&rt, &mut desk, lease, 102);
-    }
-    assert_eq!(rt; desk.prune(103, 0, 0), 2);
-    Ok(())
-}
-
-#[test]
-fn an_acquire_closes_all_that_are_too_old(rt: HostRuntime) -> Result<(), Fail> {
-    let mut desk = Desk::new(rt.alloc(), (0, 2, 2), 1)?;
-    let first = leased(&rt, &mut desk, 1, 0);
-    let second = leased(&rt, &mut desk, 2, 0);
-    give_back(&rt, &mut desk, second, 5);
-    give_back(&rt, &mut desk, first, 5);
-    let want = Want {
-        max_age: 118,
-        ..want_of(3)
-    };
-    let third = leased_for(&rt, &mut desk, want, 130);
-    assert_eq!(rt;
-        desk.bundle.log().get(4),
-        Some(closed(130, 1, Cause::TooOld))
-    );
-    assert_eq!(rt;
-        desk.bundle.log().get(5),
-        Some(closed(130, 2, Cause::TooOld))
-    );
+// What the number of those that are kept limits, and what ends for its age.
+const KEPT: [Row; 6] = [
+    (
+        "the oldest goes where no more are kept",
+        (0, 0, 1),
+        1,
+        &[
+            (Step::Get(1, 0), Said::Opened(1, 0)),
+            (Step::Get(2, 0), Said::Opened(2, 0)),
+            (Step::Back(1, 4), Said::Freed(false)),
+            (Step::Back(2, 5), Said::NotKept),
+            (Step::Length, Said::Length(3)),
+            (Step::Evict(5, 1, 5), Said::Was(false)),
+            (Step::Evict(4, 1, 5), Said::Was(true)),
+            (Step::Evict(4, 1, 5), Said::Was(false)),
+            (Step::Entry(3), Said::Closed(5, 1, Cause::CacheFull)),
+            (Step::Back(2, 5), Said::Freed(false)),
+            (Step::Oldest, Said::Oldest(5, 2)),
+        ],
+    ),
+    // its transfer holds what was not kept still
+    (
+        "what was not kept comes again",
+        (0, 0, 1),
+        1,
+        &[
+            (Step::Get(1, 0), Said::Opened(1, 0)),
+            (Step::Get(2, 0), Said::Opened(2, 0)),
+            (Step::Back(1, 1), Said::Freed(false)),
+            (Step::Back(2, 2), Said::NotKept),
+            (Step::Get(2, 2), Said::Refused(Refusal::TransferBusy)),
+            (Step::Get(3, 3), Said::Reused(1, 3)),
+            (Step::Back(2, 4), Said::Freed(false)),
+            (Step::Back(3, 5), Said::NotKept),
+            (Step::Drop(3, 6), Said::Freed(true)),
+            (Step::Get(4, 7), Said::Reused(2, 7)),
+            (Step::Drop(4, 8), Said::Freed(true)),
+        ],
+    ),
+    (
+        "what is not kept is closed where that is asked",
+        (0, 0, 1),
+        1,
+        &[
+            (Step::Get(1, 0), Said::Opened(1, 0)),
+            (Step::Get(2, 0), Said::Opened(2, 0)),
+            (Step::BackOrClose(1, 4), Said::Freed(false)),
+            (Step::BackOrClose(2, 5), Said::Freed(true)),
+            (Step::Entry(4), Said::Closed(5, 2, Cause::CacheFull)),
+            (Step::Look, Said::Look(1, 1, 0, 0, false)),
+        ],
+    ),
+    // one may be kept still, since nothing was kept for the third; a lease of what is kept gives
+    // its place back
+    (
+        "what is handed on is not kept",
+        (2, 0, 1),
+        1,
+        &[
+            (Step::Get(1, 0), Said::Opened(1, 0)),
+            (Step::Get(2, 0), Said::Opened(2, 0)),
+            (Step::Get(3, 1), Said::Waits),
+            (Step::Back(1, 2), Said::Freed(false)),
+            (Step::Claim(3), Said::Reused(1, 2)),
+            (Step::Back(2, 3), Said::Freed(false)),
+            (Step::BackOrClose(3, 3), Said::Freed(true)),
+            (Step::Get(4, 4), Said::Reused(2, 4)),
+            (Step::Get(5, 4), Said::Opened(3, 4)),
+            (Step::Back(5, 5), Said::Freed(false)),
+            (Step::Drop(4, 6), Said::Freed(true)),
+        ],
+    ),
+    // the places of the two that are closed are free again
+    (
+        "a prune goes on behind the young",
+        (0, 0, 3),
+        1,
+        &[
+            (Step::Get(1, 0), Said::Opened(1, 0)),
+            (Step::Get(2, 0), Said::Opened(2, 0)),
+            (Step::Get(3, 50), Said::Opened(3, 50)),
+            (Step::Back(3, 60), Said::Freed(false)),
+            (Step::Back(2, 65), Said::Freed(false)),
+            (Step::Back(1, 70), Said::Freed(false)),
+            (Step::Prune(99, 118, 100), Said::Pruned(0)),
+            (Step::Prune(100, 118, 80), Said::Pruned(2)),
+            (Step::Entry(6), Said::Closed(100, 2, Cause::Pruned)),
+            (Step::Entry(7), Said::Closed(100, 1, Cause::Pruned)),
+            (Step::Look, Said::Look(1, 1, 0, 0, false)),
+            (Step::Ask(FOURTH, 101), Said::Opened(4, 101)),
+            (Step::Ask(FIFTH, 101), Said::Opened(5, 101)),
+            (Step::Back(4, 102), Said::Freed(false)),
+            (Step::Back(5, 102), Said::Freed(false)),
+            (Step::Prune(103, 0, 0), Said::Pruned(3)),
+        ],
+    ),
     // the budget has room for another one, and for no third
-    let fourth = leased(&rt, &mut desk, 4, 131);
-    let fifth = queued(&rt, &mut desk, 5, 131);
-    leave(&rt, &mut desk, fifth, 131);
-    drop_lease(&rt, &mut desk, third, 132);
-    drop_lease(&rt, &mut desk, fourth, 132);
+    (
+        "an acquire closes all that are too old",
+        (0, 2, 2),
+        1,
+        &[
+            (Step::Get(1, 0), Said::Opened(1, 0)),
+            (Step::Get(2, 0), Said::Opened(2, 0)),
+            (Step::Back(2, 5), Said::Freed(false)),
+            (Step::Back(1, 5), Said::Freed(false)),
+            (Step::Ask(OF_AGE, 130), Said::Opened(3, 130)),
+            (Step::Entry(4), Said::Closed(130, 1, Cause::TooOld)),
+            (Step::Entry(5), Said::Closed(130, 2, Cause::TooOld)),
+            (Step::Get(4, 131), Said::Opened(4, 131)),
+            (Step::Get(5, 131), Said::NoRoom),
+            (Step::Retry(131), Said::NoRoom),
+            (Step::LastTry(131), Said::Waits),
+            (Step::Leave(5, 131), Said::Freed(false)),
+            (Step::Drop(3, 132), Said::Freed(true)),
+            (Step::Drop(4, 132), Said::Freed(true)),
+        ],
+    ),
+];
+
+#[test]
+fn two_hosts_share_the_total_so(rt: HostRuntime) -> Result<(), Fail> {
+    for row in &TOTALS {
+        let (name, limits, first, steps) = *row;
+        let desk = Desk::new(rt.alloc(), limits, first)?;
+        run(&rt, rt.alloc(), desk, name, steps);
+    }
     Ok(())
 }
 
 #[test]
-fn a_use_that_ends_frees_its_permit(rt: HostRuntime) -> Result<(), Fail> {
-    let close = Facts {
-        close: true,
-        ..KEEP
-    };
-    let mut desk = Desk::new(rt.alloc(), (1, 1, 1), 1)?;
-    let first = leased(&rt, &mut desk, 1, 0);
-    let second = waits(&rt, &mut desk, 2, 0);
-    let back = desk.give_back(&rt, first, close, 1);
-    assert_eq!(rt; spent(&rt, back), false);
-    let mut second = claimed(&rt, &mut desk, second);
-    attach_new(&mut second);
-    let back = desk.give_back(&rt, second, close, 2);
-    assert_eq!(rt; spent(&rt, back), true);
-    // and nothing was kept for it
-    let third = leased(&rt, &mut desk, 3, 3);
-    give_back(&rt, &mut desk, third, 3);
-    assert_eq!(rt; desk.bundle.look().idle, 1);
+fn a_host_keeps_so_many_so_long(rt: HostRuntime) -> Result<(), Fail> {
+    for row in &KEPT {
+        let (name, limits, first, steps) = *row;
+        let desk = Desk::new(rt.alloc(), limits, first)?;
+        run(&rt, rt.alloc(), desk, name, steps);
+    }
     Ok(())
 }

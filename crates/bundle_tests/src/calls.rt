@@ -4,240 +4,307 @@
 ghost use Rattle.std.specs.Prelude.{◌≡◌, IsSome, None, Some};
 
 use crate::desk::{
-    Desk, Stream, asked, claimed, closed, drop_lease, give_back, lease_of, leased, leased_for,
-    leave, refused, spent, still, stray, stream_under, waits, waits_for, want_of,
+    Desk, Stream, WANT, asked, give_back, lease_of, leased, leave, still, stray, stream_of,
+    stream_under, ticket_of, waits, want_of,
 };
+use crate::keeper::{Row, Said, Step, run};
 use budget::Refusal;
-use bundle::{Lease, Snapshot};
-use conn_key::Key;
-use conn_log::{Cause, Stamp, Want};
+use bundle::Lease;
+use conn_log::{Cause, Want};
 use std::test::Fail;
 
-#[test]
-fn streams_come_back_with_their_connections(rt: HostRuntime) -> Result<(), Fail> {
-    for &first_is_returned_first in &[true, false] {
-        let mut desk = Desk::of_host(rt.alloc(), 2, 1)?;
-        let first = leased(&rt, &mut desk, 1, 0);
-        let second = leased(&rt, &mut desk, 2, 0);
-        if first_is_returned_first {
-            give_back(&rt, &mut desk, first, 5);
-            give_back(&rt, &mut desk, second, 5);
-        } else {
-            give_back(&rt, &mut desk, second, 5);
-            give_back(&rt, &mut desk, first, 5);
-        }
-        // both came back in one moment: the greater number is the newer one
-        let newest = leased(&rt, &mut desk, 3, 6);
-        assert_eq!(rt;
-            stream_under(&rt, &mut desk, newest, 6),
-            (2, Some(Stream(2)))
-        );
-        let other = leased(&rt, &mut desk, 4, 6);
-        assert_eq!(rt;
-            stream_under(&rt, &mut desk, other, 6),
-            (1, Some(Stream(1)))
-        );
-    }
-    Ok(())
-}
+// What transfer 2 wants that a connection of lane 0 does not fit 9 seconds after it was opened.
+const OTHER_LANE: Want = Want {
+    transfer: 2,
+    lane: 1,
+    ..WANT
+};
 
-#[test]
-fn the_newest_is_reused(rt: HostRuntime) -> Result<(), Fail> {
-    let mut desk = Desk::of_host(rt.alloc(), 4, 1)?;
-    let first = leased(&rt, &mut desk, 1, 0);
-    let second = leased(&rt, &mut desk, 2, 0);
-    give_back(&rt, &mut desk, second, 5);
-    give_back(&rt, &mut desk, first, 9);
-    assert_eq!(rt;
-        desk.bundle.oldest(),
-        Some(Stamp {
-            since: 5,
-            host: 7,
-            number: 2
-        })
-    );
-    let newest = leased(&rt, &mut desk, 3, 1000);
-    assert_eq!(rt;
-        (newest.number(), newest.transfer(), newest.moment()),
-        (1, 3, 1000)
-    );
-    assert_eq!(rt; (newest.reused(), newest.has_stream()), (true, true));
-    assert_eq!(rt; newest.want(), want_of(3));
-    assert_eq!(rt;
-        desk.bundle.look(),
-        Snapshot {
-            alive: 2,
-            idle: 1,
-            leased: 1,
-            waiting: 0,
-            queued: false
-        }
-    );
-    assert_eq!(rt; desk.bundle.host(), 7);
-    drop_lease(&rt, &mut desk, newest, 2000);
-    Ok(())
-}
+const FRESH: Want = Want {
+    transfer: 2,
+    fresh: true,
+    ..WANT
+};
 
-#[test]
-fn an_abandoned_connection_is_closed(rt: HostRuntime) -> Result<(), Fail> {
-    let mut desk = Desk::of_host(rt.alloc(), 4, 1)?;
-    let lease = leased(&rt, &mut desk, 1, 0);
-    drop_lease(&rt, &mut desk, lease, 2000);
-    assert_eq!(rt; desk.bundle.log().len(), 2);
-    let dropped = closed(2000, 1, Cause::Dropped);
-    assert_eq!(rt; desk.bundle.log().get(1), Some(dropped));
-    Ok(())
-}
+const YOUNG: Want = Want {
+    transfer: 2,
+    max_life: 8,
+    ..WANT
+};
 
-#[test]
-fn the_last_number_is_used_once(rt: HostRuntime) -> Result<(), Fail> {
-    let mut desk = Desk::of_host(rt.alloc(), 1, u32::MAX)?;
-    let last = leased(&rt, &mut desk, 1, 0);
-    assert_eq!(rt; last.number(), 4_294_967_295);
-    assert_eq!(rt; refused(&rt, &mut desk, 1, 0), Refusal::TransferBusy);
-    assert_eq!(rt; refused(&rt, &mut desk, 2, 0), Refusal::Exhausted);
-    give_back(&rt, &mut desk, last, 1);
-    assert_eq!(rt; refused(&rt, &mut desk, 2, 2), Refusal::Exhausted);
-    Ok(())
-}
+const YOUNG_OF_OTHER_LANE: Want = Want { lane: 1, ..YOUNG };
 
-#[test]
-fn a_number_is_kept_for_each_that_waits(rt: HostRuntime) -> Result<(), Fail> {
-    let mut desk = Desk::of_host(rt.alloc(), 1, u32::MAX - 1)?;
-    let only = leased(&rt, &mut desk, 1, 0);
-    let second = waits(&rt, &mut desk, 2, 1);
-    assert_eq!(rt; refused(&rt, &mut desk, 2, 1), Refusal::TransferBusy);
-    assert_eq!(rt; refused(&rt, &mut desk, 3, 1), Refusal::Exhausted);
-    drop_lease(&rt, &mut desk, only, 2);
-    let last = claimed(&rt, &mut desk, second);
-    assert_eq!(rt; last.number(), 4_294_967_295);
-    drop_lease(&rt, &mut desk, last, 3);
-    Ok(())
-}
-
-#[test]
-fn who_came_first_is_served_first(rt: HostRuntime) -> Result<(), Fail> {
-    for &comes_back in &[true, false] {
-        let mut desk = Desk::of_host(rt.alloc(), 1, 1)?;
-        let first = leased(&rt, &mut desk, 1, 0);
-        let second = waits(&rt, &mut desk, 2, 1);
-        let third = waits(&rt, &mut desk, 3, 2);
-        assert_eq!(rt;
-            (second.site(), second.transfer(), second.moment()),
-            (7, 2, 1)
-        );
-        assert_eq!(rt; second.want(), want_of(2));
-        assert_eq!(rt; desk.bundle.look().waiting, 2);
-        if comes_back {
-            give_back(&rt, &mut desk, first, 3);
-        } else {
-            drop_lease(&rt, &mut desk, first, 3);
-        }
-        let third = still(&rt, &mut desk, third);
-        let lease = claimed(&rt, &mut desk, second);
-        assert_eq!(rt; (lease.transfer(), lease.moment()), (2, 3));
-        assert_eq!(rt; lease.key(), Key { site: 7, lane: 0 });
-        // what came back has its own stream, and what was opened has none
-        let answer = stream_under(&rt, &mut desk, lease, 4);
-        if comes_back {
-            assert_eq!(rt; answer, (1, Some(Stream(1))));
-        } else {
-            assert_eq!(rt; answer, (2, None));
-        }
-        let last = claimed(&rt, &mut desk, third);
-        assert_eq!(rt; (last.transfer(), last.reused()), (3, false));
-        drop_lease(&rt, &mut desk, last, 5);
-        assert_eq!(rt; desk.bundle.look().alive, 0);
-    }
-    Ok(())
-}
-
-#[test]
-fn granted_connections_keep_their_own_streams(rt: HostRuntime) -> Result<(), Fail> {
-    let mut desk = Desk::of_host(rt.alloc(), 2, 1)?;
-    let one = leased(&rt, &mut desk, 1, 0);
-    let two = leased(&rt, &mut desk, 2, 0);
-    let third = waits(&rt, &mut desk, 3, 1);
-    let fourth = waits(&rt, &mut desk, 4, 1);
-    give_back(&rt, &mut desk, two, 2);
-    give_back(&rt, &mut desk, one, 3);
-    let later = claimed(&rt, &mut desk, fourth);
-    assert_eq!(rt;
-        stream_under(&rt, &mut desk, later, 4),
-        (1, Some(Stream(1)))
-    );
-    let sooner = claimed(&rt, &mut desk, third);
-    assert_eq!(rt;
-        stream_under(&rt, &mut desk, sooner, 4),
-        (2, Some(Stream(2)))
-    );
-    Ok(())
-}
-
-#[test]
-fn tickets_are_withdrawn(rt: HostRuntime) -> Result<(), Fail> {
-    let mut desk = Desk::of_host(rt.alloc(), 1, 1)?;
-    let first = leased(&rt, &mut desk, 1, 0);
-    let second = waits(&rt, &mut desk, 2, 1);
-    let third = waits(&rt, &mut desk, 3, 2);
-    let fourth = waits(&rt, &mut desk, 4, 2);
-    leave(&rt, &mut desk, third, 3);
-    give_back(&rt, &mut desk, first, 4);
+const CALLS: [Row; 13] = [
+    // both come back in one moment: the greater number is the newer one
+    (
+        "the first comes back first",
+        (2, 0, 65_535),
+        1,
+        &[
+            (Step::Get(1, 0), Said::Opened(1, 0)),
+            (Step::Get(2, 0), Said::Opened(2, 0)),
+            (Step::Back(1, 5), Said::Freed(false)),
+            (Step::Back(2, 5), Said::Freed(false)),
+            (Step::Get(3, 6), Said::Reused(2, 6)),
+            (Step::Drop(3, 6), Said::Freed(true)),
+            (Step::Get(4, 6), Said::Reused(1, 6)),
+            (Step::Drop(4, 6), Said::Freed(true)),
+        ],
+    ),
+    (
+        "the second comes back first",
+        (2, 0, 65_535),
+        1,
+        &[
+            (Step::Get(1, 0), Said::Opened(1, 0)),
+            (Step::Get(2, 0), Said::Opened(2, 0)),
+            (Step::Back(2, 5), Said::Freed(false)),
+            (Step::Back(1, 5), Said::Freed(false)),
+            (Step::Get(3, 6), Said::Reused(2, 6)),
+            (Step::Drop(3, 6), Said::Freed(true)),
+            (Step::Get(4, 6), Said::Reused(1, 6)),
+            (Step::Drop(4, 6), Said::Freed(true)),
+        ],
+    ),
+    (
+        "the newest is reused, and an abandoned connection closed",
+        (4, 0, 65_535),
+        1,
+        &[
+            (Step::Get(1, 0), Said::Opened(1, 0)),
+            (Step::Get(2, 0), Said::Opened(2, 0)),
+            (Step::Back(2, 5), Said::Freed(false)),
+            (Step::Back(1, 9), Said::Freed(false)),
+            (Step::Oldest, Said::Oldest(5, 2)),
+            (Step::Get(3, 1_000), Said::Reused(1, 1_000)),
+            (Step::Look, Said::Look(2, 1, 1, 0, false)),
+            (Step::Drop(3, 2_000), Said::Freed(true)),
+            (Step::Length, Said::Length(6)),
+            (Step::Entry(5), Said::Closed(2_000, 1, Cause::Dropped)),
+        ],
+    ),
+    (
+        "the last number is used once",
+        (1, 0, 65_535),
+        u32::MAX,
+        &[
+            (Step::Get(1, 0), Said::Opened(4_294_967_295, 0)),
+            (Step::Get(1, 0), Said::Refused(Refusal::TransferBusy)),
+            (Step::Get(2, 0), Said::Refused(Refusal::Exhausted)),
+            (Step::Back(1, 1), Said::Freed(false)),
+            (Step::Get(2, 2), Said::Refused(Refusal::Exhausted)),
+        ],
+    ),
+    (
+        "a number is kept for each that waits",
+        (1, 0, 65_535),
+        u32::MAX - 1,
+        &[
+            (Step::Get(1, 0), Said::Opened(4_294_967_294, 0)),
+            (Step::Get(2, 1), Said::Waits),
+            (Step::Get(2, 1), Said::Refused(Refusal::TransferBusy)),
+            (Step::Get(3, 1), Said::Refused(Refusal::Exhausted)),
+            (Step::Drop(1, 2), Said::Freed(false)),
+            (Step::Claim(2), Said::Opened(4_294_967_295, 2)),
+            (Step::Drop(2, 3), Said::Freed(true)),
+        ],
+    ),
+    // what came back has its own stream, and what was opened has none
+    (
+        "who came first is served first, with what comes back",
+        (1, 0, 65_535),
+        1,
+        &[
+            (Step::Get(1, 0), Said::Opened(1, 0)),
+            (Step::Get(2, 1), Said::Waits),
+            (Step::Get(3, 2), Said::Waits),
+            (Step::Look, Said::Look(1, 0, 1, 2, false)),
+            (Step::Back(1, 3), Said::Freed(false)),
+            (Step::Claim(3), Said::Still),
+            (Step::Claim(2), Said::Reused(1, 3)),
+            (Step::Drop(2, 4), Said::Freed(false)),
+            (Step::Claim(3), Said::Opened(2, 4)),
+            (Step::Drop(3, 5), Said::Freed(true)),
+            (Step::Look, Said::Look(0, 0, 0, 0, false)),
+        ],
+    ),
+    (
+        "who came first is served first, with a new connection",
+        (1, 0, 65_535),
+        1,
+        &[
+            (Step::Get(1, 0), Said::Opened(1, 0)),
+            (Step::Get(2, 1), Said::Waits),
+            (Step::Get(3, 2), Said::Waits),
+            (Step::Drop(1, 3), Said::Freed(false)),
+            (Step::Claim(3), Said::Still),
+            (Step::Claim(2), Said::Opened(2, 3)),
+            (Step::Drop(2, 4), Said::Freed(false)),
+            (Step::Claim(3), Said::Opened(3, 4)),
+            (Step::Drop(3, 5), Said::Freed(true)),
+            (Step::Look, Said::Look(0, 0, 0, 0, false)),
+        ],
+    ),
+    (
+        "granted connections keep their own streams",
+        (2, 0, 65_535),
+        1,
+        &[
+            (Step::Get(1, 0), Said::Opened(1, 0)),
+            (Step::Get(2, 0), Said::Opened(2, 0)),
+            (Step::Get(3, 1), Said::Waits),
+            (Step::Get(4, 1), Said::Waits),
+            (Step::Back(2, 2), Said::Freed(false)),
+            (Step::Back(1, 3), Said::Freed(false)),
+            (Step::Claim(4), Said::Reused(1, 3)),
+            (Step::Drop(4, 4), Said::Freed(true)),
+            (Step::Claim(3), Said::Reused(2, 2)),
+            (Step::Drop(3, 4), Said::Freed(true)),
+        ],
+    ),
     // what the second was granted is closed, and one is opened for the fourth
-    leave(&rt, &mut desk, second, 5);
-    let last = claimed(&rt, &mut desk, fourth);
-    assert_eq!(rt; (last.number(), last.transfer(), last.moment()), (2, 4, 5));
-    assert_eq!(rt; last.has_stream(), false);
-    drop_lease(&rt, &mut desk, last, 6);
-    assert_eq!(rt; desk.bundle.look().alive, 0);
-    Ok(())
-}
+    (
+        "tickets are withdrawn",
+        (1, 0, 65_535),
+        1,
+        &[
+            (Step::Get(1, 0), Said::Opened(1, 0)),
+            (Step::Get(2, 1), Said::Waits),
+            (Step::Get(3, 2), Said::Waits),
+            (Step::Get(4, 2), Said::Waits),
+            (Step::Leave(3, 3), Said::Freed(false)),
+            (Step::Back(1, 4), Said::Freed(false)),
+            (Step::Leave(2, 5), Said::Freed(false)),
+            (Step::Claim(4), Said::Opened(2, 5)),
+            (Step::Drop(4, 6), Said::Freed(true)),
+            (Step::Look, Said::Look(0, 0, 0, 0, false)),
+        ],
+    ),
+    (
+        "a connection of another lane makes room",
+        (1, 0, 65_535),
+        1,
+        &[
+            (Step::Get(1, 0), Said::Opened(1, 0)),
+            (Step::Back(1, 2), Said::Freed(false)),
+            (Step::Ask(OTHER_LANE, 3), Said::Opened(2, 3)),
+            (Step::Entry(2), Said::Closed(3, 1, Cause::HostRoom)),
+            (Step::Drop(2, 4), Said::Freed(true)),
+        ],
+    ),
+    (
+        "a connection that was passed on comes back",
+        (1, 0, 65_535),
+        1,
+        &[
+            (Step::Get(1, 0), Said::Opened(1, 0)),
+            (Step::Get(2, 1), Said::Waits),
+            (Step::Back(1, 2), Said::Freed(false)),
+            (Step::Claim(2), Said::Reused(1, 2)),
+            (Step::Back(2, 3), Said::Freed(false)),
+            (Step::Get(3, 4), Said::Reused(1, 4)),
+            (Step::Drop(3, 5), Said::Freed(true)),
+        ],
+    ),
+    (
+        "a connection that was opened for who waited comes back",
+        (1, 0, 65_535),
+        1,
+        &[
+            (Step::Get(1, 0), Said::Opened(1, 0)),
+            (Step::Get(2, 1), Said::Waits),
+            (Step::Drop(1, 2), Said::Freed(false)),
+            (Step::Claim(2), Said::Opened(2, 2)),
+            (Step::Back(2, 3), Said::Freed(false)),
+            (Step::Get(3, 4), Said::Reused(2, 4)),
+            (Step::Drop(3, 5), Said::Freed(true)),
+        ],
+    ),
+    (
+        "an abandoned connection is closed",
+        (4, 0, 65_535),
+        1,
+        &[
+            (Step::Get(1, 0), Said::Opened(1, 0)),
+            (Step::Drop(1, 2_000), Said::Freed(true)),
+            (Step::Length, Said::Length(2)),
+            (Step::Entry(1), Said::Closed(2_000, 1, Cause::Dropped)),
+        ],
+    ),
+];
 
-// Wants that a connection of lane 0 does not fit 9 seconds after it was opened, each with the cause
-// for which it is closed.
-fn unfit_wants() -> [(Want, Cause); 4] {
-    let want = want_of(2);
-    [
-        (Want { lane: 1, ..want }, Cause::HostRoom),
-        (
-            Want {
-                fresh: true,
-                ..want
-            },
-            Cause::HostRoom,
-        ),
-        (
-            Want {
-                max_life: 8,
-                ..want
-            },
-            Cause::TooOld,
-        ),
-        (
-            Want {
-                lane: 1,
-                max_life: 8,
-                ..want
-            },
-            Cause::HostRoom,
-        ),
-    ]
+// Each of them, with the cause for which the connection is closed.
+const UNFIT: [Row; 4] = [
+    (
+        "another lane",
+        (1, 0, 65_535),
+        1,
+        &[
+            (Step::Get(1, 0), Said::Opened(1, 0)),
+            (Step::Ask(OTHER_LANE, 1), Said::Waits),
+            (Step::Back(1, 9), Said::Freed(false)),
+            (Step::Entry(3), Said::Closed(9, 1, Cause::HostRoom)),
+            (Step::Claim(2), Said::Opened(2, 9)),
+            (Step::Drop(2, 10), Said::Freed(true)),
+        ],
+    ),
+    (
+        "a fresh one",
+        (1, 0, 65_535),
+        1,
+        &[
+            (Step::Get(1, 0), Said::Opened(1, 0)),
+            (Step::Ask(FRESH, 1), Said::Waits),
+            (Step::Back(1, 9), Said::Freed(false)),
+            (Step::Entry(3), Said::Closed(9, 1, Cause::HostRoom)),
+            (Step::Claim(2), Said::Opened(2, 9)),
+            (Step::Drop(2, 10), Said::Freed(true)),
+        ],
+    ),
+    (
+        "a younger one",
+        (1, 0, 65_535),
+        1,
+        &[
+            (Step::Get(1, 0), Said::Opened(1, 0)),
+            (Step::Ask(YOUNG, 1), Said::Waits),
+            (Step::Back(1, 9), Said::Freed(false)),
+            (Step::Entry(3), Said::Closed(9, 1, Cause::TooOld)),
+            (Step::Claim(2), Said::Opened(2, 9)),
+            (Step::Drop(2, 10), Said::Freed(true)),
+        ],
+    ),
+    (
+        "a younger one of another lane",
+        (1, 0, 65_535),
+        1,
+        &[
+            (Step::Get(1, 0), Said::Opened(1, 0)),
+            (Step::Ask(YOUNG_OF_OTHER_LANE, 1), Said::Waits),
+            (Step::Back(1, 9), Said::Freed(false)),
+            (Step::Entry(3), Said::Closed(9, 1, Cause::HostRoom)),
+            (Step::Claim(2), Said::Opened(2, 9)),
+            (Step::Drop(2, 10), Said::Freed(true)),
+        ],
+    ),
+];
+
+#[test]
+fn calls_are_answered_so(rt: HostRuntime) -> Result<(), Fail> {
+    for row in &CALLS {
+        let (name, limits, first, steps) = *row;
+        let desk = Desk::new(rt.alloc(), limits, first)?;
+        run(&rt, rt.alloc(), desk, name, steps);
+    }
+    Ok(())
 }
 
 #[test]
 fn what_does_not_fit_the_first_that_waits_is_closed(rt: HostRuntime) -> Result<(), Fail> {
-    for &(want, cause) in &unfit_wants() {
-        let mut desk = Desk::of_host(rt.alloc(), 1, 1)?;
-        let first = leased(&rt, &mut desk, 1, 0);
-        let ticket = waits_for(&rt, &mut desk, want, 1);
-        give_back(&rt, &mut desk, first, 9);
-        assert_eq!(rt; desk.bundle.log().get(3), Some(closed(9, 1, cause)));
-        let second = claimed(&rt, &mut desk, ticket);
-        assert_eq!(rt;
-            (second.number(), second.want(), second.has_stream()),
-            (2, want, false)
-        );
-        drop_lease(&rt, &mut desk, second, 10);
+    for row in &UNFIT {
+        let (name, limits, first, steps) = *row;
+        let desk = Desk::new(rt.alloc(), limits, first)?;
+        run(&rt, rt.alloc(), desk, name, steps);
     }
     Ok(())
 }
@@ -259,7 +326,7 @@ fn a_ticket_may_be_a_stranger(rt: HostRuntime) -> Result<(), Fail> {
         lane: 1,
         ..want_of(2)
     };
-    let other = waits_for(&rt, &mut there, want, 1);
+    let other = ticket_of(&rt, asked(&rt, &mut there, want, 1));
     let ticket = stray(&rt, &mut there, ticket).keep();
     // where it was taken it still waits
     let ticket = still(&rt, &mut here, ticket);
@@ -270,47 +337,6 @@ fn a_ticket_may_be_a_stranger(rt: HostRuntime) -> Result<(), Fail> {
     Ok(())
 }
 
-#[test]
-fn a_connection_of_another_lane_makes_room(rt: HostRuntime) -> Result<(), Fail> {
-    let mut desk = Desk::of_host(rt.alloc(), 1, 1)?;
-    let first = leased(&rt, &mut desk, 1, 0);
-    give_back(&rt, &mut desk, first, 2);
-    let want = Want {
-        lane: 1,
-        ..want_of(2)
-    };
-    let second = leased_for(&rt, &mut desk, want, 3);
-    assert_eq!(rt; (second.number(), second.reused()), (2, false));
-    assert_eq!(rt; second.key(), Key { site: 7, lane: 1 });
-    let made_room = closed(3, 1, Cause::HostRoom);
-    assert_eq!(rt; desk.bundle.log().get(2), Some(made_room));
-    drop_lease(&rt, &mut desk, second, 4);
-    Ok(())
-}
-
-#[test]
-fn a_claimed_connection_comes_back(rt: HostRuntime) -> Result<(), Fail> {
-    for &is_passed_on in &[true, false] {
-        let mut desk = Desk::of_host(rt.alloc(), 1, 1)?;
-        let first = leased(&rt, &mut desk, 1, 0);
-        let ticket = waits(&rt, &mut desk, 2, 1);
-        if is_passed_on {
-            give_back(&rt, &mut desk, first, 2);
-        } else {
-            drop_lease(&rt, &mut desk, first, 2);
-        }
-        let second = claimed(&rt, &mut desk, ticket);
-        give_back(&rt, &mut desk, second, 3);
-        let third = leased(&rt, &mut desk, 3, 4);
-        let number = if is_passed_on { 1 } else { 2 };
-        assert_eq!(rt;
-            stream_under(&rt, &mut desk, third, 5),
-            (number, Some(Stream(number)))
-        );
-    }
-    Ok(())
-}
-
 // Writes through the stream that the lease may have.
 fn put_stream(lease: &mut Lease<Stream>, stream: Stream)
     ensures put { IsSome lease.old.stream → lease.new ≡ record lease.old { stream = Some stream } }
@@ -318,17 +344,6 @@ fn put_stream(lease: &mut Lease<Stream>, stream: Stream)
 {
     if let Some(own) = lease.stream_mut() {
         *own = stream;
-    }
-}
-
-// Reads through it.
-fn stream_of(lease: &mut Lease<Stream>) -> Option<Stream>
-    ensures same { lease.new ≡ lease.old }
-    ensures stream { result ≡ lease.old.stream }
-{
-    match lease.stream_mut() {
-        Some(own) => Some(*own),
-        None => None,
     }
 }
 

@@ -39,6 +39,8 @@ impl Permits for Told {
 
     ghost asks_kept = { λ x y answer. Unit {0} };
 
+    ghost asked = { λ x y opens keeps. Unit {0} };
+
     ghost same_total = { λ x y. Unit {0} };
 
     ghost same_kept = { λ x y. Unit {0} };
@@ -82,6 +84,10 @@ impl Permits for Told {
     ghost stays_from_start = { λ x. tt };
 
     ghost stays_on = { λ x y z p q. tt };
+
+    ghost asked_from_start = { λ x. tt };
+
+    ghost asked_on = { λ x y z opens keeps more_opens more_keeps first later. tt };
 
     ghost not_asked_to_open = { λ x y s. tt };
 
@@ -342,5 +348,23 @@ fn a_turn_and_a_new_limit_come_again(rt: HostRuntime) -> Result<(), Fail> {
     host.withdraw(&rt, first, 9);
     host.withdraw(&rt, second, 9);
     assert_eq!(rt; host.held(), Held { alive: 0, kept: 0 });
+    Ok(())
+}
+
+#[test]
+fn a_booking_that_is_not_its_hosts_can_be_let_go(rt: HostRuntime) -> Result<(), Fail> {
+    let mut host = ToldHost::new(rt.alloc(), 4, Try::Contended)?;
+    let other = ToldHost::new(rt.alloc(), 4, Try::Got)?;
+    let got = host.acquire(1, 0)?;
+    let booking = again_of(&rt, got);
+    assert!(rt; host.bundle.has_booked(&booking));
+    if other.bundle.has_booked(&booking) {
+        panic!(rt; "it is booked where it was not made");
+    }
+    other.bundle.scrap_stranger(booking);
+    match host.acquire(1, 1) {
+        Ok(_got) => panic!(rt; "its transfer is booked no more"),
+        Err(refusal) => assert_eq!(rt; refusal, Refusal::TransferBusy),
+    }
     Ok(())
 }

@@ -18,16 +18,19 @@ use std::process::Abort;
 #[derive(Clone, Copy, Debug, PartialEq, Eq)]
 pub(crate) struct Stream(pub u32);
 
-/// What a transfer wants if nothing else is said.
+/// What transfer 0 wants if nothing else is said.
+pub(crate) const WANT: Want = Want {
+    transfer: 0,
+    lane: 0,
+    max_age: u64::MAX,
+    max_life: 0,
+    fresh: false,
+    forbid_reuse: false,
+};
+
+/// The same of any transfer.
 pub(crate) fn want_of(transfer: u64) -> Want {
-    Want {
-        transfer,
-        lane: 0,
-        max_age: u64::MAX,
-        max_life: 0,
-        fresh: false,
-        forbid_reuse: false,
-    }
+    Want { transfer, ..WANT }
 }
 
 /// A response that lets its connection persist.
@@ -42,14 +45,6 @@ pub(crate) const KEEP: Facts = Facts {
     whole: true,
     surplus: false,
 };
-
-/// The entry of a closing.
-pub(crate) fn closed(moment: u64, connection: u32, cause: Cause) -> Entry {
-    Entry {
-        moment,
-        event: Event::Closed { connection, cause },
-    }
-}
 
 /// A host, and another one that can take its place, with their budget, the lobby and a pass. Of the
 /// budget each holds what its log tells, the lobby lists it where it is queued, and the pass has a
@@ -128,8 +123,8 @@ impl<S: Drop> Desk<S> {
         let Ok(limits) = Limits::new(host, total, connects) else {
             return Err(Refusal::BadLimit);
         };
-        let (mut bundle, mut other) = new_hosts(alloc, limits.host(), two, first.max(1))?;
-        let (budget, lobby, mut pass) = new_shared(alloc, limits, hosts)?;
+        let parts = new_parts(alloc, limits, hosts, two, first.max(1))?;
+        let (mut bundle, mut other, budget, lobby, mut pass) = parts;
         bundle.enrol(&mut pass);
         other.enrol(&mut pass);
         Ok(Desk {
@@ -211,25 +206,14 @@ impl<S: Drop> Desk<S> {
             .retry(booking, now, &mut permits, lobby, &mut self.pass)
     }
 
-    pub fn give_back(&mut self, rt: &impl Abort, lease: Lease<S>, facts: Facts, now: u64) -> Back<S>
-        requires here { lease.tables ≡ self.old.here }
-        ensures made_here { IfBack result (IsMadeAt self.old.here) }
-        ensures same { self.new ≡ self.old }
-    {
-        let lease = with_stream(rt, lease);
-        let mut permits = self.budget.at(self.bundle.host());
-        let (pass, lobby) = (&mut self.pass, Some(&mut self.lobby));
-        self.bundle
-            .give_back(lease, facts, now, pass, &mut permits, lobby, false)
-    }
-
-    /// The same, with a close where the connection is not kept.
-    pub fn give_back_or_close(
+    /// The lease comes back; where its connection is not kept it is closed, if that is asked.
+    pub fn give_back(
         &mut self,
         rt: &impl Abort,
         lease: Lease<S>,
         facts: Facts,
         now: u64,
+        close_if_full: bool,
     ) -> Back<S>
         requires here { lease.tables ≡ self.old.here }
         ensures made_here { IfBack result (IsMadeAt self.old.here) }
@@ -238,8 +222,7 @@ impl<S: Drop> Desk<S> {
         let lease = with_stream(rt, lease);
         let mut permits = self.budget.at(self.bundle.host());
         let (pass, lobby) = (&mut self.pass, Some(&mut self.lobby));
-        self.bundle
-            .give_back(lease, facts, now, pass, &mut permits, lobby, true)
+        self.bundle.give_back(lease, facts, now, pass, &mut permits, lobby, close_if_full)
     }
 
     pub fn abandon(&mut self, lease: Lease<S>, now: u64) -> Result<bool, Stray<Lease<S>>>
@@ -302,6 +285,28 @@ impl<S: Drop> Desk<S> {
         self.bundle
             .set_host_limit(limit, now, &mut permits, lobby, pass)
     }
+}
+
+// Two hosts without connections, the budget and the lobby of so many, and a pass without a seat.
+type Parts<S> = (Bundle<S>, Bundle<S>, PlainBudget, Lobby, Pass<Did>);
+
+fn new_parts<S: Drop>(
+    alloc: Global,
+    limits: Limits,
+    hosts: u32,
+    two: (u32, u32),
+    first: u32,
+) -> Result<Parts<S>, Refusal>
+    requires { 0 < first }
+    ensures here { IfOk result (λ made. IsNewHost limits.host two.0 first made.0) }
+    ensures there { IfOk result (λ made. IsNewHost limits.host two.1 first made.1) }
+    ensures budget { IfOk result (λ made. made.2 ≡ nothing_held limits hosts) }
+    ensures lobby { IfOk result (λ made. made.3 ≡ record { hosts = hosts; order = [] }) }
+    ensures pass { IfOk result (λ made. made.4 ≡ replicate hosts vacant) }
+{
+    let (bundle, other) = new_hosts(alloc, limits.host(), two, first)?;
+    let (budget, lobby, pass) = new_shared(alloc, limits, hosts)?;
+    Ok((bundle, other, budget, lobby, pass))
 }
 
 // Two hosts without connections.
@@ -387,6 +392,17 @@ pub(crate) fn with_stream<S: Drop>(rt: &impl Abort, lease: Lease<S>) -> Lease<S>
     lease
 }
 
+/// The stream of a lease that has one.
+pub(crate) fn stream_of(lease: &mut Lease<Stream>) -> Option<Stream>
+    ensures same { lease.new ≡ lease.old }
+    ensures stream { result ≡ lease.old.stream }
+{
+    match lease.stream_mut() {
+        Some(own) => Some(*own),
+        None => None,
+    }
+}
+
 pub(crate) fn attach_new(lease: &mut Lease<Stream>)
     ensures same { lease.new.tables ≡ lease.old.tables }
 {
@@ -448,19 +464,7 @@ pub(crate) fn leased(
     ensures made_here { result.tables ≡ desk.old.here }
     ensures same { desk.new ≡ desk.old }
 {
-    leased_for(rt, desk, want_of(transfer), now)
-}
-
-pub(crate) fn leased_for(
-    rt: &impl Abort,
-    desk: &mut Desk<Stream>,
-    want: Want,
-    now: u64,
-) -> Lease<Stream>
-    ensures made_here { result.tables ≡ desk.old.here }
-    ensures same { desk.new ≡ desk.old }
-{
-    let mut lease = lease_of(rt, asked(rt, desk, want, now));
+    let mut lease = lease_of(rt, asked(rt, desk, want_of(transfer), now));
     attach_new(&mut lease);
     lease
 }
@@ -469,23 +473,7 @@ pub(crate) fn leased_for(
 pub(crate) fn waits(rt: &impl Abort, desk: &mut Desk<Stream>, transfer: u64, now: u64) -> Ticket
     ensures same { desk.new ≡ desk.old }
 {
-    waits_for(rt, desk, want_of(transfer), now)
-}
-
-pub(crate) fn waits_for(rt: &impl Abort, desk: &mut Desk<Stream>, want: Want, now: u64) -> Ticket
-    ensures same { desk.new ≡ desk.old }
-{
-    ticket_of(rt, asked(rt, desk, want, now))
-}
-
-/// Why an acquire is refused that has to be.
-pub(crate) fn refused(rt: &impl Abort, desk: &mut Desk<Stream>, transfer: u64, now: u64) -> Refusal
-    ensures same { desk.new ≡ desk.old }
-{
-    match desk.acquire(want_of(transfer), now) {
-        Err(refusal) => refusal,
-        Ok(_got) => panic!(rt; "an answer"),
-    }
+    ticket_of(rt, asked(rt, desk, want_of(transfer), now))
 }
 
 /// Whether a spent lease freed a permit; the lease has to be known.
@@ -501,18 +489,6 @@ pub(crate) fn spent<S: Drop>(rt: &impl Abort, back: Back<S>) -> bool {
     match back {
         Back::Spent { freed } => freed,
         Back::NoKeep(_lease) | Back::Again(_lease) => panic!(rt; "the lease came back"),
-        Back::Strange(_stray) => panic!(rt; "the lease is a stranger"),
-    }
-}
-
-/// The lease of a connection that is not kept.
-pub(crate) fn not_kept<S: Drop>(rt: &impl Abort, back: Back<S>) -> Lease<S>
-    ensures { back ≡ Back.NoKeep result }
-{
-    match back {
-        Back::NoKeep(lease) => lease,
-        Back::Spent { freed: _ } => panic!(rt; "the lease was spent"),
-        Back::Again(_lease) => panic!(rt; "to be asked again"),
         Back::Strange(_stray) => panic!(rt; "the lease is a stranger"),
     }
 }
@@ -549,7 +525,7 @@ pub(crate) fn give_back(
 {
     let mut lease = lease;
     attach_new(&mut lease);
-    spent(rt, desk.give_back(rt, lease, KEEP, now))
+    spent(rt, desk.give_back(rt, lease, KEEP, now, false))
 }
 
 /// The number and the stream of a lease that is then abandoned.

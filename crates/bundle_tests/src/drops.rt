@@ -42,7 +42,7 @@ fn give_back<'a>(rt: &impl Abort, desk: &mut Desk<Counted<'a>>, lease: Lease<Cou
     requires here { lease.tables ≡ desk.old.here }
     ensures same { desk.new ≡ desk.old }
 {
-    spent(rt, desk.give_back(rt, lease, KEEP, now));
+    spent(rt, desk.give_back(rt, lease, KEEP, now, false));
 }
 
 #[test]

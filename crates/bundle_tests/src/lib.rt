@@ -2,6 +2,8 @@
 #![tactic(auto)]
 
 #[cfg(test)]
+mod at_once;
+#[cfg(test)]
 mod budgets;
 #[cfg(test)]
 mod calls;
@@ -11,6 +13,8 @@ mod contended;
 mod desk;
 #[cfg(test)]
 mod drops;
+#[cfg(test)]
+mod keeper;
 #[cfg(test)]
 mod limits;
 #[cfg(test)]

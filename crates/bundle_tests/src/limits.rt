@@ -1,201 +1,189 @@
 //! What no clause says of a limit that changes: that it does in ample memory, what comes of it for
 //! those that wait, and what the lobby then lists.
 
-use crate::desk::{
-    Desk, Stream, asked, booking_of, claimed, closed, drop_lease, give_back, lease_of, leased,
-    leave, stream_under, ticket_of, waits, want_of,
-};
+use crate::desk::Desk;
+use crate::keeper::{Row, Said, Step, run};
 use budget::{Refusal, Try};
-use bundle::{Changed, Served};
-use conn_log::{Cause, Entry, Event};
+use bundle::Served;
+use conn_log::Cause;
 use std::test::Fail;
 
-const FREED: Result<Changed, Refusal> = Ok(Changed::Done { freed: true });
-
-const DONE: Result<Changed, Refusal> = Ok(Changed::Done { freed: false });
-
-fn limit_at(moment: u64, limit: u32) -> Entry {
-    Entry {
-        moment,
-        event: Event::Limit { limit },
-    }
-}
-
-#[test]
-fn a_raised_limit_starts_who_waits(rt: HostRuntime) -> Result<(), Fail> {
-    let mut desk = Desk::new(rt.alloc(), (1, 0, 4), 1)?;
-    let first = leased(&rt, &mut desk, 1, 0);
-    let second = waits(&rt, &mut desk, 2, 1);
-    let third = waits(&rt, &mut desk, 3, 2);
-    assert_eq!(rt; desk.set_host_limit(2, 5), DONE);
-    assert_eq!(rt; desk.bundle.log().get(3), Some(limit_at(5, 2)));
-    let second = claimed(&rt, &mut desk, second);
-    assert_eq!(rt; (second.number(), second.moment()), (2, 5));
-    assert_eq!(rt;
-        (desk.bundle.look().waiting, desk.bundle.queued()),
-        (1, false)
-    );
-    assert_eq!(rt; desk.set_host_limit(1, 6), Err(Refusal::Busy(2)));
-    assert_eq!(rt; desk.bundle.log().len(), 5);
-    give_back(&rt, &mut desk, first, 7);
-    let third = claimed(&rt, &mut desk, third);
-    assert_eq!(rt; (third.number(), third.reused()), (1, true));
-    drop_lease(&rt, &mut desk, second, 8);
-    drop_lease(&rt, &mut desk, third, 8);
-    Ok(())
-}
-
-#[test]
-fn a_lowered_limit_closes_the_oldest_first(rt: HostRuntime) -> Result<(), Fail> {
-    let mut desk = Desk::new(rt.alloc(), (0, 0, 2), 1)?;
-    let first = leased(&rt, &mut desk, 1, 0);
-    let second = leased(&rt, &mut desk, 2, 0);
-    let third = leased(&rt, &mut desk, 3, 0);
-    give_back(&rt, &mut desk, first, 4);
-    give_back(&rt, &mut desk, second, 5);
-    assert_eq!(rt; desk.set_host_limit(2, 6), FREED);
-    assert_eq!(rt;
-        desk.bundle.log().get(5),
-        Some(closed(6, 1, Cause::HostRoom))
-    );
-    assert_eq!(rt; desk.bundle.log().get(6), Some(limit_at(6, 2)));
-    assert_eq!(rt; desk.set_host_limit(65_536, 7), Err(Refusal::BadLimit));
-    assert_eq!(rt; desk.bundle.look().alive, 2);
-    assert_eq!(rt; desk.set_host_limit(1, 8), FREED);
-    assert_eq!(rt; desk.bundle.oldest(), None);
+const ROWS: [Row; 9] = [
+    (
+        "a raised limit starts who waits",
+        (1, 0, 4),
+        1,
+        &[
+            (Step::Get(1, 0), Said::Opened(1, 0)),
+            (Step::Get(2, 1), Said::Waits),
+            (Step::Get(3, 2), Said::Waits),
+            (Step::Limit(2, 5), Said::Freed(false)),
+            (Step::Entry(3), Said::Limited(5, 2)),
+            (Step::Claim(2), Said::Opened(2, 5)),
+            (Step::Look, Said::Look(2, 0, 2, 1, false)),
+            (Step::Limit(1, 6), Said::Refused(Refusal::Busy(2))),
+            (Step::Length, Said::Length(5)),
+            (Step::Back(1, 7), Said::Freed(false)),
+            (Step::Claim(3), Said::Reused(1, 7)),
+            (Step::Drop(2, 8), Said::Freed(true)),
+            (Step::Drop(3, 8), Said::Freed(true)),
+        ],
+    ),
     // 0 is none, and what was closed gave its place among the kept ones back
-    assert_eq!(rt; desk.set_host_limit(0, 9), DONE);
-    assert_eq!(rt; desk.bundle.log().get(9), Some(limit_at(9, 65_535)));
-    assert_eq!(rt; desk.set_host_limit(65_535, 9), DONE);
-    let fourth = leased(&rt, &mut desk, 4, 9);
-    give_back(&rt, &mut desk, third, 9);
-    give_back(&rt, &mut desk, fourth, 9);
-    assert_eq!(rt; desk.bundle.look().idle, 2);
-    Ok(())
-}
-
-#[test]
-fn a_raised_limit_waits_for_the_total(rt: HostRuntime) -> Result<(), Fail> {
-    let mut desk = Desk::new(rt.alloc(), (1, 2, 4), 1)?;
-    let first = leased(&rt, &mut desk, 1, 0);
-    let second = waits(&rt, &mut desk, 2, 1);
-    let third = waits(&rt, &mut desk, 3, 2);
-    // the budget has room for one of the two
-    assert_eq!(rt; desk.set_host_limit(3, 3), DONE);
-    assert_eq!(rt; desk.bundle.log().get(3), Some(limit_at(3, 3)));
-    assert_eq!(rt; (desk.bundle.queued(), desk.lobby.first()), (true, Some(7)));
-    let second = claimed(&rt, &mut desk, second);
-    assert_eq!(rt; second.number(), 2);
-    // while the host is queued its turn has to come, whatever its limit
-    assert_eq!(rt; desk.set_host_limit(4, 4), DONE);
-    assert_eq!(rt; (desk.bundle.queued(), desk.lobby.listed(7)), (true, true));
-    // at its limit it is not queued
-    assert_eq!(rt; desk.set_host_limit(2, 5), DONE);
-    assert_eq!(rt;
-        (desk.bundle.queued(), desk.lobby.listed(7)),
-        (false, false)
-    );
-    assert_eq!(rt; drop_lease(&rt, &mut desk, first, 6), false);
-    let third = claimed(&rt, &mut desk, third);
-    assert_eq!(rt; (third.number(), third.moment()), (3, 6));
-    drop_lease(&rt, &mut desk, second, 7);
-    drop_lease(&rt, &mut desk, third, 7);
-    Ok(())
-}
-
-#[test]
-fn a_limit_raised_without_room_queues_the_host(rt: HostRuntime) -> Result<(), Fail> {
-    let mut desk = Desk::new(rt.alloc(), (1, 1, 4), 1)?;
-    let first = leased(&rt, &mut desk, 1, 0);
-    let second = waits(&rt, &mut desk, 2, 1);
-    assert_eq!(rt;
-        (desk.bundle.queued(), desk.lobby.listed(7)),
-        (false, false)
-    );
-    assert_eq!(rt; desk.set_host_limit(2, 2), DONE);
-    assert_eq!(rt; (desk.bundle.queued(), desk.lobby.listed(7)), (true, true));
-    assert_eq!(rt; leave(&rt, &mut desk, second, 3), false);
-    assert_eq!(rt;
-        (desk.bundle.queued(), desk.lobby.listed(7)),
-        (false, false)
-    );
-    give_back(&rt, &mut desk, first, 4);
-    let again = leased(&rt, &mut desk, 3, 5);
-    assert_eq!(rt;
-        stream_under(&rt, &mut desk, again, 6),
-        (1, Some(Stream(1)))
-    );
-    Ok(())
-}
-
-#[test]
-fn an_acquire_that_is_halfway_outlasts_a_change(rt: HostRuntime) -> Result<(), Fail> {
-    let mut desk = Desk::new(rt.alloc(), (2, 1, 4), 1)?;
-    let first = leased(&rt, &mut desk, 1, 0);
-    let got = asked(&rt, &mut desk, want_of(2), 1);
-    let booking = booking_of(&rt, got);
+    (
+        "a lowered limit closes the oldest first",
+        (0, 0, 2),
+        1,
+        &[
+            (Step::Get(1, 0), Said::Opened(1, 0)),
+            (Step::Get(2, 0), Said::Opened(2, 0)),
+            (Step::Get(3, 0), Said::Opened(3, 0)),
+            (Step::Back(1, 4), Said::Freed(false)),
+            (Step::Back(2, 5), Said::Freed(false)),
+            (Step::Limit(2, 6), Said::Freed(true)),
+            (Step::Entry(5), Said::Closed(6, 1, Cause::HostRoom)),
+            (Step::Entry(6), Said::Limited(6, 2)),
+            (Step::Limit(65_536, 7), Said::Refused(Refusal::BadLimit)),
+            (Step::Look, Said::Look(2, 1, 1, 0, false)),
+            (Step::Limit(1, 8), Said::Freed(true)),
+            (Step::Oldest, Said::NoneIdle),
+            (Step::Limit(0, 9), Said::Freed(false)),
+            (Step::Entry(9), Said::Limited(9, 65_535)),
+            (Step::Limit(65_535, 9), Said::Freed(false)),
+            (Step::Get(4, 9), Said::Opened(4, 9)),
+            (Step::Back(3, 9), Said::Freed(false)),
+            (Step::Back(4, 9), Said::Freed(false)),
+            (Step::Look, Said::Look(2, 2, 0, 0, false)),
+        ],
+    ),
+    // the budget has room for one of the two; while the host is queued its turn has to come,
+    // whatever its limit, and at its limit it is not queued
+    (
+        "a raised limit waits for the total",
+        (1, 2, 4),
+        1,
+        &[
+            (Step::Get(1, 0), Said::Opened(1, 0)),
+            (Step::Get(2, 1), Said::Waits),
+            (Step::Get(3, 2), Said::Waits),
+            (Step::Limit(3, 3), Said::Freed(false)),
+            (Step::Entry(3), Said::Limited(3, 3)),
+            (Step::Lobby, Said::Lobby(true, Some(7))),
+            (Step::Claim(2), Said::Opened(2, 3)),
+            (Step::Limit(4, 4), Said::Freed(false)),
+            (Step::Lobby, Said::Lobby(true, Some(7))),
+            (Step::Limit(2, 5), Said::Freed(false)),
+            (Step::Lobby, Said::Lobby(false, None)),
+            (Step::Drop(1, 6), Said::Freed(false)),
+            (Step::Claim(3), Said::Opened(3, 6)),
+            (Step::Drop(2, 7), Said::Freed(true)),
+            (Step::Drop(3, 7), Said::Freed(true)),
+        ],
+    ),
+    (
+        "a limit raised without room queues the host",
+        (1, 1, 4),
+        1,
+        &[
+            (Step::Get(1, 0), Said::Opened(1, 0)),
+            (Step::Get(2, 1), Said::Waits),
+            (Step::Lobby, Said::Lobby(false, None)),
+            (Step::Limit(2, 2), Said::Freed(false)),
+            (Step::Lobby, Said::Lobby(true, Some(7))),
+            (Step::Listed(7), Said::Was(true)),
+            (Step::Leave(2, 3), Said::Freed(false)),
+            (Step::Lobby, Said::Lobby(false, None)),
+            (Step::Listed(7), Said::Was(false)),
+            (Step::Back(1, 4), Said::Freed(false)),
+            (Step::Get(3, 5), Said::Reused(1, 5)),
+            (Step::Drop(3, 6), Said::Freed(true)),
+        ],
+    ),
     // at the limit it waits, without a place in the lobby
-    assert_eq!(rt; desk.set_host_limit(1, 2), DONE);
-    give_back(&rt, &mut desk, first, 3);
-    let second = lease_of(&rt, desk.retry_at_last(&rt, booking, 4));
-    assert_eq!(rt; (second.number(), second.reused()), (1, true));
-    drop_lease(&rt, &mut desk, second, 5);
-    Ok(())
-}
+    (
+        "an acquire that is halfway outlasts a change",
+        (2, 1, 4),
+        1,
+        &[
+            (Step::Get(1, 0), Said::Opened(1, 0)),
+            (Step::Get(2, 1), Said::NoRoom),
+            (Step::Limit(1, 2), Said::Freed(false)),
+            (Step::Back(1, 3), Said::Freed(false)),
+            (Step::LastTry(4), Said::Reused(1, 4)),
+            (Step::Drop(2, 5), Said::Freed(true)),
+        ],
+    ),
+    (
+        "a raised limit starts all who wait",
+        (1, 0, 4),
+        1,
+        &[
+            (Step::Get(1, 0), Said::Opened(1, 0)),
+            (Step::Get(2, 1), Said::Waits),
+            (Step::Get(3, 2), Said::Waits),
+            (Step::Limit(0, 5), Said::Freed(false)),
+            (Step::Claim(2), Said::Opened(2, 5)),
+            (Step::Claim(3), Said::Opened(3, 5)),
+            (Step::Limit(2, 6), Said::Refused(Refusal::Busy(3))),
+            (Step::Drop(1, 7), Said::Freed(true)),
+            (Step::Drop(2, 7), Said::Freed(true)),
+            (Step::Drop(3, 7), Said::Freed(true)),
+        ],
+    ),
+    (
+        "a queued host waits for its turn",
+        (2, 1, 4),
+        1,
+        &[
+            (Step::OpenElsewhere, Said::Elsewhere(Try::Got)),
+            (Step::Get(1, 0), Said::NoRoom),
+            (Step::LastTry(0), Said::Waits),
+            (Step::CloseElsewhere, Said::Done),
+            (Step::Limit(3, 1), Said::Freed(false)),
+            (Step::Look, Said::Look(0, 0, 0, 1, true)),
+            (Step::Serve(2), Said::Turn(Some(Served::Given))),
+            (Step::Claim(1), Said::Opened(1, 2)),
+            (Step::Drop(1, 3), Said::Freed(true)),
+        ],
+    ),
+    (
+        "a lease comes back after changes of the limit",
+        (3, 0, 4),
+        1,
+        &[
+            (Step::Get(1, 0), Said::Opened(1, 0)),
+            (Step::Get(2, 0), Said::Opened(2, 0)),
+            (Step::Back(2, 1), Said::Freed(false)),
+            (Step::Limit(1, 2), Said::Freed(true)),
+            (Step::Limit(2, 3), Said::Freed(false)),
+            (Step::Back(1, 4), Said::Freed(false)),
+            (Step::Get(3, 5), Said::Reused(1, 5)),
+            (Step::Drop(3, 6), Said::Freed(true)),
+            (Step::Look, Said::Look(0, 0, 0, 0, false)),
+        ],
+    ),
+    (
+        "a lease is abandoned after changes of the limit",
+        (3, 0, 4),
+        1,
+        &[
+            (Step::Get(1, 0), Said::Opened(1, 0)),
+            (Step::Get(2, 0), Said::Opened(2, 0)),
+            (Step::Back(2, 1), Said::Freed(false)),
+            (Step::Limit(1, 2), Said::Freed(true)),
+            (Step::Limit(2, 3), Said::Freed(false)),
+            (Step::Drop(1, 4), Said::Freed(true)),
+            (Step::Look, Said::Look(0, 0, 0, 0, false)),
+        ],
+    ),
+];
 
 #[test]
-fn a_raised_limit_starts_all_who_wait(rt: HostRuntime) -> Result<(), Fail> {
-    let mut desk = Desk::new(rt.alloc(), (1, 0, 4), 1)?;
-    let first = leased(&rt, &mut desk, 1, 0);
-    let second = waits(&rt, &mut desk, 2, 1);
-    let third = waits(&rt, &mut desk, 3, 2);
-    assert_eq!(rt; desk.set_host_limit(0, 5), DONE);
-    let second = claimed(&rt, &mut desk, second);
-    let third = claimed(&rt, &mut desk, third);
-    assert_eq!(rt; (second.number(), third.number()), (2, 3));
-    assert_eq!(rt; desk.set_host_limit(2, 6), Err(Refusal::Busy(3)));
-    drop_lease(&rt, &mut desk, first, 7);
-    drop_lease(&rt, &mut desk, second, 7);
-    drop_lease(&rt, &mut desk, third, 7);
-    Ok(())
-}
-
-#[test]
-fn a_queued_host_waits_for_its_turn(rt: HostRuntime) -> Result<(), Fail> {
-    let mut desk = Desk::new(rt.alloc(), (2, 1, 4), 1)?;
-    assert_eq!(rt; desk.open_elsewhere(), Try::Got);
-    let got = asked(&rt, &mut desk, want_of(1), 0);
-    let booking = booking_of(&rt, got);
-    let first = ticket_of(&rt, desk.retry_at_last(&rt, booking, 0));
-    desk.close_elsewhere();
-    assert_eq!(rt; desk.set_host_limit(3, 1), DONE);
-    assert_eq!(rt; desk.bundle.look().waiting, 1);
-    assert_eq!(rt; desk.serve_queued(2), Some(Served::Given));
-    let first = claimed(&rt, &mut desk, first);
-    drop_lease(&rt, &mut desk, first, 3);
-    Ok(())
-}
-
-#[test]
-fn a_lease_outlasts_changes_of_the_limit(rt: HostRuntime) -> Result<(), Fail> {
-    for &comes_back in &[true, false] {
-        let mut desk = Desk::new(rt.alloc(), (3, 0, 4), 1)?;
-        let first = leased(&rt, &mut desk, 1, 0);
-        let second = leased(&rt, &mut desk, 2, 0);
-        give_back(&rt, &mut desk, second, 1);
-        assert_eq!(rt; desk.set_host_limit(1, 2), FREED);
-        assert_eq!(rt; desk.set_host_limit(2, 3), DONE);
-        if comes_back {
-            give_back(&rt, &mut desk, first, 4);
-            let again = leased(&rt, &mut desk, 3, 5);
-            assert_eq!(rt;
-                stream_under(&rt, &mut desk, again, 6),
-                (1, Some(Stream(1)))
-            );
-        } else {
-            assert_eq!(rt; drop_lease(&rt, &mut desk, first, 4), true);
-        }
-        assert_eq!(rt; desk.bundle.look().alive, 0);
+fn a_change_of_the_limit_comes_to_that(rt: HostRuntime) -> Result<(), Fail> {
+    for row in &ROWS {
+        let (name, limits, first, steps) = *row;
+        let desk = Desk::new(rt.alloc(), limits, first)?;
+        run(&rt, rt.alloc(), desk, name, steps);
     }
     Ok(())
 }

@@ -1,212 +1,284 @@
 //! What a pass remembers of each host: what the last call there answered, how many calls answered,
 //! and how many leases were spent with it.
 
-use crate::desk::{
-    Desk, KEEP, Stream, asked, booking_of, claimed, closed, drop_lease, give_back, leased, leave,
-    not_kept, refused, spent, still, stray, ticket_of, told, waits, want_of,
-};
+use crate::desk::{Desk, KEEP, WANT};
+use crate::keeper::{Row, Said, Step, run};
 use budget::Refusal;
 use bundle::Did;
-use conn_log::{Cause, Entry, Event};
-use std::alloc::Global;
+use conn_log::{Cause, Entry, Event, Want};
 use std::test::Fail;
 
-// Hosts 0 and 2 of three, and a pass with a seat at both.
-fn two_of_three(alloc: Global, limits: (u32, u32, u32)) -> Result<Desk<Stream>, Refusal> {
-    Desk::of_two(alloc, limits, 1, 3, (0, 2))
+// The answer of an acquire, of a give back or of the like: the entry that it wrote.
+macro_rules! wrote {
+    ($moment:expr, $event:expr) => {
+        Some(Did::Wrote(Entry {
+            moment: $moment,
+            event: $event,
+        }))
+    };
 }
 
-fn wrote(moment: u64, event: Event) -> Option<Did> {
-    Some(Did::Wrote(Entry { moment, event }))
+// That of an acquire that opens a connection.
+macro_rules! opened {
+    ($moment:expr, $connection:expr, $transfer:expr) => {
+        wrote!(
+            $moment,
+            Event::Opened {
+                connection: $connection,
+                want: Want {
+                    transfer: $transfer,
+                    ..WANT
+                },
+            }
+        )
+    };
 }
 
-// The answer of an acquire that opens a connection.
-fn opened(moment: u64, connection: u32, transfer: u64) -> Option<Did> {
-    let want = want_of(transfer);
-    wrote(moment, Event::Opened { connection, want })
+macro_rules! waited {
+    ($moment:expr, $transfer:expr) => {
+        wrote!(
+            $moment,
+            Event::Waited {
+                want: Want {
+                    transfer: $transfer,
+                    ..WANT
+                },
+            }
+        )
+    };
 }
 
-fn waited(moment: u64, transfer: u64) -> Option<Did> {
-    let want = want_of(transfer);
-    wrote(moment, Event::Waited { want })
+macro_rules! returned {
+    ($moment:expr, $connection:expr) => {
+        wrote!(
+            $moment,
+            Event::Returned {
+                connection: $connection,
+                facts: KEEP,
+            }
+        )
+    };
 }
 
-fn returned(moment: u64, connection: u32) -> Option<Did> {
-    let facts = KEEP;
-    wrote(moment, Event::Returned { connection, facts })
+// That of a call with which a lease, or what was granted, ends without a response.
+macro_rules! ended {
+    ($moment:expr, $connection:expr, $cause:expr) => {
+        wrote!(
+            $moment,
+            Event::Closed {
+                connection: $connection,
+                cause: $cause,
+            }
+        )
+    };
 }
 
-// The answer of a call with which a lease, or what was granted, ends without a response.
-fn ended(moment: u64, connection: u32, cause: Cause) -> Option<Did> {
-    Some(Did::Wrote(closed(moment, connection, cause)))
+// That of a prune.
+macro_rules! pruned {
+    ($now:expr, $max_age:expr, $max_life:expr, $closed:expr) => {
+        Some(Did::Pruned {
+            now: $now,
+            max_age: $max_age,
+            max_life: $max_life,
+            closed: $closed,
+        })
+    };
 }
 
-#[test]
-fn a_pass_has_an_account_for_each_host(rt: HostRuntime) -> Result<(), Fail> {
-    let mut desk = two_of_three(rt.alloc(), (4, 0, 4))?;
-    let first = leased(&rt, &mut desk, 1, 0);
-    let second = leased(&rt, &mut desk, 2, 0);
-    desk.turn_to_other();
-    let there = leased(&rt, &mut desk, 1, 5);
-    assert_eq!(rt; told(&rt, &desk, 0), (opened(0, 2, 2), 2, 0));
-    assert_eq!(rt; told(&rt, &desk, 2), (opened(5, 1, 1), 1, 0));
-    give_back(&rt, &mut desk, there, 6);
-    assert_eq!(rt; told(&rt, &desk, 2), (returned(6, 1), 2, 1));
-    assert_eq!(rt; desk.counts(), (1, 1, 0));
-    desk.turn_to_other();
-    drop_lease(&rt, &mut desk, first, 7);
-    assert_eq!(rt; told(&rt, &desk, 0), (ended(7, 1, Cause::Dropped), 3, 1));
-    assert_eq!(rt; desk.counts(), (2, 1, 1));
-    give_back(&rt, &mut desk, second, 8);
-    assert_eq!(rt; told(&rt, &desk, 0), (returned(8, 2), 4, 2));
-    assert_eq!(rt; told(&rt, &desk, 1), (None, 0, 0));
-    Ok(())
-}
+const LEASED_AGAIN: Event = Event::Leased {
+    connection: 1,
+    want: Want {
+        transfer: 3,
+        ..WANT
+    },
+};
 
-#[test]
-fn acquires_tell_what_came_of_them(rt: HostRuntime) -> Result<(), Fail> {
-    // The connection numbers that are left are two.
-    let mut desk = Desk::<Stream>::of_two(rt.alloc(), (1, 0, 4), u32::MAX - 1, 3, (0, 2))?;
-    let first = leased(&rt, &mut desk, 1, 5);
-    assert_eq!(rt; told(&rt, &desk, 0), (opened(5, u32::MAX - 1, 1), 1, 0));
-    let second = waits(&rt, &mut desk, 2, 5);
-    assert_eq!(rt; told(&rt, &desk, 0), (waited(5, 2), 2, 0));
-    for &(calls, transfer, answer) in &[
-        (3, 1, Did::Busy(1)),
-        (4, 2, Did::Busy(2)),
-        (5, 3, Did::Exhausted(3)),
-    ] {
-        refused(&rt, &mut desk, transfer, 5);
-        assert_eq!(rt; told(&rt, &desk, 0), (Some(answer), calls, 0));
-    }
-    leave(&rt, &mut desk, second, 6);
-    drop_lease(&rt, &mut desk, first, 6);
-    Ok(())
-}
-
-#[test]
-fn claims_and_ends_of_leases_tell_so(rt: HostRuntime) -> Result<(), Fail> {
-    let mut desk = two_of_three(rt.alloc(), (1, 0, 4))?;
-    let first = leased(&rt, &mut desk, 1, 0);
-    let second = waits(&rt, &mut desk, 2, 1);
-    let second = still(&rt, &mut desk, second);
-    assert_eq!(rt; told(&rt, &desk, 0), (Some(Did::Still(2)), 3, 0));
-    give_back(&rt, &mut desk, first, 2);
-    assert_eq!(rt; told(&rt, &desk, 0), (returned(2, 1), 4, 1));
-    let second = claimed(&rt, &mut desk, second);
-    assert_eq!(rt; told(&rt, &desk, 0), (Some(Did::Claimed(2)), 5, 1));
-    give_back(&rt, &mut desk, second, 3);
+// The hosts are 0 and 2 of three, and the pass has a seat at both.
+const ROWS: [Row; 8] = [
+    (
+        "a pass has an account for each host",
+        (4, 0, 4),
+        1,
+        &[
+            (Step::Get(1, 0), Said::Opened(1, 0)),
+            (Step::Get(2, 0), Said::Opened(2, 0)),
+            (Step::Other, Said::Done),
+            (Step::Get(1, 5), Said::Opened(1, 5)),
+            (Step::Told(0), Said::Told(opened!(0, 2, 2), 2, 0)),
+            (Step::Told(2), Said::Told(opened!(5, 1, 1), 1, 0)),
+            (Step::Back(1, 6), Said::Freed(false)),
+            (Step::Told(2), Said::Told(returned!(6, 1), 2, 1)),
+            (Step::Counts, Said::Counts(1, 1, 0)),
+            (Step::Other, Said::Done),
+            (Step::Drop(1, 7), Said::Freed(true)),
+            (
+                Step::Told(0),
+                Said::Told(ended!(7, 1, Cause::Dropped), 3, 1),
+            ),
+            (Step::Counts, Said::Counts(2, 1, 1)),
+            (Step::Back(2, 8), Said::Freed(false)),
+            (Step::Told(0), Said::Told(returned!(8, 2), 4, 2)),
+            (Step::Told(1), Said::Told(None, 0, 0)),
+        ],
+    ),
+    // the connection numbers that are left are two
+    (
+        "acquires tell what came of them",
+        (1, 0, 4),
+        u32::MAX - 1,
+        &[
+            (Step::Get(1, 5), Said::Opened(4_294_967_294, 5)),
+            (
+                Step::Told(0),
+                Said::Told(opened!(5, 4_294_967_294, 1), 1, 0),
+            ),
+            (Step::Get(2, 5), Said::Waits),
+            (Step::Told(0), Said::Told(waited!(5, 2), 2, 0)),
+            (Step::Get(1, 5), Said::Refused(Refusal::TransferBusy)),
+            (Step::Told(0), Said::Told(Some(Did::Busy(1)), 3, 0)),
+            (Step::Get(2, 5), Said::Refused(Refusal::TransferBusy)),
+            (Step::Told(0), Said::Told(Some(Did::Busy(2)), 4, 0)),
+            (Step::Get(3, 5), Said::Refused(Refusal::Exhausted)),
+            (Step::Told(0), Said::Told(Some(Did::Exhausted(3)), 5, 0)),
+            (Step::Leave(2, 6), Said::Freed(false)),
+            (Step::Drop(1, 6), Said::Freed(true)),
+        ],
+    ),
     // the connection that came back is leased once more
-    let third = leased(&rt, &mut desk, 3, 4);
-    let again = Event::Leased {
-        connection: 1,
-        want: want_of(3),
-    };
-    assert_eq!(rt; told(&rt, &desk, 0), (wrote(4, again), 7, 2));
-    assert_eq!(rt; desk.counts(), (3, 2, 1));
-    drop_lease(&rt, &mut desk, third, 5);
-    assert_eq!(rt; told(&rt, &desk, 0), (ended(5, 1, Cause::Dropped), 8, 3));
-    Ok(())
-}
-
-#[test]
-fn withdrawing_what_was_granted_spends_it(rt: HostRuntime) -> Result<(), Fail> {
-    let mut desk = two_of_three(rt.alloc(), (1, 0, 4))?;
-    let first = leased(&rt, &mut desk, 1, 0);
-    let second = waits(&rt, &mut desk, 2, 1);
-    let third = waits(&rt, &mut desk, 3, 1);
-    leave(&rt, &mut desk, second, 2);
-    let left = Event::Left { transfer: 2 };
-    assert_eq!(rt; told(&rt, &desk, 0), (wrote(2, left), 4, 0));
-    drop_lease(&rt, &mut desk, first, 3);
-    leave(&rt, &mut desk, third, 4);
-    let withdrawn = ended(4, 2, Cause::Withdrawn);
-    assert_eq!(rt; told(&rt, &desk, 0), (withdrawn, 6, 2));
-    assert_eq!(rt; desk.counts(), (2, 2, 0));
-    Ok(())
-}
-
-#[test]
-fn limits_and_prunes_tell_what_they_did(rt: HostRuntime) -> Result<(), Fail> {
-    let mut desk = two_of_three(rt.alloc(), (2, 0, 4))?;
-    let first = leased(&rt, &mut desk, 1, 0);
-    let second = leased(&rt, &mut desk, 2, 0);
+    (
+        "claims and ends of leases tell so",
+        (1, 0, 4),
+        1,
+        &[
+            (Step::Get(1, 0), Said::Opened(1, 0)),
+            (Step::Get(2, 1), Said::Waits),
+            (Step::Claim(2), Said::Still),
+            (Step::Told(0), Said::Told(Some(Did::Still(2)), 3, 0)),
+            (Step::Back(1, 2), Said::Freed(false)),
+            (Step::Told(0), Said::Told(returned!(2, 1), 4, 1)),
+            (Step::Claim(2), Said::Reused(1, 2)),
+            (Step::Told(0), Said::Told(Some(Did::Claimed(2)), 5, 1)),
+            (Step::Back(2, 3), Said::Freed(false)),
+            (Step::Get(3, 4), Said::Reused(1, 4)),
+            (Step::Told(0), Said::Told(wrote!(4, LEASED_AGAIN), 7, 2)),
+            (Step::Counts, Said::Counts(3, 2, 1)),
+            (Step::Drop(3, 5), Said::Freed(true)),
+            (
+                Step::Told(0),
+                Said::Told(ended!(5, 1, Cause::Dropped), 8, 3),
+            ),
+        ],
+    ),
+    (
+        "withdrawing what was granted spends it",
+        (1, 0, 4),
+        1,
+        &[
+            (Step::Get(1, 0), Said::Opened(1, 0)),
+            (Step::Get(2, 1), Said::Waits),
+            (Step::Get(3, 1), Said::Waits),
+            (Step::Leave(2, 2), Said::Freed(false)),
+            (
+                Step::Told(0),
+                Said::Told(wrote!(2, Event::Left { transfer: 2 }), 4, 0),
+            ),
+            (Step::Drop(1, 3), Said::Freed(false)),
+            (Step::Leave(3, 4), Said::Freed(true)),
+            (
+                Step::Told(0),
+                Said::Told(ended!(4, 2, Cause::Withdrawn), 6, 2),
+            ),
+            (Step::Counts, Said::Counts(2, 2, 0)),
+        ],
+    ),
     // 65,536 is no limit, so nothing is told
-    for &(calls, limit, answer) in &[
-        (3, 1, Some(Did::Held(2))),
-        (3, 65_536, Some(Did::Held(2))),
-        (4, 0, wrote(1, Event::Limit { limit: 65_535 })),
-        (5, 2, wrote(1, Event::Limit { limit: 2 })),
-    ] {
-        let _ = desk.set_host_limit(limit, 1);
-        assert_eq!(rt; told(&rt, &desk, 0), (answer, calls, 0));
+    (
+        "limits and prunes tell what they did",
+        (2, 0, 4),
+        1,
+        &[
+            (Step::Get(1, 0), Said::Opened(1, 0)),
+            (Step::Get(2, 0), Said::Opened(2, 0)),
+            (Step::Limit(1, 1), Said::Refused(Refusal::Busy(2))),
+            (Step::Told(0), Said::Told(Some(Did::Held(2)), 3, 0)),
+            (Step::Limit(65_536, 1), Said::Refused(Refusal::BadLimit)),
+            (Step::Told(0), Said::Told(Some(Did::Held(2)), 3, 0)),
+            (Step::Limit(0, 1), Said::Freed(false)),
+            (
+                Step::Told(0),
+                Said::Told(wrote!(1, Event::Limit { limit: 65_535 }), 4, 0),
+            ),
+            (Step::Limit(2, 1), Said::Freed(false)),
+            (
+                Step::Told(0),
+                Said::Told(wrote!(1, Event::Limit { limit: 2 }), 5, 0),
+            ),
+            (Step::Back(1, 5), Said::Freed(false)),
+            (Step::Back(2, 6), Said::Freed(false)),
+            (Step::Prune(15, 10, 0), Said::Pruned(0)),
+            (Step::Told(0), Said::Told(pruned!(15, 10, 0, 0), 8, 2)),
+            (Step::Prune(16, 10, 0), Said::Pruned(1)),
+            (Step::Told(0), Said::Told(pruned!(16, 10, 0, 1), 9, 2)),
+            (Step::Prune(17, 100, 16), Said::Pruned(1)),
+            (Step::Told(0), Said::Told(pruned!(17, 100, 16, 1), 10, 2)),
+        ],
+    ),
+    (
+        "a stranger is told of",
+        (1, 0, 4),
+        1,
+        &[
+            (Step::Get(1, 0), Said::Opened(1, 0)),
+            (Step::Get(2, 1), Said::Waits),
+            (Step::Other, Said::Done),
+            (Step::Claim(2), Said::Stranger),
+            (Step::Told(2), Said::Told(Some(Did::Stranger(2)), 1, 0)),
+            (Step::Leave(2, 2), Said::Stranger),
+            (Step::Told(2), Said::Told(Some(Did::Stranger(2)), 2, 0)),
+            (Step::Told(0), Said::Told(waited!(1, 2), 2, 0)),
+            (Step::Other, Said::Done),
+            (Step::Leave(2, 3), Said::Freed(false)),
+            (Step::Drop(1, 3), Said::Freed(true)),
+        ],
+    ),
+    (
+        "an acquire that is halfway tells nothing",
+        (0, 1, 4),
+        1,
+        &[
+            (Step::Get(1, 0), Said::Opened(1, 0)),
+            (Step::Get(2, 1), Said::NoRoom),
+            (Step::Retry(2), Said::NoRoom),
+            (Step::Told(0), Said::Told(opened!(0, 1, 1), 1, 0)),
+            (Step::LastTry(3), Said::Waits),
+            (Step::Told(0), Said::Told(waited!(3, 2), 2, 0)),
+            (Step::Leave(2, 4), Said::Freed(false)),
+            (Step::Drop(1, 4), Said::Freed(true)),
+        ],
+    ),
+    (
+        "a lease that comes back is not spent",
+        (0, 0, 1),
+        1,
+        &[
+            (Step::Get(1, 0), Said::Opened(1, 0)),
+            (Step::Get(2, 0), Said::Opened(2, 0)),
+            (Step::Back(1, 1), Said::Freed(false)),
+            (Step::Back(2, 2), Said::NotKept),
+            (Step::Told(0), Said::Told(returned!(1, 1), 3, 1)),
+            (Step::Counts, Said::Counts(2, 1, 1)),
+            (Step::BackOrClose(2, 3), Said::Freed(true)),
+            (Step::Told(0), Said::Told(returned!(3, 2), 4, 2)),
+        ],
+    ),
+];
+
+#[test]
+fn a_pass_is_told_that(rt: HostRuntime) -> Result<(), Fail> {
+    for row in &ROWS {
+        let (name, limits, first, steps) = *row;
+        let desk = Desk::of_two(rt.alloc(), limits, first, 3, (0, 2))?;
+        run(&rt, rt.alloc(), desk, name, steps);
     }
-    give_back(&rt, &mut desk, first, 5);
-    give_back(&rt, &mut desk, second, 6);
-    for &(calls, now, max_age, max_life, closed) in &[
-        (8, 15, 10, 0, 0),
-        (9, 16, 10, 0, 1),
-        (10, 17, 100, 16, 1),
-    ] {
-        desk.prune(now, max_age, max_life);
-        let pruned = Did::Pruned {
-            now,
-            max_age,
-            max_life,
-            closed,
-        };
-        assert_eq!(rt; told(&rt, &desk, 0), (Some(pruned), calls, 2));
-    }
-    Ok(())
-}
-
-#[test]
-fn a_stranger_is_told_of(rt: HostRuntime) -> Result<(), Fail> {
-    let mut desk = two_of_three(rt.alloc(), (1, 0, 4))?;
-    let first = leased(&rt, &mut desk, 1, 0);
-    let second = waits(&rt, &mut desk, 2, 1);
-    desk.turn_to_other();
-    let second = stray(&rt, &mut desk, second).keep();
-    let stranger = Some(Did::Stranger(2));
-    assert_eq!(rt; told(&rt, &desk, 2), (stranger, 1, 0));
-    let Err(refused) = desk.withdraw(second, 2) else {
-        panic!(rt; "the ticket was taken");
-    };
-    assert_eq!(rt; told(&rt, &desk, 2), (stranger, 2, 0));
-    assert_eq!(rt; told(&rt, &desk, 0), (waited(1, 2), 2, 0));
-    desk.turn_to_other();
-    leave(&rt, &mut desk, refused.keep(), 3);
-    drop_lease(&rt, &mut desk, first, 3);
-    Ok(())
-}
-
-#[test]
-fn an_acquire_that_is_halfway_tells_nothing(rt: HostRuntime) -> Result<(), Fail> {
-    let mut desk = two_of_three(rt.alloc(), (0, 1, 4))?;
-    let first = leased(&rt, &mut desk, 1, 0);
-    let got = asked(&rt, &mut desk, want_of(2), 1);
-    let booking = booking_of(&rt, got);
-    let booking = booking_of(&rt, desk.retry(&rt, booking, 2));
-    assert_eq!(rt; told(&rt, &desk, 0), (opened(0, 1, 1), 1, 0));
-    let second = ticket_of(&rt, desk.retry_at_last(&rt, booking, 3));
-    assert_eq!(rt; told(&rt, &desk, 0), (waited(3, 2), 2, 0));
-    leave(&rt, &mut desk, second, 4);
-    drop_lease(&rt, &mut desk, first, 4);
-    Ok(())
-}
-
-#[test]
-fn a_lease_that_comes_back_is_not_spent(rt: HostRuntime) -> Result<(), Fail> {
-    let mut desk = two_of_three(rt.alloc(), (0, 0, 1))?;
-    let first = leased(&rt, &mut desk, 1, 0);
-    let second = leased(&rt, &mut desk, 2, 0);
-    give_back(&rt, &mut desk, first, 1);
-    let back = desk.give_back(&rt, second, KEEP, 2);
-    let second = not_kept(&rt, back);
-    assert_eq!(rt; told(&rt, &desk, 0), (returned(1, 1), 3, 1));
-    assert_eq!(rt; desk.counts(), (2, 1, 1));
-    let back = desk.give_back_or_close(&rt, second, KEEP, 3);
-    spent(&rt, back);
-    assert_eq!(rt; told(&rt, &desk, 0), (returned(3, 2), 4, 2));
     Ok(())
 }
