@@ -5,8 +5,8 @@ ghost use Rattle.std.specs.Prelude.{◌≡◌, IsSome};
 
 use crate::desk::{KEEP, want_of};
 use budget::{GREATEST_LIMIT, Limits, Refusal};
-use bundle::{Lease, Ticket};
-use cache::{Acquired, Pool};
+use bundle::{Acquired, Lease, Ticket};
+use cache::Pool;
 use conn_log::Want;
 use std::alloc::Global;
 use std::test::Fail;

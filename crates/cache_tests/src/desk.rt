@@ -7,8 +7,8 @@ ghost use Rattle.bundle.specs.Replies.{IfClaimed};
 ghost use Rattle.cache.specs.Pools.{IsMadeHere, IfAcquired, GivesLease, StaysHosts, StaysPool};
 
 use budget::{Limits, Refusal};
-use bundle::{Claimed, Lease, Stray, Ticket};
-use cache::{Acquired, Pool};
+use bundle::{Acquired, Claimed, Lease, Stray, Ticket};
+use cache::Pool;
 use conn_log::{Cause, Entry, Event, Want};
 use persistence::{Facts, Framing, Version};
 use std::alloc::Global;
@@ -47,13 +47,6 @@ pub(crate) fn opened(connection: u32, want: Want, moment: u64) -> Entry {
     }
 }
 
-pub(crate) fn leased(connection: u32, want: Want, moment: u64) -> Entry {
-    Entry {
-        moment,
-        event: Event::Leased { connection, want },
-    }
-}
-
 pub(crate) fn returned(connection: u32, moment: u64) -> Entry {
     Entry {
         moment,
@@ -68,13 +61,6 @@ pub(crate) fn closed(connection: u32, cause: Cause, moment: u64) -> Entry {
     Entry {
         moment,
         event: Event::Closed { connection, cause },
-    }
-}
-
-pub(crate) fn waited(want: Want, moment: u64) -> Entry {
-    Entry {
-        moment,
-        event: Event::Waited { want },
     }
 }
 
@@ -174,14 +160,6 @@ impl Desk {
                 panic!(rt; "the ticket is a stranger");
             }
         }
-    }
-
-    /// The number of the connection that the transfer has a lease of, and whether it was idle
-    /// before.
-    pub fn lease(&self, rt: &impl Abort, transfer: u64) -> (u32, bool) {
-        let place = place_of_lease(&self.leases, transfer);
-        assert!(rt; place < self.leases.len());
-        (self.leases[place].number(), self.leases[place].reused())
     }
 
     /// Abandons all leases and withdraws all tickets. What is left is the pool.
@@ -312,10 +290,7 @@ fn with_stream(lease: Lease<()>) -> Lease<()>
 pub(crate) fn strange(rt: &impl Abort, pool: &mut Pool<()>, ticket: Ticket) -> Ticket {
     match pool.claim(ticket) {
         Err(stray) => stray.keep(),
-        Ok(Claimed::Still(ticket)) => {
-            ticket.into_stray().scrap();
-            panic!(rt; "the ticket is no stranger");
-        }
+        Ok(Claimed::Still(_ticket)) => panic!(rt; "the ticket is no stranger"),
         Ok(Claimed::Lease(lease)) => {
             pool.abandon(lease, 0);
             panic!(rt; "the ticket was taken");

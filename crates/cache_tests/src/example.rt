@@ -1,7 +1,8 @@
 //! The program of README: requests to two hosts over one pool.
 
 use budget::Limits;
-use cache::{Acquired, Pool};
+use bundle::Acquired;
+use cache::Pool;
 use conn_log::Want;
 use persistence::{Method, ResponseReader};
 use std::test::Fail;

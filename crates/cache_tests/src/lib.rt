@@ -12,6 +12,4 @@ mod drawn;
 #[cfg(test)]
 mod example;
 #[cfg(test)]
-mod limits;
-#[cfg(test)]
 mod oldest_of_all;
