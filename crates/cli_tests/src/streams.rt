@@ -87,7 +87,7 @@ fn a_writer_that_fails_in_the_middle(rt: HostRuntime) -> Result<(), Fail> {
         line: 4,
         kind: FaultKind::Write,
     };
-    for takes_none in [false, true] {
+    for &takes_none in &[false, true] {
         let mut reader = script.as_bytes();
         let mut writer = Expecting {
             rest: b"opened 0.1 for 1 at 0\nreturned 0",

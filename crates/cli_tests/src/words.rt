@@ -135,7 +135,7 @@ fn how_to_end_a_script_is_told_on_a_terminal(rt: HostRuntime) -> Result<(), Fail
 
 #[test]
 fn other_words_are_refused(rt: HostRuntime) -> Result<(), Fail> {
-    for given in ["", "help", "scripts", "script a again", "--verbose"] {
+    for &given in &["", "help", "scripts", "script a again", "--verbose"] {
         let given = words(rt.alloc(), given)?;
         let (status, output, errors) = run_words(rt.alloc(), given, "");
         assert_eq!(rt; status, 2);
@@ -147,7 +147,7 @@ fn other_words_are_refused(rt: HostRuntime) -> Result<(), Fail> {
 
 #[test]
 fn help_and_version_are_told_on_standard_output(rt: HostRuntime) -> Result<(), Fail> {
-    for (word, start) in [
+    for &(word, start) in &[
         ("--help", "libcurl's connection cache"),
         ("--version", "curlpool 0.1.0\n"),
     ] {
@@ -162,7 +162,7 @@ fn help_and_version_are_told_on_standard_output(rt: HostRuntime) -> Result<(), F
 
 #[test]
 fn words_that_could_not_be_had(rt: HostRuntime) -> Result<(), Fail> {
-    for (is_text, expected, start) in [
+    for &(is_text, expected, start) in &[
         (false, 2, "error: invalid UTF-8"),
         (true, 4, "run: out of memory\n"),
     ] {
