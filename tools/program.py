@@ -11,24 +11,24 @@ FOLDER = os.path.join(TOP, "crates", NAME)
 BUILT = os.path.join(FOLDER, "out", NAME)
 
 
-def needed():
-    """The crates that the program stands on and the program itself, each with those of them that it stands on."""
+def needed(crate=NAME):
+    """The crates that this one stands on and the crate itself, each with those of them that it stands on."""
     listed = {}
     with open(os.path.join(TOP, "crates.txt"), encoding="utf8") as lines:
         for line in lines:
             name, found, libraries = line.split("#")[0].partition(":")
             if found:
                 listed[name.split()[0]] = libraries.split()
-    wanted = [NAME]
+    wanted = [crate]
     for name in wanted:
         wanted += [below for below in listed[name] if below in listed and below not in wanted]
     return {name: [below for below in listed[name] if below in wanted] for name in listed if name in wanted}
 
 
-def sources():
-    """The files and folders that the program is built from."""
+def sources(crate=NAME):
+    """The files and folders that the crate is built from."""
     yield os.path.join(TOP, "crates.txt")
-    for name in needed():
+    for name in needed(crate):
         for part in ("src", "specs"):
             for folder, _, files in os.walk(os.path.join(TOP, "crates", name, part)):
                 yield folder
@@ -39,12 +39,17 @@ def is_built():
     return os.access(BUILT, os.X_OK)
 
 
+def is_newest(path, crate=NAME):
+    """Whether that file is there, and nothing that the crate is built from is newer."""
+    if not os.path.exists(path):
+        return False
+    built = os.stat(path).st_mtime_ns
+    return all(os.stat(source).st_mtime_ns <= built for source in sources(crate))
+
+
 def is_current():
     """Whether the program is built, and nothing that it is built from is newer."""
-    if not is_built():
-        return False
-    built = os.stat(BUILT).st_mtime_ns
-    return all(os.stat(source).st_mtime_ns <= built for source in sources())
+    return is_built() and is_newest(BUILT)
 
 
 def build_unless_current():
