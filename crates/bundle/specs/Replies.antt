@@ -25,7 +25,7 @@ IsGot host want no_room (NoRoom booking) = booking ≡ record { site = host; wan
 IsGot host want again (Again booking) = booking ≡ record { site = host; want = want }
 IsGot host want reply got = ⊥
 
--- what an acquire gives is of this host, for that want, and of that moment
+-- what an acquire gives is of this host and for that want; a lease and a ticket are of that moment
 abbrev pub IsFor : {S : Type 0} → ℕ → Want → ℕ → Got S → Type 0
 IsFor host want moment (Lease lease) = (lease.site ≡ host) × (lease.start.want ≡ want) × (lease.start.moment ≡ moment)
 IsFor host want moment (Wait ticket) = ticket ≡ record { site = host; wait = record { want = want; moment = moment } }
@@ -48,8 +48,8 @@ IsBack old new lease returning back = ⊥
 abbrev pub GivesBack : {S : Type 0} → Bool → Try → HostShown S → HostShown S → Leasing S → Facts → ℕ → Back S → Type 0
 GivesBack close_if_full told old new lease facts now back = IsBack old new lease (given_back close_if_full told old.settings old.log lease.start.number facts now) back
 
--- what a give back may answer: the lease itself comes back, where the budget has to be asked again, or keeps none and
--- the call may not close; it is never a stranger
+-- what a give back may answer: what comes back is the lease that was given, and for want of room among those kept it
+-- does so only where the call may not close; it is never a stranger
 abbrev pub IsBackAs : {S : Type 0} → Bool → Leasing S → Back S → Type 0
 IsBackAs close_if_full lease (Spent freed) = Unit {0}
 IsBackAs close_if_full lease (NoKeep same) = (close_if_full ≡ false) × (same ≡ lease)

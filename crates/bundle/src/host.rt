@@ -144,8 +144,9 @@ impl<S: Drop> Bundle<S> {
         booking.site() == self.host() && self.bookings.contains(&booking.transfer())
     }
 
-    /// Gives a booking up that is not this host's, so that it need not be kept where its own host
-    /// is gone. Nothing changes here; at its host the transfer stays booked.
+    /// Gives a booking up that is not this host's: whoever let go of its host's lock may have come
+    /// back to another host. Nothing changes here. At its own host the transfer stays booked, and
+    /// nobody can try its acquire again.
     ///
     /// Asked of the caller: [`Bundle::has_booked`] is false of it.
     pub fn scrap_stranger(&self, booking: Booking)

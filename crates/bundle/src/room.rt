@@ -140,8 +140,8 @@ impl<S: Drop> Bundle<S> {
 
     /// Closes every idle connection that has been idle for longer than `max_age`, or open for
     /// longer than `max_life` where that is not 0, in seconds, and frees their permits; it answers
-    /// how many it closed, no more than its part of the budget kept, and tells the pass. `now` is in
-    /// seconds. It takes no memory.
+    /// how many it closed, no more than its part of the budget kept, and tells the pass. `now` is
+    /// in seconds. It takes no memory.
     ///
     /// Asked of the caller: the pass is enrolled here.
     pub fn prune<P: Permits>(
