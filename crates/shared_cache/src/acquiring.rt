@@ -1,0 +1,224 @@
+//! How a transfer acquires a connection.
+
+ghost use Rattle.std.specs.Prelude.{◌≡◌, ◌<◌, ◌≤◌, length, IfOk, IfErr, OnErr, OnOk, Some, Err};
+ghost use Rattle.bundle.specs.Replies.{IfGot};
+ghost use Rattle.bundle.specs.Passes.{tells, acquire_did};
+ghost use Rattle.shared_cache.specs.Calls.{IsAcquiredFor, IsGotFor, IsAgainstAcquire};
+ghost use Rattle.shared_cache.specs.Passes.{IsPassOf, result_did, acquired_did};
+
+use crate::cache::SharedCache;
+use crate::names::Names;
+use crate::serving::TRIES;
+use budget::{Pass, Refusal};
+use bundle::{Acquired, Booking, Did, Got};
+use conn_log::{Cause, Want};
+use std::sync::Wait;
+
+impl<S: Drop, N: Names> SharedCache<S, N> {
+    /// Leases a connection of the host to the transfer: the newest idle one that fits its want,
+    /// else a new one. Before that, idle ones of its lane that are too old for it are closed,
+    /// unless it wants a new one. At the host's limit the host's oldest idle one makes room, and
+    /// where the total has none the oldest of all, which is looked for three times at most; then
+    /// the host's own. The transfer waits where none is idle at the host, and behind others that
+    /// wait there. Then hosts that are queued take turns. `now` is in seconds.
+    ///
+    /// All memory that the lease or ticket and its end will need is taken first. Refused, in this
+    /// order, with [`Refusal::BadSite`] where there is no such site, with
+    /// [`Refusal::TransferBusy`] where the transfer holds a connection of the host, waits there or
+    /// is halfway to one, with [`Refusal::Exhausted`] where no connection number is left, and with
+    /// [`Refusal::Memory`] where memory runs out.
+    ///
+    /// The pass is told the entry of the start or the wait of what it gives, or that the transfer
+    /// is busy or no number is left; nothing where there is no such site or memory runs out.
+    ///
+    /// Asked of the caller: the pass is this cache's.
+    #[inline(always)]
+    pub fn acquire<R: Wait>(
+        &self,
+        rt: &R,
+        site: u32,
+        want: Want,
+        now: u64,
+        pass: &mut Pass<Did>,
+    ) -> Result<Acquired<S>, Refusal>
+        requires { IsPassOf N.names pass.old }
+        ensures ok { IfOk result (IsAcquiredFor N.names site want now) }
+        ensures there { OnOk result (site < length N.names.hosts) }
+        ensures bad_site { length N.names.hosts ≤ site → result ≡ Err Refusal.BadSite }
+        ensures err { site < length N.names.hosts → IfErr result IsAgainstAcquire }
+        ensures tells { pass.new ≡ tells site (result_did want.transfer result) pass.old }
+        ensures pass { IsPassOf N.names pass.new }
+    {
+        if !self.has(site) {
+            return Err(Refusal::BadSite);
+        }
+        let acquired = self.start(rt, site, want, now, pass)?;
+        self.serve(rt, now);
+        Ok(acquired)
+    }
+
+    // The same, before hosts that are queued take turns.
+    #[inline(always)]
+    fn start<R: Wait>(
+        &self,
+        rt: &R,
+        site: u32,
+        want: Want,
+        now: u64,
+        pass: &mut Pass<Did>,
+    ) -> Result<Acquired<S>, Refusal>
+        requires there { site < length N.names.hosts }
+        requires pass { IsPassOf N.names pass.old }
+        ensures ok { IfOk result (IsAcquiredFor N.names site want now) }
+        ensures err { IfErr result IsAgainstAcquire }
+        ensures tells { pass.new ≡ tells site (result_did want.transfer result) pass.old }
+        ensures pass { IsPassOf N.names pass.new }
+    {
+        let got = self.try_first(rt, site, want, now, pass);
+        match got {
+            Ok(Got::Lease(lease)) => Ok(Acquired::Lease(lease)),
+            Ok(Got::Wait(ticket)) => Ok(Acquired::Wait(ticket)),
+            Ok(Got::NoRoom(booking)) => Ok(self.start_with_room(rt, booking, now, pass, TRIES)),
+            Ok(Got::Again(booking)) => Ok(self.start_again(rt, booking, now, pass)),
+            Err(refusal) => Err(refusal),
+        }
+    }
+
+    // The first try.
+    #[inline(always)]
+    fn try_first<R: Wait>(
+        &self,
+        rt: &R,
+        site: u32,
+        want: Want,
+        now: u64,
+        pass: &mut Pass<Did>,
+    ) -> Result<Got<S>, Refusal>
+        requires there { site < length N.names.hosts }
+        requires pass { IsPassOf N.names pass.old }
+        ensures got { IfGot result (IsGotFor N.names site want now) }
+        ensures err { IfErr result IsAgainstAcquire }
+        ensures tells { pass.new ≡ tells site (acquire_did want.transfer result) pass.old }
+        ensures pass { IsPassOf N.names pass.new }
+    {
+        let mut host = self.at(rt, site);
+        let got = host.acquire(&self.budget, want, now, pass);
+        self.note(&host);
+        got
+    }
+
+    // Tries again where another thread had changed the total.
+    #[cold]
+    #[inline(never)]
+    fn start_again<R: Wait>(
+        &self,
+        rt: &R,
+        booking: Booking,
+        now: u64,
+        pass: &mut Pass<Did>,
+    ) -> Acquired<S>
+        requires there { booking.site < length N.names.hosts }
+        requires pass { IsPassOf N.names pass.old }
+        ensures acquired { IsAcquiredFor N.names booking.site booking.want now result }
+        ensures tells { pass.new ≡ tells booking.site (Some (acquired_did result)) pass.old }
+        ensures pass { IsPassOf N.names pass.new }
+    {
+        let tried = self.try_again(rt, booking, now, pass);
+        match tried {
+            Ok(acquired) => acquired,
+            Err(booking) => self.start_with_room(rt, booking, now, pass, TRIES),
+        }
+    }
+
+    // Tries again where the total has no room: so many times at most the oldest idle connection of
+    // all is closed before, and then it is the last try.
+    #[cold]
+    #[inline(never)]
+    fn start_with_room<R: Wait>(
+        &self,
+        rt: &R,
+        booking: Booking,
+        now: u64,
+        pass: &mut Pass<Did>,
+        tries: u32,
+    ) -> Acquired<S>
+        requires there { booking.site < length N.names.hosts }
+        requires pass { IsPassOf N.names pass.old }
+        ensures acquired { IsAcquiredFor N.names booking.site booking.want now result }
+        ensures tells { pass.new ≡ tells booking.site (Some (acquired_did result)) pass.old }
+        ensures pass { IsPassOf N.names pass.new }
+    {
+        if tries == 0 || !self.make_room(rt, Cause::TotalRoom, now) {
+            return self.start_at_last(rt, booking, now, pass);
+        }
+        let tried = self.try_again(rt, booking, now, pass);
+        match tried {
+            Ok(acquired) => acquired,
+            Err(booking) => self.start_with_room(rt, booking, now, pass, tries - 1),
+        }
+    }
+
+    // Tries again, as long as another thread changed the total meanwhile; the booking comes back
+    // where the total has no room.
+    fn try_again<R: Wait>(
+        &self,
+        rt: &R,
+        booking: Booking,
+        now: u64,
+        pass: &mut Pass<Did>,
+    ) -> Result<Acquired<S>, Booking>
+        requires there { booking.site < length N.names.hosts }
+        requires pass { IsPassOf N.names pass.old }
+        ensures ok { IfOk result (IsAcquiredFor N.names booking.site booking.want now) }
+        ensures told { IfOk result (λ acquired. pass.new
+            ≡ tells booking.site (Some (acquired_did acquired)) pass.old) }
+        ensures err { IfErr result (λ same. same ≡ booking) }
+        ensures untold { OnErr result (pass.new ≡ pass.old) }
+        ensures pass { IsPassOf N.names pass.new }
+    {
+        let mut halfway = booking;
+        for _ in rt.forever() {
+            let mut host = self.at_booked(rt, &halfway);
+            let got = host.retry(&self.budget, halfway, now, pass);
+            self.note(&host);
+            match got {
+                Got::Lease(lease) => return Ok(Acquired::Lease(lease)),
+                Got::Wait(ticket) => return Ok(Acquired::Wait(ticket)),
+                Got::NoRoom(booking) => return Err(booking),
+                Got::Again(booking) => halfway = booking,
+            }
+        }
+        unreachable!()
+    }
+
+    // The last try, with the queue's lock taken too: it comes to a start or a wait.
+    fn start_at_last<R: Wait>(
+        &self,
+        rt: &R,
+        booking: Booking,
+        now: u64,
+        pass: &mut Pass<Did>,
+    ) -> Acquired<S>
+        requires there { booking.site < length N.names.hosts }
+        requires pass { IsPassOf N.names pass.old }
+        ensures acquired { IsAcquiredFor N.names booking.site booking.want now result }
+        ensures tells { pass.new ≡ tells booking.site (Some (acquired_did result)) pass.old }
+        ensures pass { IsPassOf N.names pass.new }
+    {
+        let mut halfway = booking;
+        for _ in rt.forever() {
+            let mut host = self.at_booked(rt, &halfway);
+            let mut queue = self.queue.lock(rt);
+            let (budget, link) = (&self.budget, &self.link);
+            let got = host.retry_at_last(budget, link, &mut queue, halfway, now, pass);
+            self.note_queue(&queue);
+            self.note(&host);
+            match got {
+                Got::Lease(lease) => return Acquired::Lease(lease),
+                Got::Wait(ticket) => return Acquired::Wait(ticket),
+                Got::NoRoom(booking) | Got::Again(booking) => halfway = booking,
+            }
+        }
+        unreachable!()
+    }
+}

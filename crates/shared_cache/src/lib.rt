@@ -1,0 +1,24 @@
+//! The connection cache that threads share: a lock for each host, and limits over all hosts that
+//! are kept by words.
+#![tactic(auto)]
+
+mod acquiring;
+mod cache;
+mod gathered;
+mod gathering;
+mod hints;
+mod inspecting;
+mod limits;
+mod locked;
+mod locked_calls;
+mod names;
+mod passes;
+mod plan;
+mod pruning;
+mod serving;
+mod spending;
+
+pub use cache::SharedCache;
+pub use gathered::{Gathered, HostCount};
+pub use names::Names;
+pub use plan::Plan;
