@@ -1,0 +1,105 @@
+//! What want of memory leaves. The test passes whichever allocation fails: the refusal says so and
+//! changes nothing, the call succeeds when it comes again, and spending takes none. How plans,
+//! caches, passes and accounts come again is in `making` and `gathering`.
+
+ghost use Rattle.std.specs.Prelude.{◌≡◌};
+
+use crate::desk::{Desk, KEEP, Said, Stream, look_said, want_of};
+use crate::gathering::{Account, Passes, check_account};
+use crate::making::{new_cache, new_plan};
+use budget::Refusal;
+use bundle::Bundle;
+use shared_cache::{Names, Plan, SharedCache};
+use std::alloc::Global;
+use std::marker::Brand;
+use std::process::Abort;
+use std::sync::Wait;
+
+/// How often two transfers acquire a connection of host 0: its log grows several times.
+const ROUNDS: u64 = 20;
+
+/// The account at the end.
+const ACCOUNT: Account = (1, 1, &[(1, 39, 0, 20, 1)]);
+
+// How many entries the host's log has, what is to be seen of it, and what the pass remembers.
+fn shown<N: Names>(
+    rt: &(impl Wait + Abort),
+    cache: &SharedCache<Stream, N>,
+    desk: &Desk<N>,
+    site: u32,
+) -> (Result<usize, Refusal>, Said, Said) {
+    let entries = cache.inspect(rt, site, |bundle: &Bundle<Stream>| bundle.log().len());
+    (entries, look_said(rt, cache, site), desk.told(rt, site))
+}
+
+// What the transfer is answered at host 0. Where memory runs out nothing changes, and it asks
+// again.
+fn asked_at_last<N: Names>(
+    rt: &(impl Wait + Abort),
+    cache: &SharedCache<Stream, N>,
+    desk: &mut Desk<N>,
+    transfer: u64,
+) -> Said {
+    let before = shown(rt, cache, desk, 0);
+    let said = desk.acquire(rt, cache, 0, want_of(transfer), 0);
+    if said != Said::Refused(Refusal::Memory) {
+        return said;
+    }
+    assert_eq!(rt; shown(rt, cache, desk, 0), before);
+    desk.acquire(rt, cache, 0, want_of(transfer), 0)
+}
+
+// The same of a change of host 1's limit.
+fn limited_at_last<N: Names>(
+    rt: &(impl Wait + Abort),
+    cache: &SharedCache<Stream, N>,
+    desk: &mut Desk<N>,
+    limit: u32,
+) -> Said {
+    let before = shown(rt, cache, desk, 1);
+    let said = desk.limit(rt, cache, 1, limit, 0);
+    if said != Said::Refused(Refusal::Memory) {
+        return said;
+    }
+    assert_eq!(rt; shown(rt, cache, desk, 1), before);
+    desk.limit(rt, cache, 1, limit, 0)
+}
+
+// One transfer has the connection, and hands it to another one that waits.
+fn use_often<N: Names>(
+    rt: &(impl Wait + Abort),
+    cache: &SharedCache<Stream, N>,
+    desk: &mut Desk<N>,
+) {
+    for round in 0..ROUNDS {
+        let (first, second) = (2 * round, 2 * round + 1);
+        asked_at_last(rt, cache, desk, first);
+        assert_eq!(rt; asked_at_last(rt, cache, desk, second), Said::Waits);
+        desk.back(rt, cache, first, KEEP, 0);
+        assert_eq!(rt; desk.claim(rt, cache, second), Said::Reused(1, 0));
+        desk.back(rt, cache, second, KEEP, 0);
+        let limit = round as u32 + 2;
+        assert_eq!(rt; limited_at_last(rt, cache, desk, limit), Said::Done);
+    }
+}
+
+// A cache of that plan, from its beginning to its end. Each host may have one open connection.
+fn whole_life<N: Names, R: Wait + Abort>(rt: &R, alloc: Global, plan: Plan<Stream>)
+    requires { plan ≡ N.names }
+{
+    let cache: SharedCache<Stream, N> = new_cache(rt, alloc, plan);
+    let mut desk = Desk::new(rt, alloc, &cache);
+    use_often(rt, &cache, &mut desk);
+    let mut passes = Passes::new(alloc);
+    passes.put_by(rt, desk.close(rt));
+    match passes.gather(alloc, cache) {
+        Ok(gathered) => check_account(rt, &gathered, "a whole life", ACCOUNT),
+        Err((_cache, _passes, refusal)) => panic!(rt; "not gathered: {refusal}"),
+    }
+}
+
+#[test]
+fn want_of_memory_loses_nothing(rt: HostRuntime) {
+    let plan = new_plan(&rt, rt.alloc(), (1, 0, 4), 2);
+    whole_life::<Brand, HostRuntime>(&rt, rt.alloc(), plan);
+}
