@@ -4,7 +4,7 @@ use Rattle.std.specs.Prelude.{if◌then◌else◌}
 use Rattle.std.proofs.lemmas.Bool.Decides.{eqb_tells}
 use Rattle.std.proofs.lemmas.List.{get_or-set_other, length-set}
 use Rattle.budget.specs.Lobby.{Queue, is_listed}
-use Rattle.budget.specs.Plain.{Plain, held_at_host, KeepsOtherHosts as KeepsOtherParts}
+use Rattle.budget.specs.Plain.{Plain}
 use Rattle.budget.specs.declared.pass.Account.{Account}
 use Rattle.budget.specs.Accounts.{vacant, account_at, change_at, told as told_did, spent_once, KeepsSeats}
 use Rattle.conn_log.specs.declared.stamp.Stamp.{Stamp}
@@ -25,6 +25,7 @@ use Rattle.host_rules.proofs.OtherHosts.{still_listed}
 use Rattle.oldest.specs.Oldest.{earlier_of, is_before, is_since_before, stamp_at}
 use Rattle.cache.specs.Pools.{IsKeptHost, AreKept}
 use Rattle.oldest.proofs.NotedStamps.{lowered_not_later, set_not_later}
+use Rattle.cache.proofs.HostParts.{ChangesPart}
 use Rattle.cache.proofs.OneHost.{kept_changed, read_is}
 
 -- no account changes but that of one host
@@ -121,18 +122,17 @@ module _ {S : Type 0} (site : ℕ) (hosts : List (HostShown S)) (was new : HostS
   -- all is kept once the call of one host is told and noted
   pub kept_called : AreKept hosts budget lobby pass noted → site < length hosts → was ≡ slice_index_or hosts site was
       → StaysThere was new → IsSoundAndQuiet new.settings new.log
-      → KeepsOtherParts site budget later → held_at_host later.hosts site ≡ held_by new.log
+      → ChangesPart site budget later (held_by new.log)
       → MarksOne site (is_queued new.settings new.log) lobby after
       → TellsOne was.host pass told → KeepsSeats pass told → AccountsForStarts was new pass told
       → NotesOne site noted lowered (oldest_stamp new.log site)
       → AreKept (slice_set hosts site new) later after told lowered
-  kept_called kept there read same settled others part marks tells seats account notes =
+  kept_called kept there read same settled part marks tells seats account notes =
       let it : IsKeptHost budget.limits site was lobby.order pass (stamp_at noted site) =
       subst (λ (h : HostShown S). IsKeptHost budget.limits site h lobby.order pass (stamp_at noted site)) (sym (read_is hosts site was there read)) (kept.each site there) in
       kept_changed site hosts was new budget later lobby after pass told noted lowered kept there read (record {
         same = same;
         settled = settled;
-        others = others;
         part = part;
         lobby_hosts = marks.lobby_hosts;
         listed = marks.listed;

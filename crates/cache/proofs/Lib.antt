@@ -1,3 +1,4 @@
+pub mod HostParts
 pub mod OneHost
 pub mod Calling
 pub mod TrueStamps

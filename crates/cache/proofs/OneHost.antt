@@ -5,7 +5,7 @@ use Rattle.std.proofs.lemmas.List.{get_or-set_same, get_or-set_other, get_or_def
 use Rattle.std.proofs.Math.ListN.{get_or-map}
 use Rattle.budget.specs.Limits.{Bounds}
 use Rattle.budget.specs.Lobby.{Queue, is_listed}
-use Rattle.budget.specs.Plain.{Plain, held_at_host, KeepsOtherHosts as KeepsOtherParts}
+use Rattle.budget.specs.Plain.{Plain, held_at_host}
 use Rattle.budget.specs.Permits.{held}
 use Rattle.budget.specs.declared.permits.Held.{Held}
 use Rattle.budget.specs.Accounts.{account_at, IsEnrolledAt, spent_at}
@@ -23,12 +23,17 @@ use Rattle.bundle.specs.Passes.{Accounts}
 use Rattle.bundle.specs.Seats.{gone}
 use Rattle.oldest.specs.Oldest.{is_before, stamp_at}
 use Rattle.pool_rules.specs.AllHosts.{AllHosts, terms, log_at, with_log, queue_after, marked}
+use Rattle.cache.proofs.HostParts.{ChangesPart}
 use Rattle.cache.specs.Pools.{PoolShown, no_host, host_in, host_at, logs_of, all_hosts, IsKeptHost, AreKept, KeepsHost, KeepsOtherHosts}
 
 module _ {S : Type 0} where
   -- the log of a host
   pub log_is : (pool : PoolShown S) (host : ℕ) → log_at (all_hosts pool) host ≡ (host_at pool host).log
   log_is pool host = get_or-map (λ (h : HostShown S). h.log) pool.hosts host no_host
+
+  -- a host that the pool shows is one of those inside
+  pub there_inside : {shown pool : PoolShown S} (site : ℕ) → shown ≡ pool → site < length pool.hosts → site < length shown.hosts
+  there_inside site is there = rw is there
 
   -- the host that was read is the one of that index
   pub read_is : (hosts : List (HostShown S)) (site : ℕ) (was : HostShown S) → site < length hosts → was ≡ slice_index_or hosts site was → was ≡ host_in hosts site
@@ -58,17 +63,17 @@ module _ {S : Type 0} where
 
   -- the parts of the budget are what the hosts hold
   pub parts_changed : (hosts : List (HostShown S)) (site : ℕ) (new : HostShown S) (budget later : Plain) → site < length hosts
-      → budget.hosts ≡ map (λ (h : HostShown S). held_by h.log) hosts → KeepsOtherParts site budget later → held_at_host later.hosts site ≡ held_by new.log
+      → budget.hosts ≡ map (λ (h : HostShown S). held_by h.log) hosts → ChangesPart site budget later (held_by new.log)
       → later.hosts ≡ map (λ (h : HostShown S). held_by h.log) (slice_set hosts site new)
-  parts_changed hosts site new budget later there parts others part =
+  parts_changed hosts site new budget later there parts part =
       let held_of : HostShown S → Held = λ (h : HostShown S). held_by h.log in
       let were = map held_of hosts in
-      let long : length later.hosts ≡ length hosts = others.count ∙ ap length parts ∙ length-map hosts held_of in
+      let long : length later.hosts ≡ length hosts = part.others.count ∙ ap length parts ∙ length-map hosts held_of in
       let longer : length later.hosts ≡ length (slice_set were site (held_of new)) = long ∙ sym (length-map hosts held_of) ∙ sym (length-set were site (held_of new)) in
       let each : (i : ℕ) → i < length later.hosts → slice_index_or later.hosts i (held 0 0) ≡ slice_index_or (slice_set were site (held_of new)) i (held 0 0) =
       (λ i lt. elim (eqb_tells i site) [
-        | inl same ↦ ap (held_at_host later.hosts) same.1 ∙ part ∙ sym (get_or-set_same were site (held_of new) (held 0 0) (omega (arith, there, length-map hosts held_of))) ∙ ap (λ k. slice_index_or (slice_set were site (held_of new)) k (held 0 0)) (sym same.1)
-        | inr other ↦ others.others i other.1 ∙ ap (λ (l : List Held). held_at_host l i) parts ∙ sym (get_or-set_other were site i (held_of new) (held 0 0) other.1)
+        | inl same ↦ ap (held_at_host later.hosts) same.1 ∙ part.own ∙ sym (get_or-set_same were site (held_of new) (held 0 0) (omega (arith, there, length-map hosts held_of))) ∙ ap (λ k. slice_index_or (slice_set were site (held_of new)) k (held 0 0)) (sym same.1)
+        | inr other ↦ part.others.others i other.1 ∙ ap (λ (l : List Held). held_at_host l i) parts ∙ sym (get_or-set_other were site i (held_of new) (held 0 0) other.1)
       ]) in
       ext_get_or (held 0 0) later.hosts (slice_set were site (held_of new)) longer each ∙ sym (map-set held_of hosts site new)
 
@@ -76,8 +81,7 @@ module _ {S : Type 0} where
   pub record ChangesHost (site : ℕ) (was new : HostShown S) (budget later : Plain) (lobby after : Queue) (pass told : Accounts) (noted lowered : List (Option Stamp)) : Type 0 where
     pub same : StaysThere was new
     pub settled : IsSoundAndQuiet new.settings new.log
-    pub others : KeepsOtherParts site budget later
-    pub part : held_at_host later.hosts site ≡ held_by new.log
+    pub part : ChangesPart site budget later (held_by new.log)
     pub lobby_hosts : after.hosts ≡ lobby.hosts
     pub listed : is_listed after.order site ≡ is_queued new.settings new.log
     pub others_listed : (other : ℕ) → other ≢ site → is_listed after.order other ≡ is_listed lobby.order other
@@ -96,7 +100,7 @@ module _ {S : Type 0} where
         → AreKept (slice_set hosts site new) later after told lowered
     kept_changed kept there read change = record {
       few = subst (λ (n : ℕ). n ≤ 1024) (sym long) kept.few;
-      parts = parts_changed hosts site new budget later there kept.parts change.others change.part;
+      parts = parts_changed hosts site new budget later there kept.parts change.part;
       lobby_hosts = change.lobby_hosts ∙ kept.lobby_hosts ∙ sym long;
       accounts = change.accounts ∙ kept.accounts ∙ sym long;
       stamps = change.stamps ∙ kept.stamps ∙ sym long;
@@ -118,7 +122,7 @@ module _ {S : Type 0} where
         now_is : IsKeptHost later.limits site new after.order told (stamp_at lowered site)
         now_is = record {
           place = change.same.host ∙ were.place;
-          settings = change.same.settings ∙ were.settings ∙ ap terms (sym change.others.limits);
+          settings = change.same.settings ∙ were.settings ∙ ap terms (sym change.part.others.limits);
           settled = change.settled;
           listed = change.listed;
           enrolled = rw change.same.host (rw change.same.tables change.enrolled);
@@ -136,7 +140,7 @@ module _ {S : Type 0} where
             let account = change.other_accounts index apart in
             let still : IsKeptHost later.limits index host after.order told (stamp_at lowered index) = record {
               place = it.place;
-              settings = it.settings ∙ ap terms (sym change.others.limits);
+              settings = it.settings ∙ ap terms (sym change.part.others.limits);
               settled = it.settled;
               listed = change.others_listed index apart ∙ it.listed;
               enrolled = still_enrolled index host apart it.place it.enrolled;

@@ -6,7 +6,7 @@ use Rattle.std.proofs.lemmas.List.{length-map}
 use Rattle.std.proofs.Math.ListN.{get_or-map}
 use Rattle.budget.specs.Limits.{Bounds}
 use Rattle.budget.specs.Lobby.{Queue, is_listed}
-use Rattle.budget.specs.Plain.{Plain, TellsOfOpen, KeepsOtherHosts, alive_in, held_at_host}
+use Rattle.budget.specs.Plain.{Plain, TellsOfOpen, alive_in, held_at_host}
 use Rattle.budget.specs.declared.permits.Held.{Held}
 use Rattle.budget.specs.declared.permits.Try.{Try}
 use Rattle.budget.specs.declared.permits.Try.TheVariants.{Got, Full, Contended}
@@ -32,6 +32,7 @@ use Rattle.pool_rules.specs.AllHosts.{AllHosts, terms, log_at, has_room, total_w
 use Rattle.cache.specs.Pools.{no_host, logs_of, host_in, all_hosts}
 use Rattle.cache.proofs.Calling.{MarksOne, NotesOne}
 use Rattle.pool_rules.proofs.OldestOfAll.{none_oldest}
+use Rattle.cache.proofs.HostParts.{ChangesPart}
 use Rattle.cache.proofs.OneHost.{log_was, logs_changed, read_is}
 use Rattle.cache.proofs.HostSums.{total_is, one_waits_less}
 
@@ -61,7 +62,7 @@ notes_none site noted log none = record {
   not_later = ap (λ (o : Option Stamp). is_before o (stamp_at noted site)) (none_oldest log site (nothing_in (idle_connections log) none));
 }
 
-module _ {S : Type 0} (hosts : List (HostShown S)) (site : ℕ) (was new : HostShown S) (budget later : Plain) (there : site < length hosts) (read : was ≡ slice_index_or hosts site was) (parts : budget.hosts ≡ map (λ (h : HostShown S). held_by h.log) hosts) (others : KeepsOtherHosts site budget later) (part : held_at_host later.hosts site ≡ held_by new.log) where
+module _ {S : Type 0} (hosts : List (HostShown S)) (site : ℕ) (was new : HostShown S) (budget later : Plain) (there : site < length hosts) (read : was ≡ slice_index_or hosts site was) (parts : budget.hosts ≡ map (λ (h : HostShown S). held_by h.log) hosts) (part : ChangesPart site budget later (held_by new.log)) where
   part_was : held_at_host budget.hosts site ≡ held_by was.log
   part_was =
       let part_of : HostShown S → Held = λ (h : HostShown S). held_by h.log in
@@ -77,10 +78,10 @@ module _ {S : Type 0} (hosts : List (HostShown S)) (site : ℕ) (was new : HostS
   turn_given Got now room tells log = refl
   turn_given Full now room tells log =
       let all = total_is hosts budget parts in
-      let moved = alive_moved site budget later (subst (λ (n : ℕ). site < n) (sym (ap length parts ∙ length-map hosts (λ (h : HostShown S). held_by h.log))) there) others in
+      let moved = alive_moved site budget later (subst (λ (n : ℕ). site < n) (sym (ap length parts ∙ length-map hosts (λ (h : HostShown S). held_by h.log))) there) part.others in
       let before : (held_at_host budget.hosts site).alive ≡ open_len was.log = ap (λ (h : Held). h.alive) part_was in
-      let after : (held_at_host later.hosts site).alive ≡ open_len was.log = ap (λ (h : Held). h.alive) part ∙ ap open_len log in
-      let limit : later.limits.total ≡ budget.limits.total = ap (λ (l : Bounds). l.total) others.limits in
+      let after : (held_at_host later.hosts site).alive ≡ open_len was.log = ap (λ (h : Held). h.alive) part.own ∙ ap open_len log in
+      let limit : later.limits.total ≡ budget.limits.total = ap (λ (l : Bounds). l.total) part.others.limits in
       absurd (no_room (alive_in later.hosts) (alive_in budget.hosts) later.limits.total budget.limits.total tells limit (omega (arith, moved, before, after)) (ap (λ (n : ℕ). nat_lt n budget.limits.total) all ∙ room))
     where
       no_room : (after before limit limit' : ℕ) → after ≡ limit → limit ≡ limit' → after ≡ before → nat_lt before limit' ≡ true → ⊥

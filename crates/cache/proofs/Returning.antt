@@ -7,7 +7,7 @@ use Rattle.std.proofs.lemmas.Bool.Decides.{nat_tests}
 use Rattle.std.proofs.lemmas.List.{length-map}
 use Rattle.std.proofs.lemmas.List.Sums.{sum_by-set}
 use Rattle.persistence.specs.declared.facts.Facts.{Facts}
-use Rattle.budget.specs.Plain.{Plain, IsWithin, TellsOfKept, kept_in, held_at_host, KeepsOtherHosts as KeepsOtherParts}
+use Rattle.budget.specs.Plain.{Plain, IsWithin, TellsOfKept, kept_in}
 use Rattle.budget.specs.Limits.{Bounds}
 use Rattle.budget.specs.declared.permits.Try.{Try}
 use Rattle.budget.specs.declared.permits.Try.TheVariants.{Got as Given, Full, Contended}
@@ -27,6 +27,7 @@ use Rattle.bundle.specs.Replies.{IsBack, GivesBack}
 use Rattle.host_rules.proofs.Soundness.{idle_as_returned}
 use Rattle.host_rules.proofs.Counts.{given_back_spends}
 use Rattle.cache.specs.Pools.{logs_of}
+use Rattle.cache.proofs.HostParts.{ChangesPart}
 use Rattle.cache.proofs.OneHost.{log_was, logs_changed, parts_changed}
 use Rattle.cache.proofs.SameLog.{hosts_same}
 use Rattle.cache.proofs.Sums.{kept_is}
@@ -118,12 +119,12 @@ lower n limit lt = grind (arith, nat_tests, lt)
 
 module _ {S : Type 0} (site : ℕ) (hosts : List (HostShown S)) (was new : HostShown S) (budget later : Plain)
     (there : site < length hosts) (read : was ≡ slice_index_or hosts site was)
-    (parts : budget.hosts ≡ map (λ (h : HostShown S). held_by h.log) hosts) (others : KeepsOtherParts site budget later) (part : held_at_host later.hosts site ≡ held_by new.log) (within : IsWithin later) where
+    (parts : budget.hosts ≡ map (λ (h : HostShown S). held_by h.log) hosts) (part : ChangesPart site budget later (held_by new.log)) (within : IsWithin later) where
   connects : later.limits.connects ≡ budget.limits.connects
-  connects = ap (λ (b : Bounds). b.connects) others.limits
+  connects = ap (λ (b : Bounds). b.connects) part.others.limits
 
   kept_now : kept_in later.hosts ≡ sum_by idle_len (logs_of (slice_set hosts site new))
-  kept_now = kept_is (slice_set hosts site new) later (parts_changed hosts site new budget later there parts others part)
+  kept_now = kept_is (slice_set hosts site new) later (parts_changed hosts site new budget later there parts part)
 
   -- the budget keeps none where as many are kept as may be
   pub full_kept : new ≡ was → kept_in later.hosts ≡ later.limits.connects → (sum_by idle_len (logs_of hosts) ≡ budget.limits.connects) × (0 < sum_by idle_len (logs_of hosts))

@@ -6,7 +6,7 @@ use Rattle.std.proofs.lemmas.List.{get_or_default, set-get_or, length-map}
 use Rattle.std.proofs.Math.ListN.{get_or-map}
 use Rattle.budget.specs.Limits.{Bounds}
 use Rattle.budget.specs.Lobby.{Queue}
-use Rattle.budget.specs.Plain.{Plain, held_at_host, KeepsOtherHosts as KeepsOtherParts}
+use Rattle.budget.specs.Plain.{Plain, held_at_host}
 use Rattle.budget.specs.Permits.{held}
 use Rattle.budget.specs.declared.permits.Held.{Held}
 use Rattle.budget.specs.Accounts.{KeepsSeats}
@@ -24,6 +24,7 @@ use Rattle.bundle.specs.Passes.{Accounts, tells, withdraws, AccountsForStarts}
 use Rattle.pool_rules.specs.AllHosts.{AllHosts}
 use Rattle.oldest.specs.Oldest.{is_before, stamp_at}
 use Rattle.cache.specs.Pools.{PoolShown, no_host, logs_of, all_hosts, AreKept}
+use Rattle.cache.proofs.HostParts.{ChangesPart}
 use Rattle.cache.proofs.OneHost.{read_is}
 use Rattle.cache.proofs.Calling.{TellsOne, NotesOne, marks_nothing, kept_called, was_kept, told_so, told_withdrawing}
 
@@ -37,7 +38,7 @@ module _ {S : Type 0} (site : ℕ) (hosts : List (HostShown S)) (was new : HostS
       let it = was_kept site hosts was new budget budget lobby lobby pass told noted noted kept there read in
       let settled : IsSoundAndQuiet new.settings new.log =
       subst (λ (l : List Entry). IsSoundAndQuiet new.settings l) (sym log) (subst (λ (s : LimitAndFirst). IsSoundAndQuiet s was.log) (sym same.settings) it.settled) in
-      let others : KeepsOtherParts site budget budget = record { limits = refl; count = refl; others = λ other apart. refl } in
+      let part : ChangesPart site budget budget (held_by new.log) = record { others = record { limits = refl; count = refl; others = λ other apart. refl }; own = own } in
       let mark : is_queued new.settings new.log ≡ is_queued was.settings was.log = ap (λ (s : LimitAndFirst). is_queued s new.log) same.settings ∙ ap (is_queued was.settings) log in
       let marks = marks_nothing site (is_queued was.settings was.log) (is_queued new.settings new.log) lobby it.listed mark in
       let notes : NotesOne site noted noted (oldest_stamp new.log site) = record {
@@ -45,10 +46,10 @@ module _ {S : Type 0} (site : ℕ) (hosts : List (HostShown S)) (was new : HostS
         other_stamps = λ other apart. refl;
         not_later = ap (λ (l : List Entry). is_before (oldest_stamp l site) (stamp_at noted site)) log ∙ it.not_later;
       } in
-      kept_called site hosts was new budget budget lobby lobby pass told noted noted kept there read same settled others part marks one seats account notes
+      kept_called site hosts was new budget budget lobby lobby pass told noted noted kept there read same settled part marks one seats account notes
     where
-      part : held_at_host budget.hosts site ≡ held_by new.log
-      part =
+      own : held_at_host budget.hosts site ≡ held_by new.log
+      own =
           ap (λ (l : List Held). held_at_host l site) kept.parts
           ∙ get_or_default (map (λ (h : HostShown S). held_by h.log) hosts) site (held 0 0) (held_by []) (subst (λ (n : ℕ). site < n) (sym (length-map hosts (λ (h : HostShown S). held_by h.log))) there)
           ∙ get_or-map (λ (h : HostShown S). held_by h.log) hosts site no_host

@@ -1,10 +1,9 @@
-use Rattle.std.proofs.Common.{◌≡◌, ◌<◌, length, sym, ap, ◌∙◌, rules}
-use Rattle.budget.specs.Plain.{KeepsOtherHosts, held_at_host}
+use Rattle.std.proofs.Common.{sym, ap, ◌∙◌}
 use Rattle.host_rules.specs.Calls.{after_abandon}
 use Rattle.host_rules.specs.Laws.{IsSoundAndQuiet}
-use Rattle.host_rules.specs.Counts.{held_by}
 use Rattle.pool_rules.specs.AllHosts.{marked}
-use Rattle.cache.proofs.OneHost.{all_marked, others_keep, stepped}
+use Rattle.cache.proofs.HostParts.{part_changed}
+use Rattle.cache.proofs.OneHost.{all_marked, others_keep, stepped, there_inside}
 use Rattle.cache.proofs.Calling.{kept_called, was_kept, told_spending, notes_oldest, marks_one}
 use Rattle.cache.proofs.hosts.Hosts.abandon.Goals as goal
 
@@ -21,15 +20,14 @@ invariant_of-self g c =
     let lowered = c.note_oldest.new.noted in
     let done = c.in-Ok.ensures in
     let read = c.index_mut-bundle.ensures.value in
-    let there : site < length hosts = search rules in
-    let others : KeepsOtherHosts site inside.budget later = search rules in
-    let part : held_at_host later.hosts site ≡ held_by new.log = search rules in
+    let there = there_inside site c.self.view_is (rw c.site-site.ensures c.requires.there) in
+    let part = part_changed c.at-permits.ensures.host c.at-permits.ensures.budget done.stays done.part in
     let it = was_kept site hosts was new inside.budget later inside.lobby after inside.pass told inside.noted lowered c.self.invariant there read in
     let settled : IsSoundAndQuiet new.settings new.log = done.settled in
     let marks = marks_one was.host site _ _ inside.lobby after it.place done.marked in
     let tells = told_spending was.host _ _ inside.pass told done.spent in
     let notes = notes_oldest _ site inside.noted lowered new.log (rw c.self.invariant.stamps there) (done.same.host ∙ it.place) c.note_oldest.ensures in
-    kept_called site hosts was new inside.budget later inside.lobby after inside.pass told inside.noted lowered c.self.invariant there read done.same settled others part marks tells done.seats done.account notes
+    kept_called site hosts was new inside.budget later inside.lobby after inside.pass told inside.noted lowered c.self.invariant there read done.same settled part marks tells done.seats done.account notes
 
 pub returns-clause-all : goal.returns-clause-all
 returns-clause-all g c =
@@ -42,7 +40,7 @@ returns-clause-all g c =
     let after = c.abandon-abandoned.new.lobby.0 in
     let done = c.in-Ok.ensures in
     let read = c.index_mut-bundle.ensures.value in
-    let there : site < length hosts = search rules in
+    let there = there_inside site c.self.view_is (rw c.site-site.ensures c.requires.there) in
     let it = was_kept site hosts was new inside.budget inside.budget inside.lobby after inside.pass inside.pass inside.noted inside.noted c.self.invariant there read in
     let number = c.args.lease.start.number in
     let marked_is = all_marked limits hosts site was new inside.lobby.order after.order there it.place (done.same.settings ∙ it.settings) it.listed done.marked.order in

@@ -1,15 +1,13 @@
-use Rattle.std.proofs.Common.{◌≡◌, ◌<◌, ℕ, [], ◌∷◌, ◌++◌, length, refl, sym, ap, subst, ◌∙◌, rules, arith, true, false, slice_set, Ok}
+use Rattle.std.proofs.Common.{◌≡◌, ◌<◌, ℕ, [], ◌∷◌, ◌++◌, length, refl, sym, ap, subst, ◌∙◌, arith, true, false, slice_set, Ok}
 use Rattle.std.proofs.lemmas.List.{length-set, length-map}
 use Rattle.budget.specs.Limits.{Bounds}
 use Rattle.conn_log.specs.declared.entry.Want.{Want}
 use Rattle.conn_log.specs.Connections.{is_among, is_idle}
 use Rattle.bundle.specs.declared.answers.Got.TheVariants.{NoRoom}
-use Rattle.budget.specs.Plain.{KeepsOtherHosts, held_at_host}
 use Rattle.host_rules.specs.Calls.{no_room, GrowsBy, acquired as acquired_at}
 use Rattle.host_rules.specs.Laws.{IsSoundAndQuiet}
 use Rattle.bundle.specs.Lease.{HostShown, Booked, IsBookedHere, HasItsStream, KeepsStreams, KeepsAll, StaysThere, GetsLease, GetsTicket}
 use Rattle.host_rules.specs.Bookings.{without_booked}
-use Rattle.host_rules.specs.Counts.{held_by}
 use Rattle.bundle.specs.Replies.{IsGot, GivesBooking}
 use Rattle.conn_log.specs.Fit.{oldest_stamp}
 use Rattle.pool_rules.specs.AllHosts.{terms, log_at, with_room}
@@ -17,11 +15,12 @@ use Rattle.pool_rules.specs.Calls.{Acquired, acquired, started, reply_of}
 use Rattle.oldest.specs.Oldest.{is_before, stamp_at}
 use Rattle.pool_rules.proofs.BudgetRequests.{once_as_told}
 use Rattle.cache.specs.Pools.{PoolShown, all_hosts, host_at, host_in, IsAcquired, GivesLease, GivesTicket, StaysHost, StaysPool, StreamsStay, OtherStreamsStay, KeepsOtherHosts as KeepsOthers}
+use Rattle.cache.proofs.HostParts.{part_changed}
 use Rattle.cache.proofs.Booked.{among_last, not_booked, none_due, lease_so, ticket_so, ended_halfway}
 use Rattle.cache.proofs.Keeping.{lease_after, ticket_after, keeps_others_on}
 use Rattle.cache.proofs.Reused.{IsReuse, reused_was_idle, idle_before_room, stream_before}
 use Rattle.cache.proofs.StreamsStay.{open_ones_stay, but_one, streams_on, others_on}
-use Rattle.cache.proofs.OneHost.{others_keep, host_changed, read_is, log_is}
+use Rattle.cache.proofs.OneHost.{others_keep, host_changed, read_is, log_is, there_inside}
 use Rattle.cache.proofs.Calling.{kept_called, was_kept, told_so, marks_nothing, NotesOne}
 use Rattle.cache.proofs.LastTries.{IsToldAt, once_all, once_reply, lease_reply, wait_reply, begun_lease, begun_wait, same_order, no_room_reply, booking_is, half_full, half_goes_on, again_reply, never_again}
 use Rattle.pool_rules.proofs.OldestStamps.{still_not_later}
@@ -31,7 +30,7 @@ pub acquire-got-requires-clause-enrolled : goal.acquire-got-requires-clause-enro
 acquire-got-requires-clause-enrolled g c =
     let inside = c.self.inside in
     let was = c.index_mut-bundle.result.now in
-    let there : c.args.site < length inside.bundles.items = search rules in
+    let there = there_inside c.args.site c.self.view_is c.requires.there in
     (was_kept c.args.site inside.bundles.items was was inside.budget inside.budget inside.lobby inside.lobby inside.pass inside.pass inside.noted inside.noted c.self.invariant there c.index_mut-bundle.ensures.value).enrolled
 
 pub invariant_of-self : goal.invariant_of-self
@@ -45,9 +44,8 @@ invariant_of-self g c =
     let pass = c.acquire-got.new.pass in
     let done = c.in-Ok-Lease.ensures in
     let read = c.index_mut-bundle.ensures.value in
-    let there : site < length hosts = search rules in
-    let others : KeepsOtherHosts site inside.budget later = search rules in
-    let part : held_at_host later.hosts site ≡ held_by new.log = search rules in
+    let there = there_inside site c.self.view_is c.requires.there in
+    let part = part_changed c.at-permits.ensures.host c.at-permits.ensures.budget done.stays done.part in
     let it = was_kept site hosts was new inside.budget later inside.lobby inside.lobby inside.pass pass inside.noted inside.noted c.self.invariant there read in
     let settled : IsSoundAndQuiet new.settings new.log = done.settled in
     let marks = marks_nothing site _ _ inside.lobby it.listed done.mark in
@@ -57,7 +55,7 @@ invariant_of-self g c =
       other_stamps = λ other apart. refl;
       not_later = still_not_later false done.told.0 was.settings was.log new.log c.args.want c.args.now site _ done.told.2.log it.not_later;
     } in
-    kept_called site hosts was new inside.budget later inside.lobby inside.lobby inside.pass pass inside.noted inside.noted c.self.invariant there read done.same settled others part marks tells done.seats done.account notes
+    kept_called site hosts was new inside.budget later inside.lobby inside.lobby inside.pass pass inside.noted inside.noted c.self.invariant there read done.same settled part marks tells done.seats done.account notes
 
 pub invariant_of-self-in-Ok-Wait : goal.invariant_of-self-in-Ok-Wait
 invariant_of-self-in-Ok-Wait g c =
@@ -70,9 +68,8 @@ invariant_of-self-in-Ok-Wait g c =
     let pass = c.acquire-got.new.pass in
     let done = c.in-Ok-Wait.ensures in
     let read = c.index_mut-bundle.ensures.value in
-    let there : site < length hosts = search rules in
-    let others : KeepsOtherHosts site inside.budget later = search rules in
-    let part : held_at_host later.hosts site ≡ held_by new.log = search rules in
+    let there = there_inside site c.self.view_is c.requires.there in
+    let part = part_changed c.at-permits.ensures.host c.at-permits.ensures.budget done.stays done.part in
     let it = was_kept site hosts was new inside.budget later inside.lobby inside.lobby inside.pass pass inside.noted inside.noted c.self.invariant there read in
     let settled : IsSoundAndQuiet new.settings new.log = done.settled in
     let marks = marks_nothing site _ _ inside.lobby it.listed done.mark in
@@ -82,7 +79,7 @@ invariant_of-self-in-Ok-Wait g c =
       other_stamps = λ other apart. refl;
       not_later = still_not_later false done.told.0 was.settings was.log new.log c.args.want c.args.now site _ done.told.2.log it.not_later;
     } in
-    kept_called site hosts was new inside.budget later inside.lobby inside.lobby inside.pass pass inside.noted inside.noted c.self.invariant there read done.same settled others part marks tells done.seats done.account notes
+    kept_called site hosts was new inside.budget later inside.lobby inside.lobby inside.pass pass inside.noted inside.noted c.self.invariant there read done.same settled part marks tells done.seats done.account notes
 
 pub invariant_of-self-in-Ok-NoRoom : goal.invariant_of-self-in-Ok-NoRoom
 invariant_of-self-in-Ok-NoRoom g c =
@@ -95,9 +92,8 @@ invariant_of-self-in-Ok-NoRoom g c =
     let pass = c.acquire-got.new.pass in
     let done = c.in-Ok-NoRoom.ensures in
     let read = c.index_mut-bundle.ensures.value in
-    let there : site < length hosts = search rules in
-    let others : KeepsOtherHosts site inside.budget later = search rules in
-    let part : held_at_host later.hosts site ≡ held_by new.log = search rules in
+    let there = there_inside site c.self.view_is c.requires.there in
+    let part = part_changed c.at-permits.ensures.host c.at-permits.ensures.budget done.stays done.part in
     let it = was_kept site hosts was new inside.budget later inside.lobby inside.lobby inside.pass pass inside.noted inside.noted c.self.invariant there read in
     let settled : IsSoundAndQuiet new.settings new.log = done.settled in
     let marks = marks_nothing site _ _ inside.lobby it.listed done.mark in
@@ -107,7 +103,7 @@ invariant_of-self-in-Ok-NoRoom g c =
       other_stamps = λ other apart. refl;
       not_later = still_not_later false done.told.0 was.settings was.log new.log c.args.want c.args.now site _ done.told.2.log it.not_later;
     } in
-    kept_called site hosts was new inside.budget later inside.lobby inside.lobby inside.pass pass inside.noted inside.noted c.self.invariant there read done.same settled others part marks tells done.seats done.account notes
+    kept_called site hosts was new inside.budget later inside.lobby inside.lobby inside.pass pass inside.noted inside.noted c.self.invariant there read done.same settled part marks tells done.seats done.account notes
 
 lease_told : (g : _) (c : goal.In-Ok-Lease g) → IsToldAt false c.args.self.now.limits c.self.inside.bundles.items c.args.site c.index_mut-bundle.result.now c.acquire-got.new.self c.acquire-got.new.permits.budget.now c.self.inside.lobby.order c.self.inside.lobby.order c.args.want c.args.now c.in-Ok-Lease.ensures.told.0
 lease_told g c =
@@ -118,8 +114,8 @@ lease_told g c =
     let later = c.acquire-got.new.permits.budget.now in
     let done = c.in-Ok-Lease.ensures in
     let read = c.index_mut-bundle.ensures.value in
-    let there : site < length hosts = search rules in
-    let others : KeepsOtherHosts site inside.budget later = search rules in
+    let there = there_inside site c.self.view_is c.requires.there in
+    let part = part_changed c.at-permits.ensures.host c.at-permits.ensures.budget done.stays done.part in
     let it = was_kept site hosts was was inside.budget later inside.lobby inside.lobby inside.pass inside.pass inside.noted inside.noted c.self.invariant there read in
     let limits = ap (λ p. p.limits) c.self.view_is in
     record {
@@ -132,7 +128,7 @@ lease_told g c =
       same = done.same.settings;
       log_is = done.told.2.log;
       order_is = same_order was.host _ _ inside.lobby.order done.mark;
-      limits_are = others.limits ∙ limits;
+      limits_are = part.others.limits ∙ limits;
       parts = (invariant_of-self g c).parts;
       within = done.stands.1;
       tells = done.told.1;
@@ -161,8 +157,8 @@ wait_told g c =
     let later = c.acquire-got.new.permits.budget.now in
     let done = c.in-Ok-Wait.ensures in
     let read = c.index_mut-bundle.ensures.value in
-    let there : site < length hosts = search rules in
-    let others : KeepsOtherHosts site inside.budget later = search rules in
+    let there = there_inside site c.self.view_is c.requires.there in
+    let part = part_changed c.at-permits.ensures.host c.at-permits.ensures.budget done.stays done.part in
     let it = was_kept site hosts was was inside.budget later inside.lobby inside.lobby inside.pass inside.pass inside.noted inside.noted c.self.invariant there read in
     let limits = ap (λ p. p.limits) c.self.view_is in
     record {
@@ -175,7 +171,7 @@ wait_told g c =
       same = done.same.settings;
       log_is = done.told.2.log;
       order_is = same_order was.host _ _ inside.lobby.order done.mark;
-      limits_are = others.limits ∙ limits;
+      limits_are = part.others.limits ∙ limits;
       parts = (invariant_of-self-in-Ok-Wait g c).parts;
       within = done.stands.1;
       tells = done.told.1;
@@ -218,8 +214,8 @@ half_told g c =
     let later = c.acquire-got.new.permits.budget.now in
     let done = c.in-Ok-NoRoom.ensures in
     let read = c.index_mut-bundle.ensures.value in
-    let there : site < length hosts = search rules in
-    let others : KeepsOtherHosts site inside.budget later = search rules in
+    let there = there_inside site c.self.view_is c.requires.there in
+    let part = part_changed c.at-permits.ensures.host c.at-permits.ensures.budget done.stays done.part in
     let it = was_kept site hosts was was inside.budget later inside.lobby inside.lobby inside.pass inside.pass inside.noted inside.noted c.self.invariant there read in
     let limits = ap (λ p. p.limits) c.self.view_is in
     record {
@@ -232,7 +228,7 @@ half_told g c =
       same = done.same.settings;
       log_is = done.told.2.log;
       order_is = same_order was.host _ _ inside.lobby.order done.mark;
-      limits_are = others.limits ∙ limits;
+      limits_are = part.others.limits ∙ limits;
       parts = (invariant_of-self-in-Ok-NoRoom g c).parts;
       within = done.stands.1;
       tells = done.told.1;
@@ -298,9 +294,8 @@ invariant_of-self-in-Err g c =
     let pass = c.acquire-got.new.pass in
     let done = c.in-Err.ensures in
     let read = c.index_mut-bundle.ensures.value in
-    let there : site < length hosts = search rules in
-    let others : KeepsOtherHosts site inside.budget later = search rules in
-    let part : held_at_host later.hosts site ≡ held_by new.log = search rules in
+    let there = there_inside site c.self.view_is c.requires.there in
+    let part = part_changed c.at-permits.ensures.host c.at-permits.ensures.budget done.stays done.part in
     let it = was_kept site hosts was new inside.budget later inside.lobby inside.lobby inside.pass pass inside.noted inside.noted c.self.invariant there read in
     let settled : IsSoundAndQuiet new.settings new.log = done.settled in
     let marks = marks_nothing site _ _ inside.lobby it.listed done.mark in
@@ -310,7 +305,7 @@ invariant_of-self-in-Err g c =
       other_stamps = λ other apart. refl;
       not_later = ap (λ (h : HostShown g.row.S.Denot). is_before (oldest_stamp h.log site) (stamp_at inside.noted site)) done.err ∙ it.not_later;
     } in
-    kept_called site hosts was new inside.budget later inside.lobby inside.lobby inside.pass pass inside.noted inside.noted c.self.invariant there read done.same settled others part marks tells done.seats done.account notes
+    kept_called site hosts was new inside.budget later inside.lobby inside.lobby inside.pass pass inside.noted inside.noted c.self.invariant there read done.same settled part marks tells done.seats done.account notes
 
 -- the pool once the acquire was left halfway, and that who has what there is as before
 half_site : (g : _) (c : goal.In-Ok-NoRoom g) → host_at c.args.self.now c.args.site ≡ c.index_mut-bundle.result.now

@@ -1,17 +1,16 @@
-use Rattle.std.proofs.Common.{◌≡◌, ◌+◌, ◌<◌, ℕ, length, slice_set, refl, sym, ap, subst, ◌∙◌, rules}
-use Rattle.budget.specs.Plain.{KeepsOtherHosts, held_at_host}
+use Rattle.std.proofs.Common.{◌+◌, ℕ, slice_set, refl, sym, ap, subst, ◌∙◌}
 use Rattle.budget.specs.Accounts.{spent_at}
 use Rattle.conn_log.specs.Fit.{oldest_stamp}
 use Rattle.host_rules.specs.Calls.{is_queued}
 use Rattle.host_rules.specs.Laws.{IsSoundAndQuiet}
 use Rattle.bundle.specs.Lease.{HostShown, KeepsAll, KeepsStreams}
-use Rattle.host_rules.specs.Counts.{held_by}
 use Rattle.pool_rules.specs.AllHosts.{without_oldest, oldest_of_all}
 use Rattle.cache.specs.Pools.{PoolShown, all_hosts, KeepsHost}
+use Rattle.cache.proofs.HostParts.{part_changed}
 use Rattle.cache.proofs.Calling.{kept_called, was_kept, tells_nothing, notes_set, marks_nothing}
 use Rattle.cache.proofs.Claims.{spent_where_one_changes}
 use Rattle.cache.proofs.Closing.{found_at, own_stamp, is_done, all_without, fewer_without, all_keep}
-use Rattle.cache.proofs.OneHost.{others_keep, read_is}
+use Rattle.cache.proofs.OneHost.{others_keep, read_is, there_inside}
 use Rattle.cache.proofs.Reused.{streams_where_one_changes}
 use Rattle.cache.proofs.hosts.Hosts.close_at.Goals as goal
 
@@ -26,14 +25,13 @@ invariant_of-self g c =
     let later = c.evict_oldest-closed.new.permits.budget.now in
     let done = c.evict_oldest-closed.ensures in
     let read = c.index_mut-bundle.ensures.value in
-    let there : site < length hosts = search rules in
-    let others : KeepsOtherHosts site inside.budget later = search rules in
-    let part : held_at_host later.hosts site ≡ held_by new.log = search rules in
+    let there = there_inside site c.self.view_is c.requires.there in
+    let part = part_changed c.at-permits.ensures.host c.at-permits.ensures.budget done.stays done.part in
     let it = was_kept site hosts was new inside.budget later inside.lobby inside.lobby inside.pass inside.pass inside.noted c.set.new.self c.self.invariant there read in
     let settled : IsSoundAndQuiet new.settings new.log = done.settled in
     let marks = marks_nothing site (is_queued was.settings was.log) (is_queued new.settings new.log) inside.lobby it.listed done.mark in
     let notes = notes_set site inside.noted c.set.new.self _ _ (rw c.self.invariant.stamps there) (c.oldest-oldest.ensures ∙ ap (oldest_stamp new.log) (done.same.host ∙ it.place)) c.set.ensures in
-    kept_called site hosts was new inside.budget later inside.lobby inside.lobby inside.pass inside.pass inside.noted c.set.new.self c.self.invariant there read done.same settled others part marks
+    kept_called site hosts was new inside.budget later inside.lobby inside.lobby inside.pass inside.pass inside.noted c.set.new.self c.self.invariant there read done.same settled part marks
     (tells_nothing was.host inside.pass) (λ host table seat. seat) (ap (λ (n : ℕ). n + spent_at inside.pass was.host) done.gone) notes
 
 pub returns-clause-all : goal.returns-clause-all
@@ -45,7 +43,7 @@ returns-clause-all g c =
     let new = c.evict_oldest-closed.new.self in
     let done = c.evict_oldest-closed.ensures in
     let read = c.index_mut-bundle.ensures.value in
-    let there : stamp.host < length hosts = search rules in
+    let there = there_inside stamp.host c.self.view_is c.requires.there in
     let it = was_kept stamp.host hosts was new inside.budget inside.budget inside.lobby inside.lobby inside.pass inside.pass inside.noted inside.noted c.self.invariant there read in
     let e = ap (λ (p : PoolShown g.row.S.Denot). oldest_of_all (all_hosts p)) c.self.view_is ∙ c.requires.oldest in
     let found = found_at (record { limits = inside.budget.limits; hosts = hosts; queue = inside.lobby.order }) stamp e in
@@ -62,7 +60,7 @@ returns-clause-fewer g c =
     let new = c.evict_oldest-closed.new.self in
     let done = c.evict_oldest-closed.ensures in
     let read = c.index_mut-bundle.ensures.value in
-    let there : stamp.host < length hosts = search rules in
+    let there = there_inside stamp.host c.self.view_is c.requires.there in
     let it = was_kept stamp.host hosts was new inside.budget inside.budget inside.lobby inside.lobby inside.pass inside.pass inside.noted inside.noted c.self.invariant there read in
     let e = ap (λ (p : PoolShown g.row.S.Denot). oldest_of_all (all_hosts p)) c.self.view_is ∙ c.requires.oldest in
     let found = found_at (record { limits = inside.budget.limits; hosts = hosts; queue = inside.lobby.order }) stamp e in
@@ -78,7 +76,7 @@ returns-clause-keeps g c =
     let was = c.index_mut-bundle.result.now in
     let new = c.evict_oldest-closed.new.self in
     let done = c.evict_oldest-closed.ensures in
-    let there : site < length hosts = search rules in
+    let there = there_inside site c.self.view_is c.requires.there in
     let was_is = read_is hosts site was there c.index_mut-bundle.ensures.value in
     let keeps : KeepsHost was new = record { stays = record { same = done.same; booked = done.booked; grew = done.grew }; keeps = done.keeps; streams = λ c was is. done.streams c is } in
     let before : PoolShown g.row.S.Denot = record { limits = inside.budget.limits; hosts = hosts; queue = inside.lobby.order } in
@@ -95,7 +93,7 @@ returns-clause-spent g c =
     let was = c.index_mut-bundle.result.now in
     let new = c.evict_oldest-closed.new.self in
     let done = c.evict_oldest-closed.ensures in
-    let there : site < length hosts = search rules in
+    let there = there_inside site c.self.view_is c.requires.there in
     let was_is = read_is hosts site was there c.index_mut-bundle.ensures.value in
     let before : PoolShown g.row.S.Denot = record { limits = inside.budget.limits; hosts = hosts; queue = inside.lobby.order } in
     let after : PoolShown g.row.S.Denot = record { limits = c.evict_oldest-closed.new.permits.budget.now.limits; hosts = slice_set hosts site new; queue = inside.lobby.order } in
@@ -110,7 +108,7 @@ returns-clause-streams g c =
     let was = c.index_mut-bundle.result.now in
     let new = c.evict_oldest-closed.new.self in
     let done = c.evict_oldest-closed.ensures in
-    let there : site < length hosts = search rules in
+    let there = there_inside site c.self.view_is c.requires.there in
     let was_is = read_is hosts site was there c.index_mut-bundle.ensures.value in
     let before : PoolShown g.row.S.Denot = record { limits = inside.budget.limits; hosts = hosts; queue = inside.lobby.order } in
     let after : PoolShown g.row.S.Denot = record { limits = c.evict_oldest-closed.new.permits.budget.now.limits; hosts = slice_set hosts site new; queue = inside.lobby.order } in

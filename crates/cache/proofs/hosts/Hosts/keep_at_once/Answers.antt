@@ -1,15 +1,14 @@
 use Rattle.host_rules.specs.Effects.{idle_len}
-use Rattle.std.proofs.Common.{◌≡◌, ◌<◌, ℕ, true, length, slice_set, refl, sym, ap, subst, ◌∙◌, rules}
+use Rattle.std.proofs.Common.{◌≡◌, ℕ, true, slice_set, refl, sym, ap, subst, ◌∙◌}
 use Rattle.std.specs.Prelude.{if◌then◌else◌}
 use Rattle.oldest.specs.Oldest.{earlier_of, is_since_before, stamp_at}
 use Rattle.pool_rules.proofs.OldestStamps.{given_back_not_later}
-use Rattle.budget.specs.Plain.{KeepsOtherHosts, held_at_host}
 use Rattle.host_rules.specs.Calls.{after_give_back, becomes_idle, is_queued}
 use Rattle.conn_log.specs.Fit.{oldest_stamp}
 use Rattle.host_rules.specs.Laws.{IsSoundAndQuiet}
-use Rattle.host_rules.specs.Counts.{held_by}
 use Rattle.pool_rules.specs.AllHosts.{marked}
-use Rattle.cache.proofs.OneHost.{all_marked, others_keep, stepped, log_was}
+use Rattle.cache.proofs.HostParts.{part_changed}
+use Rattle.cache.proofs.OneHost.{all_marked, others_keep, stepped, log_was, there_inside}
 use Rattle.cache.proofs.Calling.{kept_called, was_kept, told_spending, tells_nothing, notes_returned, marks_nothing, NotesOne, TellsOne}
 use Rattle.cache.proofs.NoneQueued.{none_in, not_queued, stays_so, same_order, pool_stays}
 use Rattle.cache.proofs.Returning.{gave_log, gave_none, gave_again, gave_strange, one_more_idle, room_kept}
@@ -35,9 +34,8 @@ invariant_of-self g c =
     let told = c.give_back-back.new.pass in
     let done = c.give_back-back.ensures in
     let read = c.index_mut-bundle.ensures.value in
-    let there : site < length hosts = search rules in
-    let others : KeepsOtherHosts site inside.budget later = search rules in
-    let part : held_at_host later.hosts site ≡ held_by new.log = search rules in
+    let there = there_inside site c.self.view_is (rw c.site-site.ensures c.requires.there) in
+    let part = part_changed c.at-permits.ensures.host c.at-permits.ensures.budget done.stays done.part in
     let it = was_kept site hosts was new inside.budget later inside.lobby inside.lobby inside.pass told inside.noted inside.noted c.self.invariant there read in
     let settled : IsSoundAndQuiet new.settings new.log = done.settled in
     let not_was = not_queued inside.lobby.order site (is_queued was.settings was.log) (none_in _ _ c.self.view_is c.requires.none_queued) it.listed in
@@ -48,7 +46,7 @@ invariant_of-self g c =
     let still = λ (early : is_since_before (stamp_at inside.noted site) c.args.now ≡ true). given_back_not_later was.settings was.log new.log c.args.lease.start.number c.args.facts c.args.now site (stamp_at inside.noted site) back early it.not_later in
     let noted_is = subst (λ (host : ℕ). noted ≡ (if is_since_before (stamp_at inside.noted host) c.args.now then inside.noted else slice_set inside.noted host (earlier_of (stamp_at inside.noted host) (oldest_stamp new.log host)))) (done.same.host ∙ it.place) c.note_after_return.ensures in
     let notes = notes_returned site c.args.now inside.noted noted (oldest_stamp new.log site) (rw c.self.invariant.stamps there) noted_is still in
-    kept_called site hosts was new inside.budget later inside.lobby inside.lobby inside.pass told inside.noted noted c.self.invariant there read done.same settled others part marks tells done.seats done.account notes
+    kept_called site hosts was new inside.budget later inside.lobby inside.lobby inside.pass told inside.noted noted c.self.invariant there read done.same settled part marks tells done.seats done.account notes
 
 pub invariant_of-self-in-NoKeep : goal.invariant_of-self-in-NoKeep
 invariant_of-self-in-NoKeep g c =
@@ -61,9 +59,8 @@ invariant_of-self-in-NoKeep g c =
     let told = c.give_back-back.new.pass in
     let done = c.give_back-back.ensures in
     let read = c.index_mut-bundle.ensures.value in
-    let there : site < length hosts = search rules in
-    let others : KeepsOtherHosts site inside.budget later = search rules in
-    let part : held_at_host later.hosts site ≡ held_by new.log = search rules in
+    let there = there_inside site c.self.view_is (rw c.site-site.ensures c.requires.there) in
+    let part = part_changed c.at-permits.ensures.host c.at-permits.ensures.budget done.stays done.part in
     let it = was_kept site hosts was new inside.budget later inside.lobby inside.lobby inside.pass told inside.noted inside.noted c.self.invariant there read in
     let settled : IsSoundAndQuiet new.settings new.log = done.settled in
     let not_was = not_queued inside.lobby.order site (is_queued was.settings was.log) (none_in _ _ c.self.view_is c.requires.none_queued) it.listed in
@@ -71,7 +68,7 @@ invariant_of-self-in-NoKeep g c =
     let tells : TellsOne was.host inside.pass told = rw c.in-NoKeep.ensures.unspent (tells_nothing was.host inside.pass) in
     let none = gave_none was new later c.args.lease c.args.facts c.args.now _ c.in-NoKeep.ensures.told in
     let notes : NotesOne site inside.noted inside.noted (oldest_stamp new.log site) = record { stamps = refl; other_stamps = λ other apart. refl; not_later = rw none.same_host it.not_later } in
-    kept_called site hosts was new inside.budget later inside.lobby inside.lobby inside.pass told inside.noted inside.noted c.self.invariant there read done.same settled others part marks tells done.seats done.account notes
+    kept_called site hosts was new inside.budget later inside.lobby inside.lobby inside.pass told inside.noted inside.noted c.self.invariant there read done.same settled part marks tells done.seats done.account notes
 
 pub returns-in-NoKeep-clause-back : goal.returns-in-NoKeep-clause-back
 returns-in-NoKeep-clause-back g c =
@@ -80,11 +77,11 @@ returns-in-NoKeep-clause-back g c =
     let was = c.index_mut-bundle.result.now in
     let new = c.give_back-back.new.self in
     let later = c.give_back-back.new.permits.budget.now in
-    let others : KeepsOtherHosts site inside.budget later = search rules in
-    let there : site < length inside.bundles.items = search rules in
+    let part = part_changed c.at-permits.ensures.host c.at-permits.ensures.budget c.give_back-back.ensures.stays c.give_back-back.ensures.part in
+    let there = there_inside site c.self.view_is (rw c.site-site.ensures c.requires.there) in
     let it = was_kept site inside.bundles.items was new inside.budget later inside.lobby inside.lobby inside.pass inside.pass inside.noted inside.noted c.self.invariant there c.index_mut-bundle.ensures.value in
     let none = gave_none was new later c.args.lease c.args.facts c.args.now _ c.in-NoKeep.ensures.told in
-    let same = pool_stays inside.budget.limits later.limits site inside.bundles.items was new inside.lobby.order others.limits c.index_mut-bundle.ensures.value none.same_host in
+    let same = pool_stays inside.budget.limits later.limits site inside.bundles.items was new inside.lobby.order part.others.limits c.index_mut-bundle.ensures.value none.same_host in
     (none.same_lease, same ∙ c.self.view_is)
 
 pub returns-in-Spent-clause-room : goal.returns-in-Spent-clause-room
@@ -96,16 +93,15 @@ returns-in-Spent-clause-room g c =
     let new = c.give_back-back.new.self in
     let later = c.give_back-back.new.permits.budget.now in
     let read = c.index_mut-bundle.ensures.value in
-    let there : site < length hosts = search rules in
-    let others : KeepsOtherHosts site inside.budget later = search rules in
-    let part : held_at_host later.hosts site ≡ held_by new.log = search rules in
+    let there = there_inside site c.self.view_is (rw c.site-site.ensures c.requires.there) in
+    let part = part_changed c.at-permits.ensures.host c.at-permits.ensures.budget c.give_back-back.ensures.stays c.give_back-back.ensures.part in
     let it = was_kept site hosts was new inside.budget inside.budget inside.lobby inside.lobby inside.pass inside.pass inside.noted inside.noted c.self.invariant there read in
     let log = log_was hosts site was there read in
     let transfer = c.args.lease.start.want.transfer in
     let number = c.args.lease.start.number in
     let back = gave_log was new later c.args.lease c.args.facts c.args.now _ c.in-Spent.ensures.told in
     let room = (λ (idle : becomes_idle was.log number c.args.facts c.args.now ≡ true).
-    room_kept site hosts was new inside.budget later there read c.self.invariant.parts others part c.in-Spent.ensures.stands.1
+    room_kept site hosts was new inside.budget later there read c.self.invariant.parts part c.in-Spent.ensures.stands.1
     (ap idle_len back ∙ one_more_idle was.settings was.log transfer number c.args.facts c.args.now it.settled c.in-Spent.ensures.known idle)) in
     rw (sym c.self.view_is) (rw (sym c.site-site.ensures) (rw (sym log) room))
 
@@ -119,7 +115,7 @@ returns-in-Spent-clause-all g c =
     let limits = inside.budget.limits in
     let done = c.give_back-back.ensures in
     let read = c.index_mut-bundle.ensures.value in
-    let there : site < length hosts = search rules in
+    let there = there_inside site c.self.view_is (rw c.site-site.ensures c.requires.there) in
     let it = was_kept site hosts was new inside.budget inside.budget inside.lobby inside.lobby inside.pass inside.pass inside.noted inside.noted c.self.invariant there read in
     let not_was = not_queued inside.lobby.order site (is_queued was.settings was.log) (none_in _ _ c.self.view_is c.requires.none_queued) it.listed in
     let number = c.args.lease.start.number in
@@ -145,7 +141,7 @@ returns-in-Spent-clause-was_open g c =
     let hosts = inside.bundles.items in
     let was = c.index_mut-bundle.result.now in
     let read = c.index_mut-bundle.ensures.value in
-    let there : site < length hosts = search rules in
+    let there = there_inside site c.self.view_is (rw c.site-site.ensures c.requires.there) in
     let it = was_kept site hosts was was inside.budget inside.budget inside.lobby inside.lobby inside.pass inside.pass inside.noted inside.noted c.self.invariant there read in
     rw (sym c.self.view_is) (rw (sym c.site-site.ensures) (open_at hosts site was there read it.settled.sound c.args.lease.start.want.transfer c.args.lease.start.number c.in-Spent.ensures.known))
 
@@ -156,6 +152,6 @@ returns-in-NoKeep-clause-was_open g c =
     let hosts = inside.bundles.items in
     let was = c.index_mut-bundle.result.now in
     let read = c.index_mut-bundle.ensures.value in
-    let there : site < length hosts = search rules in
+    let there = there_inside site c.self.view_is (rw c.site-site.ensures c.requires.there) in
     let it = was_kept site hosts was was inside.budget inside.budget inside.lobby inside.lobby inside.pass inside.pass inside.noted inside.noted c.self.invariant there read in
     rw (sym c.self.view_is) (rw (sym c.site-site.ensures) (open_at hosts site was there read it.settled.sound c.args.lease.start.want.transfer c.args.lease.start.number c.in-NoKeep.ensures.known))

@@ -1,4 +1,4 @@
-use Rattle.std.proofs.Common.{◌≡◌, ◌≢◌, Some, None, sym, ap, ◌∙◌, arith, rules}
+use Rattle.std.proofs.Common.{◌≡◌, ◌≢◌, Some, sym, ap, ◌∙◌, arith, rules}
 use Rattle.pool_rules.specs.AllHosts.{oldest_of_all}
 use Rattle.cache.specs.Pools.{PoolShown, all_hosts}
 use Rattle.oldest.proofs.StampOrder.{there_at}
@@ -62,6 +62,5 @@ returns-clause-same g c = c.loop-noted.invariant.same
 
 pub returns-clause-oldest : goal.returns-clause-oldest
 returns-clause-oldest g c =
-    let none : c.first.result ≡ None = search rules in
-    found_none _ _ _ _ _ c.loop-noted.invariant.kept _ none c.first.ensures.earliest
+    found_none _ _ _ _ _ c.loop-noted.invariant.kept _ c.in_default.is c.first.ensures.earliest
     ∙ ap (λ (pool : PoolShown g.row.S.Denot). oldest_of_all (all_hosts pool)) c.loop-noted.invariant.same

@@ -1,19 +1,18 @@
-use Rattle.std.proofs.Common.{◌≡◌, ◌+◌, ◌<◌, ℕ, true, length, slice_set, slice_get, Some, refl, sym, ap, subst, ◌∙◌, rules}
-use Rattle.budget.specs.Plain.{KeepsOtherHosts, held_at_host}
+use Rattle.std.proofs.Common.{◌≡◌, ◌+◌, ℕ, true, slice_set, slice_get, Some, refl, sym, ap, subst, ◌∙◌}
 use Rattle.budget.specs.Accounts.{spent_at}
 use Rattle.budget.proofs.Queues.{listed_first}
 use Rattle.host_rules.specs.Calls.{is_queued, after_turn}
 use Rattle.host_rules.specs.Laws.{IsSoundAndQuiet}
 use Rattle.bundle.specs.Lease.{HostShown, KeepsAll}
-use Rattle.host_rules.specs.Counts.{held_by}
 use Rattle.bundle.specs.Replies.{answer_of}
 use Rattle.pool_rules.specs.AllHosts.{has_room}
 use Rattle.cache.specs.Pools.{PoolShown, all_hosts, KeepsHost}
+use Rattle.cache.proofs.HostParts.{part_changed}
 use Rattle.cache.proofs.Calling.{kept_called, was_kept, tells_nothing}
 use Rattle.cache.proofs.Claims.{spent_where_one_changes}
 use Rattle.cache.proofs.Closing.{all_keep}
 use Rattle.cache.proofs.Opening.{marks_turn, notes_none, turn_given, served_turn, all_turned, still_none_idle, waits_less}
-use Rattle.cache.proofs.OneHost.{others_keep, read_is}
+use Rattle.cache.proofs.OneHost.{others_keep, read_is, there_inside}
 use Rattle.cache.proofs.hosts.Hosts.open_at.Goals as goal
 
 pub serve_queued-given-requires-clause-queued : goal.serve_queued-given-requires-clause-queued
@@ -22,7 +21,7 @@ serve_queued-given-requires-clause-queued g c =
     let inside = c.self.inside in
     let hosts = inside.bundles.items in
     let was = c.index_mut-bundle.result.now in
-    let there : site < length hosts = search rules in
+    let there = there_inside site c.self.view_is c.requires.there in
     let it = was_kept site hosts was was inside.budget inside.budget inside.lobby inside.lobby inside.pass inside.pass inside.noted inside.noted c.self.invariant there c.index_mut-bundle.ensures.value in
     let first : slice_get inside.lobby.order 0 ≡ Some site = ap (λ (p : PoolShown g.row.S.Denot). slice_get p.queue 0) c.self.view_is ∙ c.requires.first in
     sym it.listed ∙ listed_first inside.lobby.order site first
@@ -33,7 +32,7 @@ serve_queued-given-requires-clause-first g c =
     let inside = c.self.inside in
     let hosts = inside.bundles.items in
     let was = c.index_mut-bundle.result.now in
-    let there : site < length hosts = search rules in
+    let there = there_inside site c.self.view_is c.requires.there in
     let it = was_kept site hosts was was inside.budget inside.budget inside.lobby inside.lobby inside.pass inside.pass inside.noted inside.noted c.self.invariant there c.index_mut-bundle.ensures.value in
     ap (λ (p : PoolShown g.row.S.Denot). slice_get p.queue 0) c.self.view_is ∙ c.requires.first ∙ ap (λ (h : ℕ). Some h) (sym it.place)
 
@@ -48,18 +47,17 @@ invariant_of-self g c =
     let after = c.serve_queued-given.new.lobby in
     let done = c.serve_queued-given.ensures in
     let read = c.index_mut-bundle.ensures.value in
-    let there : site < length hosts = search rules in
-    let others : KeepsOtherHosts site inside.budget later = search rules in
-    let part : held_at_host later.hosts site ≡ held_by new.log = search rules in
+    let there = there_inside site c.self.view_is c.requires.there in
+    let part = part_changed c.at-permits.ensures.host c.at-permits.ensures.budget done.stays done.part in
     let it = was_kept site hosts was new inside.budget later inside.lobby after inside.pass inside.pass inside.noted inside.noted c.self.invariant there read in
     let settled : IsSoundAndQuiet new.settings new.log = done.settled in
     let room = ap (λ (p : PoolShown g.row.S.Denot). has_room p.limits (all_hosts p)) c.self.view_is ∙ c.requires.room in
-    let got = turn_given hosts site was new inside.budget later there read c.self.invariant.parts others part done.told.0 c.args.now room done.told.1 done.told.3 in
+    let got = turn_given hosts site was new inside.budget later there read c.self.invariant.parts part done.told.0 c.args.now room done.told.1 done.told.3 in
     let turn = served_turn was.host c.serve_queued-given.result (is_queued new.settings new.log) inside.lobby after (done.told.2 ∙ ap answer_of got) done.turned in
     let queued : is_queued was.settings was.log ≡ true = sym it.listed ∙ listed_first inside.lobby.order site (ap (λ (p : PoolShown g.row.S.Denot). slice_get p.queue 0) c.self.view_is ∙ c.requires.first) in
     let log = subst (λ t. new.log ≡ after_turn t was.settings was.log c.args.now) got done.told.3 in
     let none = still_none_idle inside.budget.limits hosts site was new inside.lobby.order after.order c.args.now there read it.settings log it.settled queued in
-    kept_called site hosts was new inside.budget later inside.lobby after inside.pass inside.pass inside.noted inside.noted c.self.invariant there read done.same settled others part
+    kept_called site hosts was new inside.budget later inside.lobby after inside.pass inside.pass inside.noted inside.noted c.self.invariant there read done.same settled part
     (marks_turn was.host site (is_queued new.settings new.log) inside.lobby after it.place turn)
     (tells_nothing was.host inside.pass) (λ host table seat. seat) (ap (λ (n : ℕ). n + spent_at inside.pass was.host) done.gone) (notes_none site inside.noted new.log none)
 
@@ -74,12 +72,11 @@ returns-clause-all g c =
     let after = c.serve_queued-given.new.lobby in
     let done = c.serve_queued-given.ensures in
     let read = c.index_mut-bundle.ensures.value in
-    let there : site < length hosts = search rules in
-    let others : KeepsOtherHosts site inside.budget later = search rules in
-    let part : held_at_host later.hosts site ≡ held_by new.log = search rules in
+    let there = there_inside site c.self.view_is c.requires.there in
+    let part = part_changed c.at-permits.ensures.host c.at-permits.ensures.budget done.stays done.part in
     let it = was_kept site hosts was new inside.budget later inside.lobby after inside.pass inside.pass inside.noted inside.noted c.self.invariant there read in
     let room = ap (λ (p : PoolShown g.row.S.Denot). has_room p.limits (all_hosts p)) c.self.view_is ∙ c.requires.room in
-    let got = turn_given hosts site was new inside.budget later there read c.self.invariant.parts others part done.told.0 c.args.now room done.told.1 done.told.3 in
+    let got = turn_given hosts site was new inside.budget later there read c.self.invariant.parts part done.told.0 c.args.now room done.told.1 done.told.3 in
     let turn = served_turn was.host c.serve_queued-given.result (is_queued new.settings new.log) inside.lobby after (done.told.2 ∙ ap answer_of got) done.turned in
     let log = subst (λ t. new.log ≡ after_turn t was.settings was.log c.args.now) got done.told.3 in
     rw (sym c.self.view_is) (all_turned inside.budget.limits hosts site was new inside.lobby.order after.order c.args.now there read it.settings log it.place done.same.settings turn.order)
@@ -95,12 +92,11 @@ returns-clause-one_waits_less g c =
     let after = c.serve_queued-given.new.lobby in
     let done = c.serve_queued-given.ensures in
     let read = c.index_mut-bundle.ensures.value in
-    let there : site < length hosts = search rules in
-    let others : KeepsOtherHosts site inside.budget later = search rules in
-    let part : held_at_host later.hosts site ≡ held_by new.log = search rules in
+    let there = there_inside site c.self.view_is c.requires.there in
+    let part = part_changed c.at-permits.ensures.host c.at-permits.ensures.budget done.stays done.part in
     let it = was_kept site hosts was new inside.budget later inside.lobby after inside.pass inside.pass inside.noted inside.noted c.self.invariant there read in
     let room = ap (λ (p : PoolShown g.row.S.Denot). has_room p.limits (all_hosts p)) c.self.view_is ∙ c.requires.room in
-    let got = turn_given hosts site was new inside.budget later there read c.self.invariant.parts others part done.told.0 c.args.now room done.told.1 done.told.3 in
+    let got = turn_given hosts site was new inside.budget later there read c.self.invariant.parts part done.told.0 c.args.now room done.told.1 done.told.3 in
     let queued : is_queued was.settings was.log ≡ true = sym it.listed ∙ listed_first inside.lobby.order site (ap (λ (p : PoolShown g.row.S.Denot). slice_get p.queue 0) c.self.view_is ∙ c.requires.first) in
     let log = subst (λ t. new.log ≡ after_turn t was.settings was.log c.args.now) got done.told.3 in
     rw (sym c.self.view_is) (waits_less inside.budget.limits hosts site was new inside.lobby.order after.order c.args.now there read it.settings log it.settled queued)
@@ -114,7 +110,7 @@ returns-clause-keeps g c =
     let new = c.serve_queued-given.new.self in
     let after = c.serve_queued-given.new.lobby.order in
     let done = c.serve_queued-given.ensures in
-    let there : site < length hosts = search rules in
+    let there = there_inside site c.self.view_is c.requires.there in
     let was_is = read_is hosts site was there c.index_mut-bundle.ensures.value in
     let keeps : KeepsHost was new = record { stays = record { same = done.same; booked = done.booked; grew = done.grew }; keeps = done.keeps; streams = λ c was is. done.streams c is } in
     let before : PoolShown g.row.S.Denot = record { limits = inside.budget.limits; hosts = hosts; queue = inside.lobby.order } in
@@ -131,7 +127,7 @@ returns-clause-spent g c =
     let was = c.index_mut-bundle.result.now in
     let new = c.serve_queued-given.new.self in
     let done = c.serve_queued-given.ensures in
-    let there : site < length hosts = search rules in
+    let there = there_inside site c.self.view_is c.requires.there in
     let was_is = read_is hosts site was there c.index_mut-bundle.ensures.value in
     let before : PoolShown g.row.S.Denot = record { limits = inside.budget.limits; hosts = hosts; queue = inside.lobby.order } in
     let later : PoolShown g.row.S.Denot = record { limits = c.serve_queued-given.new.permits.budget.now.limits; hosts = slice_set hosts site new; queue = c.serve_queued-given.new.lobby.order } in

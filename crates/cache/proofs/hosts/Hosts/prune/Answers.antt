@@ -37,15 +37,17 @@ loop-site-smaller g c =
 pub loop-site-preserved : goal.loop-site-preserved
 loop-site-preserved g c = next g c
 
+-- no site is left
+over : (g : _) (c : goal.After-loop-site g) → length c.loop-site.self.hosts ≤ c.loop-site.site
+over g c = rw (← c.self-in-loop-site.view_is) (search rules)
+
 pub returns-clause-all : goal.returns-clause-all
 returns-clause-all g c =
-    let over : length c.self-in-loop-site.inside.bundles.items ≤ c.loop-site.site = search rules in
-    all_pruned c.args.now c.args.max_age c.args.max_life c.loop-site.site c.loop-site.closed c.args.self.now c.loop-site.self c.loop-site.invariant (subst (λ (p : PoolShown g.row.S.Denot). length p.hosts ≤ c.loop-site.site) c.self-in-loop-site.view_is over)
+    all_pruned c.args.now c.args.max_age c.args.max_life c.loop-site.site c.loop-site.closed c.args.self.now c.loop-site.self c.loop-site.invariant (over g c)
 
 pub returns-clause-count : goal.returns-clause-count
 returns-clause-count g c =
-    let over : length c.self-in-loop-site.inside.bundles.items ≤ c.loop-site.site = search rules in
-    all_pruned_counted c.args.now c.args.max_age c.args.max_life c.loop-site.site c.loop-site.closed c.args.self.now c.loop-site.self c.loop-site.invariant (subst (λ (p : PoolShown g.row.S.Denot). length p.hosts ≤ c.loop-site.site) c.self-in-loop-site.view_is over)
+    all_pruned_counted c.args.now c.args.max_age c.args.max_life c.loop-site.site c.loop-site.closed c.args.self.now c.loop-site.self c.loop-site.invariant (over g c)
 
 pub returns-clause-keeps : goal.returns-clause-keeps
 returns-clause-keeps g c = c.loop-site.invariant.keeps

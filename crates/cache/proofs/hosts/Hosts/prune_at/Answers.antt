@@ -1,11 +1,10 @@
-use Rattle.std.proofs.Common.{◌≡◌, ◌<◌, length, Some, sym, ap, ◌∙◌, rules}
-use Rattle.budget.specs.Plain.{KeepsOtherHosts, held_at_host}
+use Rattle.std.proofs.Common.{Some, sym, ap, ◌∙◌}
 use Rattle.conn_log.specs.Fit.{oldest_stamp}
 use Rattle.bundle.specs.declared.did.Did.TheVariants.{Pruned as WasPruned}
 use Rattle.host_rules.specs.Laws.{IsSoundAndQuiet}
-use Rattle.host_rules.specs.Counts.{held_by}
 use Rattle.pool_rules.specs.Calls.{pruned_log}
-use Rattle.cache.proofs.OneHost.{stepped}
+use Rattle.cache.proofs.HostParts.{part_changed}
+use Rattle.cache.proofs.OneHost.{stepped, there_inside}
 use Rattle.cache.proofs.Calling.{kept_called, was_kept, told_so, notes_set, marks_nothing}
 use Rattle.cache.proofs.Pruning.{all_keep, all_stepped}
 use Rattle.cache.proofs.hosts.Hosts.prune_at.Goals as goal
@@ -14,7 +13,7 @@ pub prune-closed-requires-clause-enrolled : goal.prune-closed-requires-clause-en
 prune-closed-requires-clause-enrolled g c =
     let inside = c.self.inside in
     let was = c.index_mut-bundle.result.now in
-    let there : c.args.site < length inside.bundles.items = search rules in
+    let there = there_inside c.args.site c.self.view_is c.requires.there in
     (was_kept c.args.site inside.bundles.items was was inside.budget inside.budget inside.lobby inside.lobby inside.pass inside.pass inside.noted inside.noted c.self.invariant there c.index_mut-bundle.ensures.value).enrolled
 
 pub invariant_of-self : goal.invariant_of-self
@@ -29,15 +28,14 @@ invariant_of-self g c =
     let lowered = c.set.new.self in
     let done = c.prune-closed.ensures in
     let read = c.index_mut-bundle.ensures.value in
-    let there : site < length hosts = search rules in
-    let others : KeepsOtherHosts site inside.budget later = search rules in
-    let part : held_at_host later.hosts site ≡ held_by new.log = search rules in
+    let there = there_inside site c.self.view_is c.requires.there in
+    let part = part_changed c.at-permits.ensures.host c.at-permits.ensures.budget done.stays done.part in
     let it = was_kept site hosts was new inside.budget later inside.lobby inside.lobby inside.pass told inside.noted lowered c.self.invariant there read in
     let settled : IsSoundAndQuiet new.settings new.log = done.settled in
     let marks = marks_nothing site _ _ inside.lobby it.listed done.mark in
     let tells = told_so was.host (Some (WasPruned c.args.now c.args.max_age c.args.max_life c.prune-closed.result)) inside.pass told done.tells in
     let notes = notes_set site inside.noted lowered _ _ (rw c.self.invariant.stamps there) (c.oldest-oldest.ensures ∙ ap (oldest_stamp new.log) (done.same.host ∙ it.place)) c.set.ensures in
-    kept_called site hosts was new inside.budget later inside.lobby inside.lobby inside.pass told inside.noted lowered c.self.invariant there read done.same settled others part marks tells done.seats done.account notes
+    kept_called site hosts was new inside.budget later inside.lobby inside.lobby inside.pass told inside.noted lowered c.self.invariant there read done.same settled part marks tells done.seats done.account notes
 
 pub returns-clause-all : goal.returns-clause-all
 returns-clause-all g c =
@@ -48,7 +46,7 @@ returns-clause-all g c =
     let was = c.index_mut-bundle.result.now in
     let new = c.prune-closed.new.self in
     let read = c.index_mut-bundle.ensures.value in
-    let there : site < length hosts = search rules in
+    let there = there_inside site c.self.view_is c.requires.there in
     let it = was_kept site hosts was was inside.budget inside.budget inside.lobby inside.lobby inside.pass inside.pass inside.noted inside.noted c.self.invariant there read in
     let step = stepped (λ s l. pruned_log c.args.now c.args.max_age c.args.max_life l) limits hosts inside.lobby.order site was new.log there read it.settings c.prune-closed.ensures.log in
     rw (sym c.self.view_is) (all_stepped limits hosts site was new inside.lobby.order ∙ step)
@@ -57,5 +55,5 @@ pub returns-clause-keeps : goal.returns-clause-keeps
 returns-clause-keeps g c =
     let inside = c.self.inside in
     let done = c.prune-closed.ensures in
-    let there : c.args.site < length inside.bundles.items = search rules in
+    let there = there_inside c.args.site c.self.view_is c.requires.there in
     rw (sym c.self.view_is) (all_keep inside.budget.limits inside.bundles.items c.args.site c.index_mut-bundle.result.now c.prune-closed.new.self inside.lobby.order inside.lobby.order there c.index_mut-bundle.ensures.value (record { stays = record { same = done.same; booked = done.booked; grew = done.grew }; keeps = done.keeps; streams = λ c was is. done.streams c is }))

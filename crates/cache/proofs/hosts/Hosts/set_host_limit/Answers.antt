@@ -1,17 +1,16 @@
-use Rattle.std.proofs.Common.{◌≡◌, ◌-◌, ◌<◌, length, sym, ap, ◌∙◌, rules}
+use Rattle.std.proofs.Common.{◌-◌, sym, ap, ◌∙◌}
 use Rattle.std.specs.Prelude.{min}
 use Rattle.std.specs.List.{sum_by}
 use Rattle.budget.specs.Lobby.{Queue}
-use Rattle.budget.specs.Plain.{KeepsOtherHosts, held_at_host}
 use Rattle.host_state.specs.Steps.{moment_at}
 use Rattle.host_rules.specs.Calls.{after_limit, kept_limit, starts_due, is_queued}
 use Rattle.host_rules.specs.Effects.{open_len}
 use Rattle.host_rules.specs.Laws.{IsSoundAndQuiet}
-use Rattle.host_rules.specs.Counts.{held_by}
 use Rattle.bundle.specs.Passes.{limit_did}
 use Rattle.pool_rules.specs.AllHosts.{marked}
 use Rattle.cache.specs.Pools.{logs_of}
-use Rattle.cache.proofs.OneHost.{all_marked, stepped}
+use Rattle.cache.proofs.HostParts.{part_changed}
+use Rattle.cache.proofs.OneHost.{all_marked, stepped, there_inside}
 use Rattle.cache.proofs.Calling.{kept_called, was_kept, told_so, notes_oldest, marks_one}
 use Rattle.cache.proofs.Pruning.{all_keep}
 use Rattle.cache.proofs.Limiting.{limited_log, hosts_same}
@@ -22,7 +21,7 @@ pub set_host_limit-changed-requires-clause-enrolled : goal.set_host_limit-change
 set_host_limit-changed-requires-clause-enrolled g c =
     let inside = c.self.inside in
     let was = c.index_mut-bundle.result.now in
-    let there : c.args.site < length inside.bundles.items = search rules in
+    let there = there_inside c.args.site c.self.view_is c.requires.there in
     (was_kept c.args.site inside.bundles.items was was inside.budget inside.budget inside.lobby inside.lobby inside.pass inside.pass inside.noted inside.noted c.self.invariant there c.index_mut-bundle.ensures.value).enrolled
 
 pub invariant_of-self : goal.invariant_of-self
@@ -38,15 +37,14 @@ invariant_of-self g c =
     let lowered = c.note_oldest.new.noted in
     let done = c.set_host_limit-changed.ensures in
     let read = c.index_mut-bundle.ensures.value in
-    let there : site < length hosts = search rules in
-    let others : KeepsOtherHosts site inside.budget later = search rules in
-    let part : held_at_host later.hosts site ≡ held_by new.log = search rules in
+    let there = there_inside site c.self.view_is c.requires.there in
+    let part = part_changed c.at-permits.ensures.host c.at-permits.ensures.budget done.stays done.part in
     let it = was_kept site hosts was new inside.budget later inside.lobby after inside.pass told inside.noted lowered c.self.invariant there read in
     let settled : IsSoundAndQuiet new.settings new.log = done.settled in
     let marks = marks_one was.host site _ _ inside.lobby after it.place done.marked in
     let tells = told_so was.host (limit_did (kept_limit c.args.limit) (moment_at was.log c.args.now) c.set_host_limit-changed.result) inside.pass told done.tells in
     let notes = notes_oldest _ site inside.noted lowered new.log (rw c.self.invariant.stamps there) (done.same.host ∙ it.place) c.note_oldest.ensures in
-    kept_called site hosts was new inside.budget later inside.lobby after inside.pass told inside.noted lowered c.self.invariant there read done.same settled others part marks tells done.seats done.account notes
+    kept_called site hosts was new inside.budget later inside.lobby after inside.pass told inside.noted lowered c.self.invariant there read done.same settled part marks tells done.seats done.account notes
 
 pub returns-clause-all : goal.returns-clause-all
 returns-clause-all g c = elim c.match-changed.branch [
@@ -63,10 +61,10 @@ returns-clause-all g c = elim c.match-changed.branch [
       let after = c.set_host_limit-changed.new.lobby in
       let done = c.set_host_limit-changed.ensures in
       let read = c.index_mut-bundle.ensures.value in
-      let there : site < length hosts = search rules in
-      let others : KeepsOtherHosts site inside.budget later = search rules in
+      let there = there_inside site c.self.view_is c.requires.there in
+      let part = part_changed c.at-permits.ensures.host c.at-permits.ensures.budget done.stays done.part in
       let it = was_kept site hosts was new inside.budget later inside.lobby after inside.pass inside.pass inside.noted inside.noted c.self.invariant there read in
-      let log = limited_log n now limits hosts site was new later c.set_host_limit-changed.result w.in-Ok-Done.field-0 w.in-Ok-Done.is done.refused done.log done.contended it.settled there read (invariant_of-self g c).parts others.limits done.stands.1 in
+      let log = limited_log n now limits hosts site was new later c.set_host_limit-changed.result w.in-Ok-Done.field-0 w.in-Ok-Done.is done.refused done.log done.contended it.settled there read (invariant_of-self g c).parts part.others.limits done.stands.1 in
       let marked_is = all_marked limits hosts site was new inside.lobby.order after.order there it.place (done.same.settings ∙ it.settings) it.listed done.marked.order in
       let total = sum_by open_len (logs_of hosts) in
       let step = stepped (λ s l. after_limit (kept_limit n) (min (starts_due (is_queued s l) (kept_limit n) l) (limits.total - total)) s l now) limits hosts inside.lobby.order site was new.log there read it.settings log in
@@ -79,15 +77,15 @@ returns-clause-err g c = elim c.match-changed.branch [
   | in-Ok-Done w ↦ rw w.result-is tt
   | in-Err w ↦
       let inside = c.self.inside in
-      let others : KeepsOtherHosts c.args.site inside.budget c.set_host_limit-changed.new.permits.budget.now = search rules in
+      let part = part_changed c.at-permits.ensures.host c.at-permits.ensures.budget c.set_host_limit-changed.ensures.stays c.set_host_limit-changed.ensures.part in
       let hosts = hosts_same inside.bundles.items c.args.site c.index_mut-bundle.result.now c.set_host_limit-changed.new.self c.index_mut-bundle.ensures.value w.in-Err.ensures.err.0 in
       let queue = ap (λ (q : Queue). q.order) w.in-Err.ensures.err.1 in
-      rw w.result-is (rw hosts (rw queue (rw others.limits c.self.view_is)))
+      rw w.result-is (rw hosts (rw queue (rw part.others.limits c.self.view_is)))
 ]
 
 pub returns-clause-keeps : goal.returns-clause-keeps
 returns-clause-keeps g c =
     let inside = c.self.inside in
     let done = c.set_host_limit-changed.ensures in
-    let there : c.args.site < length inside.bundles.items = search rules in
+    let there = there_inside c.args.site c.self.view_is c.requires.there in
     rw (sym c.self.view_is) (all_keep inside.budget.limits inside.bundles.items c.args.site c.index_mut-bundle.result.now c.set_host_limit-changed.new.self inside.lobby.order c.set_host_limit-changed.new.lobby.order there c.index_mut-bundle.ensures.value (record { stays = record { same = done.same; booked = done.booked; grew = done.grew }; keeps = done.keeps; streams = λ c was is. done.streams c is }))

@@ -1,14 +1,13 @@
-use Rattle.std.proofs.Common.{◌≡◌, ◌<◌, length, refl, sym, ap, subst, ◌∙◌, rules, true, slice_set}
-use Rattle.budget.specs.Plain.{KeepsOtherHosts, held_at_host}
+use Rattle.std.proofs.Common.{◌≡◌, ◌<◌, length, refl, sym, ap, subst, ◌∙◌, true, slice_set}
 use Rattle.host_rules.specs.Calls.{acquired as acquired_at, GrowsBy}
 use Rattle.host_rules.specs.Laws.{IsSoundAndQuiet}
 use Rattle.bundle.specs.Lease.{HostShown, HasItsStream, KeepsStreams, KeepsOthers}
-use Rattle.host_rules.specs.Counts.{held_by}
 use Rattle.bundle.specs.Replies.{GivesLease as GotLease, GivesTicket as GotTicket, IsGot}
 use Rattle.pool_rules.specs.AllHosts.{terms}
 use Rattle.cache.specs.Pools.{all_hosts, host_at, logs_of, IsAcquired, GivesLease, GivesTicket, StreamsStay, OtherStreamsStay, KeepsHost}
+use Rattle.cache.proofs.HostParts.{part_changed}
 use Rattle.cache.proofs.StreamsStay.{open_ones_stay, open_others_stay, but_one, streams_on, others_on}
-use Rattle.cache.proofs.OneHost.{others_keep, read_is, host_changed}
+use Rattle.cache.proofs.OneHost.{others_keep, read_is, host_changed, there_inside}
 use Rattle.cache.proofs.Reused.{stream_kept}
 use Rattle.cache.proofs.Calling.{kept_called, was_kept, told_so, marks_one, NotesOne}
 use Rattle.cache.proofs.Keeping.{keeps_others, keeps_others_on, grows_on}
@@ -35,6 +34,10 @@ unreachable-requires-in-Again g c =
     let begins = last_begins_as_told was.settings c.args.booking.want c.args.now told was.log (never_again c.retry-got.new.permits.budget.now told done.told.1) in
     begins.1 (again_reply g.row.S.Denot was.host c.args.booking.want _ c.in-Again._booking (subst (λ r. IsGot was.host c.args.booking.want (acquired_at true told was.settings was.log c.args.booking.want c.args.now).reply r) c.in-Again.is done.told.2.got_is))
 
+-- the site is there once room was made
+site_there : (g : _) (c : goal.Joined-got g) → c.site-site.result < length c.self.inside.bundles.items
+site_there g c = there_inside c.site-site.result c.self.view_is (rw (c.close_oldest.ensures.stays.count, c.site-site.ensures) c.requires.there)
+
 pub invariant_of-self : goal.invariant_of-self
 invariant_of-self g c =
     let site = c.site-site.result in
@@ -47,9 +50,8 @@ invariant_of-self g c =
     let pass = c.retry-got.new.pass in
     let done = c.retry-got.ensures in
     let read = c.index_mut-bundle.ensures.value in
-    let there : site < length hosts = search rules in
-    let others : KeepsOtherHosts site inside.budget later = search rules in
-    let part : held_at_host later.hosts site ≡ held_by new.log = search rules in
+    let there = site_there g c in
+    let part = part_changed c.at-permits.ensures.host c.at-permits.ensures.budget done.stays done.part in
     let it = was_kept site hosts was new inside.budget later inside.lobby after inside.pass pass inside.noted inside.noted c.self.invariant there read in
     let settled : IsSoundAndQuiet new.settings new.log = done.settled in
     let marks = marks_one was.host site _ _ inside.lobby after it.place done.marked in
@@ -59,7 +61,7 @@ invariant_of-self g c =
       other_stamps = λ other apart. refl;
       not_later = still_not_later true done.told.0 was.settings was.log new.log c.args.booking.want c.args.now site _ done.told.2.log it.not_later;
     } in
-    kept_called site hosts was new inside.budget later inside.lobby after inside.pass pass inside.noted inside.noted c.self.invariant there read done.same settled others part marks tells done.seats done.account notes
+    kept_called site hosts was new inside.budget later inside.lobby after inside.pass pass inside.noted inside.noted c.self.invariant there read done.same settled part marks tells done.seats done.account notes
 
 told_at : (g : _) (c : goal.Joined-got g) → IsToldAt true c.args.self.now.limits c.self.inside.bundles.items c.site-site.result c.index_mut-bundle.result.now c.retry-got.new.self c.retry-got.new.permits.budget.now c.self.inside.lobby.order c.retry-got.new.lobby.0.order c.args.booking.want c.args.now c.retry-got.ensures.told.0
 told_at g c =
@@ -73,8 +75,8 @@ told_at g c =
     let pass = c.retry-got.new.pass in
     let done = c.retry-got.ensures in
     let read = c.index_mut-bundle.ensures.value in
-    let there : site < length hosts = search rules in
-    let others : KeepsOtherHosts site inside.budget later = search rules in
+    let there = site_there g c in
+    let part = part_changed c.at-permits.ensures.host c.at-permits.ensures.budget done.stays done.part in
     let it = was_kept site hosts was new inside.budget later inside.lobby after inside.pass pass inside.noted inside.noted c.self.invariant there read in
     let limits = ap (λ p. p.limits) c.self.view_is ∙ c.close_oldest.ensures.stays.limits in
     record {
@@ -87,7 +89,7 @@ told_at g c =
       same = done.same.settings;
       log_is = done.told.2.log;
       order_is = done.marked.order;
-      limits_are = others.limits ∙ limits;
+      limits_are = part.others.limits ∙ limits;
       parts = (invariant_of-self g c).parts;
       within = done.stands.1;
       tells = done.told.1;
@@ -144,7 +146,7 @@ returns-clause-stream g c =
     let want = c.args.booking.want in
     let done = c.retry-got.ensures in
     let old = c.args.self.now in
-    let there : site < length hosts = search rules in
+    let there = site_there g c in
     let old_there : site < length old.hosts = rw c.site-site.ensures c.requires.there in
     let at_mid : KeepsStreams (host_at old site) (host_at c.close_oldest.new.self site) = c.close_oldest.ensures.streams site old_there in
     let inside_is : host_at c.close_oldest.new.self site ≡ was = sym (read_is hosts site was there c.index_mut-bundle.ensures.value ∙ ap (λ p. host_at p site) c.self.view_is) in
@@ -164,7 +166,7 @@ returns-clause-grew g c =
     let was = c.index_mut-bundle.result.now in
     let new = c.retry-got.new.self in
     let old = c.args.self.now in
-    let there : site < length hosts = search rules in
+    let there = site_there g c in
     let old_there : site < length old.hosts = rw c.site-site.ensures c.requires.there in
     let inside_is : host_at c.close_oldest.new.self site ≡ was = sym (read_is hosts site was there c.index_mut-bundle.ensures.value ∙ ap (λ p. host_at p site) c.self.view_is) in
     let first : GrowsBy (host_at old site).log was.log = subst (λ (h : HostShown g.row.S.Denot). GrowsBy (host_at old site).log h.log) inside_is (c.close_oldest.ensures.keeps site old_there).stays.grew in
@@ -177,7 +179,7 @@ made_room g c =
     let hosts = c.self.inside.bundles.items in
     let was = c.index_mut-bundle.result.now in
     let old = c.args.self.now in
-    let there : site < length hosts = search rules in
+    let there = site_there g c in
     let old_there : site < length old.hosts = rw c.site-site.ensures c.requires.there in
     let inside_is : host_at c.close_oldest.new.self site ≡ was = sym (read_is hosts site was there c.index_mut-bundle.ensures.value ∙ ap (λ p. host_at p site) c.self.view_is) in
     subst (KeepsHost (host_at old site)) inside_is (c.close_oldest.ensures.keeps site old_there)
@@ -190,7 +192,7 @@ returns-clause-streams g c =
     let new = c.retry-got.new.self in
     let done = c.retry-got.ensures in
     let old = host_at c.args.self.now site in
-    let there : site < length hosts = search rules in
+    let there = site_there g c in
     let first = made_room g c in
     rw (sym c.site-site.ensures) (rw (host_changed hosts site new there) (elim c.match-got.branch [
       | in-Lease w ↦
@@ -209,7 +211,7 @@ returns-clause-kept g c =
     let new = c.retry-got.new.self in
     let done = c.retry-got.ensures in
     let old = host_at c.args.self.now site in
-    let there : site < length hosts = search rules in
+    let there = site_there g c in
     let first = made_room g c in
     rw (sym c.site-site.ensures) (rw (host_changed hosts site new there) (elim c.match-got.branch [
       | in-Lease w ↦ subst (λ r. GivesTicket r (λ ticket. StreamsStay old new)) (sym w.result-is) tt

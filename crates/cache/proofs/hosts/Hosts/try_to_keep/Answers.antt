@@ -1,11 +1,10 @@
 use Rattle.host_rules.specs.Effects.{idle_len}
-use Rattle.std.proofs.Common.{◌≡◌, ◌<◌, true, length, sym, ap, ◌∙◌, rules}
-use Rattle.budget.specs.Plain.{KeepsOtherHosts, held_at_host}
+use Rattle.std.proofs.Common.{◌≡◌, true, sym, ap, ◌∙◌}
 use Rattle.host_rules.specs.Calls.{after_give_back, becomes_idle}
 use Rattle.host_rules.specs.Laws.{IsSoundAndQuiet}
-use Rattle.host_rules.specs.Counts.{held_by}
 use Rattle.pool_rules.specs.AllHosts.{marked}
-use Rattle.cache.proofs.OneHost.{all_marked, others_keep, stepped, log_was}
+use Rattle.cache.proofs.HostParts.{part_changed}
+use Rattle.cache.proofs.OneHost.{all_marked, others_keep, stepped, log_was, there_inside}
 use Rattle.cache.proofs.Calling.{kept_called, was_kept, told_spending, tells_nothing, notes_oldest, marks_one, TellsOne}
 use Rattle.cache.proofs.SameLog.{pool_same}
 use Rattle.cache.proofs.Returning.{gave_log, gave_none, gave_again, gave_strange, one_more_idle, full_kept, room_kept}
@@ -34,9 +33,8 @@ invariant_of-self g c =
     let lowered = c.note_oldest.new.noted in
     let done = c.give_back-back.ensures in
     let read = c.index_mut-bundle.ensures.value in
-    let there : site < length hosts = search rules in
-    let others : KeepsOtherHosts site inside.budget later = search rules in
-    let part : held_at_host later.hosts site ≡ held_by new.log = search rules in
+    let there = there_inside site c.self.view_is (rw c.site-site.ensures c.requires.there) in
+    let part = part_changed c.at-permits.ensures.host c.at-permits.ensures.budget done.stays done.part in
     let it = was_kept site hosts was new inside.budget later inside.lobby after inside.pass told inside.noted lowered c.self.invariant there read in
     let settled : IsSoundAndQuiet new.settings new.log = done.settled in
     let marks = marks_one was.host site _ _ inside.lobby after it.place done.marked in
@@ -46,7 +44,7 @@ invariant_of-self g c =
       | in-NoKeep w ↦ rw w.in-NoKeep.ensures.unspent (tells_nothing was.host inside.pass)
     ] in
     let notes = notes_oldest _ site inside.noted lowered new.log (rw c.self.invariant.stamps there) (done.same.host ∙ it.place) c.note_oldest.ensures in
-    kept_called site hosts was new inside.budget later inside.lobby after inside.pass told inside.noted lowered c.self.invariant there read done.same settled others part marks tells done.seats done.account notes
+    kept_called site hosts was new inside.budget later inside.lobby after inside.pass told inside.noted lowered c.self.invariant there read done.same settled part marks tells done.seats done.account notes
 
 pub returns-clause-back : goal.returns-clause-back
 returns-clause-back g c =
@@ -56,12 +54,12 @@ returns-clause-back g c =
     let new = c.give_back-back.new.self in
     let after = c.give_back-back.new.lobby.0 in
     let later = c.give_back-back.new.permits.budget.now in
-    let others : KeepsOtherHosts site inside.budget later = search rules in
+    let part = part_changed c.at-permits.ensures.host c.at-permits.ensures.budget c.give_back-back.ensures.stays c.give_back-back.ensures.part in
     elim c.match-back.branch [
       | in-Spent w ↦ rw w.result-is tt
       | in-NoKeep w ↦
           let none = gave_none was new later c.args.lease c.args.facts c.args.now _ w.in-NoKeep.ensures.told in
-          let same = pool_same inside.budget.limits later.limits site inside.bundles.items was new inside.lobby after others.limits c.index_mut-bundle.ensures.value none.same_host c.give_back-back.ensures.marked in
+          let same = pool_same inside.budget.limits later.limits site inside.bundles.items was new inside.lobby after part.others.limits c.index_mut-bundle.ensures.value none.same_host c.give_back-back.ensures.marked in
           rw w.result-is (none.same_lease, same ∙ c.self.view_is)
     ]
 
@@ -70,7 +68,7 @@ returns-clause-idle g c =
     let site = c.site-site.result in
     let hosts = c.self.inside.bundles.items in
     let was = c.index_mut-bundle.result.now in
-    let there : site < length hosts = search rules in
+    let there = there_inside site c.self.view_is (rw c.site-site.ensures c.requires.there) in
     let log = log_was hosts site was there c.index_mut-bundle.ensures.value in
     elim c.match-back.branch [
       | in-Spent w ↦ rw w.result-is tt
@@ -87,14 +85,13 @@ returns-clause-full g c =
     let was = c.index_mut-bundle.result.now in
     let new = c.give_back-back.new.self in
     let later = c.give_back-back.new.permits.budget.now in
-    let there : site < length hosts = search rules in
-    let others : KeepsOtherHosts site inside.budget later = search rules in
-    let part : held_at_host later.hosts site ≡ held_by new.log = search rules in
+    let there = there_inside site c.self.view_is (rw c.site-site.ensures c.requires.there) in
+    let part = part_changed c.at-permits.ensures.host c.at-permits.ensures.budget c.give_back-back.ensures.stays c.give_back-back.ensures.part in
     elim c.match-back.branch [
       | in-Spent w ↦ rw w.result-is tt
       | in-NoKeep w ↦
           let none = gave_none was new later c.args.lease c.args.facts c.args.now _ w.in-NoKeep.ensures.told in
-          let full = full_kept site hosts was new inside.budget later there c.index_mut-bundle.ensures.value c.self.invariant.parts others part w.in-NoKeep.ensures.stands.1 none.same_host none.full in
+          let full = full_kept site hosts was new inside.budget later there c.index_mut-bundle.ensures.value c.self.invariant.parts part w.in-NoKeep.ensures.stands.1 none.same_host none.full in
           rw w.result-is (rw (sym c.self.view_is) full)
     ]
 
@@ -107,9 +104,8 @@ returns-clause-room g c =
     let new = c.give_back-back.new.self in
     let later = c.give_back-back.new.permits.budget.now in
     let read = c.index_mut-bundle.ensures.value in
-    let there : site < length hosts = search rules in
-    let others : KeepsOtherHosts site inside.budget later = search rules in
-    let part : held_at_host later.hosts site ≡ held_by new.log = search rules in
+    let there = there_inside site c.self.view_is (rw c.site-site.ensures c.requires.there) in
+    let part = part_changed c.at-permits.ensures.host c.at-permits.ensures.budget c.give_back-back.ensures.stays c.give_back-back.ensures.part in
     let it = was_kept site hosts was new inside.budget inside.budget inside.lobby inside.lobby inside.pass inside.pass inside.noted inside.noted c.self.invariant there read in
     let log = log_was hosts site was there read in
     let transfer = c.args.lease.start.want.transfer in
@@ -119,7 +115,7 @@ returns-clause-room g c =
       | in-Spent w ↦
           let back = gave_log was new later c.args.lease c.args.facts c.args.now _ w.in-Spent.ensures.told in
           let room = (λ (idle : becomes_idle was.log number c.args.facts c.args.now ≡ true).
-          room_kept site hosts was new inside.budget later there read c.self.invariant.parts others part w.in-Spent.ensures.stands.1
+          room_kept site hosts was new inside.budget later there read c.self.invariant.parts part w.in-Spent.ensures.stands.1
           (ap idle_len back ∙ one_more_idle was.settings was.log transfer number c.args.facts c.args.now it.settled w.in-Spent.ensures.known idle)) in
           rw w.result-is (rw (sym c.self.view_is) (rw (sym c.site-site.ensures) (rw (sym log) room)))
     ]
@@ -135,7 +131,7 @@ returns-clause-all g c =
     let after = c.give_back-back.new.lobby.0 in
     let done = c.give_back-back.ensures in
     let read = c.index_mut-bundle.ensures.value in
-    let there : site < length hosts = search rules in
+    let there = there_inside site c.self.view_is (rw c.site-site.ensures c.requires.there) in
     let it = was_kept site hosts was new inside.budget inside.budget inside.lobby after inside.pass inside.pass inside.noted inside.noted c.self.invariant there read in
     let number = c.args.lease.start.number in
     let marked_is = all_marked limits hosts site was new inside.lobby.order after.order there it.place (done.same.settings ∙ it.settings) it.listed done.marked.order in
@@ -159,6 +155,6 @@ returns-clause-was_open g c =
     let hosts = inside.bundles.items in
     let was = c.index_mut-bundle.result.now in
     let read = c.index_mut-bundle.ensures.value in
-    let there : site < length hosts = search rules in
+    let there = there_inside site c.self.view_is (rw c.site-site.ensures c.requires.there) in
     let it = was_kept site hosts was was inside.budget inside.budget inside.lobby inside.lobby inside.pass inside.pass inside.noted inside.noted c.self.invariant there read in
     rw (sym c.self.view_is) (rw (sym c.site-site.ensures) (open_at hosts site was there read it.settled.sound c.args.lease.start.want.transfer c.args.lease.start.number c.give_back-back.ensures.known))

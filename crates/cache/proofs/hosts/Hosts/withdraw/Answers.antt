@@ -1,11 +1,10 @@
-use Rattle.std.proofs.Common.{◌≡◌, ◌<◌, length, Some, sym, ap, ◌∙◌, rules}
-use Rattle.budget.specs.Plain.{KeepsOtherHosts, held_at_host}
+use Rattle.std.proofs.Common.{Some, sym, ap, ◌∙◌}
 use Rattle.bundle.specs.declared.did.Did.TheVariants.{Stranger}
 use Rattle.host_rules.specs.Calls.{after_withdraw}
 use Rattle.host_rules.specs.Laws.{IsSoundAndQuiet}
-use Rattle.host_rules.specs.Counts.{held_by}
 use Rattle.pool_rules.specs.AllHosts.{marked}
-use Rattle.cache.proofs.OneHost.{all_marked, others_keep, stepped}
+use Rattle.cache.proofs.HostParts.{part_changed}
+use Rattle.cache.proofs.OneHost.{all_marked, others_keep, stepped, there_inside}
 use Rattle.cache.proofs.Calling.{kept_called, was_kept, notes_oldest, marks_one}
 use Rattle.cache.proofs.SameLog.{told_either, pool_same}
 use Rattle.cache.proofs.hosts.Hosts.withdraw.Goals as goal
@@ -24,15 +23,14 @@ invariant_of-self g c =
     let lowered = c.note_oldest.new.noted in
     let done = c.withdraw-withdrawn.ensures in
     let read = c.index_mut-bundle.ensures.value in
-    let there : site < length hosts = search rules in
-    let others : KeepsOtherHosts site inside.budget later = search rules in
-    let part : held_at_host later.hosts site ≡ held_by new.log = search rules in
+    let there = there_inside site c.self.view_is (rw c.site-site.ensures c.requires.there) in
+    let part = part_changed c.at-permits.ensures.host c.at-permits.ensures.budget done.stays done.part in
     let it = was_kept site hosts was new inside.budget later inside.lobby after inside.pass told inside.noted lowered c.self.invariant there read in
     let settled : IsSoundAndQuiet new.settings new.log = done.settled in
     let marks = marks_one was.host site _ _ inside.lobby after it.place done.marked in
     let tells = told_either c.withdraw-withdrawn.result was.host _ _ _ (Some (Stranger c.args.ticket.wait.want.transfer)) inside.pass told done.withdrawn done.stranger in
     let notes = notes_oldest _ site inside.noted lowered new.log (rw c.self.invariant.stamps there) (done.same.host ∙ it.place) c.note_oldest.ensures in
-    kept_called site hosts was new inside.budget later inside.lobby after inside.pass told inside.noted lowered c.self.invariant there read done.same settled others part marks tells done.seats done.account notes
+    kept_called site hosts was new inside.budget later inside.lobby after inside.pass told inside.noted lowered c.self.invariant there read done.same settled part marks tells done.seats done.account notes
 
 pub returns-clause-all : goal.returns-clause-all
 returns-clause-all g c =
@@ -45,7 +43,7 @@ returns-clause-all g c =
     let after = c.withdraw-withdrawn.new.lobby.0 in
     let done = c.withdraw-withdrawn.ensures in
     let read = c.index_mut-bundle.ensures.value in
-    let there : site < length hosts = search rules in
+    let there = there_inside site c.self.view_is (rw c.site-site.ensures c.requires.there) in
     let it = was_kept site hosts was new inside.budget inside.budget inside.lobby after inside.pass inside.pass inside.noted inside.noted c.self.invariant there read in
     let transfer = c.args.ticket.wait.want.transfer in
     let marked_is = all_marked limits hosts site was new inside.lobby.order after.order there it.place (done.same.settings ∙ it.settings) it.listed done.marked.order in
@@ -68,8 +66,8 @@ returns-clause-err g c =
     elim c.match-withdrawn.branch [
       | in-Ok w ↦ rw w.result-is tt
       | in-Err w ↦
-          let others : KeepsOtherHosts site inside.budget later = search rules in
-          let same = pool_same inside.budget.limits later.limits site inside.bundles.items was new inside.lobby after others.limits c.index_mut-bundle.ensures.value w.in-Err.ensures.err done.marked in
+          let part = part_changed c.at-permits.ensures.host c.at-permits.ensures.budget done.stays done.part in
+          let same = pool_same inside.budget.limits later.limits site inside.bundles.items was new inside.lobby after part.others.limits c.index_mut-bundle.ensures.value w.in-Err.ensures.err done.marked in
           rw w.result-is (rw (sym c.self.view_is) same)
     ]
 

@@ -1,4 +1,3 @@
-use Rattle.std.proofs.Common.{◌<◌, length, rules}
 use Rattle.cache.proofs.Claims.{claimed_here}
 use Rattle.cache.proofs.Keeping.{still_there}
 use Rattle.cache.proofs.pool.Pool.claim.Goals as goal
@@ -7,5 +6,5 @@ pub returns-clause-made_here : goal.returns-clause-made_here
 returns-clause-made_here g c =
     let site = c.args.ticket.site in
     let done = c.claim.ensures in
-    let there : site < length c.self.inside.hosts.hosts = search rules in
+    let there = rw (c.site.ensures, c.len.ensures.count) at c.if-site-len.false in
     claimed_here c.claim.result c.self.inside.hosts c.claim.new.self site (still_there c.self.inside.hosts c.claim.new.self site done.stays there) done.site.same.tables done.made_at done.made_here
