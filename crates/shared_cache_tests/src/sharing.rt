@@ -165,8 +165,9 @@ fn limits_change_while_four_threads_work(rt: HostRuntime) {
         },
     ];
     let (_all, seen) = balanced(&rt, rt.alloc(), (2, 6, 4), 2, &jobs);
-    let begun = seen.starts.saturating_add(seen.left);
-    assert_eq!(rt; begun, 4_000);
+    assert_eq!(rt; seen.begun(), 4_000);
+    // no limit is never refused
+    assert!(rt; seen.changes > 0);
 }
 
 #[test]
@@ -178,7 +179,12 @@ fn four_threads_share_three_connections(rt: HostRuntime) {
         drawn(15_000, 5_000, 16),
     ];
     let (all, seen) = balanced(&rt, rt.alloc(), (0, 3, 2), 16, &jobs);
-    let begun = seen.starts.saturating_add(seen.left);
-    assert_eq!(rt; begun, 20_000);
+    assert_eq!(rt; seen.begun(), 20_000);
     assert!(rt; all.alive <= 2);
+    // a thread that has three waits, even where it runs alone
+    assert!(rt; seen.left > 0 && seen.withdrawn > 0, "{seen:?}");
+    assert!(rt;
+        seen.waits > seen.left.saturating_add(seen.withdrawn),
+        "{seen:?}"
+    );
 }

@@ -24,8 +24,8 @@ pub(crate) enum Job {
         transfers: u64,
     },
     /// Each transfer has a host and a want that are drawn. If it waits it asks a few times for what
-    /// it is granted, and else leaves. A connection is given back or abandoned, now or at the next
-    /// transfer.
+    /// it is granted, and else leaves. Connections are given back or abandoned, now or a few
+    /// transfers later.
     Drawn {
         first: u64,
         transfers: u64,
@@ -71,6 +71,11 @@ impl Seen {
             withdrawn: self.withdrawn.saturating_add(other.withdrawn),
             changes: self.changes.saturating_add(other.changes),
         }
+    }
+
+    /// How many transfers were given a connection, or left.
+    pub fn begun(&self) -> u64 {
+        self.starts.saturating_add(self.left)
     }
 
     // What one more answer counts as.
@@ -120,6 +125,14 @@ impl Draws {
         self.below_small(rt, most)
     }
 
+    // How many leases a thread has at most when it goes on: none every other time, else up to 3.
+    fn most_leased(&mut self) -> usize {
+        if self.below(2) == 0 {
+            return 0;
+        }
+        self.below(4) as usize
+    }
+
     fn want(&mut self, transfer: u64) -> Want {
         Want {
             transfer,
@@ -161,7 +174,7 @@ impl<N: Names> Worker<N> {
                 hosts,
             } => {
                 self.work_as_drawn(rt, cache, first, transfers, hosts);
-                self.spend_rest(rt, cache, transfers);
+                self.spend_all_but(0, rt, cache, transfers);
             }
             Job::Limits { changes, hosts } => self.change_limits(rt, cache, changes, hosts),
         }
@@ -193,6 +206,7 @@ impl<N: Names> Worker<N> {
             let said = self.desk.acquire(rt, cache, site, want_of(transfer), 0);
             assert!(rt; is_lease(said), "{said:?}");
             self.note(said);
+            yield_now();
             self.desk.back(rt, cache, transfer, KEEP, 0);
         }
     }
@@ -207,15 +221,20 @@ impl<N: Names> Worker<N> {
     ) {
         for now in 0..transfers {
             self.start(rt, cache, first.saturating_add(now), hosts, now);
-            let kept = usize::from(self.draws.below(4) == 0);
-            if self.desk.leased() > kept {
-                self.spend_first(rt, cache, now);
-            }
+            let most = self.draws.most_leased();
+            self.spend_all_but(most, rt, cache, now);
         }
     }
 
-    fn spend_rest(&mut self, rt: &(impl Wait + Abort), cache: &SharedCache<Stream, N>, now: u64) {
-        for _ in 0..self.desk.leased() {
+    // Spends leases until there are no more than so many.
+    fn spend_all_but(
+        &mut self,
+        most: usize,
+        rt: &(impl Wait + Abort),
+        cache: &SharedCache<Stream, N>,
+        now: u64,
+    ) {
+        for _ in most..self.desk.leased() {
             self.spend_first(rt, cache, now);
         }
     }
@@ -261,7 +280,7 @@ impl<N: Names> Worker<N> {
     }
 
     // The transfer asks for what it is granted, and leaves if that takes too long: whoever has the
-    // connection may be waiting too.
+    // connection may be waiting too. It may be this thread, which spends one now and then.
     fn wait(
         &mut self,
         rt: &(impl Wait + Abort),
@@ -274,6 +293,9 @@ impl<N: Names> Worker<N> {
             if said != Said::Still {
                 self.note(said);
                 return;
+            }
+            if self.draws.below(8) == 0 {
+                self.spend_first(rt, cache, now);
             }
             yield_now();
         }
