@@ -134,6 +134,16 @@ impl ResponseReader {
     pub fn clear(&mut self)
         ensures { self.new ≡ new_reader self.old.method self.old.request_close }
     {
+        self.reset(self.method, self.request_close);
+    }
+
+    /// The same for the response to another request, of that method, which had the connection
+    /// option `close` or not.
+    pub fn reset(&mut self, method: Method, request_close: bool)
+        ensures { self.new ≡ new_reader method request_close }
+    {
+        self.method = method;
+        self.request_close = request_close;
         self.buffer.clear();
         self.stage = Stage::Heads { skipped: 0 };
         self.ended = false;

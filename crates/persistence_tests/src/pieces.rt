@@ -693,3 +693,22 @@ fn a_cleared_reader_is_as_new(rt: HostRuntime) -> Result<(), Fail> {
     }
     Ok(())
 }
+
+#[test]
+fn a_reset_reader_reads_the_response_to_another_request(rt: HostRuntime) -> Result<(), Fail> {
+    let mut reader = ResponseReader::new(rt.alloc(), Method::Head, true)?;
+    let text = "HTTP/1.1 200 OK\r\nContent-Length: 2\r\n\r\n";
+    let _ = fed(&rt, &mut reader, text.as_bytes());
+    reader.end();
+    reader.reset(Method::Get, false);
+    let case = "HTTP/1.1 200 OK\r\nContent-Length: 2\r\n\r\nok";
+    let next = Sent {
+        method: Method::Get,
+        request_close: false,
+        text: case.as_bytes(),
+        ended: false,
+    };
+    check_as_new(&rt, rt.alloc(), &mut reader, case, next)?;
+    assert_eq!(rt; (reader.facts(), reader.body_len()), (KEEP, 2));
+    Ok(())
+}

@@ -1,7 +1,7 @@
 use Rattle.std.proofs.Common.{sym, ap}
 use Rattle.persistence.specs.Told.{is_some_text}
 use Rattle.persistence.proofs.StageLemmas.{nothing_fed}
-use Rattle.persistence.proofs.reader.ResponseReader.clear.Goals as goal
+use Rattle.persistence.proofs.reader.ResponseReader.reset.Goals as goal
 
 pub invariant_of-self : goal.invariant_of-self
 invariant_of-self c = record {
