@@ -52,62 +52,77 @@ impl<S: Drop, N: Names> SharedCache<S, N> {
         if !self.has(site) {
             return Err(Refusal::BadSite);
         }
-        let acquired = self.start(rt, site, want, now, pass)?;
-        self.serve(rt, now);
-        Ok(acquired)
-    }
-
-    // The same, before hosts that are queued take turns.
-    #[inline(always)]
-    fn start<R: Wait>(
-        &self,
-        rt: &R,
-        site: u32,
-        want: Want,
-        now: u64,
-        pass: &mut Pass<Did>,
-    ) -> Result<Acquired<S>, Refusal>
-        requires there { site < length N.names.hosts }
-        requires pass { IsPassOf N.names pass.old }
-        ensures ok { IfOk result (IsAcquiredFor N.names site want now) }
-        ensures err { IfErr result IsAgainstAcquire }
-        ensures tells { pass.new ≡ tells site (result_did want.transfer result) pass.old }
-        ensures pass { IsPassOf N.names pass.new }
-    {
-        let got = self.try_first(rt, site, want, now, pass);
+        let mut host = self.at(rt, site);
+        let got = host.acquire(&self.budget, want, now, pass);
+        // Each way lets the host's lock go first, and takes others only then.
         match got {
-            Ok(Got::Lease(lease)) => Ok(Acquired::Lease(lease)),
-            Ok(Got::Wait(ticket)) => Ok(Acquired::Wait(ticket)),
-            Ok(Got::NoRoom(booking)) => Ok(self.start_with_room(rt, booking, now, pass, TRIES)),
-            Ok(Got::Again(booking)) => Ok(self.start_again(rt, booking, now, pass)),
-            Err(refusal) => Err(refusal),
+            Ok(Got::Lease(lease)) => {
+                self.unlock(host);
+                self.serve(rt, now);
+                Ok(Acquired::Lease(lease))
+            }
+            Ok(Got::Wait(ticket)) => {
+                self.unlock(host);
+                self.serve(rt, now);
+                Ok(Acquired::Wait(ticket))
+            }
+            Ok(Got::NoRoom(booking)) => {
+                self.unlock(host);
+                Ok(self.acquire_with_room(rt, booking, now, pass))
+            }
+            Ok(Got::Again(booking)) => {
+                self.unlock(host);
+                Ok(self.acquire_again(rt, booking, now, pass))
+            }
+            Err(refusal) => {
+                self.unlock(host);
+                Err(refusal)
+            }
         }
     }
 
-    // The first try.
+    // Where the total has no room. Inlined, so that the room for what it moves is cleared here, and
+    // not before each acquire; what it does is not, so that an acquire stays small.
     #[inline(always)]
-    fn try_first<R: Wait>(
+    fn acquire_with_room<R: Wait>(
         &self,
         rt: &R,
-        site: u32,
-        want: Want,
+        booking: Booking,
         now: u64,
         pass: &mut Pass<Did>,
-    ) -> Result<Got<S>, Refusal>
-        requires there { site < length N.names.hosts }
+    ) -> Acquired<S>
+        requires there { booking.site < length N.names.hosts }
         requires pass { IsPassOf N.names pass.old }
-        ensures got { IfGot result (IsGotFor N.names site want now) }
-        ensures err { IfErr result IsAgainstAcquire }
-        ensures tells { pass.new ≡ tells site (acquire_did want.transfer result) pass.old }
+        ensures acquired { IsAcquiredFor N.names booking.site booking.want now result }
+        ensures tells { pass.new ≡ tells booking.site (Some (acquired_did result)) pass.old }
         ensures pass { IsPassOf N.names pass.new }
     {
-        let mut host = self.at(rt, site);
-        let got = host.acquire(&self.budget, want, now, pass);
-        self.note(&host);
-        got
+        let acquired = self.start_with_room(rt, booking, now, pass, TRIES);
+        self.serve(rt, now);
+        acquired
     }
 
-    // Tries again where another thread had changed the total.
+    // Where another thread had changed the total. Inlined, as above.
+    #[inline(always)]
+    fn acquire_again<R: Wait>(
+        &self,
+        rt: &R,
+        booking: Booking,
+        now: u64,
+        pass: &mut Pass<Did>,
+    ) -> Acquired<S>
+        requires there { booking.site < length N.names.hosts }
+        requires pass { IsPassOf N.names pass.old }
+        ensures acquired { IsAcquiredFor N.names booking.site booking.want now result }
+        ensures tells { pass.new ≡ tells booking.site (Some (acquired_did result)) pass.old }
+        ensures pass { IsPassOf N.names pass.new }
+    {
+        let acquired = self.start_again(rt, booking, now, pass);
+        self.serve(rt, now);
+        acquired
+    }
+
+    // Tries again where another thread had changed the total, before hosts take turns.
     #[cold]
     #[inline(never)]
     fn start_again<R: Wait>(
@@ -180,7 +195,7 @@ impl<S: Drop, N: Names> SharedCache<S, N> {
         for _ in rt.forever() {
             let mut host = self.at_booked(rt, &halfway);
             let got = host.retry(&self.budget, halfway, now, pass);
-            self.note(&host);
+            self.unlock(host);
             match got {
                 Got::Lease(lease) => return Ok(Acquired::Lease(lease)),
                 Got::Wait(ticket) => return Ok(Acquired::Wait(ticket)),
@@ -212,7 +227,7 @@ impl<S: Drop, N: Names> SharedCache<S, N> {
             let (budget, link) = (&self.budget, &self.link);
             let got = host.retry_at_last(budget, link, &mut queue, halfway, now, pass);
             self.note_queue(&queue);
-            self.note(&host);
+            self.unlock(host);
             match got {
                 Got::Lease(lease) => return Acquired::Lease(lease),
                 Got::Wait(ticket) => return Acquired::Wait(ticket),

@@ -151,10 +151,11 @@ impl<S: Drop, N: Names> SharedCache<S, N> {
         unreachable!()
     }
 
-    // Notes which connection of that host, whose lock is taken, is idle for the longest.
+    // Notes which connection of that host is idle for the longest, and lets its lock go.
     #[inline(always)]
-    pub(crate) fn note(&self, host: &LockedHost<S, N>) {
+    pub(crate) fn unlock(&self, host: MutexGuard<'_, LockedHost<S, N>>) {
         self.hints.note(host.bundle.host(), host.bundle.oldest());
+        drop(host);
     }
 
     // Notes whether any host is queued, before the queue's lock is let go.

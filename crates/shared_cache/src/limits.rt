@@ -108,7 +108,7 @@ impl<S: Drop, N: Names> SharedCache<S, N> {
         let mut queue = self.queue.lock(rt);
         let changed = host.set_limit(&self.budget, &self.link, &mut queue, limit, now, pass);
         self.note_queue(&queue);
-        self.note(&host);
+        self.unlock(host);
         changed
     }
 }

@@ -34,7 +34,7 @@ impl<S: Drop, N: Names> SharedCache<S, N> {
         for site in 0..self.hosts() {
             let mut host = self.at(rt, site);
             closed += host.prune(&self.budget, now, max_age, max_life, pass);
-            self.note(&host);
+            self.unlock(host);
         }
         self.serve(rt, now);
         closed

@@ -41,7 +41,7 @@ impl<S: Drop, N: Names> SharedCache<S, N> {
         };
         let mut host = self.at(rt, hinted.host);
         host.close_oldest(&self.budget, hinted.since, cause, now);
-        self.note(&host);
+        self.unlock(host);
         true
     }
 
@@ -115,7 +115,7 @@ impl<S: Drop, N: Names> SharedCache<S, N> {
         let mut queue = self.queue.lock(rt);
         let served = host.take_turn(&self.budget, &self.link, &mut queue, now);
         self.note_queue(&queue);
-        self.note(&host);
+        self.unlock(host);
         served
     }
 }

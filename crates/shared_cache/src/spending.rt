@@ -10,7 +10,6 @@ ghost use Rattle.shared_cache.specs.Calls.{IsMadeBy, IsClaimedFor};
 ghost use Rattle.shared_cache.specs.Passes.{IsPassOf, SpendsAs, WithdrawsAs};
 
 use crate::cache::SharedCache;
-use crate::locked::LockedHost;
 use crate::names::Names;
 use crate::serving::TRIES;
 use budget::Pass;
@@ -78,13 +77,34 @@ impl<S: Drop, N: Names> SharedCache<S, N> {
             SpendsAs lease.site now returned pass.old pass.new }
         ensures pass { IsPassOf N.names pass.new }
     {
-        self.take_back(rt, lease, facts, now, pass);
-        self.serve(rt, now);
+        let mut host = self.at(rt, lease.site());
+        if host.bundle.queued() {
+            drop(host);
+            return self.give_back_again(rt, lease, facts, now, pass);
+        }
+        let back = host.give_back(&self.budget, lease, facts, now, pass, false);
+        // Each way lets the host's lock go first, and takes others only then.
+        match back {
+            Back::Spent { freed: _ } => {
+                self.unlock(host);
+                self.serve(rt, now);
+            }
+            Back::NoKeep(lease) => {
+                self.unlock(host);
+                self.give_back_with_room(rt, lease, facts, now, pass);
+            }
+            Back::Again(lease) => {
+                self.unlock(host);
+                self.give_back_again(rt, lease, facts, now, pass);
+            }
+            Back::Strange(_stray) => unreachable!(),
+        }
     }
 
-    // The same, before hosts that are queued take turns.
+    // Where as many are kept idle as may be. Inlined, so that the room for what it moves is cleared
+    // here, and not before each give back; what it does is not, so that a give back stays small.
     #[inline(always)]
-    fn take_back<R: Wait>(
+    fn give_back_with_room<R: Wait>(
         &self,
         rt: &R,
         lease: Lease<S>,
@@ -99,16 +119,31 @@ impl<S: Drop, N: Names> SharedCache<S, N> {
             SpendsAs lease.site now returned pass.old pass.new }
         ensures pass { IsPassOf N.names pass.new }
     {
-        let back = self.try_to_keep(rt, lease, facts, now, pass, false);
-        match back {
-            Back::Spent { freed: _ } => {}
-            Back::NoKeep(lease) => {
-                let tries = self.tries_left(rt, now, TRIES);
-                self.take_back_again(rt, lease, facts, now, pass, tries);
-            }
-            Back::Again(lease) => self.take_back_again(rt, lease, facts, now, pass, TRIES),
-            Back::Strange(_stray) => unreachable!(),
-        }
+        let tries = self.tries_left(rt, now, TRIES);
+        self.take_back_again(rt, lease, facts, now, pass, tries);
+        self.serve(rt, now);
+    }
+
+    // Where the host is queued, or another thread had changed how many are kept idle. Inlined, as
+    // above.
+    #[inline(always)]
+    fn give_back_again<R: Wait>(
+        &self,
+        rt: &R,
+        lease: Lease<S>,
+        facts: Facts,
+        now: u64,
+        pass: &mut Pass<Did>,
+    )
+        requires made { IsMadeBy N.names lease }
+        requires stream { IsSome lease.stream }
+        requires pass { IsPassOf N.names pass.old }
+        ensures spent { let returned = Returned lease.start.number facts in
+            SpendsAs lease.site now returned pass.old pass.new }
+        ensures pass { IsPassOf N.names pass.new }
+    {
+        self.take_back_again(rt, lease, facts, now, pass, TRIES);
+        self.serve(rt, now);
     }
 
     // Tries until the lease is spent: so many times at most the oldest idle connection of all is
@@ -160,7 +195,6 @@ impl<S: Drop, N: Names> SharedCache<S, N> {
     }
 
     // One try.
-    #[inline(always)]
     fn try_to_keep<R: Wait>(
         &self,
         rt: &R,
@@ -180,37 +214,11 @@ impl<S: Drop, N: Names> SharedCache<S, N> {
         ensures pass { IsPassOf N.names pass.new }
     {
         let mut host = self.at(rt, lease.site());
-        let back = self.keep_at(rt, &mut host, lease, facts, now, pass, close_if_full);
-        self.note(&host);
-        back
-    }
-
-    // The same at its host, whose lock is taken.
-    #[inline(always)]
-    fn keep_at<R: Wait>(
-        &self,
-        rt: &R,
-        host: &mut LockedHost<S, N>,
-        lease: Lease<S>,
-        facts: Facts,
-        now: u64,
-        pass: &mut Pass<Did>,
-        close_if_full: bool,
-    ) -> Back<S>
-        requires here { host.old.host.host ≡ lease.site }
-        requires made { IsMadeBy N.names lease }
-        requires stream { IsSome lease.stream }
-        requires pass { IsPassOf N.names pass.old }
-        ensures back { IsBackAs close_if_full lease result }
-        ensures spent { let returned = Returned lease.start.number facts in
-            OnSpent result (SpendsAs lease.site now returned pass.old pass.new) }
-        ensures unspent { UnlessSpent result (pass.new ≡ pass.old) }
-        ensures pass { IsPassOf N.names pass.new }
-        ensures place { host.new.host.host ≡ host.old.host.host }
-    {
         let budget = &self.budget;
         if !host.bundle.queued() {
-            return host.give_back(budget, lease, facts, now, pass, close_if_full);
+            let back = host.give_back(budget, lease, facts, now, pass, close_if_full);
+            self.unlock(host);
+            return back;
         }
         let link = &self.link;
         let mut queue = self.queue.lock(rt);
@@ -225,6 +233,7 @@ impl<S: Drop, N: Names> SharedCache<S, N> {
             close_if_full,
         );
         self.note_queue(&queue);
+        self.unlock(host);
         back
     }
 
@@ -258,13 +267,13 @@ impl<S: Drop, N: Names> SharedCache<S, N> {
         let mut host = self.at(rt, lease.site());
         if !host.bundle.queued() {
             host.abandon(&self.budget, lease, now, pass);
-            self.note(&host);
+            self.unlock(host);
             return;
         }
         let mut queue = self.queue.lock(rt);
         host.abandon_queued(&self.budget, &self.link, &mut queue, lease, now, pass);
         self.note_queue(&queue);
-        self.note(&host);
+        self.unlock(host);
     }
 
     /// Takes a ticket back: its transfer waits no more, or the connection that it was granted is
@@ -331,7 +340,7 @@ impl<S: Drop, N: Names> SharedCache<S, N> {
         let mut host = self.at(rt, ticket.site());
         if !host.bundle.queued() {
             let withdrawn = host.withdraw(&self.budget, ticket, now, pass);
-            self.note(&host);
+            self.unlock(host);
             return withdrawn;
         }
         let mut queue = self.queue.lock(rt);
@@ -344,7 +353,7 @@ impl<S: Drop, N: Names> SharedCache<S, N> {
             pass,
         );
         self.note_queue(&queue);
-        self.note(&host);
+        self.unlock(host);
         withdrawn
     }
 }
