@@ -21,3 +21,5 @@ pub mod LastTries
 pub mod Reused
 pub mod Booked
 pub mod NoneQueued
+pub mod Homes
+pub mod Deeds

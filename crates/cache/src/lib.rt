@@ -2,6 +2,7 @@
 #![tactic(auto)]
 
 mod acquiring;
+mod as_cache;
 mod hosts;
 mod limits;
 mod notes;

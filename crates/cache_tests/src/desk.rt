@@ -300,7 +300,12 @@ pub(crate) fn strange(rt: &impl Abort, pool: &mut Pool<()>, ticket: Ticket) -> T
 
 /// The host's log has to have these entries, and no other.
 pub(crate) fn check_log(rt: &impl Abort, desk: &Desk, site: u32, entries: &[Entry]) {
-    let log = desk.pool.log(site).expect(rt, "a host");
+    check_log_of(rt, &desk.pool, site, entries);
+}
+
+/// The same in a pool with streams of any type.
+pub(crate) fn check_log_of<S: Drop>(rt: &impl Abort, pool: &Pool<S>, site: u32, entries: &[Entry]) {
+    let log = pool.log(site).expect(rt, "a host");
     for place in 0..entries.len() {
         assert_eq!(rt;
             log.get(place),

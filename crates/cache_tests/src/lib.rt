@@ -2,6 +2,8 @@
 #![tactic(auto)]
 
 #[cfg(test)]
+mod as_cache;
+#[cfg(test)]
 mod calls;
 #[cfg(test)]
 mod cost;
