@@ -1,3 +1,4 @@
+pub mod Since
 pub mod OnWires
 pub mod FirstSteps
 pub mod Sending
@@ -7,6 +8,8 @@ pub mod Settling
 pub mod Retrying
 pub mod Receiving
 pub mod RequestText
-pub mod CountedOut
-pub mod AcquiredFor
-pub mod Answered
+pub mod Begun
+pub mod Spends
+pub mod Steps
+pub mod Slots
+pub mod Balanced

@@ -16,10 +16,12 @@ use Rattle.exchange.specs.declared.wire.Read.{Read}
 use Rattle.exchange.specs.declared.wire.Read.TheVariants.{Bytes, NotYet, End, Fault}
 use Rattle.exchange.specs.Wires.{Happening, Carried, carries_more, Reads}
 use Rattle.exchange.specs.Wires.Happening.{nothing, gives, ends, fails_to_read}
+use Rattle.leasing.specs.Deeds.{Deed}
 use Rattle.exchange.specs.Worlds.{World}
 use Rattle.exchange.specs.Answers.{ReadsWire, IsFaulty}
 use Rattle.exchange.specs.Standing.{StandsFrom, GoesOn}
 use Rattle.exchange.specs.Steps.{StepsWire, LeasedFrom, LeadsOn, IsGivenBack, IsFed, FailsSo, IsAtEnd, HasCome, CanSettle}
+use Rattle.exchange.specs.Since.{Outset}
 use Rattle.exchange.proofs.OnWires.{wire_steps, has_still}
 use Rattle.exchange.proofs.Retold.{leased_in}
 use Rattle.exchange.proofs.Spending.{spent_back}
@@ -80,29 +82,29 @@ module _ (p : Prepared) (count : ℕ) (reader : Reading) (feeds : Feeds p count 
         facts_are = rw (← method, ← close, ← bytes) told;
       }
 
-module _ {C W : Type 0} (world : World C W) (p : Prepared) (before : C) (lease : Leasing W) (count : ℕ) (reader : Reading) (feeds : Feeds p count reader) where
+module _ {C W : Type 0} (does : C → C → Deed W → Type 0) (world : World W) (p : Prepared) (before : C) (lease : Leasing W) (count : ℕ) (reader : Reading) (feeds : Feeds p count reader) where
   -- it reads on
-  pub reads_on : reader.fault ≡ None → IsNotWhole reader.method reader.bytes false → LeadsOn world p (record p { reader = reader }) before before lease (HasCome p count) (at.Reading lease)
+  pub reads_on : reader.fault ≡ None → IsNotWhole reader.method reader.bytes false → LeadsOn does world p (record p { reader = reader }) before before lease (HasCome p count) (at.Reading lease)
   reads_on none open_end first from =
       let new = record p { reader = reader } in
-      let now = leased_in world p new first before lease (HasCome p count) (ReadsWire new) (λ c come. reads_so p count reader feeds c come none open_end) from in
+      let now = leased_in does world p new first before lease (HasCome p count) (ReadsWire new) (λ c come. reads_so p count reader feeds c come none open_end) from in
       (now.deeds, now.done, record { given = now.given; has = now.has; wire = now.wire })
 
   -- its response is whole, and its lease can be settled
-  pub can_settle_whole : reader.fault ≡ None → (parts : Parts) × IsSplit reader.method reader.bytes false parts → (first : C) → LeasedFrom world p first before lease (HasCome p count)
-      → LeasedFrom world (record p { reader = reader }) first before lease (CanSettle (record p { reader = reader }) lease.start.reused)
+  pub can_settle_whole : reader.fault ≡ None → (parts : Parts) × IsSplit reader.method reader.bytes false parts → (first : Outset C W) → LeasedFrom does world p first before lease (HasCome p count)
+      → LeasedFrom does world (record p { reader = reader }) first before lease (CanSettle (record p { reader = reader }) lease.start.reused)
   can_settle_whole none whole first from =
       let new = record p { reader = reader } in
-      leased_in world p new first before lease (HasCome p count) (CanSettle new lease.start.reused) (λ c come. settles_so p count reader feeds c come lease.start.reused none whole) from
+      leased_in does world p new first before lease (HasCome p count) (CanSettle new lease.start.reused) (λ c come. settles_so p count reader feeds c come lease.start.reused none whole) from
 
   -- the bytes that came are no response
-  pub ends_faulty : (after : C) (now : ℕ) (known : Bool) (facts : Facts) (fault : ReadFault) → world.tells now → IsGivenBack (world.did before after) lease facts now known
+  pub ends_faulty : (after : C) (now : ℕ) (known : Bool) (facts : Facts) (fault : ReadFault) → world.tells now → IsGivenBack (does before after) lease facts now known
       → HasFault reader fault → ((fault : ReadFault) → reader.fault ≡ Some fault → TellsFactsOfFaulty reader facts)
-      → LeadsOn world p (record p { reader = reader }) before after lease (HasCome p count) (at.Finished (Bad BadResponse))
+      → LeadsOn does world p (record p { reader = reader }) before after lease (HasCome p count) (at.Finished (Bad BadResponse))
   ends_faulty after now known facts fault tells done has told first from =
       let new = record p { reader = reader } in
-      let faulty = leased_in world p new first before lease (HasCome p count) (IsFaulty new facts) (λ c come. faulty_so p count reader feeds c come fault facts has (told fault has.0)) from in
-      let spent = spent_back world new before after lease facts now known (IsFaulty new facts) (λ reused. IsFaulty new facts) tells done (λ c was. was) first faulty in
+      let faulty = leased_in does world p new first before lease (HasCome p count) (IsFaulty new facts) (λ c come. faulty_so p count reader feeds c come fault facts has (told fault has.0)) from in
+      let spent = spent_back does world new before after lease facts now known (IsFaulty new facts) (λ reused. IsFaulty new facts) tells done (λ c was. was) first faulty in
       (spent.0, spent.1, (facts, spent.2))
 
 -- it, once its buffer was read into
@@ -139,41 +141,41 @@ module _ (p : Prepared) (buffer : List ℕ) (c : Carried) (was : ReadsWire p c) 
     close = was.close;
   }
 
-module _ {C W : Type 0} (world : World C W) (p : Prepared) (cache : C) (old new : Leasing W) (buffer : List ℕ) where
+module _ {C W : Type 0} (does : C → C → Deed W → Type 0) (world : World W) (p : Prepared) (cache : C) (old new : Leasing W) (buffer : List ℕ) where
   -- what its wire answers to a read into that buffer
   abbrev pub Answers : Read → Type 0
   Answers read = StepsWire old new (λ before after. Reads buffer (world.happened before after) read)
 
   -- from where it reads it has its lease, and of its wire that holds which follows from what happened
   leased_on : (h : Happening) (Q : Carried → Type 0) → ((c : Carried) → ReadsWire p c → Q (carries_more h c)) → StepsWire old new (λ before after. world.happened before after h)
-      → (first : C) → StandsFrom world p first cache (at.Reading old) → LeasedFrom world (filled p buffer) first cache new Q
+      → (first : Outset C W) → StandsFrom does world p first cache (at.Reading old) → LeasedFrom does world (filled p buffer) first cache new Q
   leased_on h Q leads step first stands =
-      let from : LeasedFrom world p first cache new Q = record {
+      let from : LeasedFrom does world p first cache new Q = record {
         given = stands.2.given;
         deeds = stands.0;
         done = stands.1;
         has = has_still world p stands.2.given old new stands.0 (λ before after. world.happened before after h) step stands.2.has;
         wire = wire_steps world stands.2.given old new h (ReadsWire p) Q leads step stands.2.wire;
       } in
-      leased_in world p (filled p buffer) first cache new Q Q (λ c so. so) from
+      leased_in does world p (filled p buffer) first cache new Q Q (λ c so. so) from
 
   -- so many bytes came
   pub reads_bytes : (count : ℕ) → length buffer ≡ p.buffer.len → Answers (Bytes count)
-      → (first : C) → StandsFrom world p first cache (at.Reading old) → LeasedFrom world (filled p buffer) first cache new (HasCome (filled p buffer) count)
+      → (first : Outset C W) → StandsFrom does world p first cache (at.Reading old) → LeasedFrom does world (filled p buffer) first cache new (HasCome (filled p buffer) count)
   reads_bytes count long step =
       let it : StepsWire old new (λ before after. world.happened before after (gives (take count buffer))) = record { before = step.before; after = step.after; was = step.was; is_now = step.is_now; stepped = step.stepped.2 } in
       leased_on (gives (take count buffer)) (HasCome (filled p buffer) count) (λ c was. come_so p buffer c was count long) it
 
   -- none came
-  pub reads_later : Answers NotYet → GoesOn world p (filled p buffer) cache cache (at.Reading old) (at.Reading new)
+  pub reads_later : Answers NotYet → GoesOn does world p (filled p buffer) cache cache (at.Reading old) (at.Reading new)
   reads_later step first stands =
       let from = leased_on nothing (ReadsWire (filled p buffer)) (still_so p buffer) step first stands in
       (from.deeds, from.done, record { given = from.given; has = from.has; wire = from.wire })
 
   -- its wire has ended
-  pub reads_end : Answers End → (first : C) → StandsFrom world p first cache (at.Reading old) → LeasedFrom world (filled p buffer) first cache new (IsAtEnd (filled p buffer))
+  pub reads_end : Answers End → (first : Outset C W) → StandsFrom does world p first cache (at.Reading old) → LeasedFrom does world (filled p buffer) first cache new (IsAtEnd (filled p buffer))
   reads_end step = leased_on ends (IsAtEnd (filled p buffer)) (λ c was. record { ended = record { sent = was.sent; unfailed = record { reads = was.well.unfailed.reads; writes = was.well.unfailed.writes }; ended = refl }; fed = fed_still p buffer c was (record c { ended = true }) refl }) step
 
   -- its wire failed
-  pub reads_in_vain : Answers Fault → (first : C) → StandsFrom world p first cache (at.Reading old) → LeasedFrom world (filled p buffer) first cache new (FailsSo (filled p buffer) ReadFails)
+  pub reads_in_vain : Answers Fault → (first : Outset C W) → StandsFrom does world p first cache (at.Reading old) → LeasedFrom does world (filled p buffer) first cache new (FailsSo (filled p buffer) ReadFails)
   reads_in_vain step = leased_on fails_to_read (FailsSo (filled p buffer) ReadFails) (λ c was. record { fed = fed_still p buffer c was (record c { read_failed = true }) refl; fails = record { sent = was.sent; going = was.well.going; writes = was.well.unfailed.writes; failed = refl } }) step

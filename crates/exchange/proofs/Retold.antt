@@ -4,12 +4,13 @@ use Rattle.conn_log.specs.declared.entry.Want.{Want}
 use Rattle.bundle.specs.Lease.{Leasing, Ticketed}
 use Rattle.exchange.specs.declared.job.Prepared.{Prepared}
 use Rattle.exchange.specs.Wires.{Carried}
-use Rattle.exchange.specs.Deeds.{Deed}
-use Rattle.exchange.specs.Deeds.Deed.{begins_wait, keeps_waiting}
+use Rattle.leasing.specs.Deeds.{Deed}
+use Rattle.leasing.specs.Deeds.Deed.{begins_wait, keeps_waiting}
 use Rattle.exchange.specs.Worlds.{World}
 use Rattle.exchange.specs.Answers.{text_of, FailsReading, FailsWriting, IsEnded, IsFruitless}
 use Rattle.exchange.specs.Story.{Waits, IsGiven, IsGranted, Gets, Holds, AsksAt}
 use Rattle.exchange.specs.Steps.{LeasedFrom}
+use Rattle.exchange.specs.Since.{Outset}
 use Rattle.exchange.proofs.OnWires.{on_wire_so}
 
 -- how a connection of a request was over
@@ -34,7 +35,7 @@ over_in p q same c (inr (inr end)) = inr (inr (record { sent = end.sent ∙ same
 pub fruitless_in : (p q : Prepared) → text_of p ≡ text_of q → (c : Carried) → IsFruitless p c → IsFruitless q c
 fruitless_in p q same c was = record { none = was.none; over = over_in p q same c was.over }
 
-module _ {C W : Type 0} (world : World C W) (One Other : List (Deed W) → Type 0) (leads : (deeds : List (Deed W)) → One deeds → Other deeds) where
+module _ {W : Type 0} (world : World W) (One Other : List (Deed W) → Type 0) (leads : (deeds : List (Deed W)) → One deeds → Other deeds) where
   -- a wait since what was done before is one since what follows from that
   waits_so : (ticket : Ticketed) (deeds : List (Deed W)) → Waits world One ticket deeds → Waits world Other ticket deeds
   waits_so ticket (begins_wait same now ∷ earlier) waits = (waits.0, waits.1, leads earlier waits.2)
@@ -64,7 +65,7 @@ module _ {C W : Type 0} (world : World C W) (One Other : List (Deed W) → Type 
 abbrev pub read_as : Prepared → Prepared → Prepared
 read_as p other = record p { reader = other.reader; buffer = other.buffer }
 
-module _ {C W : Type 0} (world : World C W) (p other : Prepared) where
+module _ {C W : Type 0} (does : C → C → Deed W → Type 0) (world : World W) (p other : Prepared) where
   -- it was tried, and asks, as before
   asks_in : (retried : Bool) (deeds : List (Deed W)) → AsksAt world p retried deeds → AsksAt world (read_as p other) retried deeds
   asks_in false deeds asks = asks
@@ -81,7 +82,7 @@ module _ {C W : Type 0} (world : World C W) (p other : Prepared) where
   }
 
   -- it has its lease since the same deeds, where what held of its wire leads to what holds of it now
-  pub leased_in : (first cache : C) (lease : Leasing W) (P Q : Carried → Type 0) → ((c : Carried) → P c → Q c) → LeasedFrom world p first cache lease P → LeasedFrom world (read_as p other) first cache lease Q
+  pub leased_in : (first : Outset C W) (cache : C) (lease : Leasing W) (P Q : Carried → Type 0) → ((c : Carried) → P c → Q c) → LeasedFrom does world p first cache lease P → LeasedFrom does world (read_as p other) first cache lease Q
   leased_in first cache lease P Q leads from = record {
     given = from.given;
     deeds = from.deeds;

@@ -9,9 +9,11 @@ use Rattle.exchange.specs.declared.wire.Written.TheVariants.{Took, NotYet, Fault
 use Rattle.exchange.specs.Wires.{Carried, Writes}
 use Rattle.exchange.specs.Wires.Happening.{nothing, takes, fails_to_write}
 use Rattle.exchange.specs.Answers.{text_of, unread, IsSent, ReadsWire}
+use Rattle.leasing.specs.Deeds.{Deed}
 use Rattle.exchange.specs.Worlds.{World}
 use Rattle.exchange.specs.Standing.{StandsFrom, GoesOn}
 use Rattle.exchange.specs.Steps.{StepsWire, LeasedFrom, FailsSo}
+use Rattle.exchange.specs.Since.{Outset}
 use Rattle.exchange.proofs.OnWires.{wire_steps, on_wire_so, has_still}
 
 -- what is left of a text from a place on
@@ -39,7 +41,7 @@ reads_all p sent all reader c was = record {
   close = ap (λ r. r.request_close) reader;
 }
 
-module _ {C W : Type 0} (world : World C W) (p : Prepared) (cache : C) (old new : Leasing W) (sent : ℕ) where
+module _ {C W : Type 0} (does : C → C → Deed W → Type 0) (world : World W) (p : Prepared) (cache : C) (old new : Leasing W) (sent : ℕ) where
   -- what its wire answers to the rest of that text
   abbrev pub Answers : List ℕ → Written → Type 0
   Answers text written = StepsWire old new (λ before after. Writes (take (length text - sent) (drop sent text)) (world.happened before after) written)
@@ -49,7 +51,7 @@ module _ {C W : Type 0} (world : World C W) (p : Prepared) (cache : C) (old new 
   took text taken step = record { before = step.before; after = step.after; was = step.was; is_now = step.is_now; stepped = step.stepped.2 }
 
   -- it has sent more, and goes on
-  pub sends_more : (text : List ℕ) (taken : ℕ) → text ≡ text_of p → Answers text (Took taken) → GoesOn world p p cache cache (at.Sending old sent) (at.Sending new (sent + taken))
+  pub sends_more : (text : List ℕ) (taken : ℕ) → text ≡ text_of p → Answers text (Took taken) → GoesOn does world p p cache cache (at.Sending old sent) (at.Sending new (sent + taken))
   sends_more text taken is step first stands =
       let rest = take (length text - sent) (drop sent text) in
       let it = took text taken step in (
@@ -64,7 +66,7 @@ module _ {C W : Type 0} (world : World C W) (p : Prepared) (cache : C) (old new 
       )
 
   -- it has sent all, and reads
-  pub sends_all : (text : List ℕ) (taken : ℕ) → text ≡ text_of p → length text ≤ sent + taken → Answers text (Took taken) → GoesOn world p p cache cache (at.Sending old sent) (at.Reading new)
+  pub sends_all : (text : List ℕ) (taken : ℕ) → text ≡ text_of p → length text ≤ sent + taken → Answers text (Took taken) → GoesOn does world p p cache cache (at.Sending old sent) (at.Reading new)
   sends_all text taken is all step first stands =
       let more = sends_more text taken is step first stands in
       let whole : length (text_of p) ≤ sent + taken = subst (λ (t : List ℕ). length t ≤ sent + taken) is all in (
@@ -78,7 +80,7 @@ module _ {C W : Type 0} (world : World C W) (p : Prepared) (cache : C) (old new 
       )
 
   -- its wire can take nothing yet
-  pub sends_later : (text : List ℕ) → Answers text NotYet → GoesOn world p p cache cache (at.Sending old sent) (at.Sending new sent)
+  pub sends_later : (text : List ℕ) → Answers text NotYet → GoesOn does world p p cache cache (at.Sending old sent) (at.Sending new sent)
   sends_later text step first stands = (
     stands.0,
     stands.1,
@@ -102,7 +104,7 @@ module _ {C W : Type 0} (world : World C W) (p : Prepared) (cache : C) (old new 
     fails = record { count = sent; short = short; front = was.front; received = was.received; going = was.well.going; reads = was.well.unfailed.reads; failed = refl };
   }
 
-  pub sends_in_vain : (text : List ℕ) → sent < length (text_of p) → Answers text Fault → (first : C) → StandsFrom world p first cache (at.Sending old sent) → LeasedFrom world p first cache new (FailsSo p Write)
+  pub sends_in_vain : (text : List ℕ) → sent < length (text_of p) → Answers text Fault → (first : Outset C W) → StandsFrom does world p first cache (at.Sending old sent) → LeasedFrom does world p first cache new (FailsSo p Write)
   sends_in_vain text short step first stands = record {
     given = stands.2.given;
     deeds = stands.0;

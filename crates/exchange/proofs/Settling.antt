@@ -16,7 +16,8 @@ use Rattle.exchange.specs.declared.done.Fault.TheVariants.{Cut, Refused}
 use Rattle.exchange.specs.declared.done.Done.TheVariants.{Good, Bad}
 use Rattle.exchange.specs.declared.state.State.TheVariants.{Finished}
 use Rattle.exchange.specs.Wires.{Carried}
-use Rattle.exchange.specs.Deeds.Deed.{gives_back, finds_strange_lease}
+use Rattle.leasing.specs.Deeds.Deed.{gives_back, finds_strange_lease}
+use Rattle.leasing.specs.Deeds.{Deed}
 use Rattle.exchange.specs.Worlds.{World}
 use Rattle.exchange.specs.Answers.{IsAnswer, IsCut, IsWhole, may_retry}
 use Rattle.exchange.specs.Story.{IsReturn, IsStray}
@@ -92,31 +93,31 @@ is_cut p facts reused told cut c can =
       },
     )
 
-module _ {C W : Type 0} (world : World C W) (p : Prepared) (before after : C) (lease : Leasing W) (now : ℕ) (tells : world.tells now) where
+module _ {C W : Type 0} (does : C → C → Deed W → Type 0) (world : World W) (p : Prepared) (before after : C) (lease : Leasing W) (now : ℕ) (tells : world.tells now) where
   -- a whole response is answered, and its lease is given back
-  pub ends_good : (answer : Answer) → world.did before after (gives_back lease answer.facts now) → answer.reused ≡ lease.start.reused → ToldAnswer p answer
-      → LeadsOn world p p before after lease (CanSettle p lease.start.reused) (Finished (Good answer))
-  ends_good answer done reused told first from = spent_by world p before after lease (gives_back lease answer.facts now) (IsReturn world answer.facts)
+  pub ends_good : (answer : Answer) → does before after (gives_back lease answer.facts now) → answer.reused ≡ lease.start.reused → ToldAnswer p answer
+      → LeadsOn does world p p before after lease (CanSettle p lease.start.reused) (Finished (Good answer))
+  ends_good answer done reused told first from = spent_by does world p before after lease (gives_back lease answer.facts now) (IsReturn world answer.facts)
       (CanSettle p lease.start.reused) (λ reused c. (answer.reused ≡ reused) × IsAnswer p answer c)
       done (now, tells, refl) (λ c can. (reused, is_answer p answer lease.start.reused told c can)) first from
 
   -- its lease is taken for a stranger
-  pub ends_strange : (facts : Facts) → world.did before after (finds_strange_lease lease) → ToldFacts p facts → facts.whole ≡ true
-      → LeadsOn world p p before after lease (CanSettle p lease.start.reused) (Finished (Bad (Refused StrangeLease)))
+  pub ends_strange : (facts : Facts) → does before after (finds_strange_lease lease) → ToldFacts p facts → facts.whole ≡ true
+      → LeadsOn does world p p before after lease (CanSettle p lease.start.reused) (Finished (Bad (Refused StrangeLease)))
   ends_strange facts done told whole first from =
-      let spent = spent_by world p before after lease (finds_strange_lease lease) IsStray (CanSettle p lease.start.reused) (WouldGoOn p)
+      let spent = spent_by does world p before after lease (finds_strange_lease lease) IsStray (CanSettle p lease.start.reused) (WouldGoOn p)
       done refl (λ c can. inl (is_whole p facts lease.start.reused told whole c can)) first from in
       (spent.0, spent.1, inr (inr (record { spent = spent.2; refusal_is = refl })))
 
   -- the response was cut
-  pub ends_cut : (known : Bool) (facts : Facts) → IsGivenBack (world.did before after) lease facts now known → ToldFacts p facts → (p.reader.fault ≡ None → facts.whole ≡ false)
-      → LeadsOn world p p before after lease (CanSettle p lease.start.reused) (Finished (Bad Cut))
+  pub ends_cut : (known : Bool) (facts : Facts) → IsGivenBack (does before after) lease facts now known → ToldFacts p facts → (p.reader.fault ≡ None → facts.whole ≡ false)
+      → LeadsOn does world p p before after lease (CanSettle p lease.start.reused) (Finished (Bad Cut))
   ends_cut known facts done told cut first from =
-      let spent = spent_back world p before after lease facts now known (CanSettle p lease.start.reused) (IsFinal p (IsCut p facts))
+      let spent = spent_back does world p before after lease facts now known (CanSettle p lease.start.reused) (IsFinal p (IsCut p facts))
       tells done (is_cut p facts lease.start.reused told cut) first from in
       (spent.0, spent.1, (facts, spent.2))
 
   -- it was cut where no final head came
-  pub ends_headless : (known : Bool) (facts : Facts) → IsGivenBack (world.did before after) lease facts now known → ToldFacts p facts → TellsStatus p.reader.bytes None
-      → LeadsOn world p p before after lease (CanSettle p lease.start.reused) (Finished (Bad Cut))
+  pub ends_headless : (known : Bool) (facts : Facts) → IsGivenBack (does before after) lease facts now known → ToldFacts p facts → TellsStatus p.reader.bytes None
+      → LeadsOn does world p p before after lease (CanSettle p lease.start.reused) (Finished (Bad Cut))
   ends_headless known facts done told status = ends_cut known facts done told (λ none. no_status p.reader.method p.reader.bytes p.reader.ended facts.whole status (told.whole none))

@@ -1,12 +1,12 @@
 -- What a wire, a dial and its turns answer, by the case of the answer.
-use Rattle.std.specs.Prelude.{◌≡◌, ℕ, ◌+◌, ◌≤◌}
+use Rattle.std.specs.Prelude.{◌≡◌, ◌≢◌, ℕ, ◌+◌, ◌⊎◌}
 use Rattle.conn_key.specs.Wants.{Rises}
 use Rattle.exchange.specs.declared.wire.Read.{Read}
 use Rattle.exchange.specs.declared.wire.Read.TheVariants.{Fault as ReadFault}
 use Rattle.exchange.specs.declared.wire.Written.{Written}
 use Rattle.exchange.specs.declared.wire.Written.TheVariants.{Fault as WriteFault}
 use Rattle.exchange.specs.declared.wire.Dialled.{Dialled}
-use Rattle.exchange.specs.declared.wire.Dialled.TheVariants.{Up, Fault as DialFault}
+use Rattle.exchange.specs.declared.wire.Dialled.TheVariants.{Up, NotYet, Fault as DialFault}
 use Rattle.exchange.specs.declared.wire.Turned.{Turned}
 use Rattle.exchange.specs.declared.wire.Turned.TheVariants.{Fault as TurnFault}
 
@@ -22,16 +22,31 @@ abbrev pub IfUp : {W : Type 0} → Dialled W → (W → Type 0) → Type 0
 IfUp (Up wire) P = P wire
 IfUp _ P = Unit {0}
 
+-- the connection is open, or cannot be opened
+abbrev pub IfOver : {W : Type 0} → Dialled W → Type 0 → Type 0
+IfOver NotYet P = Unit {0}
+IfOver _ P = P
+
 -- the count of failed dials rises where this one failed, and only there
 abbrev pub CountsDial : {W : Type 0} → Dialled W → ℕ → ℕ → Type 0
 CountsDial DialFault old new = Rises old new
 CountsDial _ old new = new ≡ old
 
--- the count of connections opened rises by one at most, and only where this one was opened
+-- the count of connections opened rises by one where this one was opened, or is at the greatest number that it can say;
+-- and only there
+abbrev pub RisesByOne : ℕ → ℕ → Type 0
+RisesByOne old new = (new ≡ old + 1) ⊎ ((old ≡ 18446744073709551615) × (new ≡ 18446744073709551615))
+
 abbrev pub OpensOne : {W : Type 0} → Dialled W → ℕ → ℕ → Type 0
-OpensOne (Up wire) old new = new ≤ old + 1
+OpensOne (Up wire) old new = RisesByOne old new
 OpensOne _ old new = new ≡ old
 
-abbrev pub OnTurnFault : Turned → Type 0 → Type 0
-OnTurnFault TurnFault P = P
-OnTurnFault _ P = Unit {0}
+-- for no other transfer a connection was begun; for this one it is begun only while it is not open yet
+pub record CountsBegun {W : Type 0} (dialled : Dialled W) (transfer : ℕ) (old new : ℕ → Type 0) : Type 0 where
+  pub others : (other : ℕ) → other ≢ transfer → new other → old other
+  pub own : IfOver dialled (new transfer → ⊥)
+
+-- the count of failed turns rises where this one failed, and only there
+abbrev pub CountsTurn : Turned → ℕ → ℕ → Type 0
+CountsTurn TurnFault old new = Rises old new
+CountsTurn _ old new = new ≡ old

@@ -1,51 +1,65 @@
--- What is true of an exchange between two calls, and what a call leaves.
-use Rattle.std.specs.Prelude.{◌≡◌, ℕ, Option, Some, IsSomeAnd}
+-- What is true of a transfer between two calls, and what a call leaves.
+use Rattle.std.specs.Prelude.{◌≡◌, ℕ, Bool, true, false, List, Option, Some, None, IsSomeAnd}
+use Rattle.futures.specs.declared.task.Poll.{Poll}
+use Rattle.futures.specs.declared.task.Poll.TheVariants.{Ready, Pending}
 use Rattle.futures.specs.declared.task.context.Context.{Context}
 use Rattle.futures.specs.declared.task.waker.Waker.{Waker}
+use Rattle.leasing.specs.Deeds.{Deed, DropsBy, WithdrawsBy}
 use Rattle.exchange.specs.declared.job.Prepared.{Prepared}
-use Rattle.exchange.specs.declared.done.Stage.{Stage}
-use Rattle.exchange.specs.declared.done.Stage.TheVariants.{Dialling as AtDialling, Sending as AtSending, Reading as AtReading}
 use Rattle.exchange.specs.declared.done.Done.{Done}
+use Rattle.exchange.specs.declared.done.Done.TheVariants.{Bad}
+use Rattle.exchange.specs.declared.done.Fault.TheVariants.{Cancelled}
 use Rattle.exchange.specs.declared.state.State.{State}
 use Rattle.exchange.specs.declared.state.State.TheVariants.{Asking, Waiting, Dialling, Sending, Reading, Finished}
-use Rattle.exchange.specs.declared.exchange.Pace.{Pace}
-use Rattle.exchange.specs.declared.exchange.Pace.TheVariants.{Goes, Waits, Ended}
-use Rattle.bundle.specs.Seats.{Tables}
-use Rattle.exchange.specs.Deeds.{Out, Deed}
-use Rattle.exchange.specs.Leasing.{DropsBy, WithdrawsBy}
 use Rattle.exchange.specs.Worlds.{World}
-use Rattle.exchange.specs.Standing.{StandsFrom}
-use Rattle.exchange.specs.Steps.{DialFails, Opens}
+use Rattle.exchange.specs.Since.{Outset}
+use Rattle.exchange.specs.Standing.{StandsAt, StandsFrom}
+use Rattle.exchange.specs.Steps.{DialFails, Opens, DialsAlone, BeginsNone}
 use Rattle.exchange.specs.Waiting.{LeavesAt, OnSource}
-use Rattle.exchange.specs.Owning.{IsReady, Owns}
 
--- all that was done since that first time led to where it stands
-abbrev pub Stands : {C W : Type 0} → World C W → Prepared → C → C → Option (State W) → Type 0
-Stands world p first cache state = IsSomeAnd state (StandsFrom world p first cache)
+-- all that was done led to where it stands, and since that outset nothing else was done
+abbrev pub Stands : {C W : Type 0} → (C → C → Deed W → Type 0) → World W → Prepared → Outset C W → C → Option (State W) → Type 0
+Stands did world p first cache state = IsSomeAnd state (StandsFrom did world p first cache)
 
--- whenever it began, it goes on from where it stood
-abbrev pub Continues : {C W : Type 0} → World C W → Prepared → Prepared → C → C → Option (State W) → Option (State W) → Type 0
-Continues {C} world old new before after state next = (first : C) → Stands world old first before state → Stands world new first after next
+-- whatever was done before, it goes on from where it stood
+abbrev pub Continues : {C W : Type 0} → (C → C → Deed W → Type 0) → World W → Prepared → Prepared → C → C → Option (State W) → Option (State W) → Type 0
+Continues {C} {W} did world old new before after state next = (first : Outset C W) → Stands did world old first before state → Stands did world new first after next
+
+-- what was done for it led to where it stands; what others did meanwhile is left aside
+abbrev pub IsToldAt : {W : Type 0} → World W → Prepared → State W → Type 0
+IsToldAt {W} world p state = (deeds : List (Deed W)) × StandsAt world p state deeds
+
+abbrev pub IsTold : {W : Type 0} → World W → Prepared → Option (State W) → Type 0
+IsTold world p state = IsSomeAnd state (IsToldAt world p)
 
 abbrev pub IsFinished : {W : Type 0} → Option (State W) → Type 0
 IsFinished state = (done : Done) × (state ≡ Some (Finished done))
 
--- what a pending exchange left
-abbrev pub Leaves : {W : Type 0} → (W → ℕ) → ℕ → Context → Context → Option Waker → Stage → Option (State W) → Type 0
-Leaves name dial old new waker stage state = IsSomeAnd state (LeavesAt name dial old new waker stage)
+-- what a pending transfer left
+abbrev pub Leaves : {W : Type 0} → (W → ℕ) → ℕ → Context → Context → Option Waker → Bool → Option (State W) → Type 0
+Leaves name dial old new waker yielded state = IsSomeAnd state (LeavesAt name dial old new waker yielded)
 
 -- a dial has failed where that is what came of it since, and only there
 abbrev pub DialFailsSince : {W : Type 0} → State W → ℕ → ℕ → State W → Type 0
 DialFailsSince (Finished done) old new next = new ≡ old
 DialFailsSince _ old new next = DialFails old new next
 
--- and it was, from where the exchange stood
+-- and it was, from where the transfer stood
 abbrev pub DialFailed : {W : Type 0} → Option (State W) → Option (State W) → ℕ → ℕ → Type 0
 DialFailed state next old new = IsSomeAnd state (λ first. IsSomeAnd next (DialFailsSince first old new))
 
 -- it opens no more connections than it may
 abbrev pub OpensFew : {W : Type 0} → Prepared → Prepared → Option (State W) → Option (State W) → ℕ → ℕ → Type 0
 OpensFew p q state next old new = IsSomeAnd state (λ first. IsSomeAnd next (Opens p q first old new))
+
+-- what it begins at the dial is its own
+abbrev pub DialsItsOwn : {W : Type 0} → (ℕ → Type 0) → (ℕ → Type 0) → ℕ → Option (State W) → Option (State W) → Type 0
+DialsItsOwn old new transfer state next = IsSomeAnd state (λ first. IsSomeAnd next (DialsAlone old new transfer first))
+
+-- once it is given up, nothing is begun for it, where nothing was but while it dialled; for no other anything was begun
+pub record GivesUpDial {W : Type 0} (old new : ℕ → Type 0) (transfer : ℕ) (state : Option (State W)) : Type 0 where
+  pub others : (other : ℕ) → new other → old other
+  pub own : IsSomeAnd state (BeginsNone old transfer) → new transfer → ⊥
 
 -- what a cancel does at that moment: a wait ends, a lease is abandoned, and nothing happens where there is neither
 abbrev pub CancelsAt : {C W : Type 0} → (C → C → Deed W → Type 0) → C → C → ℕ → State W → Type 0
@@ -59,6 +73,14 @@ CancelsAt did before after now (Finished done) = after ≡ before
 abbrev pub Cancels : {C W : Type 0} → (C → C → Deed W → Type 0) → C → C → ℕ → Option (State W) → Type 0
 Cancels did before after now state = IsSomeAnd state (CancelsAt did before after now)
 
+-- how it ended, or that it was cancelled
+abbrev pub ClosesAt : {W : Type 0} → Done → State W → Type 0
+ClosesAt answered (Finished done) = answered ≡ done
+ClosesAt answered _ = answered ≡ Bad Cancelled
+
+abbrev pub Closes : {W : Type 0} → Done → Option (State W) → Type 0
+Closes answered state = IsSomeAnd state (ClosesAt answered)
+
 -- it has not ended
 abbrev pub IsGoing : {W : Type 0} → State W → Type 0
 IsGoing (Finished done) = ⊥
@@ -69,22 +91,32 @@ abbrev pub StaysEnded : {W : Type 0} → State W → State W → Type 0
 StaysEnded (Finished done) new = new ≡ Finished done
 StaysEnded _ new = Unit {0}
 
--- how a step ends: it goes on, having left its context alone; it waits; or the exchange has ended
-abbrev pub PaceLeaves : {W : Type 0} → (W → ℕ) → ℕ → Context → Context → Option Waker → Stage → Option (State W) → Pace → Type 0
-PaceLeaves name dial old new waker stage state Goes = (new ≡ old) × IsSomeAnd state IsGoing
-PaceLeaves name dial old new waker stage state Waits = Leaves name dial old new waker stage state
-PaceLeaves name dial old new waker stage state Ended = (new ≡ old) × IsFinished state
-
--- it may be polled
-abbrev pub MayPoll : {W : Type 0} → Out → (ℕ → Tables → Type 0) → Prepared → Option (State W) → Type 0
-MayPoll out owns p state = Owns out owns p state × IsReady p
+-- how a step ends: it goes on, having left its context alone; it waits; or the transfer has ended
+abbrev pub StepEnds : {W : Type 0} → (W → ℕ) → ℕ → Context → Context → Option Waker → Bool → Option (State W) → Option (Poll (Unit {0})) → Type 0
+StepEnds name dial old new waker yielded state None = (new ≡ old) × IsSomeAnd state IsGoing
+StepEnds name dial old new waker yielded state (Some Pending) = Leaves name dial old new waker yielded state
+StepEnds name dial old new waker yielded state (Some (Ready it)) = (new ≡ old) × IsFinished state
 
 -- what it waits for, by the name of the source
-abbrev pub NeedsAt : {W : Type 0} → (W → ℕ) → ℕ → ℕ → Stage → State W → Type 0
-NeedsAt name dial source AtDialling (Dialling lease) = source ≡ dial
-NeedsAt name dial source AtSending (Sending lease sent) = OnSource name lease (λ its. source ≡ its)
-NeedsAt name dial source AtReading (Reading lease) = OnSource name lease (λ its. source ≡ its)
+abbrev pub NeedsAt : {W : Type 0} → (W → ℕ) → ℕ → ℕ → Bool → State W → Type 0
+NeedsAt name dial source false (Dialling lease) = source ≡ dial
+NeedsAt name dial source false (Sending lease sent) = OnSource name lease (λ its. source ≡ its)
+NeedsAt name dial source false (Reading lease) = OnSource name lease (λ its. source ≡ its)
 NeedsAt name dial source _ _ = ⊥
 
-abbrev pub Needs : {W : Type 0} → (W → ℕ) → ℕ → ℕ → Stage → Option (State W) → Type 0
-Needs name dial source stage state = IsSomeAnd state (NeedsAt name dial source stage)
+abbrev pub Needs : {W : Type 0} → (W → ℕ) → ℕ → ℕ → Bool → Option (State W) → Type 0
+Needs name dial source yielded state = IsSomeAnd state (NeedsAt name dial source yielded)
+
+-- it has a lease there
+abbrev pub has_lease : {W : Type 0} → State W → Bool
+has_lease (Dialling lease) = true
+has_lease (Sending lease sent) = true
+has_lease (Reading lease) = true
+has_lease _ = false
+
+-- where it had a lease and has none any more, it says that it spent one
+abbrev pub SpendsLeaseAt : {W : Type 0} → Bool → State W → State W → Type 0
+SpendsLeaseAt spent state next = has_lease state ≡ true → has_lease next ≡ false → spent ≡ true
+
+abbrev pub SpendsLease : {W : Type 0} → Option (State W) → Option (State W) → Bool → Type 0
+SpendsLease state next spent = IsSomeAnd state (λ first. IsSomeAnd next (SpendsLeaseAt spent first))

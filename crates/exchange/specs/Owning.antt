@@ -1,11 +1,11 @@
--- What an exchange owns where it stands: it is all that is out, and it can be used there.
-use Rattle.std.specs.Prelude.{◌≡◌, ℕ, ◌<◌, false, length, None, Option, IsSome, IsSomeAnd}
+-- What a transfer has where it stands: it was made by the cache that it is lent, and can be used there.
+use Rattle.std.specs.Prelude.{◌≡◌, ◌<◌, false, length, List, None, Option, IsSome, IsSomeAnd}
 use Rattle.bundle.specs.Seats.{Tables}
 use Rattle.bundle.specs.Lease.{Leasing}
+use Rattle.leasing.specs.Homes.{IsMadeBy}
 use Rattle.exchange.specs.declared.job.Prepared.{Prepared}
 use Rattle.exchange.specs.declared.state.State.{State}
 use Rattle.exchange.specs.declared.state.State.TheVariants.{Asking, Waiting, Dialling, Sending, Reading, Finished}
-use Rattle.exchange.specs.Deeds.{Out, none_out, lease_out, ticket_out}
 use Rattle.exchange.specs.Answers.{text_of}
 
 -- what it needs at all times: a text, and room to read into
@@ -13,28 +13,26 @@ pub record IsReady (p : Prepared) : Type 0 where
   pub text : 0 < length (text_of p)
   pub room : 0 < length p.buffer.items
 
--- a lease is the one thing that is out, and was made here
-pub record OwnsLease {W : Type 0} (out : Out) (owns : ℕ → Tables → Type 0) (lease : Leasing W) : Type 0 where
-  pub out_is : out ≡ lease_out
-  pub here : owns lease.site lease.tables
+-- a lease was made there
+abbrev pub OwnsLease : {W : Type 0} → List Tables → Leasing W → Type 0
+OwnsLease home lease = IsMadeBy home lease.site lease.tables
 
 -- and it has its wire
-pub record OwnsWire {W : Type 0} (out : Out) (owns : ℕ → Tables → Type 0) (lease : Leasing W) : Type 0 where
-  pub owned : OwnsLease out owns lease
-  pub wire : IsSome lease.stream
+abbrev pub OwnsWire : {W : Type 0} → List Tables → Leasing W → Type 0
+OwnsWire home lease = OwnsLease home lease × (IsSome lease.stream)
 
 -- its reader was not told that its connection has ended
-abbrev pub IsReading : Prepared → Type 0
-IsReading p = p.reader.ended ≡ false
+abbrev pub ReaderGoesOn : Prepared → Type 0
+ReaderGoesOn p = p.reader.ended ≡ false
 
--- what a state owns is all that is out; and the next step can be taken
-abbrev pub OwnsAt : {W : Type 0} → Out → (ℕ → Tables → Type 0) → Prepared → State W → Type 0
-OwnsAt out owns p Asking = (out ≡ none_out) × IsReading p
-OwnsAt out owns p (Waiting ticket) = (out ≡ ticket_out) × IsReading p
-OwnsAt out owns p (Dialling lease) = OwnsLease out owns lease × (lease.stream ≡ None) × (lease.start.reused ≡ false) × IsReading p
-OwnsAt out owns p (Sending lease sent) = OwnsWire out owns lease × (sent < length (text_of p)) × IsReading p
-OwnsAt out owns p (Reading lease) = OwnsWire out owns lease × IsReading p
-OwnsAt out owns p (Finished done) = out ≡ none_out
+-- what it has was made there, and the next step can be taken
+abbrev pub OwnsAt : {W : Type 0} → List Tables → Prepared → State W → Type 0
+OwnsAt home p Asking = ReaderGoesOn p
+OwnsAt home p (Waiting ticket) = ReaderGoesOn p
+OwnsAt home p (Dialling lease) = OwnsLease home lease × ((lease.stream ≡ None) × ((lease.start.reused ≡ false) × ReaderGoesOn p))
+OwnsAt home p (Sending lease sent) = OwnsWire home lease × ((sent < length (text_of p)) × ReaderGoesOn p)
+OwnsAt home p (Reading lease) = OwnsWire home lease × ReaderGoesOn p
+OwnsAt home p (Finished done) = Unit {0}
 
-abbrev pub Owns : {W : Type 0} → Out → (ℕ → Tables → Type 0) → Prepared → Option (State W) → Type 0
-Owns out owns p state = IsSomeAnd state (OwnsAt out owns p)
+abbrev pub Owns : {W : Type 0} → List Tables → Prepared → Option (State W) → Type 0
+Owns home p state = IsSomeAnd state (OwnsAt home p)

@@ -1,4 +1,4 @@
--- Where an exchange stands: what it has, what it has sent and read, and what came of it.
+-- Where a transfer stands: what it has, what it has sent and read, and what came of it.
 use Rattle.std.specs.Prelude.{◌≡◌, ℕ, Bool, true, false, ◌∷◌, List, None, ◌⊎◌}
 use Rattle.persistence.specs.declared.facts.Facts.{Facts}
 use Rattle.budget.specs.declared.refusal.Refusal.{Refusal}
@@ -13,49 +13,50 @@ use Rattle.exchange.specs.declared.done.Done.TheVariants.{Good, Bad}
 use Rattle.exchange.specs.declared.state.State.{State}
 use Rattle.exchange.specs.declared.state.State.TheVariants.{Asking, Waiting, Dialling, Sending, Reading, Finished}
 use Rattle.exchange.specs.Wires.{Carried}
-use Rattle.exchange.specs.Deeds.{Deed, AllDone}
-use Rattle.exchange.specs.Deeds.Deed.{refuses, finds_strange_ticket}
+use Rattle.leasing.specs.Deeds.{Deed}
+use Rattle.leasing.specs.Deeds.Deed.{refuses, finds_strange_ticket}
 use Rattle.exchange.specs.Worlds.{World, OnWire}
+use Rattle.exchange.specs.Since.{Outset, DoneSince}
 use Rattle.exchange.specs.Answers.{unread, wanted, IsSent, ReadsWire, IsAnswer, IsFaulty, IsCut, FailsReading, FailsWriting, IsWhole, IsFruitless, may_retry}
 use Rattle.exchange.specs.Story.{WaitsFor, Asks, Has, IsReturn, IsDrop, IsStray}
 
 -- it asks, waits or dials: its reader was fed nothing
-pub record StandsAsking {C W : Type 0} (world : World C W) (p : Prepared) (deeds : List (Deed W)) : Type 0 where
+pub record IsAsking {W : Type 0} (world : World W) (p : Prepared) (deeds : List (Deed W)) : Type 0 where
   pub reader : p.reader ≡ unread p
   pub asks : Asks world p deeds
 
-pub record StandsWaiting {C W : Type 0} (world : World C W) (p : Prepared) (ticket : Ticketed) (deeds : List (Deed W)) : Type 0 where
+pub record IsWaiting {W : Type 0} (world : World W) (p : Prepared) (ticket : Ticketed) (deeds : List (Deed W)) : Type 0 where
   pub reader : p.reader ≡ unread p
   pub waits : WaitsFor world (Asks world p) p.site (wanted p) ticket deeds
 
-pub record StandsDialling {C W : Type 0} (world : World C W) (p : Prepared) (lease : Leasing W) (deeds : List (Deed W)) : Type 0 where
+pub record IsDialling {W : Type 0} (world : World W) (p : Prepared) (lease : Leasing W) (deeds : List (Deed W)) : Type 0 where
   pub reader : p.reader ≡ unread p
   pub has : Has world p lease lease deeds
   pub none : lease.stream ≡ None
 
 -- a front of the request was sent, and nothing was read
-pub record StandsSending {C W : Type 0} (world : World C W) (p : Prepared) (lease : Leasing W) (sent : ℕ) (deeds : List (Deed W)) : Type 0 where
+pub record IsSending {W : Type 0} (world : World W) (p : Prepared) (lease : Leasing W) (sent : ℕ) (deeds : List (Deed W)) : Type 0 where
   pub given : Leasing W
   pub reader : p.reader ≡ unread p
   pub has : Has world p given lease deeds
   pub wire : OnWire world given lease (IsSent p sent)
 
 -- the request was sent whole, and all that came since was read
-pub record StandsReading {C W : Type 0} (world : World C W) (p : Prepared) (lease : Leasing W) (deeds : List (Deed W)) : Type 0 where
+pub record IsReceiving {W : Type 0} (world : World W) (p : Prepared) (lease : Leasing W) (deeds : List (Deed W)) : Type 0 where
   pub given : Leasing W
   pub has : Has world p given lease deeds
   pub wire : OnWire world given lease (ReadsWire p)
 
 -- a lease was given back with those facts, or taken for a stranger
-abbrev pub Returns : {C W : Type 0} → World C W → Facts → Leasing W → Deed W → Type 0
+abbrev pub Returns : {W : Type 0} → World W → Facts → Leasing W → Deed W → Type 0
 Returns world facts lease deed = IsReturn world facts lease deed ⊎ IsStray lease deed
 
 -- a lease was abandoned, or taken for a stranger
-abbrev pub Drops : {C W : Type 0} → World C W → Leasing W → Deed W → Type 0
+abbrev pub Drops : {W : Type 0} → World W → Leasing W → Deed W → Type 0
 Drops world lease deed = IsDrop world lease deed ⊎ IsStray lease deed
 
 -- its last lease was spent so; this held of whether its connection was reused, and of what its wire carried
-pub record Spent {C W : Type 0} (world : World C W) (p : Prepared) (Spends : Leasing W → Deed W → Type 0) (P : Bool → Carried → Type 0) (deeds : List (Deed W)) : Type 0 where
+pub record Spent {W : Type 0} (world : World W) (p : Prepared) (Spends : Leasing W → Deed W → Type 0) (P : Bool → Carried → Type 0) (deeds : List (Deed W)) : Type 0 where
   pub given : Leasing W
   pub lease : Leasing W
   pub deed : Deed W
@@ -66,7 +67,7 @@ pub record Spent {C W : Type 0} (world : World C W) (p : Prepared) (Spends : Lea
   pub wire : OnWire world given lease (P lease.start.reused)
 
 -- its last lease was given up, before its connection was open
-pub record GaveUp {C W : Type 0} (world : World C W) (p : Prepared) (deeds : List (Deed W)) : Type 0 where
+pub record GaveUp {W : Type 0} (world : World W) (p : Prepared) (deeds : List (Deed W)) : Type 0 where
   pub lease : Leasing W
   pub deed : Deed W
   pub earlier : List (Deed W)
@@ -88,7 +89,7 @@ abbrev pub WouldGoOn : Prepared → Bool → Carried → Type 0
 WouldGoOn p reused wire = IsWhole p wire ⊎ MayRetry p reused wire
 
 -- it was refused a connection
-pub record WasRefused {C W : Type 0} (world : World C W) (p : Prepared) (refusal : Refusal) (deeds : List (Deed W)) : Type 0 where
+pub record WasRefused {W : Type 0} (world : World W) (p : Prepared) (refusal : Refusal) (deeds : List (Deed W)) : Type 0 where
   pub earlier : List (Deed W)
   pub now : ℕ
   pub last : deeds ≡ refuses p.site (wanted p) now refusal ∷ earlier
@@ -96,7 +97,7 @@ pub record WasRefused {C W : Type 0} (world : World C W) (p : Prepared) (refusal
   pub asks : Asks world p earlier
 
 -- its ticket was taken for a stranger
-pub record LostTicket {C W : Type 0} (world : World C W) (p : Prepared) (refusal : Refusal) (deeds : List (Deed W)) : Type 0 where
+pub record LostTicket {W : Type 0} (world : World W) (p : Prepared) (refusal : Refusal) (deeds : List (Deed W)) : Type 0 where
   pub ticket : Ticketed
   pub earlier : List (Deed W)
   pub last : deeds ≡ finds_strange_ticket ticket ∷ earlier
@@ -104,16 +105,16 @@ pub record LostTicket {C W : Type 0} (world : World C W) (p : Prepared) (refusal
   pub refusal_is : refusal ≡ StrangeTicket
 
 -- its lease was, where it would have gone on or been answered
-pub record LostLease {C W : Type 0} (world : World C W) (p : Prepared) (refusal : Refusal) (deeds : List (Deed W)) : Type 0 where
+pub record LostLease {W : Type 0} (world : World W) (p : Prepared) (refusal : Refusal) (deeds : List (Deed W)) : Type 0 where
   pub spent : Spent world p IsStray (WouldGoOn p) deeds
   pub refusal_is : refusal ≡ StrangeLease
 
 -- a whole response: its lease was given back with its facts
-abbrev pub IsGood : {C W : Type 0} → World C W → Prepared → Answer → List (Deed W) → Type 0
-IsGood {C} {W} world p answer deeds = Spent world p (IsReturn world answer.facts) (λ reused wire. (answer.reused ≡ reused) × IsAnswer p answer wire) deeds
+abbrev pub IsGood : {W : Type 0} → World W → Prepared → Answer → List (Deed W) → Type 0
+IsGood {W} world p answer deeds = Spent world p (IsReturn world answer.facts) (λ reused wire. (answer.reused ≡ reused) × IsAnswer p answer wire) deeds
 
 -- no response: why, how its last lease was spent, and what its wire carried
-abbrev pub IsBad : {C W : Type 0} → World C W → Prepared → Fault → List (Deed W) → Type 0
+abbrev pub IsBad : {W : Type 0} → World W → Prepared → Fault → List (Deed W) → Type 0
 IsBad world p Memory deeds = ⊥
 IsBad world p Dial deeds = GaveUp world p deeds
 IsBad world p Read deeds = Spent world p (Drops world) (IsFinal p (FailsReading p)) deeds
@@ -123,22 +124,22 @@ IsBad world p Cut deeds = (facts : Facts) × Spent world p (Returns world facts)
 IsBad world p (Refused refusal) deeds = WasRefused world p refusal deeds ⊎ (LostTicket world p refusal deeds ⊎ LostLease world p refusal deeds)
 IsBad world p Cancelled deeds = ⊥
 
-abbrev pub Ends : {C W : Type 0} → World C W → Prepared → Done → List (Deed W) → Type 0
+abbrev pub Ends : {W : Type 0} → World W → Prepared → Done → List (Deed W) → Type 0
 Ends world p (Good answer) deeds = IsGood world p answer deeds
 Ends world p (Bad fault) deeds = IsBad world p fault deeds
 
-abbrev pub StandsAt : {C W : Type 0} → World C W → Prepared → State W → List (Deed W) → Type 0
-StandsAt world p Asking deeds = StandsAsking world p deeds
-StandsAt world p (Waiting ticket) deeds = StandsWaiting world p ticket deeds
-StandsAt world p (Dialling lease) deeds = StandsDialling world p lease deeds
-StandsAt world p (Sending lease sent) deeds = StandsSending world p lease sent deeds
-StandsAt world p (Reading lease) deeds = StandsReading world p lease deeds
+abbrev pub StandsAt : {W : Type 0} → World W → Prepared → State W → List (Deed W) → Type 0
+StandsAt world p Asking deeds = IsAsking world p deeds
+StandsAt world p (Waiting ticket) deeds = IsWaiting world p ticket deeds
+StandsAt world p (Dialling lease) deeds = IsDialling world p lease deeds
+StandsAt world p (Sending lease sent) deeds = IsSending world p lease sent deeds
+StandsAt world p (Reading lease) deeds = IsReceiving world p lease deeds
 StandsAt world p (Finished done) deeds = Ends world p done deeds
 
--- all that was done since that first time led there
-abbrev pub StandsFrom : {C W : Type 0} → World C W → Prepared → C → C → State W → Type 0
-StandsFrom {C} {W} world p first cache state = (deeds : List (Deed W)) × AllDone world.did first cache deeds × StandsAt world p state deeds
+-- all that was done led there, and since that outset nothing else was done
+abbrev pub StandsFrom : {C W : Type 0} → (C → C → Deed W → Type 0) → World W → Prepared → Outset C W → C → State W → Type 0
+StandsFrom {C} {W} did world p first cache state = (deeds : List (Deed W)) × DoneSince did first cache deeds × StandsAt world p state deeds
 
--- whenever it began, it goes on from where it stood
-abbrev pub GoesOn : {C W : Type 0} → World C W → Prepared → Prepared → C → C → State W → State W → Type 0
-GoesOn {C} world old new before after state next = (first : C) → StandsFrom world old first before state → StandsFrom world new first after next
+-- whatever was done before, it goes on from where it stood
+abbrev pub GoesOn : {C W : Type 0} → (C → C → Deed W → Type 0) → World W → Prepared → Prepared → C → C → State W → State W → Type 0
+GoesOn {C} {W} did world old new before after state next = (first : Outset C W) → StandsFrom did world old first before state → StandsFrom did world new first after next

@@ -1,5 +1,5 @@
 -- What the parts of a step leave.
-use Rattle.std.specs.Prelude.{◌≡◌, ℕ, ◌+◌, ◌≤◌, Bool, true, false, if◌then◌else◌, Some, None, ◌⊎◌, List, [], ◌++◌, take}
+use Rattle.std.specs.Prelude.{◌≡◌, ◌≢◌, ℕ, ◌+◌, ◌≤◌, Bool, true, false, if◌then◌else◌, Some, None, ◌⊎◌, List, [], ◌++◌, take}
 use Rattle.conn_key.specs.Wants.{Rises}
 use Rattle.persistence.specs.declared.facts.Facts.{Facts}
 use Rattle.persistence.specs.Split.{Parts, IsSplit}
@@ -12,9 +12,10 @@ use Rattle.exchange.specs.declared.state.State.{State}
 use Rattle.exchange.specs.declared.state.State.TheVariants.{Asking, Waiting, Dialling, Sending, Reading, Finished}
 use Rattle.exchange.specs.Wires.{Carried, Happening}
 use Rattle.exchange.specs.Wires.Happening.{is_adopted}
-use Rattle.exchange.specs.Deeds.{Deed, AllDone}
-use Rattle.exchange.specs.Deeds.Deed.{gives_back, finds_strange_lease}
+use Rattle.leasing.specs.Deeds.{Deed}
+use Rattle.leasing.specs.Deeds.Deed.{gives_back, finds_strange_lease}
 use Rattle.exchange.specs.Worlds.{World, OnWire}
+use Rattle.exchange.specs.Since.{Outset, DoneSince}
 use Rattle.exchange.specs.Answers.{text_of, NoneFailed, GoesWell, FailsReading, FailsWriting, IsEnded, IsFruitless, may_retry}
 use Rattle.exchange.specs.Story.{Has}
 use Rattle.exchange.specs.Standing.{StandsFrom}
@@ -38,17 +39,18 @@ abbrev pub IsGivenBack : {W : Type 0} → (Deed W → Type 0) → Leasing W → 
 IsGivenBack did lease facts now true = did (gives_back lease facts now)
 IsGivenBack did lease facts now false = did (finds_strange_lease lease)
 
--- all that was done since that first time gave it a lease, and this holds of what its wire carried since
-pub record LeasedFrom {C W : Type 0} (world : World C W) (p : Prepared) (first cache : C) (lease : Leasing W) (P : Carried → Type 0) : Type 0 where
+-- all that was done gave it a lease, and this holds of what its wire carried since; since that outset nothing else was
+-- done
+pub record LeasedFrom {C W : Type 0} (did : C → C → Deed W → Type 0) (world : World W) (p : Prepared) (first : Outset C W) (cache : C) (lease : Leasing W) (P : Carried → Type 0) : Type 0 where
   pub given : Leasing W
   pub deeds : List (Deed W)
-  pub done : AllDone world.did first cache deeds
+  pub done : DoneSince did first cache deeds
   pub has : Has world p given lease deeds
   pub wire : OnWire world given lease P
 
--- whenever it began, it goes on from a lease of which that held
-abbrev pub LeadsOn : {C W : Type 0} → World C W → Prepared → Prepared → C → C → Leasing W → (Carried → Type 0) → State W → Type 0
-LeadsOn {C} world old new before after lease P next = (first : C) → LeasedFrom world old first before lease P → StandsFrom world new first after next
+-- whatever was done before, it goes on from a lease of which that held
+abbrev pub LeadsOn : {C W : Type 0} → (C → C → Deed W → Type 0) → World W → Prepared → Prepared → C → C → Leasing W → (Carried → Type 0) → State W → Type 0
+LeadsOn {C} {W} did world old new before after lease P next = (first : Outset C W) → LeasedFrom did world old first before lease P → StandsFrom did world new first after next
 
 -- the connection failed so
 abbrev pub Fails : Prepared → Fault → Carried → Type 0
@@ -127,3 +129,13 @@ OpensNoMore p q state next = may_open q next ≤ may_open p state
 -- it opens no more than it may: so many were opened before, and so many after
 abbrev pub Opens : {W : Type 0} → Prepared → Prepared → State W → ℕ → ℕ → State W → Type 0
 Opens p q state old new next = new + may_open q next ≤ old + may_open p state
+
+-- nothing is begun at the dial for a transfer, but while it dials
+abbrev pub BeginsNone : {W : Type 0} → (ℕ → Type 0) → ℕ → State W → Type 0
+BeginsNone begun transfer (Dialling lease) = Unit {0}
+BeginsNone begun transfer _ = begun transfer → ⊥
+
+-- for no other transfer anything was begun; and for this one nothing is begun, but while it dials, where that was so
+pub record DialsAlone {W : Type 0} (old new : ℕ → Type 0) (transfer : ℕ) (state next : State W) : Type 0 where
+  pub others : (other : ℕ) → other ≢ transfer → new other → old other
+  pub own : BeginsNone old transfer state → BeginsNone new transfer next

@@ -1,10 +1,10 @@
--- What a pending exchange left behind, to be polled again.
-use Rattle.std.specs.Prelude.{◌≡◌, ℕ, true, ◌⊎◌, Option, IsSomeAnd}
+-- What a pending transfer left behind, to be polled again.
+use Rattle.std.specs.Prelude.{◌≡◌, ℕ, Bool, true, false, ◌⊎◌, Option, IsSomeAnd}
 use Rattle.futures.specs.Task.{Hears, IsArmed, Wakes, Keeps}
 use Rattle.futures.specs.declared.task.context.Context.{Context}
 use Rattle.futures.specs.declared.task.waker.Waker.{Waker}
-use Rattle.exchange.specs.declared.done.Stage.{Stage}
-use Rattle.exchange.specs.declared.done.Stage.TheVariants.{Grant, Dialling, Sending, Reading, Turn}
+use Rattle.exchange.specs.declared.state.Stage.{Stage}
+use Rattle.exchange.specs.declared.state.Stage.TheVariants.{Grant, Dialling, Sending, Reading, Turn}
 use Rattle.exchange.specs.declared.state.State.{State}
 use Rattle.exchange.specs.declared.state.State.TheVariants as at
 use Rattle.exchange.specs.declared.state.Step.{Step}
@@ -28,23 +28,31 @@ pub record IsRegistered (old new : Context) (waker : Option Waker) (source : ℕ
 abbrev pub OnSource : {W : Type 0} → (W → ℕ) → Leasing W → (ℕ → Type 0) → Type 0
 OnSource name lease P = IsSomeAnd lease.stream (λ wire. P (name wire))
 
--- what a pending exchange left where it stands, by what it waits for: registered with its wire or with its dial, or
--- asked to be polled again
-abbrev pub LeavesAt : {W : Type 0} → (W → ℕ) → ℕ → Context → Context → Option Waker → Stage → State W → Type 0
-LeavesAt name dial old new waker Grant (at.Waiting ticket) = HasYielded old new
-LeavesAt name dial old new waker Dialling (at.Dialling lease) = IsRegistered old new waker dial
-LeavesAt name dial old new waker Sending (at.Sending lease sent) = OnSource name lease (IsRegistered old new waker)
-LeavesAt name dial old new waker Reading (at.Reading lease) = OnSource name lease (IsRegistered old new waker)
-LeavesAt name dial old new waker Turn (at.Finished done) = ⊥
-LeavesAt name dial old new waker Turn _ = HasYielded old new
-LeavesAt name dial old new waker _ _ = ⊥
+-- what a pending transfer left where it stands: it asked to be polled again, where it took all steps of its poll or waits
+-- for a grant; else it is registered with its dial or with its wire
+abbrev pub LeavesAt : {W : Type 0} → (W → ℕ) → ℕ → Context → Context → Option Waker → Bool → State W → Type 0
+LeavesAt name dial old new waker true (at.Finished done) = ⊥
+LeavesAt name dial old new waker true _ = HasYielded old new
+LeavesAt name dial old new waker false (at.Waiting ticket) = HasYielded old new
+LeavesAt name dial old new waker false (at.Dialling lease) = IsRegistered old new waker dial
+LeavesAt name dial old new waker false (at.Sending lease sent) = OnSource name lease (IsRegistered old new waker)
+LeavesAt name dial old new waker false (at.Reading lease) = OnSource name lease (IsRegistered old new waker)
+LeavesAt name dial old new waker false _ = ⊥
+
+-- what it waits for
+abbrev pub stage_at : {W : Type 0} → Bool → State W → Stage
+stage_at false (at.Waiting ticket) = Grant
+stage_at false (at.Dialling lease) = Dialling
+stage_at false (at.Sending lease sent) = Sending
+stage_at false (at.Reading lease) = Reading
+stage_at _ _ = Turn
 
 -- where a step stands
 abbrev pub AtStep : {W : Type 0} → Step W → (State W → Type 0) → Type 0
 AtStep (Goes state) P = P state
-AtStep (Waits state stage) P = P state
+AtStep (Waits state) P = P state
 
 -- what a step left that has to wait; one that goes on has left its context alone
 abbrev pub StepLeaves : {W : Type 0} → (W → ℕ) → ℕ → Context → Context → Option Waker → Step W → Type 0
 StepLeaves name dial old new waker (Goes state) = new ≡ old
-StepLeaves name dial old new waker (Waits state stage) = LeavesAt name dial old new waker stage state
+StepLeaves name dial old new waker (Waits state) = LeavesAt name dial old new waker false state

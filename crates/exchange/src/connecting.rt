@@ -1,24 +1,24 @@
-//! How an exchange gets its connection: it asks the cache, waits, and dials.
+//! How a transfer gets its connection: it asks the cache, waits, and dials.
 
-ghost use Rattle.std.specs.Prelude.{◌≡◌, ◌<◌, None, length, is_some, false};
-ghost use Rattle.exchange.specs.Deeds.{none_out, ticket_out};
+ghost use Rattle.std.specs.Prelude.{◌≡◌, ◌<◌, ℕ, None, length, is_some, false};
 ghost use Rattle.exchange.specs.Answers.{text_of};
 ghost use Rattle.exchange.specs.Worlds.{world_of};
 ghost use Rattle.exchange.specs.Standing.{GoesOn};
-ghost use Rattle.exchange.specs.Steps.{Begins, DialFails, Opens};
+ghost use Rattle.exchange.specs.Steps.{Begins, DialFails, Opens, DialsAlone};
 ghost use Rattle.exchange.specs.Waiting.{AtStep, StepLeaves};
-ghost use Rattle.exchange.specs.Owning.{OwnsLease, OwnsAt, IsReading};
+ghost use Rattle.exchange.specs.Stepping.{StepsOn, StepIs};
+ghost use Rattle.exchange.specs.Owning.{OwnsLease, OwnsAt, ReaderGoesOn};
 ghost use Rattle.exchange.specs.declared.state.State.TheVariants as at;
 
-use crate::done::{Done, Fault, Stage};
+use crate::done::{Done, Fault};
 use crate::ending::abandon;
 use crate::job::Prepared;
-use crate::leasing::Cache;
 use crate::state::{State, Step};
 use crate::wire::{Clock, Dial, Dialled, Wire};
 use budget::Refusal;
 use bundle::{Acquired, Claimed, Lease, Ticket};
 use futures::task::{Context, Poll, Waker};
+use leasing::Cache;
 
 // Where a lease begins: its connection is dialled, or its wire is used again.
 fn begin<W: Wire, D: Dial<W>>(mut lease: Lease<W>, dial: &mut D) -> State<W>
@@ -26,6 +26,7 @@ fn begin<W: Wire, D: Dial<W>>(mut lease: Lease<W>, dial: &mut D) -> State<W>
     ensures begins { Begins W.happened lease result }
     ensures counted { D.failures dial.new ≡ D.failures dial.old }
     ensures opens { D.opened dial.new ≡ D.opened dial.old }
+    ensures begun { (other : ℕ) → D.begun dial.new other → D.begun dial.old other }
     ensures turns { D.turn_failures dial.new ≡ D.turn_failures dial.old }
 {
     match lease.stream_mut() {
@@ -40,20 +41,26 @@ pub(crate) fn ask<W: Wire, C: Cache<W>, D: Dial<W>, K: Clock>(
     parts: &Prepared,
     cache: &mut C,
     dial: &mut D,
-    clock: &K,
+    _clock: &K,
+    now: u64,
 ) -> State<W>
-    requires none { C.out cache.old ≡ none_out }
+    requires told { K.tells _clock.now now }
     requires text { 0 < length (text_of parts.now) }
-    requires reading { IsReading parts.now }
-    ensures owns { OwnsAt (C.out cache.new) (C.owns cache.new) parts.now result }
-    ensures story { GoesOn (world_of C.did W.untouched W.happened (K.tells clock.now)) parts.now
+    requires reading { ReaderGoesOn parts.now }
+    ensures stays { C.home cache.new ≡ C.home cache.old }
+    ensures owns { OwnsAt (C.home cache.new) parts.now result }
+    ensures story { GoesOn C.did (world_of W.untouched W.happened (K.tells _clock.now)) parts.now
         parts.now cache.old cache.new at.Asking result }
+    ensures steps { StepsOn C.did (world_of W.untouched W.happened (K.tells _clock.now))
+        cache.old cache.new at.Asking result }
     ensures dialled { DialFails (D.failures dial.old) (D.failures dial.new) result }
     ensures opens { Opens parts.now parts.now at.Asking (D.opened dial.old)
         (D.opened dial.new) result }
+    ensures begun { DialsAlone (D.begun dial.old) (D.begun dial.new) parts.now.want.transfer
+        at.Asking result }
     ensures turns { D.turn_failures dial.new ≡ D.turn_failures dial.old }
 {
-    match cache.acquire(parts.site, parts.wanted(), clock.now()) {
+    match cache.acquire(parts.site, parts.wanted(), now) {
         Ok(Acquired::Lease(lease)) => begin(lease, dial),
         Ok(Acquired::Wait(ticket)) => State::Waiting(ticket),
         Err(refusal) => State::Finished(Done::Bad(Fault::Refused(refusal))),
@@ -69,16 +76,19 @@ pub(crate) fn claim<W: Wire, C: Cache<W>, D: Dial<W>, K: Clock>(
     ticket: Ticket,
     cx: &mut Context<'_>,
 ) -> Step<W>
-    requires out { C.out cache.old ≡ ticket_out }
     requires text { 0 < length (text_of parts.now) }
-    requires reading { IsReading parts.now }
-    ensures owns { AtStep result (OwnsAt (C.out cache.new) (C.owns cache.new) parts.now) }
-    ensures story { AtStep result
-        (GoesOn (world_of C.did W.untouched W.happened (K.tells _clock.now)) parts.now parts.now
-        cache.old cache.new (at.Waiting ticket)) }
+    requires reading { ReaderGoesOn parts.now }
+    ensures stays { C.home cache.new ≡ C.home cache.old }
+    ensures owns { AtStep result (OwnsAt (C.home cache.new) parts.now) }
+    ensures story { AtStep result (GoesOn C.did (world_of W.untouched W.happened (K.tells
+        _clock.now)) parts.now parts.now cache.old cache.new (at.Waiting ticket)) }
+    ensures steps { StepIs C.did (world_of W.untouched W.happened (K.tells _clock.now))
+        cache.old cache.new (at.Waiting ticket) result }
     ensures dialled { AtStep result (DialFails (D.failures dial.old) (D.failures dial.new)) }
     ensures opens { AtStep result (Opens parts.now parts.now (at.Waiting ticket)
         (D.opened dial.old) (D.opened dial.new)) }
+    ensures begun { AtStep result (DialsAlone (D.begun dial.old) (D.begun dial.new)
+        parts.now.want.transfer (at.Waiting ticket)) }
     ensures turns { D.turn_failures dial.new ≡ D.turn_failures dial.old }
     ensures leaves { StepLeaves W.source_name (D.source_name dial.new) cx.old cx.new None result }
 {
@@ -86,7 +96,7 @@ pub(crate) fn claim<W: Wire, C: Cache<W>, D: Dial<W>, K: Clock>(
         Ok(Claimed::Lease(lease)) => Step::Goes(begin(lease, dial)),
         Ok(Claimed::Still(ticket)) => {
             let _pending: Poll<()> = cx.yield_now();
-            Step::Waits(State::Waiting(ticket), Stage::Grant)
+            Step::Waits(State::Waiting(ticket))
         }
         Err(stray) => {
             stray.scrap();
@@ -101,38 +111,44 @@ pub(crate) fn dial_up<W: Wire, C: Cache<W>, D: Dial<W>, K: Clock>(
     parts: &Prepared,
     cache: &mut C,
     dial: &mut D,
-    clock: &K,
+    _clock: &K,
+    now: u64,
     mut lease: Lease<W>,
     cx: &mut Context<'_>,
     waker: &mut Option<Waker>,
 ) -> Step<W>
-    requires owns { OwnsLease (C.out cache.old) (C.owns cache.old) lease }
+    requires told { K.tells _clock.now now }
+    requires owns { OwnsLease (C.home cache.old) lease }
     requires none { lease.stream ≡ None }
     requires fresh { lease.start.reused ≡ false }
     requires text { 0 < length (text_of parts.now) }
-    requires reading { IsReading parts.now }
-    ensures owns { AtStep result (OwnsAt (C.out cache.new) (C.owns cache.new) parts.now) }
-    ensures story { AtStep result
-        (GoesOn (world_of C.did W.untouched W.happened (K.tells clock.now)) parts.now parts.now
-        cache.old cache.new (at.Dialling lease)) }
+    requires reading { ReaderGoesOn parts.now }
+    ensures stays { C.home cache.new ≡ C.home cache.old }
+    ensures owns { AtStep result (OwnsAt (C.home cache.new) parts.now) }
+    ensures story { AtStep result (GoesOn C.did (world_of W.untouched W.happened (K.tells
+        _clock.now)) parts.now parts.now cache.old cache.new (at.Dialling lease)) }
+    ensures steps { StepIs C.did (world_of W.untouched W.happened (K.tells _clock.now))
+        cache.old cache.new (at.Dialling lease) result }
     ensures dialled { AtStep result (DialFails (D.failures dial.old) (D.failures dial.new)) }
     ensures opens { AtStep result (Opens parts.now parts.now (at.Dialling lease)
         (D.opened dial.old) (D.opened dial.new)) }
+    ensures begun { AtStep result (DialsAlone (D.begun dial.old) (D.begun dial.new)
+        parts.now.want.transfer (at.Dialling lease)) }
     ensures turns { D.turn_failures dial.new ≡ D.turn_failures dial.old }
     ensures leaves { StepLeaves W.source_name (D.source_name dial.new) cx.old cx.new waker.new
         result }
 {
-    match dial.dial(parts.site) {
+    match dial.dial(parts.site, parts.want.transfer) {
         Dialled::Up(wire) => {
             lease.attach(wire);
             Step::Goes(State::Sending(lease, 0))
         }
         Dialled::NotYet => {
             let _pending: Poll<()> = cx.register(dial.source(), waker);
-            Step::Waits(State::Dialling(lease), Stage::Dialling)
+            Step::Waits(State::Dialling(lease))
         }
         Dialled::Fault => {
-            abandon(cache, lease, clock.now());
+            abandon(cache, lease, now);
             Step::Goes(State::Finished(Done::Bad(Fault::Dial)))
         }
     }

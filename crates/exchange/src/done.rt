@@ -1,24 +1,9 @@
-//! How an exchange ends, and what it waits for until then.
+//! How a transfer ends.
 
 use budget::Refusal;
 use persistence::Facts;
 
-/// What a pending exchange waits for.
-#[derive(Clone, Copy, Debug, PartialEq, Eq)]
-pub enum Stage {
-    /// That a connection is granted to its transfer.
-    Grant,
-    /// That its new connection is open.
-    Dialling,
-    /// That its wire takes bytes of the request.
-    Sending,
-    /// That its wire has bytes of the response.
-    Reading,
-    /// Its next turn: it has asked to be polled again.
-    Turn,
-}
-
-/// Why an exchange has no good response.
+/// Why a transfer has no good response.
 #[derive(Clone, Copy, Debug, PartialEq, Eq)]
 pub enum Fault {
     /// There is no memory. A poll never gives it, since it takes none itself: what its cache lacks
@@ -39,7 +24,7 @@ pub enum Fault {
     /// The cache refused to give a connection, or took a lease or a ticket for a stranger, which
     /// was let go.
     Refused(Refusal),
-    /// The exchange was cancelled. Whoever cancels it may say so: a poll never does.
+    /// It was cancelled before it had ended. A poll never gives it.
     Cancelled,
 }
 
@@ -59,7 +44,7 @@ pub struct Answer {
     pub retried: bool,
 }
 
-/// How an exchange ended.
+/// How a transfer ended.
 #[derive(Clone, Copy, Debug, PartialEq, Eq)]
 pub enum Done {
     /// With a whole response.

@@ -1,23 +1,23 @@
-//! How a lease of an exchange ends: given back with the facts of its response, or abandoned, and
+//! How a lease of a transfer ends: given back with the facts of its response, or abandoned, and
 //! perhaps tried again.
 
-ghost use Rattle.std.specs.Prelude.{◌≡◌, true, false, IsSome};
-ghost use Rattle.exchange.specs.Deeds.{none_out, lease_out, ticket_out};
-ghost use Rattle.exchange.specs.Leasing.{DropsBy, WithdrawsBy};
+ghost use Rattle.std.specs.Prelude.{◌≡◌, ℕ, true, false, IsSome};
+ghost use Rattle.leasing.specs.Deeds.{DropsBy, WithdrawsBy};
 ghost use Rattle.exchange.specs.Answers.{IsSameJob, IsFruitless, may_retry};
 ghost use Rattle.exchange.specs.Worlds.{world_of};
 ghost use Rattle.exchange.specs.Steps.{IsGivenBack, LeadsOn, IsRetriable, FailsSo, IsAtEnd};
 ghost use Rattle.exchange.specs.Steps.{CanSettle, IsWireFault, HasNoDialFault, OpensNoMore};
-ghost use Rattle.exchange.specs.Owning.{IsReady, IsReading, OwnsLease, OwnsWire, OwnsAt};
+ghost use Rattle.exchange.specs.Stepping.{IsLeft};
+ghost use Rattle.exchange.specs.Owning.{IsReady, OwnsLease, OwnsWire, OwnsAt};
 ghost use Rattle.exchange.specs.declared.state.State.TheVariants as at;
 
 use crate::done::{Answer, Done, Fault};
 use crate::job::Prepared;
-use crate::leasing::Cache;
 use crate::state::State;
 use crate::wire::{Clock, Wire};
 use budget::Refusal;
 use bundle::{Lease, Ticket};
+use leasing::Cache;
 use persistence::Facts;
 
 // Gives a lease back; whether the cache knew it.
@@ -27,10 +27,9 @@ pub(crate) fn give_back<W: Wire, C: Cache<W>>(
     facts: Facts,
     now: u64,
 ) -> bool
-    requires out { C.out cache.old ≡ lease_out }
-    requires here { C.owns cache.old lease.site lease.tables }
+    requires here { OwnsLease (C.home cache.old) lease }
     requires wire { IsSome lease.stream }
-    ensures spent { C.out cache.new ≡ none_out }
+    ensures stays { C.home cache.new ≡ C.home cache.old }
     ensures done { IsGivenBack (C.did cache.old cache.new) lease facts now result }
 {
     match cache.give_back(lease, facts, now) {
@@ -44,9 +43,8 @@ pub(crate) fn give_back<W: Wire, C: Cache<W>>(
 
 // Abandons a lease; a stranger is scrapped.
 pub(crate) fn abandon<W: Wire, C: Cache<W>>(cache: &mut C, lease: Lease<W>, now: u64)
-    requires out { C.out cache.old ≡ lease_out }
-    requires here { C.owns cache.old lease.site lease.tables }
-    ensures spent { C.out cache.new ≡ none_out }
+    requires here { OwnsLease (C.home cache.old) lease }
+    ensures stays { C.home cache.new ≡ C.home cache.old }
     ensures done { DropsBy (C.did cache.old cache.new) lease now }
 {
     if let Err(stray) = cache.abandon(lease, now) {
@@ -56,8 +54,7 @@ pub(crate) fn abandon<W: Wire, C: Cache<W>>(cache: &mut C, lease: Lease<W>, now:
 
 // Withdraws a ticket; a stranger is scrapped.
 pub(crate) fn withdraw<W: Wire, C: Cache<W>>(cache: &mut C, ticket: Ticket, now: u64)
-    requires out { C.out cache.old ≡ ticket_out }
-    ensures spent { C.out cache.new ≡ none_out }
+    ensures stays { C.home cache.new ≡ C.home cache.old }
     ensures done { WithdrawsBy (C.did cache.old cache.new) ticket now }
 {
     if let Err(stray) = cache.withdraw(ticket, now) {
@@ -78,22 +75,26 @@ pub(crate) fn may_retry<W: Wire>(parts: &Prepared, lease: &Lease<W>) -> bool
 fn retry<W: Wire, C: Cache<W>, K: Clock>(
     parts: &mut Prepared,
     cache: &mut C,
-    clock: &K,
+    _clock: &K,
+    now: u64,
     lease: Lease<W>,
 ) -> State<W>
-    requires owns { OwnsLease (C.out cache.old) (C.owns cache.old) lease }
+    requires told { K.tells _clock.now now }
+    requires owns { OwnsLease (C.home cache.old) lease }
     requires ready { IsReady parts.old }
     requires first { parts.old.retried ≡ false }
     requires reused { lease.start.reused ≡ true }
-    ensures owns { OwnsAt (C.out cache.new) (C.owns cache.new) parts.new result }
+    ensures stays { C.home cache.new ≡ C.home cache.old }
+    ensures owns { OwnsAt (C.home cache.new) parts.new result }
     ensures ready { IsReady parts.new }
     ensures same { IsSameJob parts.old parts.new }
-    ensures story { LeadsOn (world_of C.did W.untouched W.happened (K.tells clock.now)) parts.old
+    ensures story { LeadsOn C.did (world_of W.untouched W.happened (K.tells _clock.now)) parts.old
         parts.new cache.old cache.new lease (IsRetriable parts.old) result }
+    ensures left { IsLeft C.did cache.old cache.new lease result }
     ensures dialled { HasNoDialFault result }
     ensures opens { OpensNoMore parts.old parts.new (at.Reading lease) result }
 {
-    match cache.abandon(lease, clock.now()) {
+    match cache.abandon(lease, now) {
         Ok(()) => {
             parts.retried = true;
             parts.reader.clear();
@@ -111,24 +112,28 @@ pub(crate) fn fail<W: Wire, C: Cache<W>, K: Clock>(
     parts: &mut Prepared,
     cache: &mut C,
     clock: &K,
+    now: u64,
     lease: Lease<W>,
     fault: Fault,
 ) -> State<W>
-    requires owns { OwnsLease (C.out cache.old) (C.owns cache.old) lease }
+    requires told { K.tells clock.now now }
+    requires owns { OwnsLease (C.home cache.old) lease }
     requires ready { IsReady parts.old }
     requires fault { IsWireFault fault }
-    ensures owns { OwnsAt (C.out cache.new) (C.owns cache.new) parts.new result }
+    ensures stays { C.home cache.new ≡ C.home cache.old }
+    ensures owns { OwnsAt (C.home cache.new) parts.new result }
     ensures ready { IsReady parts.new }
     ensures same { IsSameJob parts.old parts.new }
-    ensures story { LeadsOn (world_of C.did W.untouched W.happened (K.tells clock.now)) parts.old
+    ensures story { LeadsOn C.did (world_of W.untouched W.happened (K.tells clock.now)) parts.old
         parts.new cache.old cache.new lease (FailsSo parts.old fault) result }
+    ensures left { IsLeft C.did cache.old cache.new lease result }
     ensures dialled { HasNoDialFault result }
     ensures opens { OpensNoMore parts.old parts.new (at.Reading lease) result }
 {
     if may_retry(parts, &lease) {
-        return retry(parts, cache, clock, lease);
+        return retry(parts, cache, clock, now, lease);
     }
-    abandon(cache, lease, clock.now());
+    abandon(cache, lease, now);
     State::Finished(Done::Bad(fault))
 }
 
@@ -137,23 +142,27 @@ pub(crate) fn end<W: Wire, C: Cache<W>, K: Clock>(
     parts: &mut Prepared,
     cache: &mut C,
     clock: &K,
+    now: u64,
     lease: Lease<W>,
 ) -> State<W>
-    requires owns { OwnsWire (C.out cache.old) (C.owns cache.old) lease }
+    requires told { K.tells clock.now now }
+    requires owns { OwnsWire (C.home cache.old) lease }
     requires ready { IsReady parts.old }
-    ensures owns { OwnsAt (C.out cache.new) (C.owns cache.new) parts.new result }
+    ensures stays { C.home cache.new ≡ C.home cache.old }
+    ensures owns { OwnsAt (C.home cache.new) parts.new result }
     ensures ready { IsReady parts.new }
     ensures same { IsSameJob parts.old parts.new }
-    ensures story { LeadsOn (world_of C.did W.untouched W.happened (K.tells clock.now)) parts.old
+    ensures story { LeadsOn C.did (world_of W.untouched W.happened (K.tells clock.now)) parts.old
         parts.new cache.old cache.new lease (IsAtEnd parts.old) result }
+    ensures left { IsLeft C.did cache.old cache.new lease result }
     ensures dialled { HasNoDialFault result }
     ensures opens { OpensNoMore parts.old parts.new (at.Reading lease) result }
 {
     if may_retry(parts, &lease) {
-        return retry(parts, cache, clock, lease);
+        return retry(parts, cache, clock, now, lease);
     }
     parts.reader.end();
-    settle(parts, cache, clock, lease)
+    settle(parts, cache, clock, now, lease)
 }
 
 // Gives its lease back with the facts of all bytes that came, and answers them: a response where
@@ -161,19 +170,23 @@ pub(crate) fn end<W: Wire, C: Cache<W>, K: Clock>(
 pub(crate) fn settle<W: Wire, C: Cache<W>, K: Clock>(
     parts: &Prepared,
     cache: &mut C,
-    clock: &K,
+    _clock: &K,
+    now: u64,
     lease: Lease<W>,
 ) -> State<W>
-    requires owns { OwnsWire (C.out cache.old) (C.owns cache.old) lease }
-    ensures owns { OwnsAt (C.out cache.new) (C.owns cache.new) parts.now result }
-    ensures story { LeadsOn (world_of C.did W.untouched W.happened (K.tells clock.now)) parts.now
+    requires told { K.tells _clock.now now }
+    requires owns { OwnsWire (C.home cache.old) lease }
+    ensures stays { C.home cache.new ≡ C.home cache.old }
+    ensures owns { OwnsAt (C.home cache.new) parts.now result }
+    ensures story { LeadsOn C.did (world_of W.untouched W.happened (K.tells _clock.now)) parts.now
         parts.now cache.old cache.new lease (CanSettle parts.now lease.start.reused) result }
+    ensures left { IsLeft C.did cache.old cache.new lease result }
     ensures dialled { HasNoDialFault result }
     ensures opens { OpensNoMore parts.now parts.now (at.Reading lease) result }
 {
     let facts = parts.reader.facts();
     let reused = lease.reused();
-    let known = give_back(cache, lease, facts, clock.now());
+    let known = give_back(cache, lease, facts, now);
     let done = match parts.reader.status() {
         Some(status) if facts.whole => {
             if known {

@@ -1,6 +1,6 @@
 //! What an exchange is to do, and the memory that it needs.
 
-ghost use Rattle.std.specs.Prelude.{◌≡◌, IfOk, string_bytes};
+ghost use Rattle.std.specs.Prelude.{◌≡◌, ◌<◌, [], length, IfOk, IfErr, OnOk, string_bytes};
 ghost use Rattle.exchange.specs.Request.{request_text, method_word, close_line};
 ghost use Rattle.exchange.specs.Answers.{IsPrepared, wanted};
 
@@ -49,7 +49,8 @@ impl Prepared {
         ensures { IfOk result (IsPrepared job.now) }
     {
         let close = job.want.forbid_reuse;
-        let text = request(alloc, job.method, &job.target, close)?;
+        let mut text = String::new(alloc);
+        write_request(&mut text, job.method, &job.target, close)?;
         let Ok(reader) = ResponseReader::new(alloc, job.method, close) else {
             return Err(AllocError);
         };
@@ -65,11 +66,46 @@ impl Prepared {
         })
     }
 
+    /// The same memory, with another job: the text takes more only where it does not fit, and
+    /// reader and buffer take none.
+    ///
+    /// # Errors
+    ///
+    /// There is no memory for the text. What was prepared comes back, so that another job may be
+    /// prepared with it.
+    ///
+    /// Asked of the caller: it has room to read into, as all that was prepared has.
+    pub fn again(self, job: &Job) -> Result<Prepared, (Prepared, AllocError)>
+        requires room { 0 < length self.buffer.items }
+        ensures ok { IfOk result (IsPrepared job.now) }
+        ensures err { IfErr result (λ refused. 0 < length refused.0.buffer.items) }
+    {
+        let mut parts = self;
+        let close = job.want.forbid_reuse;
+        parts.text.clear();
+        if let Err(error) = write_request(&mut parts.text, job.method, &job.target, close) {
+            return Err((parts, error));
+        }
+        parts.reader.reset(job.method, close);
+        parts.site = job.site;
+        parts.want = job.want;
+        parts.method = job.method;
+        parts.retried = false;
+        Ok(parts)
+    }
+
     /// The text of the request.
     pub fn text(&self) -> &str
         ensures { result.now ≡ string_bytes self.now.text }
     {
         self.text.as_str()
+    }
+
+    /// The number of its transfer.
+    pub fn transfer(&self) -> u64
+        ensures { result ≡ self.now.want.transfer }
+    {
+        self.want.transfer
     }
 
     // What the transfer wants of the cache: once the request is sent again, a new connection.
@@ -100,14 +136,15 @@ fn close_line(close: bool) -> &'static str
     if close { "Connection: close\r\n" } else { "" }
 }
 
-// The text of a request.
-fn request(
-    alloc: Global,
+// Writes the text of a request, where none stands yet.
+fn write_request(
+    text: &mut String,
     method: Method,
     target: &Target,
     close: bool,
-) -> Result<String, AllocError>
-    ensures { IfOk result (λ text. string_bytes text ≡ request_text method
+) -> Result<(), AllocError>
+    requires { string_bytes text.old ≡ [] }
+    ensures { OnOk result (string_bytes text.new ≡ request_text method
         (string_bytes target.now.path) (string_bytes target.now.host) target.now.port close) }
 {
     let word = method_word(method);
@@ -116,8 +153,14 @@ fn request(
     let option = close_line(close);
     let port = target.port;
     if port == 80 {
-        format!(in alloc; "{word} {path} HTTP/1.1\r\nHost: {host}\r\n{option}\r\n")
+        write!(
+            text,
+            "{word} {path} HTTP/1.1\r\nHost: {host}\r\n{option}\r\n"
+        )
     } else {
-        format!(in alloc; "{word} {path} HTTP/1.1\r\nHost: {host}:{port}\r\n{option}\r\n")
+        write!(
+            text,
+            "{word} {path} HTTP/1.1\r\nHost: {host}:{port}\r\n{option}\r\n"
+        )
     }
 }

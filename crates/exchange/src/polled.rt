@@ -3,17 +3,21 @@
 ghost use Rattle.std.specs.Prelude.{◌≡◌, ⊤};
 ghost use Rattle.futures.specs.Poll.{IfReady, OnPending};
 ghost use Rattle.futures.specs.Task.{Covers, Keeps};
+ghost use Rattle.exchange.specs.Answers.{IsSameJob};
 ghost use Rattle.exchange.specs.Worlds.{world_of};
-ghost use Rattle.exchange.specs.Exchanging.{MayPoll, Needs, Continues, IsFinished};
+ghost use Rattle.exchange.specs.Stepping.{PollsFew};
+ghost use Rattle.exchange.specs.Balance.{HasAll};
+ghost use Rattle.exchange.specs.Exchanging.{Needs, Continues, IsFinished, Leaves, DialFailed};
+ghost use Rattle.exchange.specs.Exchanging.{OpensFew, DialsItsOwn, SpendsLease};
 
 use crate::exchange::Exchange;
-use crate::leasing::Cache;
 use crate::wire::{Clock, Dial, Wire};
 use futures::Future;
 use futures::task::{Context, Poll};
+use leasing::Cache;
 
-/// An exchange as a future, which borrows it: once the future is ready or let go, the exchange is
-/// finished or cancelled.
+/// An exchange as a future, which borrows it: once the future is ready or let go, whoever lent the
+/// exchange closes it.
 #[derive(Drop)]
 pub struct Polled<'b, 'a, W: Wire, C: Cache<W>, D: Dial<W>, K: Clock> {
     exchange: &'b mut Exchange<'a, W, C, D, K>,
@@ -32,36 +36,66 @@ impl<'b, 'a, W: Wire, C: Cache<W>, D: Dial<W>, K: Clock> Polled<'b, 'a, W, C, D,
 impl<'b, 'a, W: Wire, C: Cache<W>, D: Dial<W>, K: Clock> Future for Polled<'b, 'a, W, C, D, K> {
     type Output = ();
 
-    ghost can_poll = { λ polled. MayPoll (C.out polled.exchange.now.cache.now)
-        (C.owns polled.exchange.now.cache.now) polled.exchange.now.parts
-        polled.exchange.now.state };
+    ghost can_poll = { λ polled. ⊤ };
 
     ghost needs = { λ polled source. Needs W.source_name
-        (D.source_name polled.exchange.now.dial.now) source polled.exchange.now.stage
-        polled.exchange.now.state };
+        (D.source_name polled.exchange.now.dial.now) source
+        polled.exchange.now.transfer.has_yielded polled.exchange.now.transfer.state };
 
     fn poll(&mut self, cx: &mut Context<'_>) -> Poll<()>
-        requires { MayPoll (C.out self.old.exchange.now.cache.now)
-            (C.owns self.old.exchange.now.cache.now) self.old.exchange.now.parts
-            self.old.exchange.now.state }
+        requires { ⊤ }
         ensures value { IfReady result (λ _. ⊤) }
-        ensures again { OnPending result (MayPoll (C.out self.new.exchange.now.cache.now)
-            (C.owns self.new.exchange.now.cache.now) self.new.exchange.now.parts
-            self.new.exchange.now.state) }
+        ensures again { OnPending result ⊤ }
         ensures same { OnPending result ((x : Unit {0}) → ⊤ → ⊤) }
-        ensures can_poll { MayPoll (C.out self.new.exchange.now.cache.now)
-            (C.owns self.new.exchange.now.cache.now) self.new.exchange.now.parts
-            self.new.exchange.now.state }
-        ensures story { Continues
-            (world_of C.did W.untouched W.happened (K.tells self.old.exchange.now.clock.now))
-            self.old.exchange.now.parts self.new.exchange.now.parts
+        ensures can_poll { ⊤ }
+        ensures stays { C.home self.new.exchange.now.cache.now
+            ≡ C.home self.old.exchange.now.cache.now }
+        ensures same_job { IsSameJob self.old.exchange.now.transfer.parts
+            self.new.exchange.now.transfer.parts }
+        ensures story { Continues C.did
+            (world_of W.untouched W.happened (K.tells self.old.exchange.now.clock.now))
+            self.old.exchange.now.transfer.parts self.new.exchange.now.transfer.parts
             self.old.exchange.now.cache.now self.new.exchange.now.cache.now
-            self.old.exchange.now.state self.new.exchange.now.state }
-        ensures finished { IfReady result (λ _. IsFinished self.new.exchange.now.state) }
+            self.old.exchange.now.transfer.state self.new.exchange.now.transfer.state }
+        ensures out { HasAll
+            (world_of W.untouched W.happened (K.tells self.old.exchange.now.clock.now))
+            self.new.exchange.now.transfer.parts self.new.exchange.now.transfer.state }
+        ensures steps { PollsFew C.did
+            (world_of W.untouched W.happened (K.tells self.old.exchange.now.clock.now))
+            self.old.exchange.now.cache.now self.new.exchange.now.cache.now
+            self.new.exchange.now.transfer.has_yielded self.old.exchange.now.transfer.state
+            self.new.exchange.now.transfer.state }
+        ensures over { IsFinished self.old.exchange.now.transfer.state →
+            self.new.exchange.now.transfer.state ≡ self.old.exchange.now.transfer.state }
+        ensures dialled { DialFailed self.old.exchange.now.transfer.state
+            self.new.exchange.now.transfer.state (D.failures self.old.exchange.now.dial.now)
+            (D.failures self.new.exchange.now.dial.now) }
+        ensures opens { OpensFew self.old.exchange.now.transfer.parts
+            self.new.exchange.now.transfer.parts self.old.exchange.now.transfer.state
+            self.new.exchange.now.transfer.state (D.opened self.old.exchange.now.dial.now)
+            (D.opened self.new.exchange.now.dial.now) }
+        ensures begun { DialsItsOwn (D.begun self.old.exchange.now.dial.now)
+            (D.begun self.new.exchange.now.dial.now)
+            self.old.exchange.now.transfer.parts.want.transfer
+            self.old.exchange.now.transfer.state self.new.exchange.now.transfer.state }
+        ensures turns { D.turn_failures self.new.exchange.now.dial.now
+            ≡ D.turn_failures self.old.exchange.now.dial.now }
+        ensures finished { IfReady result (λ _. IsFinished self.new.exchange.now.transfer.state) }
+        ensures pending { OnPending result (Leaves W.source_name
+            (D.source_name self.new.exchange.now.dial.now) cx.old cx.new
+            self.new.exchange.now.transfer.waker self.new.exchange.now.transfer.has_yielded
+            self.new.exchange.now.transfer.state) }
         ensures registered { OnPending result (Covers cx.new (λ source. Needs W.source_name
-            (D.source_name self.new.exchange.now.dial.now) source self.new.exchange.now.stage
-            self.new.exchange.now.state)) }
+            (D.source_name self.new.exchange.now.dial.now) source
+            self.new.exchange.now.transfer.has_yielded self.new.exchange.now.transfer.state)) }
+        ensures spent { SpendsLease self.old.exchange.now.transfer.state
+            self.new.exchange.now.transfer.state self.new.exchange.now.transfer.has_spent }
         ensures kept { Keeps cx.old cx.new }
+        ensures same_cache { self.new.exchange.now.cache.ghost_name
+            ≡ self.old.exchange.now.cache.ghost_name }
+        ensures same_dial { self.new.exchange.now.dial.ghost_name
+            ≡ self.old.exchange.now.dial.ghost_name }
+        ensures same_clock { self.new.exchange.now.clock ≡ self.old.exchange.now.clock }
         ensures borrow { self.new.exchange.ghost_name ≡ self.old.exchange.ghost_name }
     {
         self.exchange.poll(cx)

@@ -1,9 +1,27 @@
-//! Where an exchange stands.
+//! Where a transfer stands, and what it waits for.
 
-use crate::done::{Done, Stage};
+ghost use Rattle.std.specs.Prelude.{◌≡◌};
+ghost use Rattle.exchange.specs.Exchanging.{has_lease};
+
+use crate::done::Done;
 use bundle::{Lease, Ticket};
 
-/// Where an exchange stands, with the lease or the ticket that it owns there.
+/// What a pending transfer waits for.
+#[derive(Clone, Copy, Debug, PartialEq, Eq)]
+pub enum Stage {
+    /// That a connection is granted to it.
+    Grant,
+    /// That its new connection is open.
+    Dialling,
+    /// That its wire takes bytes of the request.
+    Sending,
+    /// That its wire has bytes of the response.
+    Reading,
+    /// Its next turn: it has asked to be polled again.
+    Turn,
+}
+
+/// Where a transfer stands, with the lease or the ticket that it has there.
 pub(crate) enum State<W> {
     /// It will ask for a connection.
     Asking,
@@ -19,10 +37,22 @@ pub(crate) enum State<W> {
     Finished(Done),
 }
 
+impl<W> State<W> {
+    /// Whether it has a lease there.
+    pub(crate) fn has_lease(&self) -> bool
+        ensures { result ≡ has_lease self.now }
+    {
+        matches!(
+            self,
+            State::Dialling(_) | State::Sending(_, _) | State::Reading(_)
+        )
+    }
+}
+
 /// What a step comes to.
 pub(crate) enum Step<W> {
     /// It stands there now.
     Goes(State<W>),
-    /// It stands there, and has to wait for that.
-    Waits(State<W>, Stage),
+    /// It stands there, and has to wait.
+    Waits(State<W>),
 }

@@ -1,4 +1,4 @@
-//! How an exchange sends its request and reads the response.
+//! How a transfer sends its request and reads the response.
 
 ghost use Rattle.std.specs.Prelude.{◌≡◌, ◌<◌, ◌≤◌, ℕ, length, take, IsSome};
 ghost use Rattle.exchange.specs.Wires.{Reads, Writes};
@@ -7,17 +7,18 @@ ghost use Rattle.exchange.specs.Worlds.{world_of};
 ghost use Rattle.exchange.specs.Standing.{GoesOn};
 ghost use Rattle.exchange.specs.Steps.{StepsWire, LeadsOn, HasCome, HasNoDialFault, OpensNoMore};
 ghost use Rattle.exchange.specs.Waiting.{AtStep, StepLeaves, OnSource, IsRegistered};
-ghost use Rattle.exchange.specs.Owning.{IsReady, IsReading, OwnsWire, OwnsAt};
+ghost use Rattle.exchange.specs.Stepping.{IsLeft, StepIs};
+ghost use Rattle.exchange.specs.Owning.{IsReady, ReaderGoesOn, OwnsWire, OwnsAt};
 ghost use Rattle.exchange.specs.declared.state.State.TheVariants as at;
 
-use crate::done::{Done, Fault, Stage};
+use crate::done::{Done, Fault};
 use crate::ending::{end, fail, give_back, settle};
 use crate::job::Prepared;
-use crate::leasing::Cache;
 use crate::state::{State, Step};
 use crate::wire::{Clock, Read, Wire, Written};
 use bundle::Lease;
 use futures::task::{Context, Poll, Waker};
+use leasing::Cache;
 use persistence::Fed;
 
 // Writes to its wire.
@@ -63,21 +64,25 @@ pub(crate) fn send<W: Wire, C: Cache<W>, K: Clock>(
     parts: &mut Prepared,
     cache: &mut C,
     clock: &K,
+    now: u64,
     mut lease: Lease<W>,
     sent: usize,
     cx: &mut Context<'_>,
     waker: &mut Option<Waker>,
 ) -> Step<W>
-    requires owns { OwnsWire (C.out cache.old) (C.owns cache.old) lease }
+    requires told { K.tells clock.now now }
+    requires owns { OwnsWire (C.home cache.old) lease }
     requires short { sent < length (text_of parts.old) }
-    requires reading { IsReading parts.old }
+    requires reading { ReaderGoesOn parts.old }
     requires ready { IsReady parts.old }
-    ensures owns { AtStep result (OwnsAt (C.out cache.new) (C.owns cache.new) parts.new) }
+    ensures stays { C.home cache.new ≡ C.home cache.old }
+    ensures owns { AtStep result (OwnsAt (C.home cache.new) parts.new) }
     ensures ready { IsReady parts.new }
     ensures same { IsSameJob parts.old parts.new }
-    ensures story { AtStep result
-        (GoesOn (world_of C.did W.untouched W.happened (K.tells clock.now)) parts.old parts.new
-        cache.old cache.new (at.Sending lease sent)) }
+    ensures story { AtStep result (GoesOn C.did (world_of W.untouched W.happened (K.tells
+        clock.now)) parts.old parts.new cache.old cache.new (at.Sending lease sent)) }
+    ensures steps { StepIs C.did (world_of W.untouched W.happened (K.tells clock.now))
+        cache.old cache.new (at.Sending lease sent) result }
     ensures dialled { AtStep result HasNoDialFault }
     ensures opens { AtStep result (OpensNoMore parts.old parts.new (at.Sending lease sent)) }
     ensures leaves { (dial : ℕ) → StepLeaves W.source_name dial cx.old cx.new waker.new result }
@@ -94,9 +99,9 @@ pub(crate) fn send<W: Wire, C: Cache<W>, K: Clock>(
         }
         Written::NotYet => {
             wait_for(&mut lease, cx, waker);
-            Step::Waits(State::Sending(lease, sent), Stage::Sending)
+            Step::Waits(State::Sending(lease, sent))
         }
-        Written::Fault => Step::Goes(fail(parts, cache, clock, lease, Fault::Write)),
+        Written::Fault => Step::Goes(fail(parts, cache, clock, now, lease, Fault::Write)),
     }
 }
 
@@ -105,31 +110,35 @@ pub(crate) fn read<W: Wire, C: Cache<W>, K: Clock>(
     parts: &mut Prepared,
     cache: &mut C,
     clock: &K,
+    now: u64,
     mut lease: Lease<W>,
     cx: &mut Context<'_>,
     waker: &mut Option<Waker>,
 ) -> Step<W>
-    requires owns { OwnsWire (C.out cache.old) (C.owns cache.old) lease }
-    requires reading { IsReading parts.old }
+    requires told { K.tells clock.now now }
+    requires owns { OwnsWire (C.home cache.old) lease }
+    requires reading { ReaderGoesOn parts.old }
     requires ready { IsReady parts.old }
-    ensures owns { AtStep result (OwnsAt (C.out cache.new) (C.owns cache.new) parts.new) }
+    ensures stays { C.home cache.new ≡ C.home cache.old }
+    ensures owns { AtStep result (OwnsAt (C.home cache.new) parts.new) }
     ensures ready { IsReady parts.new }
     ensures same { IsSameJob parts.old parts.new }
-    ensures story { AtStep result
-        (GoesOn (world_of C.did W.untouched W.happened (K.tells clock.now)) parts.old parts.new
-        cache.old cache.new (at.Reading lease)) }
+    ensures story { AtStep result (GoesOn C.did (world_of W.untouched W.happened (K.tells
+        clock.now)) parts.old parts.new cache.old cache.new (at.Reading lease)) }
+    ensures steps { StepIs C.did (world_of W.untouched W.happened (K.tells clock.now))
+        cache.old cache.new (at.Reading lease) result }
     ensures dialled { AtStep result HasNoDialFault }
     ensures opens { AtStep result (OpensNoMore parts.old parts.new (at.Reading lease)) }
     ensures leaves { (dial : ℕ) → StepLeaves W.source_name dial cx.old cx.new waker.new result }
 {
     match read_from(&mut lease, &mut parts.buffer) {
-        Read::Bytes(count) => Step::Goes(feed(parts, cache, clock, lease, count)),
+        Read::Bytes(count) => Step::Goes(feed(parts, cache, clock, now, lease, count)),
         Read::NotYet => {
             wait_for(&mut lease, cx, waker);
-            Step::Waits(State::Reading(lease), Stage::Reading)
+            Step::Waits(State::Reading(lease))
         }
-        Read::End => Step::Goes(end(parts, cache, clock, lease)),
-        Read::Fault => Step::Goes(fail(parts, cache, clock, lease, Fault::Read)),
+        Read::End => Step::Goes(end(parts, cache, clock, now, lease)),
+        Read::Fault => Step::Goes(fail(parts, cache, clock, now, lease, Fault::Read)),
     }
 }
 
@@ -138,26 +147,30 @@ fn feed<W: Wire, C: Cache<W>, K: Clock>(
     parts: &mut Prepared,
     cache: &mut C,
     clock: &K,
+    now: u64,
     lease: Lease<W>,
     count: usize,
 ) -> State<W>
-    requires owns { OwnsWire (C.out cache.old) (C.owns cache.old) lease }
-    requires reading { IsReading parts.old }
+    requires told { K.tells clock.now now }
+    requires owns { OwnsWire (C.home cache.old) lease }
+    requires reading { ReaderGoesOn parts.old }
     requires ready { IsReady parts.old }
     requires room { count ≤ length parts.old.buffer.items }
-    ensures owns { OwnsAt (C.out cache.new) (C.owns cache.new) parts.new result }
+    ensures stays { C.home cache.new ≡ C.home cache.old }
+    ensures owns { OwnsAt (C.home cache.new) parts.new result }
     ensures ready { IsReady parts.new }
     ensures same { IsSameJob parts.old parts.new }
-    ensures story { LeadsOn (world_of C.did W.untouched W.happened (K.tells clock.now)) parts.old
+    ensures story { LeadsOn C.did (world_of W.untouched W.happened (K.tells clock.now)) parts.old
         parts.new cache.old cache.new lease (HasCome parts.old count) result }
+    ensures left { IsLeft C.did cache.old cache.new lease result }
     ensures dialled { HasNoDialFault result }
     ensures opens { OpensNoMore parts.old parts.new (at.Reading lease) result }
 {
     match parts.reader.feed(&parts.buffer[..count]) {
         Ok(Fed::More) => State::Reading(lease),
-        Ok(Fed::Whole) => settle(parts, cache, clock, lease),
+        Ok(Fed::Whole) => settle(parts, cache, clock, now, lease),
         Err(_) => {
-            let _known = give_back(cache, lease, parts.reader.facts(), clock.now());
+            let _known = give_back(cache, lease, parts.reader.facts(), now);
             State::Finished(Done::Bad(Fault::BadResponse))
         }
     }

@@ -1,6 +1,6 @@
 //! Connections, how they are dialled, and the time.
 
-ghost use Rattle.std.specs.Prelude.{◌≡◌, ℕ, ◌<◌, ◌≤◌, length};
+ghost use Rattle.std.specs.Prelude.{◌≡◌, ℕ, ◌<◌, length};
 ghost use Rattle.conn_key.specs.Wants.{Rises};
 
 use futures::task::Source;
@@ -49,19 +49,20 @@ pub enum Turned {
     Fault,
 }
 
-/// A connection that bytes go over, which waits for nothing. What comes on it after a whole
-/// response is read as the next one: a wire that can look for it before a request is written should
-/// fail.
+/// A connection that bytes go over. Each call waits at most ten milliseconds. What comes on it
+/// after a whole response is read as the next one: a wire that can look for it before a request is
+/// written should fail.
 ///
-/// The ghost members tell contracts to which site's host it was dialled, where nothing has happened
-/// on it yet, what happened on it from one time to another, how often it failed, and the name of
-/// its source. The count of failures stays at the greatest `u64`.
+/// The ghost members tell contracts to which site's host it was dialled and for which transfer,
+/// where nothing has happened on it yet, what happened on it from one time to another, how often it
+/// failed, and the name of its source. The count of failures stays at the greatest `u64`.
 pub trait Wire: Drop {
     ghost use Rattle.exchange.specs.Wires.{Happening, Reads, Writes};
     ghost use Rattle.exchange.specs.Dialling.{OnReadFault, OnWriteFault};
 
-    /// It was dialled to the host of that site, and nothing has happened on it yet.
-    ghost untouched: { Self → ℕ → Type 0 };
+    /// It was dialled to the host of that site for that transfer, and nothing has happened on it
+    /// yet.
+    ghost untouched: { Self → ℕ → ℕ → Type 0 };
 
     /// From the one time to the other this happened, and nothing else.
     ghost happened: { Self → Self → Happening → Type 0 };
@@ -89,14 +90,16 @@ pub trait Wire: Drop {
         ensures { result.now.id ≡ source_name self.now };
 }
 
-/// What opens connections, and sees when they are ready.
+/// What opens connections, and sees when they are ready. Many may be begun at once, each for a
+/// transfer of its own: a transfer keeps to one dial.
 ///
 /// The ghost members tell contracts how often a dial failed, how many connections were opened, how
-/// often a turn failed, counts that stay at the greatest `u64`, what a turn does, and the name of
-/// its source.
+/// often a turn failed, counts that stay at the greatest `u64`, what a turn does, for which
+/// transfers a connection may be begun, and the name of its source.
 pub trait Dial<W: Wire> {
     ghost use Rattle.exchange.specs.Wires.Happening.{is_adopted};
-    ghost use Rattle.exchange.specs.Dialling.{IfUp, CountsDial, OpensOne, OnTurnFault};
+    ghost use Rattle.exchange.specs.Dialling.{IfUp, CountsDial, OpensOne, CountsTurn};
+    ghost use Rattle.exchange.specs.Dialling.{CountsBegun};
 
     /// How often a dial failed.
     ghost failures: { Self → ℕ };
@@ -110,14 +113,27 @@ pub trait Dial<W: Wire> {
     /// From the one time to the other it took a turn, and did nothing else.
     ghost turned: { Self → Self → Type 0 };
 
+    /// For a transfer a connection may be begun that is not open yet.
+    ghost begun: { Self → ℕ → Type 0 };
+
     /// The name of its source.
     ghost source_name: { Self → ℕ };
 
-    /// Opens a connection to the host of that site, or goes on with it.
-    fn dial(&mut self, site: u32) -> Dialled<W>
-        ensures up { IfUp result (λ wire. W.untouched wire site) }
+    /// Opens a connection to the host of that site for that transfer, or goes on with the one that
+    /// it began for it.
+    fn dial(&mut self, site: u32, transfer: u64) -> Dialled<W>
+        ensures up { IfUp result (λ wire. W.untouched wire site transfer) }
         ensures counted { CountsDial result (failures self.old) (failures self.new) }
         ensures opens { OpensOne result (opened self.old) (opened self.new) }
+        ensures begun { CountsBegun result transfer (begun self.old) (begun self.new) }
+        ensures turns { turn_failures self.new ≡ turn_failures self.old };
+
+    /// Ends what it began for that transfer.
+    fn give_up(&mut self, transfer: u64)
+        ensures none { begun self.new transfer → ⊥ }
+        ensures begun { (other : ℕ) → begun self.new other → begun self.old other }
+        ensures counted { failures self.new ≡ failures self.old }
+        ensures opens { opened self.new ≡ opened self.old }
         ensures turns { turn_failures self.new ≡ turn_failures self.old };
 
     /// Takes a wire over, which another dial may have made, so that its readiness is seen here.
@@ -125,15 +141,16 @@ pub trait Dial<W: Wire> {
         ensures adopted { W.happened wire.old wire.new is_adopted }
         ensures counted { failures self.new ≡ failures self.old }
         ensures opens { opened self.new ≡ opened self.old }
+        ensures begun { (other : ℕ) → begun self.new other → begun self.old other }
         ensures turns { turn_failures self.new ≡ turn_failures self.old };
 
     /// Takes a turn of its event loop, which waits at most ten milliseconds.
     fn turn(&mut self) -> Turned
-        ensures fault { OnTurnFault result
-            (Rises (turn_failures self.old) (turn_failures self.new)) }
+        ensures fault { CountsTurn result (turn_failures self.old) (turn_failures self.new) }
         ensures done { turned self.old self.new }
         ensures counted { failures self.new ≡ failures self.old }
         ensures opens { opened self.new ≡ opened self.old }
+        ensures begun { (other : ℕ) → begun self.new other → begun self.old other }
         ensures source { source_name self.new ≡ source_name self.old };
 
     /// What a task registers with that waits until a connection is open.

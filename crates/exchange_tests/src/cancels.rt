@@ -6,7 +6,8 @@ use crate::driving::{
     wire_of,
 };
 use conn_log::Cause;
-use exchange::{Answer, Done, Halt, MemoryDial, Stage};
+use exchange::{Answer, Done, Stage};
+use exchange_memory::{Halt, MemoryDial};
 use std::test::Fail;
 
 #[test]
@@ -28,6 +29,13 @@ fn a_cancel_abandons_a_lease(rt: HostRuntime) -> Result<(), Fail> {
         let mut cache = cache_of(&rt);
         let waits_on = cancel_polled(&rt, &mut cache, &mut dial);
         assert_eq!(rt; waits_on, stage);
+        // its dial gives up what it has begun
+        let given_up = if stage == Stage::Dialling {
+            Some(1)
+        } else {
+            None
+        };
+        assert_eq!(rt; dial.last_given_up(), given_up);
         check_log(
             &rt,
             &cache,
@@ -49,6 +57,7 @@ fn a_cancel_changes_nothing_where_nothing_is_out(rt: HostRuntime) -> Result<(), 
     // and where the first poll was ready
     let mut cache = cache_of(&rt);
     let _ = cancel_polled(&rt, &mut cache, &mut dial);
+    assert_eq!(rt; dial.last_given_up(), None);
     check_log(
         &rt,
         &cache,
@@ -64,6 +73,7 @@ fn a_cancel_ends_a_wait(rt: HostRuntime) -> Result<(), Fail> {
     let mut cache = cache_with_other(&rt, 1, wire_of(&rt, OK));
     let waits_on = cancel_polled(&rt, &mut cache, &mut dial);
     assert_eq!(rt; waits_on, Stage::Grant);
+    assert_eq!(rt; dial.last_given_up(), None);
     check_log(
         &rt,
         &cache,

@@ -1,18 +1,20 @@
 //! What tests of exchanges share: what they prepare, and how they poll.
 
-ghost use Rattle.std.specs.Prelude.{◌≡◌, IsSome};
-ghost use Rattle.cache.specs.Pools.{IsMadeHere};
+ghost use Rattle.std.specs.Prelude.{IsSome, ◌≡◌, ◌<◌, length};
+ghost use Rattle.leasing.specs.Homes.{IsMadeBy};
+ghost use Rattle.cache.specs.Deeds.{home_of};
 ghost use Rattle.exchange.specs.Answers.{IsUnused};
+ghost use Rattle.exchange.specs.Owning.{Owns, IsReady};
 
 use budget::Limits;
 use bundle::{Acquired, Lease};
 use cache::Pool;
 use conn_key::{CountedMemory, read_target};
 use conn_log::{Cause, Entry, Event, Want};
-use exchange::{
-    Done, Exchange, FakeCache, FixedClock, Job, MemoryDial, MemoryWire, Prepared, Stage,
-};
+use exchange::{Answer, Done, Exchange, Job, Prepared, Stage, Transfer};
+use exchange_memory::{FakeCache, FixedClock, MemoryDial, MemoryWire};
 use futures::task::{Doorbell, Solo};
+use leasing::Cache;
 use persistence::{Facts, Framing, Method, Version};
 use std::alloc::AllocGlobal;
 use std::process::Abort;
@@ -29,6 +31,15 @@ pub(crate) const KEEP: Facts = Facts {
     upgraded: false,
     whole: true,
     surplus: false,
+};
+
+/// What a whole response over a new connection answers.
+pub(crate) const GOOD: Answer = Answer {
+    status: 200,
+    body_len: 2,
+    facts: KEEP,
+    reused: false,
+    retried: false,
 };
 
 /// A response with a body of two bytes.
@@ -58,7 +69,25 @@ pub(crate) fn want_of(transfer: u64) -> Want {
     }
 }
 
-/// What transfer 1 asks of the first host, or of another.
+/// What a transfer asks of that host.
+pub(crate) fn job_at<R: Abort + AllocGlobal>(
+    rt: &R,
+    site: u32,
+    method: Method,
+    url: &str,
+    want: Want,
+) -> Job {
+    let mut memory = CountedMemory::new(rt.alloc());
+    let target = read_target(&mut memory, url).expect(rt, "a target");
+    Job {
+        site,
+        want,
+        method,
+        target,
+    }
+}
+
+/// The same, with the memory for it.
 pub(crate) fn prepared_at<R: Abort + AllocGlobal>(
     rt: &R,
     site: u32,
@@ -68,14 +97,7 @@ pub(crate) fn prepared_at<R: Abort + AllocGlobal>(
 ) -> Prepared
     ensures { IsUnused result }
 {
-    let mut memory = CountedMemory::new(rt.alloc());
-    let target = read_target(&mut memory, url).expect(rt, "a target");
-    let job = Job {
-        site,
-        want,
-        method,
-        target,
-    };
+    let job = job_at(rt, site, method, url, want);
     Prepared::new(rt.alloc(), &job).expect(rt, "memory")
 }
 
@@ -105,9 +127,7 @@ pub(crate) fn pool_of<R: Abort + AllocGlobal>(rt: &R, most: u32) -> Pool<MemoryW
 }
 
 /// A cache of one host without connections.
-pub(crate) fn cache_of<R: Abort + AllocGlobal>(rt: &R) -> FakeCache<MemoryWire>
-    ensures { (result.leases ≡ 0) × (result.tickets ≡ 0) }
-{
+pub(crate) fn cache_of<R: Abort + AllocGlobal>(rt: &R) -> FakeCache<MemoryWire> {
     FakeCache::over(pool_of(rt, 0))
 }
 
@@ -118,9 +138,9 @@ pub(crate) fn lease_of<R: Abort>(
     transfer: u64,
     now: u64,
 ) -> Lease<MemoryWire>
-    ensures { IsMadeHere pool.new result }
+    ensures { IsMadeBy (home_of pool.new) result.site result.tables }
 {
-    match pool.acquire(0, want_of(transfer), now) {
+    match Cache::acquire(pool, 0, want_of(transfer), now) {
         Ok(Acquired::Lease(lease)) => lease,
         Ok(Acquired::Wait(_ticket)) => panic!(rt; "it has to wait"),
         Err(refusal) => panic!(rt; "{refusal:?}"),
@@ -133,7 +153,7 @@ pub(crate) fn lease_with<R: Abort>(
     pool: &mut Pool<MemoryWire>,
     wire: MemoryWire,
 ) -> Lease<MemoryWire>
-    ensures here { IsMadeHere pool.new result }
+    ensures here { IsMadeBy (home_of pool.new) result.site result.tables }
     ensures stream { IsSome result.stream }
 {
     let mut lease = lease_of(rt, pool, BEFORE, 0);
@@ -142,16 +162,29 @@ pub(crate) fn lease_with<R: Abort>(
     lease
 }
 
+/// Gives a lease of that pool back at its first moment.
+fn give_back(pool: &mut Pool<MemoryWire>, lease: Lease<MemoryWire>)
+    requires here { IsMadeBy (home_of pool.old) lease.site lease.tables }
+    requires stream { IsSome lease.stream }
+{
+    pool.give_back(lease, KEEP, 0);
+}
+
+/// Ends a lease of that pool.
+pub(crate) fn abandon(pool: &mut Pool<MemoryWire>, lease: Lease<MemoryWire>)
+    requires { IsMadeBy (home_of pool.old) lease.site lease.tables }
+{
+    pool.abandon(lease, NOW);
+}
+
 /// A cache of one host, with an idle connection that has that wire.
 pub(crate) fn cache_with_idle<R: Abort + AllocGlobal>(
     rt: &R,
     wire: MemoryWire,
-) -> FakeCache<MemoryWire>
-    ensures { (result.leases ≡ 0) × (result.tickets ≡ 0) }
-{
+) -> FakeCache<MemoryWire> {
     let mut pool = pool_of(rt, 0);
     let lease = lease_with(rt, &mut pool, wire);
-    pool.give_back(lease, KEEP, 0);
+    give_back(&mut pool, lease);
     FakeCache::over(pool)
 }
 
@@ -161,25 +194,23 @@ pub(crate) fn cache_with_other<R: Abort + AllocGlobal>(
     rt: &R,
     most: u32,
     wire: MemoryWire,
-) -> FakeCache<MemoryWire>
-    ensures { (result.leases ≡ 0) × (result.tickets ≡ 0) }
-{
+) -> FakeCache<MemoryWire> {
     let mut pool = pool_of(rt, most);
     let lease = lease_with(rt, &mut pool, wire);
     FakeCache::with_other(pool, lease, KEEP, NOW)
 }
 
-/// Polls an exchange until it is ready: how it ended, and how often it was pending before, which
-/// has to be for that.
-pub(crate) fn run<R: Abort + AllocGlobal + RandomSource>(
+/// Polls an exchange until it is ready: how it ended, how often it was pending before, which has to
+/// be for that, and what was prepared.
+pub(crate) fn run_keeping<R: Abort + AllocGlobal + RandomSource>(
     rt: &R,
     parts: Prepared,
     cache: &mut FakeCache<MemoryWire>,
     dial: &mut MemoryDial,
     stage: Stage,
-) -> (Done, u32)
-    requires none { (cache.old.leases ≡ 0) × (cache.old.tickets ≡ 0) }
+) -> (Done, u32, Prepared)
     requires unused { IsUnused parts }
+    ensures { 0 < length result.2.buffer.items }
 {
     let solo = Solo::new(rt, Doorbell::spinning()).expect(rt, "a task");
     let clock = FixedClock { now: NOW };
@@ -189,13 +220,27 @@ pub(crate) fn run<R: Abort + AllocGlobal + RandomSource>(
         let polled = exchange.poll(&mut cx);
         cx.end(&polled);
         if polled.is_ready() {
-            let (done, _) = exchange.finish();
-            return (done, pending);
+            let (done, parts, _, _) = exchange.finish();
+            return (done, pending, parts);
         }
         assert_eq!(rt; exchange.waits_on(), stage);
     }
     let _ = exchange.cancel(NOW);
     panic!(rt; "it does not end");
+}
+
+/// The same, without what was prepared.
+pub(crate) fn run<R: Abort + AllocGlobal + RandomSource>(
+    rt: &R,
+    parts: Prepared,
+    cache: &mut FakeCache<MemoryWire>,
+    dial: &mut MemoryDial,
+    stage: Stage,
+) -> (Done, u32)
+    requires unused { IsUnused parts }
+{
+    let (done, pending, _) = run_keeping(rt, parts, cache, dial, stage);
+    (done, pending)
 }
 
 /// The same, where it is never pending.
@@ -205,7 +250,6 @@ pub(crate) fn run_at_once<R: Abort + AllocGlobal + RandomSource>(
     cache: &mut FakeCache<MemoryWire>,
     dial: &mut MemoryDial,
 ) -> Done
-    requires none { (cache.old.leases ≡ 0) × (cache.old.tickets ≡ 0) }
     requires unused { IsUnused parts }
 {
     let (done, pending) = run(rt, parts, cache, dial, Stage::Turn);
@@ -218,9 +262,7 @@ pub(crate) fn cancel_unpolled<R: Abort + AllocGlobal>(
     rt: &R,
     cache: &mut FakeCache<MemoryWire>,
     dial: &mut MemoryDial,
-)
-    requires { (cache.old.leases ≡ 0) × (cache.old.tickets ≡ 0) }
-{
+) {
     let clock = FixedClock { now: NOW };
     let exchange = Exchange::new(prepared(rt), cache, dial, &clock);
     let _ = exchange.cancel(NOW);
@@ -231,9 +273,7 @@ pub(crate) fn cancel_polled<R: Abort + AllocGlobal + RandomSource>(
     rt: &R,
     cache: &mut FakeCache<MemoryWire>,
     dial: &mut MemoryDial,
-) -> Stage
-    requires { (cache.old.leases ≡ 0) × (cache.old.tickets ≡ 0) }
-{
+) -> Stage {
     let solo = Solo::new(rt, Doorbell::spinning()).expect(rt, "a task");
     let clock = FixedClock { now: NOW };
     let mut exchange = Exchange::new(prepared(rt), cache, dial, &clock);
@@ -241,10 +281,30 @@ pub(crate) fn cancel_polled<R: Abort + AllocGlobal + RandomSource>(
     let polled = exchange.poll(&mut cx);
     cx.end(&polled);
     let waits_on = exchange.waits_on();
-    let cache = exchange.cancel(NOW);
+    let (_, cache, _) = exchange.cancel(NOW);
     let entries = cache.pool().log(0).expect(rt, "a host").len();
     assert!(rt; entries > 0, "out of memory");
     waits_on
+}
+
+/// Polls a transfer once: whether it was ready, and whether it spent a lease.
+pub(crate) fn poll_once(
+    solo: &Solo,
+    transfer: &mut Transfer<MemoryWire>,
+    pool: &mut Pool<MemoryWire>,
+    dial: &mut MemoryDial,
+) -> (bool, bool)
+    requires owns { Owns (home_of pool.old) transfer.old.parts transfer.old.state }
+    requires ready { IsReady transfer.old.parts }
+    ensures stays { home_of pool.new ≡ home_of pool.old }
+    ensures owns { Owns (home_of pool.new) transfer.new.parts transfer.new.state }
+    ensures ready { IsReady transfer.new.parts }
+{
+    let clock = FixedClock { now: NOW };
+    let mut cx = solo.begin();
+    let polled = transfer.poll(&mut cx, pool, dial, &clock);
+    cx.end(&polled);
+    (polled.is_ready(), transfer.has_spent())
 }
 
 pub(crate) fn opened(connection: u32, want: Want, moment: u64) -> Entry {
@@ -291,7 +351,12 @@ pub(crate) fn left(transfer: u64, moment: u64) -> Entry {
 
 /// The first host's log has to have these entries, and no other.
 pub(crate) fn check_log<R: Abort>(rt: &R, cache: &FakeCache<MemoryWire>, entries: &[Entry]) {
-    let log = cache.pool().log(0).expect(rt, "a host");
+    check_pool(rt, cache.pool(), entries);
+}
+
+/// The same of a pool.
+pub(crate) fn check_pool<R: Abort>(rt: &R, pool: &Pool<MemoryWire>, entries: &[Entry]) {
+    let log = pool.log(0).expect(rt, "a host");
     for place in 0..entries.len() {
         assert_eq!(rt; log.get(place), Some(entries[place]), "entry {place}");
     }

@@ -4,7 +4,8 @@ use budget::Limits;
 use cache::Pool;
 use conn_key::{CountedMemory, read_target};
 use conn_log::Want;
-use exchange::{Done, Exchange, FakeCache, FixedClock, Job, MemoryDial, MemoryWire, Prepared};
+use exchange::{Done, Exchange, Job, Prepared};
+use exchange_memory::{FixedClock, MemoryDial, MemoryWire};
 use futures::task::{Doorbell, Solo};
 use persistence::Method;
 use std::alloc::AllocGlobal;
@@ -39,16 +40,14 @@ fn one_transfer(rt: HostRuntime) -> Result<(), Fail> {
     dial.add(MemoryWire::new(rt.alloc(), RESPONSE, 200)?)?;
     let clock = FixedClock { now: 7 };
     let task = Solo::new(&rt, Doorbell::spinning())?;
-    let pool = Pool::new(rt.alloc(), Limits::new(6, 20, 4)?, 1)?;
-    let mut cache = FakeCache::over(pool);
-    let mut exchange = Exchange::new(parts, &mut cache, &mut dial, &clock);
+    let mut pool = Pool::new(rt.alloc(), Limits::new(6, 20, 4)?, 1)?;
+    let mut exchange = Exchange::new(parts, &mut pool, &mut dial, &clock);
     for _ in 0..100 {
         let mut context = task.begin();
         let polled = exchange.poll(&mut context);
         context.end(&polled);
         if polled.is_ready() {
-            let (done, _) = exchange.finish();
-            let pool = cache.close();
+            let (done, _, _, _) = exchange.finish();
             let Done::Good(answer) = done else {
                 return Err(Fail::from("no response, or no memory"));
             };
@@ -59,6 +58,5 @@ fn one_transfer(rt: HostRuntime) -> Result<(), Fail> {
         let _ = exchange.turn();
     }
     let _ = exchange.cancel(7);
-    let _pool = cache.close();
     Err(Fail::from("it never ended"))
 }

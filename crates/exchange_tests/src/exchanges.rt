@@ -1,25 +1,17 @@
 //! Exchanges over wires in memory: what was expected was read off the standards by hand.
 
 use crate::driving::{
-    BEFORE, KEEP, NOW, OK, cache_of, cache_with_idle, cache_with_other, check_last, check_log,
-    close, closed, dial_of, lease_of, leased, opened, prepared, prepared_at, returned, run,
-    run_at_once, want_of, wire_of,
+    BEFORE, GOOD, KEEP, NOW, OK, abandon, cache_of, cache_with_idle, cache_with_other, check_last,
+    check_log, close, closed, dial_of, job_at, lease_of, leased, opened, prepared, prepared_at,
+    returned, run, run_at_once, run_keeping, want_of, wire_of,
 };
 use budget::Refusal;
 use conn_log::{Cause, Want};
-use exchange::{Answer, Done, Fault, Halt, MemoryDial, Read, Returned, Stage, Wire, Written};
+use exchange::{Answer, Done, Fault, Read, Stage, Wire, Written};
+use exchange_memory::{Halt, MemoryDial, MemoryWire, Returned};
 use persistence::{Facts, Framing, Method};
 use std::alloc::AllocGlobal;
 use std::test::Fail;
-
-/// What a whole response over a new connection answers.
-const GOOD: Answer = Answer {
-    status: 200,
-    body_len: 2,
-    facts: KEEP,
-    reused: false,
-    retried: false,
-};
 
 #[test]
 fn a_request_has_its_text(rt: HostRuntime) -> Result<(), Fail> {
@@ -89,8 +81,52 @@ fn the_wire_gets_the_request(rt: HostRuntime) -> Result<(), Fail> {
         assert_eq!(rt; wire.sent(), text);
         assert_eq!(rt; wire.unread(), 0);
         assert_eq!(rt; wire.failures(), 0);
-        pool.abandon(lease, NOW);
+        abandon(&mut pool, lease);
     }
+    Ok(())
+}
+
+#[test]
+fn what_was_prepared_serves_another_job(rt: HostRuntime) -> Result<(), Fail> {
+    let text = "HEAD /b?c=2 HTTP/1.1\r\nHost: example.com\r\nConnection: close\r\n\r\n";
+    let want = Want {
+        fresh: true,
+        forbid_reuse: true,
+        ..want_of(2)
+    };
+    let job = job_at(&rt, 0, Method::Head, "http://example.com/b?c=2", want);
+    let mut dial = dial_of(&rt, wire_of(&rt, OK));
+    // it has room for that text alone
+    let head = b"HTTP/1.1 200 OK\r\nContent-Length: 2\r\n\r\n";
+    dial.add(MemoryWire::new(rt.alloc(), head, text.len())?)?;
+    let mut cache = cache_of(&rt);
+    let (done, pending, parts) = run_keeping(
+        &rt,
+        prepared(&rt),
+        &mut cache,
+        &mut dial,
+        Stage::Turn,
+    );
+    assert_eq!(rt; (done, pending), (Done::Good(GOOD), 0));
+    let parts = match parts.again(&job) {
+        Ok(parts) => parts,
+        Err(_) => panic!(rt; "no memory"),
+    };
+    assert_eq!(rt; parts.text(), text);
+    let done = run_at_once(&rt, parts, &mut cache, &mut dial);
+    let facts = Facts {
+        request_close: true,
+        framing: Framing::NoBody,
+        ..KEEP
+    };
+    let answer = Answer {
+        body_len: 0,
+        facts,
+        ..GOOD
+    };
+    assert_eq!(rt; done, Done::Good(answer));
+    check_last(&rt, &cache, closed(2, Cause::Forbidden, NOW));
+    let _ = close(&rt, cache);
     Ok(())
 }
 
@@ -113,7 +149,7 @@ fn a_wire_carries_two_requests(rt: HostRuntime) -> Result<(), Fail> {
     let wire = lease.stream_mut().expect(&rt, "the wire");
     assert_eq!(rt; wire.sent(), both.as_slice());
     assert_eq!(rt; wire.unread(), 0);
-    pool.abandon(lease, NOW);
+    abandon(&mut pool, lease);
     Ok(())
 }
 

@@ -4,6 +4,12 @@
 #[cfg(test)]
 mod cancels;
 #[cfg(test)]
+mod dials;
+#[cfg(test)]
+mod drawn;
+#[cfg(test)]
+mod driven;
+#[cfg(test)]
 mod driving;
 #[cfg(test)]
 mod example;
@@ -11,3 +17,5 @@ mod example;
 mod exchanges;
 #[cfg(test)]
 mod memory;
+#[cfg(test)]
+mod thousand;

@@ -4,9 +4,8 @@ use budget::{Limits, Refusal};
 use cache::Pool;
 use conn_key::{CountedMemory, read_target};
 use conn_log::Want;
-use exchange::{
-    Done, Exchange, FakeCache, Fault, FixedClock, Job, MemoryDial, MemoryWire, Prepared,
-};
+use exchange::{Done, Exchange, Fault, Job, Prepared};
+use exchange_memory::{FakeCache, FixedClock, MemoryDial, MemoryWire};
 use futures::task::{Doorbell, Solo};
 use persistence::Method;
 use std::alloc::AllocGlobal;
@@ -63,7 +62,7 @@ fn want_of_memory_ends_an_exchange(rt: HostRuntime) -> Result<(), Fail> {
         let _ = cache.close();
         return Err(Fail::from("it is pending"));
     }
-    let (done, _) = exchange.finish();
+    let (done, _, _, _) = exchange.finish();
     let out = (cache.leases(), cache.tickets());
     let _ = cache.close();
     assert_eq!(rt; out, (0, 0));

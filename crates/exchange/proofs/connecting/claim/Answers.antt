@@ -1,9 +1,9 @@
--- What the claim gives is where the exchange goes on.
+-- What the claim gives is where the transfer goes on.
 use Rattle.std.proofs.Common.{rules, ◌≡◌}
-use Rattle.exchange.specs.Deeds.{ticket_out}
-use Rattle.exchange.specs.Deeds.Deed.{grants, keeps_waiting}
-use Rattle.exchange.specs.Leasing.{IsLeaseOut}
+use Rattle.leasing.specs.Deeds.Deed.{grants, keeps_waiting}
+use Rattle.leasing.specs.Homes.{IsLeaseFor}
 use Rattle.exchange.specs.Worlds.{world_of}
+use Rattle.exchange.proofs.Steps.{claims_on}
 use Rattle.exchange.proofs.FirstSteps.{waits_leases, waits_still, waits_strange}
 use Rattle.exchange.proofs.connecting.claim.Goals as goal
 
@@ -13,16 +13,19 @@ returns-in-Ok-Lease-clause-story g c =
     let now = c.claim.new.self in
     let lease = c.in-Ok-Lease.lease in
     let did : g.C.Cache.did c.args.cache.now now (grants lease) = search rules in
-    let given : IsLeaseOut (g.C.Cache.out now) (g.C.Cache.owns now) ticket.site ticket.wait.want lease = search rules in
-    waits_leases (world_of g.C.Cache.did g.W.Wire.untouched g.W.Wire.happened (g.K.Clock.tells c.args._clock.now)) c.args.parts.now c.args.cache.now now ticket lease c.begin.result did given.site_is given.want_is given.wire c.begin.ensures.begins
+    let given : IsLeaseFor (g.C.Cache.home now) ticket.site ticket.wait.want lease = search rules in
+    waits_leases g.C.Cache.did (world_of g.W.Wire.untouched g.W.Wire.happened (g.K.Clock.tells c.args._clock.now)) c.args.parts.now c.args.cache.now now ticket lease c.begin.result did given.site_is given.want_is given.wire c.begin.ensures.begins
 
 pub returns-in-Ok-Still-clause-story : goal.returns-in-Ok-Still-clause-story
 returns-in-Ok-Still-clause-story g c =
     let now = c.claim.new.self in
     let same = c.in-Ok-Still.ticket in
     let did : g.C.Cache.did c.args.cache.now now (keeps_waiting same) = search rules in
-    let is : (g.C.Cache.out now ≡ ticket_out) × (same ≡ c.args.ticket) = search rules in
-    waits_still (world_of g.C.Cache.did g.W.Wire.untouched g.W.Wire.happened (g.K.Clock.tells c.args._clock.now)) c.args.parts.now c.args.cache.now now c.args.ticket same did is.1
+    let is : same ≡ c.args.ticket = search rules in
+    waits_still g.C.Cache.did (world_of g.W.Wire.untouched g.W.Wire.happened (g.K.Clock.tells c.args._clock.now)) c.args.parts.now c.args.cache.now now c.args.ticket same did is
 
 pub returns-in-Err-clause-story : goal.returns-in-Err-clause-story
-returns-in-Err-clause-story g c = waits_strange (world_of g.C.Cache.did g.W.Wire.untouched g.W.Wire.happened (g.K.Clock.tells c.args._clock.now)) c.args.parts.now c.args.cache.now c.claim.new.self c.args.ticket c.in-Err.ensures.strange.1
+returns-in-Err-clause-story g c = waits_strange g.C.Cache.did (world_of g.W.Wire.untouched g.W.Wire.happened (g.K.Clock.tells c.args._clock.now)) c.args.parts.now c.args.cache.now c.claim.new.self c.args.ticket c.in-Err.ensures.strange
+
+pub returns-in-Ok-Lease-clause-steps : goal.returns-in-Ok-Lease-clause-steps
+returns-in-Ok-Lease-clause-steps g c = claims_on g.C.Cache.did (world_of g.W.Wire.untouched g.W.Wire.happened (g.K.Clock.tells c.args._clock.now)) c.args.cache.now c.claim.new.self c.args.ticket c.in-Ok-Lease.lease c.begin.result c.begin.ensures.begins

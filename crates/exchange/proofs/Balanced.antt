@@ -1,0 +1,136 @@
+-- What a transfer has where it stands is all that it has got and not spent.
+use Rattle.std.proofs.Common.{◌≡◌, refl, sym, subst, ℕ, ◌+◌, Bool, true, false, ◌⊎◌, inl, inr, List, ◌∷◌, Option, Some, None, IsSomeAnd, arith}
+use Rattle.std.proofs.lemmas.List.Sums.{sum_by-cons}
+use Rattle.conn_log.specs.declared.entry.Want.{Want}
+use Rattle.persistence.specs.declared.facts.Facts.{Facts}
+use Rattle.bundle.specs.Lease.{Leasing, Ticketed}
+use Rattle.leasing.specs.Deeds.{Deed}
+use Rattle.leasing.specs.Deeds.Deed.{leases, begins_wait, refuses, grants, keeps_waiting, gives_back, abandons, finds_strange_lease, finds_strange_ticket}
+use Rattle.exchange.specs.declared.job.Prepared.{Prepared}
+use Rattle.exchange.specs.declared.done.Fault.{Fault}
+use Rattle.exchange.specs.declared.done.Fault.TheVariants.{Memory, Dial, Read, Write, BadResponse, Cut, Refused, Cancelled}
+use Rattle.exchange.specs.declared.done.Done.{Done}
+use Rattle.exchange.specs.declared.done.Done.TheVariants.{Good, Bad}
+use Rattle.exchange.specs.declared.state.State.{State}
+use Rattle.exchange.specs.declared.state.State.TheVariants as at
+use Rattle.exchange.specs.Wires.{Carried}
+use Rattle.exchange.specs.Worlds.{World}
+use Rattle.exchange.specs.Story.{Waits, IsGiven, IsGranted, Holds, Asks, AsksAt, Has, NoneDone, IsReturn, IsDrop, IsStray}
+use Rattle.exchange.specs.Standing.{StandsAt, Spent, Returns, Drops, IsBad, Ends}
+use Rattle.exchange.specs.Answers.{wanted}
+use Rattle.exchange.specs.Balance.{leases_got, leases_spent, tickets_got, tickets_spent, AreOut, leases_at, tickets_at, HasAll}
+
+module _ {W : Type 0} where
+  -- nothing is out, where nothing was done
+  none_out : (deeds : List (Deed W)) → NoneDone deeds → AreOut deeds 0 0
+  none_out deeds none = subst (λ (d : List (Deed W)). AreOut d 0 0) (sym none) (record { leases_are = refl; tickets_are = refl })
+
+  -- deeds are told as what they are
+  told_as : (held waiting : ℕ) (deeds same : List (Deed W)) → deeds ≡ same → AreOut same held waiting → AreOut deeds held waiting
+  told_as held waiting deeds same is out = subst (λ (d : List (Deed W)). AreOut d held waiting) (sym is) out
+
+  -- a deed more changes what is out by what it gives and spends
+  out_more : (deed : Deed W) (earlier : List (Deed W)) (held waiting held_now waiting_now : ℕ) → AreOut earlier held waiting → leases_got deed + held ≡ leases_spent deed + held_now → tickets_got deed + waiting ≡ tickets_spent deed + waiting_now
+      → AreOut (deed ∷ earlier) held_now waiting_now
+  out_more deed earlier held waiting held_now waiting_now out leases_change tickets_change =
+      let leases_out = out.leases_are in
+      let tickets_out = out.tickets_are in
+      let a = sum_by-cons leases_got deed earlier in
+      let b = sum_by-cons leases_spent deed earlier in
+      let c = sum_by-cons tickets_got deed earlier in
+      let d = sum_by-cons tickets_spent deed earlier in
+      record { leases_are = omega (arith, a, b, leases_out, leases_change); tickets_are = omega (arith, c, d, tickets_out, tickets_change) }
+
+  -- a lease that is given, or granted for a ticket, is out
+  lease_out : (lease : Leasing W) (now : ℕ) (earlier : List (Deed W)) → AreOut earlier 0 0 → AreOut (leases lease now ∷ earlier) 1 0
+  lease_out lease now earlier out = out_more (leases lease now) earlier 0 0 1 0 out refl refl
+
+  grant_out : (lease : Leasing W) (earlier : List (Deed W)) → AreOut earlier 0 1 → AreOut (grants lease ∷ earlier) 1 0
+  grant_out lease earlier out = out_more (grants lease) earlier 0 1 1 0 out refl refl
+
+  -- a lease that comes back, is abandoned or a stranger is out no more
+  return_in : (lease : Leasing W) (facts : Facts) (now : ℕ) (earlier : List (Deed W)) → AreOut earlier 1 0 → AreOut (gives_back lease facts now ∷ earlier) 0 0
+  return_in lease facts now earlier out = out_more (gives_back lease facts now) earlier 1 0 0 0 out refl refl
+
+  drop_in : (lease : Leasing W) (now : ℕ) (earlier : List (Deed W)) → AreOut earlier 1 0 → AreOut (abandons lease now ∷ earlier) 0 0
+  drop_in lease now earlier out = out_more (abandons lease now) earlier 1 0 0 0 out refl refl
+
+  stray_in : (lease : Leasing W) (earlier : List (Deed W)) → AreOut earlier 1 0 → AreOut (finds_strange_lease lease ∷ earlier) 0 0
+  stray_in lease earlier out = out_more (finds_strange_lease lease) earlier 1 0 0 0 out refl refl
+
+module _ {W : Type 0} (world : World W) (Before : List (Deed W) → Type 0) (before_out : (deeds : List (Deed W)) → Before deeds → AreOut deeds 0 0) where
+  -- a ticket is out while it waits
+  waits_out : (ticket : Ticketed) (deeds : List (Deed W)) → Waits world Before ticket deeds → AreOut deeds 0 1
+  waits_out ticket (begins_wait same now ∷ earlier) waits = out_more (begins_wait same now) earlier 0 0 0 1 (before_out earlier waits.2) refl refl
+  waits_out ticket (keeps_waiting same ∷ earlier) waits = out_more (keeps_waiting same) earlier 0 1 0 1 (waits_out ticket earlier waits.1) refl refl
+  waits_out ticket _ waits = absurd waits
+
+  how_out : (site : ℕ) (want : Want) (lease : Leasing W) (deeds : List (Deed W)) → IsGiven world Before lease deeds ⊎ IsGranted world Before site want lease deeds → AreOut deeds 1 0
+  how_out site want lease deeds (inl one) = told_as 1 0 deeds (leases lease one.now ∷ one.earlier) one.last (lease_out lease one.now one.earlier (before_out one.earlier one.before))
+  how_out site want lease deeds (inr one) = told_as 1 0 deeds (grants lease ∷ one.earlier) one.last (grant_out lease one.earlier (waits_out one.ticket one.earlier one.waited.waits))
+
+  -- a lease is out that was got
+  holds_out : (site : ℕ) (want : Want) (given lease : Leasing W) (deeds : List (Deed W)) → Holds world Before site want given lease deeds → AreOut deeds 1 0
+  holds_out site want given lease deeds holds = how_out site want given deeds holds.got.how
+
+module _ {W : Type 0} (world : World W) (p : Prepared) where
+  return_is : (facts : Facts) (lease : Leasing W) (deed : Deed W) (earlier : List (Deed W)) → AreOut earlier 1 0 → IsReturn world facts lease deed → AreOut (deed ∷ earlier) 0 0
+  return_is facts lease deed earlier out is = subst (λ (d : Deed W). AreOut (d ∷ earlier) 0 0) (sym is.2) (return_in lease facts is.0 earlier out)
+
+  drop_is : (lease : Leasing W) (deed : Deed W) (earlier : List (Deed W)) → AreOut earlier 1 0 → IsDrop world lease deed → AreOut (deed ∷ earlier) 0 0
+  drop_is lease deed earlier out is = subst (λ (d : Deed W). AreOut (d ∷ earlier) 0 0) (sym is.2) (drop_in lease is.0 earlier out)
+
+  stray_is : (lease : Leasing W) (deed : Deed W) (earlier : List (Deed W)) → AreOut earlier 1 0 → IsStray lease deed → AreOut (deed ∷ earlier) 0 0
+  stray_is lease deed earlier out is = subst (λ (d : Deed W). AreOut (d ∷ earlier) 0 0) (sym is) (stray_in lease earlier out)
+
+  returns_is : (facts : Facts) (lease : Leasing W) (deed : Deed W) (earlier : List (Deed W)) → AreOut earlier 1 0 → Returns world facts lease deed → AreOut (deed ∷ earlier) 0 0
+  returns_is facts lease deed earlier out (inl is) = return_is facts lease deed earlier out is
+  returns_is facts lease deed earlier out (inr is) = stray_is lease deed earlier out is
+
+  drops_is : (lease : Leasing W) (deed : Deed W) (earlier : List (Deed W)) → AreOut earlier 1 0 → Drops world lease deed → AreOut (deed ∷ earlier) 0 0
+  drops_is lease deed earlier out (inl is) = drop_is lease deed earlier out is
+  drops_is lease deed earlier out (inr is) = stray_is lease deed earlier out is
+
+  -- nothing is out while it asks
+  asks_out : (retried : Bool) (deeds : List (Deed W)) → AsksAt world p retried deeds → AreOut deeds 0 0
+  asks_out false deeds none = none_out deeds none
+  asks_out true deeds was = told_as 0 0 deeds (was.deed ∷ was.earlier) was.last (drop_is was.lease was.deed was.earlier (holds_out world NoneDone none_out p.site _ was.given was.lease was.earlier was.held) was.dropped)
+
+  has_out : (given lease : Leasing W) (deeds : List (Deed W)) → Has world p given lease deeds → AreOut deeds 1 0
+  has_out given lease deeds has = holds_out world (Asks world p) (asks_out p.retried) p.site _ given lease deeds has
+
+  spent_out : (Spends : Leasing W → Deed W → Type 0) (P : Bool → Carried → Type 0) (deeds : List (Deed W)) → ((lease : Leasing W) (deed : Deed W) (earlier : List (Deed W)) → AreOut earlier 1 0 → Spends lease deed → AreOut (deed ∷ earlier) 0 0) → Spent world p Spends P deeds → AreOut deeds 0 0
+  spent_out Spends P deeds spends spent = told_as 0 0 deeds (spent.deed ∷ spent.earlier) spent.last (spends spent.lease spent.deed spent.earlier (has_out spent.given spent.lease spent.earlier spent.has) spent.spends)
+
+  bad_out : (fault : Fault) (deeds : List (Deed W)) → IsBad world p fault deeds → AreOut deeds 0 0
+  bad_out Memory deeds bad = absurd bad
+  bad_out Dial deeds bad = told_as 0 0 deeds (bad.deed ∷ bad.earlier) bad.last (drops_is bad.lease bad.deed bad.earlier (has_out bad.lease bad.lease bad.earlier bad.has) bad.drops)
+  bad_out Read deeds bad = spent_out (Drops world) _ deeds drops_is bad
+  bad_out Write deeds bad = spent_out (Drops world) _ deeds drops_is bad
+  bad_out BadResponse deeds bad = spent_out (Returns world bad.0) _ deeds (returns_is bad.0) bad.1
+  bad_out Cut deeds bad = spent_out (Returns world bad.0) _ deeds (returns_is bad.0) bad.1
+  bad_out (Refused refusal) deeds (inl was) =
+      let deed = refuses p.site (wanted p) was.now refusal in
+      told_as 0 0 deeds (deed ∷ was.earlier) was.last (out_more deed was.earlier 0 0 0 0 (asks_out p.retried was.earlier was.asks) refl refl)
+  bad_out (Refused refusal) deeds (inr (inl lost)) =
+      let deed = finds_strange_ticket lost.ticket in
+      let out = waits_out world (Asks world p) (asks_out p.retried) lost.ticket lost.earlier lost.waits.waits in
+      told_as 0 0 deeds (deed ∷ lost.earlier) lost.last (out_more deed lost.earlier 0 1 0 0 out refl refl)
+  bad_out (Refused refusal) deeds (inr (inr lost)) = spent_out IsStray _ deeds stray_is lost.spent
+  bad_out Cancelled deeds bad = absurd bad
+
+  ends_out : (done : Done) (deeds : List (Deed W)) → Ends world p done deeds → AreOut deeds 0 0
+  ends_out (Good answer) deeds good = spent_out (IsReturn world answer.facts) _ deeds (return_is answer.facts) good
+  ends_out (Bad fault) deeds bad = bad_out fault deeds bad
+
+  stands_out : (state : State W) (deeds : List (Deed W)) → StandsAt world p state deeds → AreOut deeds (leases_at state) (tickets_at state)
+  stands_out at.Asking deeds stands = asks_out p.retried deeds stands.asks
+  stands_out (at.Waiting ticket) deeds stands = waits_out world (Asks world p) (asks_out p.retried) ticket deeds stands.waits.waits
+  stands_out (at.Dialling lease) deeds stands = has_out lease lease deeds stands.has
+  stands_out (at.Sending lease sent) deeds stands = has_out stands.given lease deeds stands.has
+  stands_out (at.Reading lease) deeds stands = has_out stands.given lease deeds stands.has
+  stands_out (at.Finished done) deeds stands = ends_out done deeds stands
+
+  pub has_all : (state : Option (State W)) (P : State W → Type 0) → IsSomeAnd state P → HasAll world p state
+  has_all (Some state) P some = stands_out state
+  has_all None P none = absurd none

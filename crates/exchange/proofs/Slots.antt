@@ -1,0 +1,96 @@
+-- What is kept of a slab's transfers where one is put in, polled or taken out.
+use Rattle.std.proofs.Common.{◌≡◌, refl, sym, subst, inl, inr, Bool, ℕ, ◌+◌, ◌≤◌, List, [], ◌∷◌, ◌++◌, length, set, slice_get, Option, Some, None, IfSome, sum_by, arith, length-set}
+use Rattle.std.proofs.lemmas.List.Sums.{sum_by-set, sum_by-cons}
+use Rattle.std.proofs.lemmas.List.Elements.{All-set, All-push, All-get_or}
+use Rattle.std.proofs.lemmas.Option.{slice_get_within, get_or_from_slice_get}
+use Rattle.bundle.specs.Seats.{Tables}
+use Rattle.leasing.specs.Deeds.{Deed}
+use Rattle.exchange.specs.declared.job.Prepared.{Prepared}
+use Rattle.exchange.specs.declared.done.Done.{Done}
+use Rattle.exchange.specs.declared.state.State.{State}
+use Rattle.exchange.specs.declared.state.State.TheVariants as at
+use Rattle.exchange.specs.declared.transfer.Transfer.{Transfer}
+use Rattle.exchange.specs.Worlds.{World}
+use Rattle.exchange.specs.Answers.{IsUnused}
+use Rattle.exchange.specs.Story.{AsksAt}
+use Rattle.exchange.specs.Owning.{IsReady, Owns}
+use Rattle.exchange.specs.Since.{Outset}
+use Rattle.exchange.specs.Standing.{StandsFrom}
+use Rattle.exchange.specs.Exchanging.{Stands, Continues, IsToldAt, IsTold, ClosesAt, Closes}
+use Rattle.exchange.specs.Slabs.{IsKept, AreKept, HasEnded, HasClosed, one_if_some}
+
+-- no more transfers than places
+pub within : {W : Type 0} (slots : List (Option (Transfer W))) → sum_by one_if_some slots ≤ length slots
+within [] = omega arith
+within {W} (Some t ∷ rest) = let less = within rest in let sum = sum_by-cons (one_if_some {W = W}) (Some t) rest in omega (arith, less, sum)
+within {W} (None ∷ rest) = let less = within rest in let sum = sum_by-cons (one_if_some {W = W}) None rest in omega (arith, less, sum)
+
+-- what stands at a place is kept
+pub kept_at : {W : Type 0} (world : World W) (home : List Tables) (slots : List (Option (Transfer W))) (place : ℕ) (t : Transfer W) → slice_get slots place ≡ Some (Some t) → AreKept world home slots → IsKept world home t
+kept_at world home slots place t is kept =
+    subst (λ (slot : Option (Transfer _)). IfSome slot (IsKept world home)) (get_or_from_slice_get slots place (Some t) None is) (All-get_or (λ slot. IfSome slot (IsKept world home)) slots place None (slice_get_within slots place (Some t) is) kept)
+
+module _ {W : Type 0} (slots : List (Option (Transfer W))) (place : ℕ) (was now : Option (Transfer W)) (is : slice_get slots place ≡ Some was) where
+  -- one is put in another's stead
+  pub sum_set : sum_by one_if_some (set slots place now) + one_if_some was ≡ sum_by one_if_some slots + one_if_some now
+  sum_set = subst (λ (slot : Option (Transfer W)). sum_by one_if_some (set slots place now) + one_if_some slot ≡ sum_by one_if_some slots + one_if_some now) (get_or_from_slice_get slots place was None is) (sum_by-set one_if_some slots place now None (slice_get_within slots place was is))
+
+module _ {W : Type 0} (slots : List (Option (Transfer W))) (place : ℕ) (t : Transfer W) (is : slice_get slots place ≡ Some None) where
+  -- where one more stands there, there is one more
+  pub one_more_at : sum_by one_if_some (set slots place (Some t)) ≡ sum_by one_if_some slots + 1
+  one_more_at = let sums = sum_set slots place None (Some t) is in omega (arith, sums)
+
+  -- and no more than places
+  pub one_more_within : sum_by one_if_some slots + 1 ≤ length slots
+  one_more_within =
+      let more = one_more_at in
+      let most = within (set slots place (Some t)) in
+      let same = length-set slots place (Some t) in
+      omega (arith, more, most, same)
+
+module _ {W : Type 0} (world : World W) (home : List Tables) (slots : List (Option (Transfer W))) (t : Transfer W) (its : IsKept world home t) (kept : AreKept world home slots) where
+  -- all are kept where one more is
+  pub kept_with : (place : ℕ) → AreKept world home (set slots place (Some t))
+  kept_with place = All-set (λ slot. IfSome slot (IsKept world home)) slots place (Some t) its kept
+
+  pub kept_behind : AreKept world home (slots ++ (Some t ∷ []))
+  kept_behind = All-push (λ slot. IfSome slot (IsKept world home)) slots (Some t) kept its
+
+-- what was done for a transfer is told of it still, once a poll has gone on from there
+module _ {C W : Type 0} (does : C → C → Deed W → Type 0) (world : World W) where
+  told_at : (q : Prepared) (first : Outset C W) (after : C) (next : Option (State W)) → Stands does world q first after next → IsTold world q next
+  told_at q first after (Some state) stands = (stands.0, stands.2)
+  told_at q first after None stands = absurd stands
+
+  pub told_on : (p q : Prepared) (before after : C) (state next : Option (State W)) → Continues does world p q before after state next → IsTold world p state → IsTold world q next
+  told_on p q before after (Some state) next on told =
+      let first : Outset C W = record { cache = before; told = told.0 } in
+      let stands : StandsFrom does world p first before state = (told.0, record { own = []; all = refl; done = refl }, told.1) in
+      told_at q first after next (on first stands)
+  told_on p q before after None next on told = absurd told
+
+-- nothing was done yet for a new transfer
+pub begins_kept : {W : Type 0} (world : World W) (home : List Tables) (t : Transfer W) → IsUnused t.parts → Owns home t.parts t.state → IsReady t.parts → t.state ≡ Some at.Asking → IsKept world home t
+begins_kept world home t unused owns ready begins =
+    let asks : AsksAt world t.parts t.parts.retried [] = subst (λ (retried : Bool). AsksAt world t.parts retried []) (sym unused.first) refl in
+    let told : IsToldAt world t.parts at.Asking = ([], record { reader = unused.reader; asks = asks }) in
+    record { owns = owns; ready = ready; told = subst (λ (state : Option (State _)). IsTold world t.parts state) (sym begins) told }
+
+-- how a transfer ended is told of what was done for it
+pub ended_is : {W : Type 0} (world : World W) (done : Done) (p q : Prepared) (state : Option (State W)) → state ≡ Some (at.Finished done) → q ≡ p → IsReady p → IsTold world p state → HasEnded world (done, q)
+ended_is {W} world done p q state is same ready told =
+    subst (λ (parts : Prepared). HasEnded world (done, parts)) (sym same) (ready, subst (λ (s : Option (State W)). IsTold world p s) is told)
+
+-- or it was cancelled
+module _ {W : Type 0} (world : World W) (done : Done) (p : Prepared) (ready : IsReady p) where
+  closed_at : (state : State W) → ClosesAt done state → IsToldAt world p state → HasClosed world (done, p)
+  closed_at (at.Finished end) is told = (ready, inr (subst (λ (d : Done). HasEnded world (d, p)) (sym is) (ready, told)))
+  closed_at at.Asking is told = (ready, inl is)
+  closed_at (at.Waiting ticket) is told = (ready, inl is)
+  closed_at (at.Dialling lease) is told = (ready, inl is)
+  closed_at (at.Sending lease sent) is told = (ready, inl is)
+  closed_at (at.Reading lease) is told = (ready, inl is)
+
+  pub closed_is : (q : Prepared) (state : Option (State W)) → Closes done state → q ≡ p → IsTold world p state → HasClosed world (done, q)
+  closed_is q (Some state) closes same told = subst (λ (parts : Prepared). HasClosed world (done, parts)) (sym same) (closed_at state closes told)
+  closed_is q None closes same told = absurd closes

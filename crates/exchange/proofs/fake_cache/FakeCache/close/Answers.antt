@@ -1,4 +1,0 @@
-use Rattle.exchange.proofs.fake_cache.FakeCache.close.Goals as goal
-
-pub returns-clause-hosts : goal.returns-clause-hosts
-returns-clause-hosts g c = rw (← c.self.view_is) c.release.ensures.hosts

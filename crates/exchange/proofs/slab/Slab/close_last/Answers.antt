@@ -1,0 +1,32 @@
+-- What was kept of a transfer tells how it ended.
+use Rattle.std.proofs.Common.{IfSome}
+use Rattle.std.proofs.lemmas.List.Elements.{All-pop}
+use Rattle.exchange.specs.Worlds.{world_of}
+use Rattle.exchange.specs.Slabs.{IsKept}
+use Rattle.exchange.proofs.Slots.{closed_is}
+use Rattle.exchange.proofs.slab.Slab.close_last.Goals as goal
+
+pub returns-in-Some-slot-clause-closed : goal.returns-in-Some-slot-clause-closed
+returns-in-Some-slot-clause-closed g c =
+    let world = world_of g.W.Wire.untouched g.W.Wire.happened (g.K.Clock.tells c.args.clock.now) in
+    let t = c.in-Some-slot.transfer in
+    let pops = All-pop (λ slot. IfSome slot (IsKept world (g.C.Cache.home c.loop-slot.cache))) c.loop-slot.self.slots.items c.pop.new.self.items c.pop.result c.pop.ensures.items c.loop-slot.invariant.kept in
+    let kept : IsKept world (g.C.Cache.home c.loop-slot.cache) t = rw (c.in-Some.is, c.in-Some-slot.is) at pops.1 in
+    closed_is world c.close.result.0 t.parts kept.ready c.close.result.1 t.state c.close.ensures.closes c.close.ensures.parts kept.told
+
+pub returns-in-Some-slot-clause-closes : goal.returns-in-Some-slot-clause-closes
+returns-in-Some-slot-clause-closes g c =
+    let world = world_of g.W.Wire.untouched g.W.Wire.happened (g.K.Clock.tells c.args.clock.now) in
+    let t = c.in-Some-slot.transfer in
+    let pops = All-pop (λ slot. IfSome slot (IsKept world (g.C.Cache.home c.loop-slot.cache))) c.loop-slot.self.slots.items c.pop.new.self.items c.pop.result c.pop.ensures.items c.loop-slot.invariant.kept in
+    let kept : IsKept world (g.C.Cache.home c.loop-slot.cache) t = rw (c.in-Some.is, c.in-Some-slot.is) at pops.1 in
+    rw (← c.loop-slot.invariant.cache, ← c.loop-slot.invariant.dial) (record {
+      transfer = t;
+      kept = kept;
+      moment = c.now.result;
+      told = c.now.ensures;
+      cancels = c.close.ensures.cancels;
+      closes = c.close.ensures.closes;
+      parts = c.close.ensures.parts;
+      begun = c.close.ensures.begun;
+    })

@@ -1,0 +1,40 @@
+-- What was polled is kept, and what has ended is told as it ended.
+use Rattle.std.proofs.Common.{rules, ◌≡◌, refl, sym, subst, ap, ◌∙◌, length, slice_get, Some}
+use Rattle.std.proofs.lemmas.Option.{slice_get_read}
+use Rattle.exchange.specs.declared.transfer.Transfer.{Transfer}
+use Rattle.exchange.specs.Worlds.{world_of}
+use Rattle.exchange.specs.Owning.{IsReady}
+use Rattle.exchange.specs.Exchanging.{IsTold}
+use Rattle.exchange.specs.Slabs.{AreKept}
+use Rattle.exchange.proofs.Slots.{kept_at, told_on, kept_with, ended_is}
+use Rattle.exchange.proofs.slab.Slab.poll_at.Goals as goal
+
+pub returns-then-is_pending-clause-kept : goal.returns-then-is_pending-clause-kept
+returns-then-is_pending-clause-kept g c =
+    let world = world_of g.W.Wire.untouched g.W.Wire.happened (g.K.Clock.tells c.args.clock.now) in
+    let old = c.in_ok-transfer.transfer.now in
+    let new = c.poll-polled.new.self in
+    let slots = c.args.self.now.slots.items in
+    let there = slice_get_read slots (length slots) c.args.place c.in_ok-slot.slot.now refl c.in_ok-slot.ensures.item.3.0 c.in_ok-slot.ensures.item.1 in
+    let lent : c.in_ok-slot.slot.now ≡ Some old = search rules in
+    let is : slice_get slots c.args.place ≡ Some (Some old) = there ∙ ap Some lent in
+    let was = kept_at world (g.C.Cache.home c.args.cache.now) slots c.args.place old is c.requires.kept in
+    let told = told_on g.C.Cache.did world old.parts new.parts c.args.cache.now c.poll-polled.new.cache old.state new.state c.poll-polled.ensures.story was.told in
+    let kept : AreKept world (g.C.Cache.home c.poll-polled.new.cache) slots = rw c.poll-polled.ensures.stays c.requires.kept in
+    kept_with world (g.C.Cache.home c.poll-polled.new.cache) slots new (record { owns = c.poll-polled.ensures.owns; ready = c.poll-polled.ensures.ready; told = told }) kept c.args.place
+
+pub returns-clause-ended : goal.returns-clause-ended
+returns-clause-ended g c =
+    let world = world_of g.W.Wire.untouched g.W.Wire.happened (g.K.Clock.tells c.args.clock.now) in
+    let old = c.in_ok-transfer.transfer.now in
+    let new = c.poll-polled.new.self in
+    let slots = c.args.self.now.slots.items in
+    let there = slice_get_read slots (length slots) c.args.place c.in_ok-slot.slot.now refl c.in_ok-slot.ensures.item.3.0 c.in_ok-slot.ensures.item.1 in
+    let lent : c.in_ok-slot.slot.now ≡ Some old = search rules in
+    let is : slice_get slots c.args.place ≡ Some (Some old) = there ∙ ap Some lent in
+    let was = kept_at world (g.C.Cache.home c.args.cache.now) slots c.args.place old is c.requires.kept in
+    let told = told_on g.C.Cache.did world old.parts new.parts c.args.cache.now c.poll-polled.new.cache old.state new.state c.poll-polled.ensures.story was.told in
+    let same : c.in-Some.transfer ≡ new = search rules in
+    let its : IsTold world c.in-Some.transfer.parts c.in-Some.transfer.state = subst (λ (t : Transfer _). IsTold world t.parts t.state) (sym same) told in
+    let ready : IsReady c.in-Some.transfer.parts = subst (λ (t : Transfer _). IsReady t.parts) (sym same) c.poll-polled.ensures.ready in
+    ended_is world c.finish.result.0 c.in-Some.transfer.parts c.finish.result.1 c.in-Some.transfer.state c.finish.ensures.done c.finish.ensures.parts ready its

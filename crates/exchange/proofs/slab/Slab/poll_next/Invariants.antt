@@ -1,0 +1,12 @@
+use Rattle.std.proofs.Common.{◌≡◌, sum_by}
+use Rattle.exchange.specs.Worlds.{world_of}
+use Rattle.exchange.specs.Slabs.{AreKept, one_if_some}
+use Rattle.exchange.proofs.slab.Slab.poll_next.Given as goal
+
+abbrev pub invariant-loop : goal.invariant-loop
+invariant-loop g l = record {
+  stays : g.C.Cache.home l.cache ≡ g.C.Cache.home l.fn.cache;
+  kept : AreKept (world_of g.W.Wire.untouched g.W.Wire.happened (g.K.Clock.tells l.fn.clock)) (g.C.Cache.home l.cache) l.self.slots.items;
+  same : sum_by one_if_some l.self.slots.items ≡ sum_by one_if_some l.fn.self.slots.items;
+  turns : g.D.Dial.turn_failures l.dial ≡ g.D.Dial.turn_failures l.fn.dial;
+}

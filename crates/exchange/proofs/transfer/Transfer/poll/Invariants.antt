@@ -1,0 +1,27 @@
+use Rattle.std.proofs.Common.{◌≡◌, ◌⊎◌, false, IsSomeAnd}
+use Rattle.exchange.specs.Answers.{IsSameJob}
+use Rattle.exchange.specs.Worlds.{world_of}
+use Rattle.exchange.specs.Owning.{IsReady, Owns}
+use Rattle.exchange.specs.Exchanging.{Continues, OpensFew, DialsItsOwn, SpendsLease, IsFinished, IsGoing}
+use Rattle.exchange.specs.Stepping.{TakesSome}
+use Rattle.exchange.proofs.transfer.Transfer.poll.Given as goal
+
+abbrev pub invariant-loop : goal.invariant-loop
+invariant-loop g l = record {
+  stays : g.C.Cache.home l.cache ≡ g.C.Cache.home l.fn.cache;
+  owns : Owns (g.C.Cache.home l.cache) l.self.parts l.self.state;
+  ready : IsReady l.self.parts;
+  same : IsSameJob l.fn.self.parts l.self.parts;
+  story : Continues g.C.Cache.did (world_of g.W.Wire.untouched g.W.Wire.happened (g.K.Clock.tells l.fn.clock)) l.fn.self.parts l.self.parts l.fn.cache l.cache l.fn.self.state l.self.state;
+  over : IsFinished l.fn.self.state → l.self.state ≡ l.fn.self.state;
+  counted : g.D.Dial.failures l.dial ≡ g.D.Dial.failures l.fn.dial;
+  opens : OpensFew l.fn.self.parts l.self.parts l.fn.self.state l.self.state (g.D.Dial.opened l.fn.dial) (g.D.Dial.opened l.dial);
+  begun : DialsItsOwn (g.D.Dial.begun l.fn.dial) (g.D.Dial.begun l.dial) l.fn.self.parts.want.transfer l.fn.self.state l.self.state;
+  turns : g.D.Dial.turn_failures l.dial ≡ g.D.Dial.turn_failures l.fn.dial;
+  begins : (l.self.state ≡ l.fn.self.state) ⊎ IsSomeAnd l.self.state IsGoing;
+  going : (l.counter ≡ 0) ⊎ IsSomeAnd l.self.state IsGoing;
+  yielded : l.self.has_yielded ≡ false;
+  spent : SpendsLease l.fn.self.state l.self.state l.self.has_spent;
+  context : l.cx ≡ l.fn.cx;
+  steps : TakesSome g.C.Cache.did (world_of g.W.Wire.untouched g.W.Wire.happened (g.K.Clock.tells l.fn.clock)) l.counter l.fn.cache l.cache l.fn.self.state l.self.state;
+}

@@ -1,0 +1,47 @@
+-- What a slab knows of its transfers.
+use Rattle.std.specs.Prelude.{◌≡◌, ℕ, ◌⊎◌, List, Option, Some, None, IfSome, All}
+use Rattle.bundle.specs.Seats.{Tables}
+use Rattle.exchange.specs.declared.job.Prepared.{Prepared}
+use Rattle.exchange.specs.declared.done.Done.{Done}
+use Rattle.exchange.specs.declared.done.Done.TheVariants.{Bad}
+use Rattle.exchange.specs.declared.done.Fault.TheVariants.{Cancelled}
+use Rattle.exchange.specs.declared.transfer.Transfer.{Transfer}
+use Rattle.exchange.specs.Worlds.{World}
+use Rattle.exchange.specs.Owning.{IsReady, Owns}
+use Rattle.exchange.specs.Standing.{Ends}
+use Rattle.exchange.specs.Exchanging.{IsTold, Cancels, Closes, GivesUpDial}
+use Rattle.leasing.specs.Deeds.{Deed}
+
+-- a transfer has what was made by the cache with these tables, and what was done for it led to where it stands
+pub record IsKept {W : Type 0} (world : World W) (home : List Tables) (transfer : Transfer W) : Type 0 where
+  pub owns : Owns home transfer.parts transfer.state
+  pub ready : IsReady transfer.parts
+  pub told : IsTold world transfer.parts transfer.state
+
+abbrev pub AreKept : {W : Type 0} → World W → List Tables → List (Option (Transfer W)) → Type 0
+AreKept world home slots = All (λ slot. IfSome slot (IsKept world home)) slots
+
+-- what was done for a transfer of that job led to how it ended; its memory may be prepared again
+abbrev pub HasEnded : {W : Type 0} → World W → Done × Prepared → Type 0
+HasEnded {W} world ended = IsReady ended.1 × ((deeds : List (Deed W)) × Ends world ended.1 ended.0 deeds)
+
+-- or it was cancelled before
+abbrev pub HasClosed : {W : Type 0} → World W → Done × Prepared → Type 0
+HasClosed world closed = IsReady closed.1 × ((closed.0 ≡ Bad Cancelled) ⊎ HasEnded world closed)
+
+-- a transfer that was kept was closed, at a moment that the clock told: at the cache it was cancelled, and nothing is
+-- begun for it at the dial
+pub record ClosesOne {C W : Type 0} (did : C → C → Deed W → Type 0) (world : World W) (home : List Tables) (before after : C) (old new : ℕ → Type 0) (closed : Done × Prepared) : Type 0 where
+  pub transfer : Transfer W
+  pub kept : IsKept world home transfer
+  pub moment : ℕ
+  pub told : world.tells moment
+  pub cancels : Cancels did before after moment transfer.state
+  pub closes : Closes closed.0 transfer.state
+  pub parts : closed.1 ≡ transfer.parts
+  pub begun : GivesUpDial old new transfer.parts.want.transfer transfer.state
+
+-- one, where there is a transfer
+abbrev pub one_if_some : {W : Type 0} → Option (Transfer W) → ℕ
+one_if_some (Some transfer) = 1
+one_if_some None = 0

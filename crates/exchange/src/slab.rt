@@ -1,0 +1,279 @@
+//! Any number of transfers that go on over one cache, one dial and one clock.
+
+ghost use Rattle.std.specs.Prelude.{◌≡◌, ◌+◌, [], sum_by, IfSome, IfErr, OnSome, OnOk};
+ghost use Rattle.std.specs.Prelude.{IfNone, None, Some, true, ◌==◌, ◌<◌, ◌∷◌, ◌++◌};
+ghost use Rattle.std.specs.Prelude.{vec_len, vec_capacity, slice_get, slice_set};
+ghost use Rattle.exchange.specs.Answers.{IsUnused};
+ghost use Rattle.exchange.specs.Worlds.{world_of};
+ghost use Rattle.exchange.specs.Slabs.{AreKept, HasEnded, HasClosed, ClosesOne};
+ghost use Rattle.exchange.specs.Slabs.{one_if_some};
+
+use crate::done::Done;
+use crate::job::Prepared;
+use crate::schedule::Schedule;
+use crate::transfer::{Transfer, put};
+use crate::wire::{Clock, Dial, Wire};
+use futures::task::Context;
+use leasing::Cache;
+use std::alloc::Global;
+
+/// Any number of transfers that go on over one cache, one dial and one clock, and are polled in
+/// rounds by one thread. Each round polls those that ask, dial, send or read. One that waits for a
+/// connection is polled only once one may have been granted to it: a lease was spent, and those
+/// that waited at its site before it have theirs. So a round costs nothing for those that wait.
+///
+/// It has to be emptied, by rounds or by [`Slab::close_last`], and then let go of.
+pub struct Slab<W: Wire> {
+    slots: Vec<Option<Transfer<W>>>,
+    len: usize,
+    schedule: Schedule,
+    // One of its transfers was closed before it had ended.
+    is_closing: bool,
+    ghost counted: { len ≡ sum_by one_if_some slots.items },
+}
+
+impl<W: Wire> Slab<W> {
+    /// A slab without transfers.
+    pub fn new(alloc: Global) -> Slab<W>
+        ensures { result.slots.items ≡ [] }
+    {
+        Slab {
+            slots: Vec::new(alloc),
+            len: 0,
+            schedule: Schedule::new(alloc),
+            is_closing: false,
+        }
+    }
+
+    /// How many transfers there are that have not ended.
+    pub fn len(&self) -> usize
+        ensures { result ≡ sum_by one_if_some self.now.slots.items }
+    {
+        self.len
+    }
+
+    /// Whether all transfers have ended.
+    pub fn is_empty(&self) -> bool
+        ensures { result ≡ (sum_by one_if_some self.now.slots.items == 0) }
+    {
+        self.len == 0
+    }
+
+    /// Begins a transfer of what was prepared, which is polled from the next round on. It is given
+    /// back where memory is short, and once a transfer was closed before it had ended.
+    ///
+    /// Cache and clock are those of the rounds: contracts alone look at them.
+    pub fn join<C: Cache<W>, K: Clock>(
+        &mut self,
+        parts: Prepared,
+        _cache: &C,
+        _clock: &K,
+    ) -> Result<(), Prepared>
+        requires unused { IsUnused parts }
+        requires kept { AreKept (world_of W.untouched W.happened (K.tells _clock.now))
+            (C.home _cache.now) self.old.slots.items }
+        ensures kept { AreKept (world_of W.untouched W.happened (K.tells _clock.now))
+            (C.home _cache.now) self.new.slots.items }
+        ensures ok { OnOk result (sum_by one_if_some self.new.slots.items
+            ≡ sum_by one_if_some self.old.slots.items + 1) }
+        ensures err { IfErr result (λ same. (same ≡ parts)
+            × (self.new.slots.items ≡ self.old.slots.items)) }
+    {
+        let places = self.slots.len();
+        if self.is_closing || self.schedule.make_room(places, parts.site).is_err() {
+            return Err(parts);
+        }
+        if self.slots.reserve(1).is_err() {
+            return Err(parts);
+        }
+        match self.schedule.take_free() {
+            Some(place) if self.is_vacant(place) => {
+                self.fill(place, Transfer::new(parts));
+                self.schedule.becomes_due(place);
+            }
+            _ => {
+                self.append(Transfer::new(parts));
+                self.schedule.becomes_due(places);
+            }
+        }
+        Ok(())
+    }
+
+    // Whether no transfer stands there, and one can.
+    fn is_vacant(&self, place: usize) -> bool
+        ensures { result ≡ true → slice_get self.now.slots.items place ≡ Some None }
+    {
+        matches!(self.slots.get(place), Some(None))
+    }
+
+    // Puts a transfer there.
+    fn fill(&mut self, place: usize, transfer: Transfer<W>)
+        requires vacant { slice_get self.old.slots.items place ≡ Some None }
+        ensures { self.new.slots.items
+            ≡ slice_set self.old.slots.items place (Some transfer) }
+    {
+        let Some(slot) = self.slots.get_mut(place) else {
+            unreachable!()
+        };
+        put(slot, transfer);
+        self.len += 1;
+    }
+
+    // Puts a transfer behind all others.
+    fn append(&mut self, transfer: Transfer<W>)
+        requires room { vec_len self.old.slots < vec_capacity self.old.slots }
+        ensures { self.new.slots.items ≡ self.old.slots.items ++ (Some transfer ∷ []) }
+    {
+        self.slots.push_reserved(Some(transfer));
+        self.len += 1;
+    }
+
+    /// Tells that a lease was spent, or the host's limit raised, beside the slab: the next round
+    /// but one polls the first transfer that waits at each site.
+    pub fn ask_sites(&mut self)
+        ensures { self.new.slots ≡ self.old.slots }
+    {
+        self.schedule.ask_sites();
+    }
+
+    /// Polls those transfers that are due in this round, until one ends: how, and what was
+    /// prepared. `None` once all were polled, which ends the round; what has become due meanwhile
+    /// is polled in the next one.
+    ///
+    /// Asked of the caller: cache, dial and clock are always the same.
+    pub fn poll_next<C: Cache<W>, D: Dial<W>, K: Clock>(
+        &mut self,
+        cx: &mut Context<'_>,
+        cache: &mut C,
+        dial: &mut D,
+        clock: &K,
+    ) -> Option<(Done, Prepared)>
+        requires kept { AreKept (world_of W.untouched W.happened (K.tells clock.now))
+            (C.home cache.old) self.old.slots.items }
+        ensures stays { C.home cache.new ≡ C.home cache.old }
+        ensures kept { AreKept (world_of W.untouched W.happened (K.tells clock.now))
+            (C.home cache.new) self.new.slots.items }
+        ensures ended { IfSome result
+            (HasEnded (world_of W.untouched W.happened (K.tells clock.now))) }
+        ensures fewer { OnSome result (sum_by one_if_some self.new.slots.items + 1
+            ≡ sum_by one_if_some self.old.slots.items) }
+        ensures same { IfNone result (sum_by one_if_some self.new.slots.items
+            ≡ sum_by one_if_some self.old.slots.items) }
+        ensures turns { D.turn_failures dial.new ≡ D.turn_failures dial.old }
+    {
+        if self.is_closing {
+            return None;
+        }
+        for _ in 0..self.schedule.left() {
+            let Some(place) = self.schedule.next_due() else {
+                break;
+            };
+            if let Some(ended) = self.poll_at(place, cx, cache, dial, clock) {
+                return Some(ended);
+            }
+        }
+        self.schedule.end_round();
+        None
+    }
+
+    // Polls the transfer there, if there is one; how it ended, where it has.
+    fn poll_at<C: Cache<W>, D: Dial<W>, K: Clock>(
+        &mut self,
+        place: usize,
+        cx: &mut Context<'_>,
+        cache: &mut C,
+        dial: &mut D,
+        clock: &K,
+    ) -> Option<(Done, Prepared)>
+        requires kept { AreKept (world_of W.untouched W.happened (K.tells clock.now))
+            (C.home cache.old) self.old.slots.items }
+        ensures stays { C.home cache.new ≡ C.home cache.old }
+        ensures kept { AreKept (world_of W.untouched W.happened (K.tells clock.now))
+            (C.home cache.new) self.new.slots.items }
+        ensures ended { IfSome result
+            (HasEnded (world_of W.untouched W.happened (K.tells clock.now))) }
+        ensures fewer { OnSome result (sum_by one_if_some self.new.slots.items + 1
+            ≡ sum_by one_if_some self.old.slots.items) }
+        ensures same { IfNone result (sum_by one_if_some self.new.slots.items
+            ≡ sum_by one_if_some self.old.slots.items) }
+        ensures turns { D.turn_failures dial.new ≡ D.turn_failures dial.old }
+    {
+        let slot = self.slots.get_mut(place)?;
+        let transfer = slot.as_mut()?;
+        let waited = transfer.has_ticket();
+        let polled = transfer.poll(cx, cache, dial, clock);
+        self.schedule.note_poll(place, waited, transfer);
+        if polled.is_pending() {
+            return None;
+        }
+        self.len -= 1;
+        let Some(transfer) = slot.take() else {
+            unreachable!()
+        };
+        Some(transfer.finish())
+    }
+
+    /// Closes one of the transfers that are left, as [`Transfer::close`] does, at the time that the
+    /// clock tells: how it ended, or that it was cancelled, and what was prepared. `None` where
+    /// none is left. From the first one on no round polls any more, and none can join.
+    pub fn close_last<C: Cache<W>, D: Dial<W>, K: Clock>(
+        &mut self,
+        cache: &mut C,
+        dial: &mut D,
+        clock: &K,
+    ) -> Option<(Done, Prepared)>
+        requires kept { AreKept (world_of W.untouched W.happened (K.tells clock.now))
+            (C.home cache.old) self.old.slots.items }
+        ensures stays { C.home cache.new ≡ C.home cache.old }
+        ensures kept { AreKept (world_of W.untouched W.happened (K.tells clock.now))
+            (C.home cache.new) self.new.slots.items }
+        ensures closed { IfSome result
+            (HasClosed (world_of W.untouched W.happened (K.tells clock.now))) }
+        ensures closes { IfSome result (ClosesOne C.did
+            (world_of W.untouched W.happened (K.tells clock.now)) (C.home cache.old)
+            cache.old cache.new (D.begun dial.old) (D.begun dial.new)) }
+        ensures fewer { OnSome result (sum_by one_if_some self.new.slots.items + 1
+            ≡ sum_by one_if_some self.old.slots.items) }
+        ensures none { IfNone result (self.new.slots.items ≡ []) }
+        ensures same_cache { IfNone result (cache.new ≡ cache.old) }
+        ensures counted { D.failures dial.new ≡ D.failures dial.old }
+        ensures opens { D.opened dial.new ≡ D.opened dial.old }
+        ensures turns { D.turn_failures dial.new ≡ D.turn_failures dial.old }
+    {
+        while let Some(slot) = self.slots.pop() {
+            self.is_closing = true;
+            if let Some(transfer) = slot {
+                self.len -= 1;
+                return Some(transfer.close(clock.now(), cache, dial));
+            }
+        }
+        None
+    }
+
+    /// Closes all transfers that are left, and lets go of the slab.
+    pub fn close<C: Cache<W>, D: Dial<W>, K: Clock>(self, cache: &mut C, dial: &mut D, clock: &K)
+        requires kept { AreKept (world_of W.untouched W.happened (K.tells clock.now))
+            (C.home cache.old) self.slots.items }
+        ensures stays { C.home cache.new ≡ C.home cache.old }
+        ensures counted { D.failures dial.new ≡ D.failures dial.old }
+        ensures opens { D.opened dial.new ≡ D.opened dial.old }
+        ensures turns { D.turn_failures dial.new ≡ D.turn_failures dial.old }
+    {
+        let mut slab = self;
+        while let Some(_closed) = slab.close_last(cache, dial, clock) {}
+        slab.destroy_empty();
+    }
+
+    /// Lets go of a slab. Asked of the caller: it was emptied by [`Slab::close_last`].
+    pub fn destroy_empty(self)
+        requires { self.slots.items ≡ [] }
+    {
+        let Slab {
+            slots,
+            len: _,
+            schedule: _,
+            is_closing: _,
+        } = self;
+        slots.destroy_empty();
+    }
+}

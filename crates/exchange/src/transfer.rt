@@ -1,0 +1,359 @@
+//! One request and its response over a connection of a cache, which is lent to each poll.
+
+ghost use Rattle.std.specs.Prelude.{◌≡◌, ℕ, List, None, Some, true, false, IfSome};
+ghost use Rattle.futures.specs.Task.{Keeps};
+ghost use Rattle.futures.specs.Poll.{IfReady, OnPending};
+ghost use Rattle.bundle.specs.Seats.{Tables};
+ghost use Rattle.exchange.specs.Answers.{IsUnused, IsSameJob};
+ghost use Rattle.exchange.specs.Worlds.{world_of};
+ghost use Rattle.exchange.specs.Standing.{GoesOn};
+ghost use Rattle.exchange.specs.Steps.{Opens, DialsAlone};
+ghost use Rattle.exchange.specs.Waiting.{AtStep, StepLeaves, stage_at};
+ghost use Rattle.exchange.specs.Stepping.{StepIs, StepAnswers, PollsFew};
+ghost use Rattle.exchange.specs.Owning.{IsReady, OwnsAt, Owns};
+ghost use Rattle.exchange.specs.Exchanging.{Continues, IsTold, IsFinished, Leaves, StepEnds};
+ghost use Rattle.exchange.specs.Exchanging.{Cancels, Closes, StaysEnded, GivesUpDial};
+ghost use Rattle.exchange.specs.Exchanging.{DialFailed, DialFailsSince, OpensFew, DialsItsOwn};
+ghost use Rattle.exchange.specs.Exchanging.{SpendsLease};
+ghost use Rattle.exchange.specs.Balance.{HasAll};
+ghost use Rattle.exchange.specs.declared.state.State.TheVariants as at;
+
+use crate::connecting::{ask, claim, dial_up};
+use crate::done::{Done, Fault};
+use crate::ending::{abandon, withdraw};
+use crate::job::Prepared;
+use crate::state::{Stage, State, Step};
+use crate::transferring::{read, send};
+use crate::wire::{Clock, Dial, Wire};
+use futures::task::{Context, Poll, Waker};
+use leasing::Cache;
+use std::mem;
+
+/// The most steps of one poll: each is at most one read or one write.
+const MOST_STEPS: u32 = 64;
+
+/// One request and its response over a connection of a cache: it asks for the connection, waits,
+/// dials, sends, reads and gives it back. Each poll is lent the cache, the dial and the clock, so
+/// that any number of transfers may go on over one cache and one dial, each under a transfer number
+/// of its own. It keeps to one cache and one dial, and has to be spent: finished once a poll was
+/// ready, or cancelled.
+pub struct Transfer<W: Wire> {
+    parts: Prepared,
+    state: Option<State<W>>,
+    waker: Option<Waker>,
+    // Its last poll took all its steps, and asked to be polled again.
+    has_yielded: bool,
+    // Its last poll spent a lease.
+    has_spent: bool,
+}
+
+// Puts a value where none is.
+pub(crate) fn put<T>(slot: &mut Option<T>, value: T)
+    requires { slot.old ≡ None }
+    ensures { slot.new ≡ Some value }
+{
+    match mem::replace(slot, Some(value)) {
+        None => {}
+        Some(_) => unreachable!(),
+    }
+}
+
+// Takes one step from where the transfer stands.
+fn advance<W: Wire, C: Cache<W>, D: Dial<W>, K: Clock>(
+    state: State<W>,
+    parts: &mut Prepared,
+    cache: &mut C,
+    dial: &mut D,
+    clock: &K,
+    now: u64,
+    cx: &mut Context<'_>,
+    waker: &mut Option<Waker>,
+) -> Step<W>
+    requires told { K.tells clock.now now }
+    requires owns { OwnsAt (C.home cache.old) parts.old state }
+    requires ready { IsReady parts.old }
+    ensures stays { C.home cache.new ≡ C.home cache.old }
+    ensures owns { AtStep result (OwnsAt (C.home cache.new) parts.new) }
+    ensures ready { IsReady parts.new }
+    ensures same { IsSameJob parts.old parts.new }
+    ensures story { AtStep result (GoesOn C.did (world_of W.untouched W.happened (K.tells
+        clock.now)) parts.old parts.new cache.old cache.new state) }
+    ensures steps { StepIs C.did (world_of W.untouched W.happened (K.tells clock.now))
+        cache.old cache.new state result }
+    ensures over { AtStep result (StaysEnded state) }
+    ensures dialled { AtStep result
+        (DialFailsSince state (D.failures dial.old) (D.failures dial.new)) }
+    ensures opens { AtStep result
+        (Opens parts.old parts.new state (D.opened dial.old) (D.opened dial.new)) }
+    ensures begun { AtStep result (DialsAlone (D.begun dial.old) (D.begun dial.new)
+        parts.old.want.transfer state) }
+    ensures turns { D.turn_failures dial.new ≡ D.turn_failures dial.old }
+    ensures leaves { StepLeaves W.source_name (D.source_name dial.new) cx.old cx.new waker.new
+        result }
+{
+    match state {
+        State::Asking => Step::Goes(ask(parts, cache, dial, clock, now)),
+        State::Waiting(ticket) => claim(parts, cache, dial, clock, ticket, cx),
+        State::Dialling(lease) => dial_up(parts, cache, dial, clock, now, lease, cx, waker),
+        State::Sending(lease, sent) => send(parts, cache, clock, now, lease, sent, cx, waker),
+        State::Reading(lease) => read(parts, cache, clock, now, lease, cx, waker),
+        State::Finished(done) => Step::Goes(State::Finished(done)),
+    }
+}
+
+impl<W: Wire> Transfer<W> {
+    /// A transfer of what was prepared. It takes no memory: [`Prepared::new`] takes it all.
+    pub fn new(parts: Prepared) -> Self
+        requires unused { IsUnused parts }
+        ensures owns { (home : List Tables) → Owns home result.parts result.state }
+        ensures ready { IsReady result.parts }
+        ensures parts { result.parts ≡ parts }
+        ensures begins { result.state ≡ Some at.Asking }
+        ensures turn { result.has_yielded ≡ false }
+    {
+        Transfer {
+            parts,
+            state: Some(State::Asking),
+            waker: None,
+            has_yielded: false,
+            has_spent: false,
+        }
+    }
+
+    /// Goes on as far as it can, with at most 64 reads and writes. Once it is ready it has ended,
+    /// owns nothing, and every later poll is ready at once. Where it is pending it has registered
+    /// with the wire or the dial that it waits for, or has asked to be polled again: see
+    /// [`Transfer::waits_on`].
+    ///
+    /// Asked of the caller: what it has was made by this cache.
+    pub fn poll<C: Cache<W>, D: Dial<W>, K: Clock>(
+        &mut self,
+        cx: &mut Context<'_>,
+        cache: &mut C,
+        dial: &mut D,
+        clock: &K,
+    ) -> Poll<()>
+        requires owns { Owns (C.home cache.old) self.old.parts self.old.state }
+        requires ready { IsReady self.old.parts }
+        ensures stays { C.home cache.new ≡ C.home cache.old }
+        ensures owns { Owns (C.home cache.new) self.new.parts self.new.state }
+        ensures ready { IsReady self.new.parts }
+        ensures same { IsSameJob self.old.parts self.new.parts }
+        ensures story { Continues C.did (world_of W.untouched W.happened (K.tells clock.now))
+            self.old.parts self.new.parts cache.old cache.new self.old.state self.new.state }
+        ensures out { HasAll (world_of W.untouched W.happened (K.tells clock.now)) self.new.parts
+            self.new.state }
+        ensures steps { PollsFew C.did (world_of W.untouched W.happened (K.tells clock.now))
+            cache.old cache.new self.new.has_yielded self.old.state self.new.state }
+        ensures over { IsFinished self.old.state → self.new.state ≡ self.old.state }
+        ensures dialled { DialFailed self.old.state self.new.state
+            (D.failures dial.old) (D.failures dial.new) }
+        ensures opens { OpensFew self.old.parts self.new.parts self.old.state self.new.state
+            (D.opened dial.old) (D.opened dial.new) }
+        ensures begun { DialsItsOwn (D.begun dial.old) (D.begun dial.new)
+            self.old.parts.want.transfer self.old.state self.new.state }
+        ensures turns { D.turn_failures dial.new ≡ D.turn_failures dial.old }
+        ensures finished { IfReady result (λ _. IsFinished self.new.state) }
+        ensures pending { OnPending result (Leaves W.source_name (D.source_name dial.new)
+            cx.old cx.new self.new.waker self.new.has_yielded self.new.state) }
+        ensures spent { SpendsLease self.old.state self.new.state self.new.has_spent }
+        ensures kept { Keeps cx.old cx.new }
+    {
+        let now = clock.now();
+        self.has_yielded = false;
+        self.has_spent = false;
+        for _ in 0..MOST_STEPS {
+            if let Some(polled) = self.step(cx, cache, dial, clock, now) {
+                return polled;
+            }
+        }
+        self.has_yielded = true;
+        cx.yield_now()
+    }
+
+    // Takes one step; how the poll ends, where it ends.
+    fn step<C: Cache<W>, D: Dial<W>, K: Clock>(
+        &mut self,
+        cx: &mut Context<'_>,
+        cache: &mut C,
+        dial: &mut D,
+        clock: &K,
+        now: u64,
+    ) -> Option<Poll<()>>
+        requires told { K.tells clock.now now }
+        requires owns { Owns (C.home cache.old) self.old.parts self.old.state }
+        requires ready { IsReady self.old.parts }
+        requires goes { self.old.has_yielded ≡ false }
+        ensures stays { C.home cache.new ≡ C.home cache.old }
+        ensures owns { Owns (C.home cache.new) self.new.parts self.new.state }
+        ensures ready { IsReady self.new.parts }
+        ensures same { IsSameJob self.old.parts self.new.parts }
+        ensures story { Continues C.did (world_of W.untouched W.happened (K.tells clock.now))
+            self.old.parts self.new.parts cache.old cache.new self.old.state self.new.state }
+        ensures steps { StepAnswers C.did (world_of W.untouched W.happened (K.tells clock.now))
+            cache.old cache.new result self.old.state self.new.state }
+        ensures over { IsFinished self.old.state → self.new.state ≡ self.old.state }
+        ensures dialled { DialFailed self.old.state self.new.state
+            (D.failures dial.old) (D.failures dial.new) }
+        ensures opens { OpensFew self.old.parts self.new.parts self.old.state self.new.state
+            (D.opened dial.old) (D.opened dial.new) }
+        ensures begun { DialsItsOwn (D.begun dial.old) (D.begun dial.new)
+            self.old.parts.want.transfer self.old.state self.new.state }
+        ensures turns { D.turn_failures dial.new ≡ D.turn_failures dial.old }
+        ensures ends { StepEnds W.source_name (D.source_name dial.new) cx.old cx.new
+            self.new.waker false self.new.state result }
+        ensures goes { self.new.has_yielded ≡ false }
+        ensures spent { SpendsLease self.old.state self.new.state self.new.has_spent }
+        ensures stays_spent { self.old.has_spent ≡ true → self.new.has_spent ≡ true }
+    {
+        let state = self.state.take().unwrap();
+        let had_lease = state.has_lease();
+        let step = advance(
+            state,
+            &mut self.parts,
+            cache,
+            dial,
+            clock,
+            now,
+            cx,
+            &mut self.waker,
+        );
+        match step {
+            Step::Goes(State::Finished(done)) => {
+                self.has_spent |= had_lease;
+                put(&mut self.state, State::Finished(done));
+                Some(Poll::Ready(()))
+            }
+            Step::Goes(state) => {
+                self.has_spent |= had_lease && !state.has_lease();
+                put(&mut self.state, state);
+                None
+            }
+            Step::Waits(state) => {
+                self.has_spent |= had_lease && !state.has_lease();
+                put(&mut self.state, state);
+                Some(Poll::Pending)
+            }
+        }
+    }
+
+    /// What it waits for since its last poll, which was pending.
+    pub fn waits_on(&self) -> Stage
+        ensures { IfSome self.now.state (λ state.
+            result ≡ stage_at self.now.has_yielded state) }
+    {
+        if self.has_yielded {
+            return Stage::Turn;
+        }
+        match self.state {
+            Some(State::Waiting(_)) => Stage::Grant,
+            Some(State::Dialling(_)) => Stage::Dialling,
+            Some(State::Sending(_, _)) => Stage::Sending,
+            Some(State::Reading(_)) => Stage::Reading,
+            _ => Stage::Turn,
+        }
+    }
+
+    /// Whether its last poll spent a lease, so that its connection may have been granted to another
+    /// transfer, at any site.
+    pub fn has_spent(&self) -> bool
+        ensures { result ≡ self.now.has_spent }
+    {
+        self.has_spent
+    }
+
+    /// Whether it waits for a connection, with a ticket.
+    pub(crate) fn has_ticket(&self) -> bool {
+        matches!(self.state, Some(State::Waiting(_)))
+    }
+
+    /// Whether it has ended.
+    pub(crate) fn has_ended(&self) -> bool {
+        matches!(self.state, Some(State::Finished(_)))
+    }
+
+    /// The index of its host.
+    pub(crate) fn site(&self) -> u32 {
+        self.parts.site
+    }
+
+    /// How it ended, and what was prepared. Asked of the caller: a poll was ready.
+    pub fn finish(self) -> (Done, Prepared)
+        requires finished { IsFinished self.state }
+        ensures done { self.state ≡ Some (at.Finished result.0) }
+        ensures parts { result.1 ≡ self.parts }
+    {
+        let Transfer {
+            parts,
+            state,
+            waker: _,
+            has_yielded: _,
+            has_spent: _,
+        } = self;
+        match state {
+            Some(State::Finished(done)) => (done, parts),
+            _ => unreachable!(),
+        }
+    }
+
+    /// Ends it where it stands: a wait is withdrawn, a lease is abandoned, at that moment in
+    /// seconds, and what was begun at the dial is given up. Before the first poll, and once a poll
+    /// was ready, it changes nothing. Gives back what was prepared.
+    ///
+    /// Asked of the caller: what it has was made by this cache.
+    pub fn cancel<C: Cache<W>, D: Dial<W>>(self, now: u64, cache: &mut C, dial: &mut D) -> Prepared
+        requires owns { Owns (C.home cache.old) self.parts self.state }
+        ensures stays { C.home cache.new ≡ C.home cache.old }
+        ensures cancels { Cancels C.did cache.old cache.new now self.state }
+        ensures parts { result ≡ self.parts }
+        ensures begun { GivesUpDial (D.begun dial.old) (D.begun dial.new)
+            self.parts.want.transfer self.state }
+        ensures counted { D.failures dial.new ≡ D.failures dial.old }
+        ensures opens { D.opened dial.new ≡ D.opened dial.old }
+        ensures turns { D.turn_failures dial.new ≡ D.turn_failures dial.old }
+    {
+        let (_done, parts) = self.close(now, cache, dial);
+        parts
+    }
+
+    /// How it ended, where a poll was ready; else the same as `cancel`, and that it was cancelled.
+    ///
+    /// Asked of the caller: what it has was made by this cache.
+    pub fn close<C: Cache<W>, D: Dial<W>>(
+        self,
+        now: u64,
+        cache: &mut C,
+        dial: &mut D,
+    ) -> (Done, Prepared)
+        requires owns { Owns (C.home cache.old) self.parts self.state }
+        ensures stays { C.home cache.new ≡ C.home cache.old }
+        ensures cancels { Cancels C.did cache.old cache.new now self.state }
+        ensures closes { Closes result.0 self.state }
+        ensures parts { result.1 ≡ self.parts }
+        ensures begun { GivesUpDial (D.begun dial.old) (D.begun dial.new)
+            self.parts.want.transfer self.state }
+        ensures counted { D.failures dial.new ≡ D.failures dial.old }
+        ensures opens { D.opened dial.new ≡ D.opened dial.old }
+        ensures turns { D.turn_failures dial.new ≡ D.turn_failures dial.old }
+    {
+        let Transfer {
+            parts,
+            state,
+            waker: _,
+            has_yielded: _,
+            has_spent: _,
+        } = self;
+        match state {
+            Some(State::Waiting(ticket)) => withdraw(cache, ticket, now),
+            Some(State::Dialling(lease)) => {
+                dial.give_up(parts.want.transfer);
+                abandon(cache, lease, now);
+            }
+            Some(State::Sending(lease, _) | State::Reading(lease)) => abandon(cache, lease, now),
+            Some(State::Finished(done)) => return (done, parts),
+            Some(State::Asking) => {}
+            None => {}
+        }
+        (Done::Bad(Fault::Cancelled), parts)
+    }
+}

@@ -1,0 +1,64 @@
+-- What a fake cache knows of its pool, and what it did.
+use Rattle.std.specs.Prelude.{◌≡◌, ℕ, ◌+◌, ◌-◌, ◌<◌, true, false, length, min, Option, Some}
+use Rattle.bundle.specs.Lease.{Ticketed, is_unclaimed, is_valid_ticket}
+use Rattle.leasing.specs.Deeds.{Deed}
+use Rattle.leasing.specs.Deeds.Deed.{leases, begins_wait, grants, keeps_waiting, gives_back, abandons, withdraws, finds_strange_lease, finds_strange_ticket}
+use Rattle.cache.specs.Pools.{PoolShown, StaysPool, StaysHosts, host_at}
+use Rattle.cache.specs.Deeds.{DidToPool}
+use Rattle.exchange_memory.specs.declared.returned.Returned.{Returned}
+
+-- a fake cache: its pool, how many leases and tickets of transfers are out, and what was given back last
+pub record FakeShown (S : Type 0) : Type 0 where
+  pub pool : PoolShown S
+  pub leases : ℕ
+  pub tickets : ℕ
+  pub last : Option Returned
+
+-- one more, up to the greatest number that a count can say
+abbrev pub one_more : ℕ → ℕ
+one_more count = min (count + 1) 18446744073709551615
+
+-- how many leases are out once this was done too
+abbrev pub leases_after : {S : Type 0} → Deed S → ℕ → ℕ
+leases_after (leases lease now) count = one_more count
+leases_after (grants lease) count = one_more count
+leases_after (gives_back lease facts now) count = count - 1
+leases_after (abandons lease now) count = count - 1
+leases_after (finds_strange_lease lease) count = count - 1
+leases_after _ count = count
+
+-- and how many tickets
+abbrev pub tickets_after : {S : Type 0} → Deed S → ℕ → ℕ
+tickets_after (begins_wait ticket now) count = one_more count
+tickets_after (grants lease) count = count - 1
+tickets_after (withdraws ticket now) count = count - 1
+tickets_after (finds_strange_ticket ticket) count = count - 1
+tickets_after _ count = count
+
+-- and what was given back last
+abbrev pub last_after : {S : Type 0} → Deed S → Option Returned → Option Returned
+last_after (gives_back lease facts now) last = Some (record { site = lease.site; facts = facts })
+last_after _ last = last
+
+-- that is noted
+pub record IsNoted {S : Type 0} (deed : Deed S) (old new : FakeShown S) : Type 0 where
+  pub leases_are : new.leases ≡ leases_after deed old.leases
+  pub tickets_are : new.tickets ≡ tickets_after deed old.tickets
+  pub last_is : new.last ≡ last_after deed old.last
+
+-- the ticket is no stranger, and its transfer has no grant yet; meanwhile another transfer may give its connection back
+pub record StillWaits {S : Type 0} (old new : PoolShown S) (ticket : Ticketed) : Type 0 where
+  pub there : ticket.site < length old.hosts
+  pub valid : is_valid_ticket (host_at old ticket.site) ticket.wait.want ≡ true
+  pub none : is_unclaimed (host_at old ticket.site) ticket.wait.want.transfer ≡ false
+  pub hosts : StaysHosts old new
+  pub stays : StaysPool old new
+
+-- what was done at its pool
+abbrev pub DidAtPool : {S : Type 0} → PoolShown S → PoolShown S → Deed S → Type 0
+DidAtPool old new (keeps_waiting ticket) = StillWaits old new ticket
+DidAtPool old new deed = DidToPool old new deed
+
+-- from the one time to the other this was done, and noted
+abbrev pub DidToFake : {S : Type 0} → FakeShown S → FakeShown S → Deed S → Type 0
+DidToFake old new deed = DidAtPool old.pool new.pool deed × IsNoted deed old new

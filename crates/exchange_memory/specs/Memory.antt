@@ -1,0 +1,40 @@
+-- What happens on a connection in memory.
+use Rattle.std.specs.Prelude.{◌≡◌, ℕ, List, [], ◌++◌, take}
+use Rattle.conn_key.specs.Wants.{Rises}
+use Rattle.exchange_memory.specs.declared.memory_wire.MemoryWire.{MemoryWire}
+use Rattle.exchange.specs.Wires.{Happening}
+use Rattle.exchange.specs.Wires.Happening.{nothing, is_adopted, takes, gives, ends, fails_to_read, fails_to_write}
+
+-- what its peer has answered of its script
+abbrev pub answered : MemoryWire → List ℕ
+answered wire = take wire.place wire.response.items
+
+-- it has sent nothing, and its peer has answered nothing
+pub record IsUntouched (wire : MemoryWire) : Type 0 where
+  pub sent : wire.sent.items ≡ []
+  pub answered_is : answered wire ≡ []
+
+-- it has sent that much more, and its peer has answered that much more of the same script
+pub record Carries (sent received : List ℕ) (old new : MemoryWire) : Type 0 where
+  pub script : new.response.items ≡ old.response.items
+  pub source : new.source.id ≡ old.source.id
+  pub sent_is : new.sent.items ≡ old.sent.items ++ sent
+  pub answered_is : answered new ≡ answered old ++ received
+
+-- and no read or write failed
+abbrev pub CarriesWell : List ℕ → List ℕ → MemoryWire → MemoryWire → Type 0
+CarriesWell sent received old new = Carries sent received old new × (new.failures ≡ old.failures)
+
+-- a read or a write failed, and nothing was sent or answered
+abbrev pub Breaks : MemoryWire → MemoryWire → Type 0
+Breaks old new = Carries [] [] old new × Rises old.failures new.failures
+
+-- from the one time to the other this happened
+abbrev pub HappenedTo : MemoryWire → MemoryWire → Happening → Type 0
+HappenedTo old new nothing = CarriesWell [] [] old new
+HappenedTo old new is_adopted = CarriesWell [] [] old new
+HappenedTo old new (takes bytes) = CarriesWell bytes [] old new
+HappenedTo old new (gives bytes) = CarriesWell [] bytes old new
+HappenedTo old new ends = CarriesWell [] [] old new
+HappenedTo old new fails_to_read = Breaks old new
+HappenedTo old new fails_to_write = Breaks old new

@@ -1,0 +1,186 @@
+//! What opens connections in memory.
+
+ghost use Rattle.std.specs.Prelude.{◌≡◌, ℕ, [], ◌∷◌, ◌++◌, length, None, Some, OnOk, OnErr};
+ghost use Rattle.conn_key.specs.Wants.{Rises};
+
+use crate::calls::{Calls, Halt};
+use crate::memory_wire::MemoryWire;
+use exchange::{Dial, Dialled, Turned};
+use futures::task::Source;
+use std::alloc::{AllocError, Global};
+
+/// What opens connections in memory: at each dial it gives the next of its wires. Without one left
+/// it fails. It keeps which transfer was given up last.
+#[derive(Drop)]
+pub struct MemoryDial {
+    wires: Vec<MemoryWire>,
+    dials: Calls,
+    turns: Calls,
+    opened: u64,
+    failures: u64,
+    turn_failures: u64,
+    given_up: Option<u64>,
+    source: Source,
+}
+
+impl MemoryDial {
+    /// A dial without wires.
+    pub fn new(alloc: Global) -> MemoryDial
+        ensures wires { result.wires.items ≡ [] }
+        ensures counts { (result.opened ≡ 0) × (result.failures ≡ 0) }
+        ensures turns { result.turn_failures ≡ 0 }
+        ensures none { result.given_up ≡ None }
+    {
+        MemoryDial {
+            wires: Vec::new(alloc),
+            dials: Calls::new(),
+            turns: Calls::new(),
+            opened: 0,
+            failures: 0,
+            turn_failures: 0,
+            given_up: None,
+            source: Source::new(),
+        }
+    }
+
+    /// Puts a wire behind those that it will give.
+    ///
+    /// # Errors
+    ///
+    /// There is no memory for it.
+    pub fn add(&mut self, wire: MemoryWire) -> Result<(), AllocError>
+        ensures ok { OnOk result
+            (self.new.wires.items ≡ self.old.wires.items ++ (wire ∷ [])) }
+        ensures err { OnErr result (self.new.wires.items ≡ self.old.wires.items) }
+        ensures counts { self.new ≡ record self.old { wires = self.new.wires } }
+    {
+        match self.wires.push(wire) {
+            Ok(()) => Ok(()),
+            Err(_) => Err(AllocError),
+        }
+    }
+
+    /// At that dial, counted from one, this happens.
+    pub fn halt_dial(&mut self, nth: u64, halt: Halt)
+        ensures { self.new ≡ record self.old {
+          dials = record { count = 0; halts_at = nth; halt = halt };
+        } }
+    {
+        self.dials = Calls::with_halt(nth, halt);
+    }
+
+    /// At that turn, counted from one, it fails.
+    pub fn fail_turn(&mut self, nth: u64)
+        ensures { self.new ≡ record self.old {
+          turns = record { count = 0; halts_at = nth; halt = Halt.Fault };
+        } }
+    {
+        self.turns = Calls::with_halt(nth, Halt::Fault);
+    }
+
+    /// How many connections it has opened; the count stays at the greatest `u64`.
+    pub fn opened(&self) -> u64
+        ensures { result ≡ self.now.opened }
+    {
+        self.opened
+    }
+
+    /// How often a dial failed; the count stays at the greatest `u64`.
+    pub fn failures(&self) -> u64
+        ensures { result ≡ self.now.failures }
+    {
+        self.failures
+    }
+
+    /// How many wires it will still give.
+    pub fn left(&self) -> usize
+        ensures { result ≡ length self.now.wires.items }
+    {
+        self.wires.len()
+    }
+
+    /// How often a turn failed; the count stays at the greatest `u64`.
+    pub fn turn_failures(&self) -> u64
+        ensures { result ≡ self.now.turn_failures }
+    {
+        self.turn_failures
+    }
+
+    /// The transfer that it was told of last to give up.
+    pub fn last_given_up(&self) -> Option<u64>
+        ensures { result ≡ self.now.given_up }
+    {
+        self.given_up
+    }
+
+    // Counts a failure.
+    fn fail(&mut self)
+        ensures rises { Rises self.old.failures self.new.failures }
+        ensures same { self.new ≡ record self.old { failures = self.new.failures } }
+    {
+        self.failures = self.failures.saturating_add(1);
+    }
+}
+
+impl Dial<MemoryWire> for MemoryDial {
+    ghost use Rattle.std.specs.Prelude.{◌≡◌, ℕ, Some};
+
+    ghost failures = { λ dial. dial.failures };
+
+    ghost opened = { λ dial. dial.opened };
+
+    ghost turn_failures = { λ dial. dial.turn_failures };
+
+    ghost turned = { λ old new. new ≡ record old {
+      turns = new.turns;
+      turn_failures = new.turn_failures;
+    } };
+
+    ghost begun = { λ dial transfer. ⊥ };
+
+    ghost source_name = { λ dial. dial.source.id };
+
+    fn dial(&mut self, _site: u32, _transfer: u64) -> Dialled<MemoryWire> {
+        match self.dials.next() {
+            Some(Halt::NotYet) => return Dialled::NotYet,
+            Some(_) => {
+                self.fail();
+                return Dialled::Fault;
+            }
+            None => {}
+        }
+        if self.wires.is_empty() {
+            self.fail();
+            return Dialled::Fault;
+        }
+        self.opened = self.opened.saturating_add(1);
+        let mut wire = self.wires.remove(0);
+        wire.begin();
+        Dialled::Up(wire)
+    }
+
+    fn give_up(&mut self, transfer: u64)
+        ensures none { ⊥ → ⊥ }
+        ensures begun { (other : ℕ) → ⊥ → ⊥ }
+        ensures counted { self.new.failures ≡ self.old.failures }
+        ensures opens { self.new.opened ≡ self.old.opened }
+        ensures turns { self.new.turn_failures ≡ self.old.turn_failures }
+        ensures kept { self.new ≡ record self.old { given_up = Some transfer } }
+    {
+        self.given_up = Some(transfer);
+    }
+
+    fn adopt(&mut self, _wire: &mut MemoryWire) {}
+
+    fn turn(&mut self) -> Turned {
+        if self.turns.next().is_some() {
+            self.turn_failures = self.turn_failures.saturating_add(1);
+            return Turned::Fault;
+        }
+        Turned::Done
+    }
+
+    fn source(&self) -> &Source {
+        &self.source
+    }
+}

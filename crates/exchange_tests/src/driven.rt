@@ -1,0 +1,90 @@
+//! An exchange that an executor drives, and transfers that are polled in turn over one pool.
+
+use crate::driving::{
+    GOOD, KEEP, NOW, OK, check_pool, dial_of, leased, opened, poll_once, pool_of, prepared,
+    prepared_at, returned, waited, want_of, wire_of,
+};
+use exchange::{Answer, Done, Exchange, Fault, Polled, Stage, Transfer};
+use exchange_memory::{FixedClock, Halt};
+use futures::executor::block_on;
+use futures::task::{Doorbell, Solo};
+use persistence::Method;
+use std::test::Fail;
+
+#[test]
+fn an_executor_drives_an_exchange(rt: HostRuntime) -> Result<(), Fail> {
+    // 37 bytes are sent and 40 read, one at a step: more than one poll takes
+    let mut wire = wire_of(&rt, OK);
+    wire.set_most_written(1);
+    wire.set_most_read(1);
+    let mut dial = dial_of(&rt, wire);
+    let mut pool = pool_of(&rt, 0);
+    let clock = FixedClock { now: NOW };
+    let mut exchange = Exchange::new(prepared(&rt), &mut pool, &mut dial, &clock);
+    let driven = block_on(&rt, Polled::new(&mut exchange));
+    let (done, _, _, _) = exchange.close(NOW);
+    assert!(rt; driven.is_ok());
+    assert_eq!(rt; done, Done::Good(GOOD));
+    check_pool(
+        &rt,
+        &pool,
+        &[opened(1, want_of(1), NOW), returned(1, KEEP, NOW)],
+    );
+    Ok(())
+}
+
+#[test]
+fn a_close_before_the_first_poll_cancels(rt: HostRuntime) -> Result<(), Fail> {
+    let mut dial = dial_of(&rt, wire_of(&rt, OK));
+    let mut pool = pool_of(&rt, 0);
+    let clock = FixedClock { now: NOW };
+    let exchange = Exchange::new(prepared(&rt), &mut pool, &mut dial, &clock);
+    let (done, _, _, _) = exchange.close(NOW);
+    assert_eq!(rt; done, Done::Bad(Fault::Cancelled));
+    assert_eq!(rt; dial.left(), 1);
+    check_pool(&rt, &pool, &[]);
+    Ok(())
+}
+
+#[test]
+fn two_transfers_take_turns_at_a_connection(rt: HostRuntime) -> Result<(), Fail> {
+    let mut both = OK.to_vec(rt.alloc())?;
+    both.extend_from_slice(OK)?;
+    let mut wire = wire_of(&rt, &both);
+    wire.set_most_read(OK.len());
+    wire.halt_read(1, Halt::NotYet);
+    let mut dial = dial_of(&rt, wire);
+    let mut pool = pool_of(&rt, 1);
+    let solo = Solo::new(&rt, Doorbell::spinning())?;
+    let other = prepared_at(&rt, 0, Method::Get, "http://example.com/b", want_of(2));
+    let mut first = Transfer::new(prepared(&rt));
+    let mut second = Transfer::new(other);
+    let begun = poll_once(&solo, &mut first, &mut pool, &mut dial);
+    let waiting = poll_once(&solo, &mut second, &mut pool, &mut dial);
+    let stages = (first.waits_on(), second.waits_on());
+    let ended = poll_once(&solo, &mut first, &mut pool, &mut dial);
+    let granted = poll_once(&solo, &mut second, &mut pool, &mut dial);
+    let (one, _) = first.close(NOW, &mut pool, &mut dial);
+    let (two, _) = second.close(NOW, &mut pool, &mut dial);
+    assert_eq!(rt; stages, (Stage::Reading, Stage::Grant));
+    // whether each poll was ready, and spent a lease
+    assert_eq!(rt; (begun, waiting), ((false, false), (false, false)));
+    assert_eq!(rt; (ended, granted), ((true, true), (true, true)));
+    let reused = Answer {
+        reused: true,
+        ..GOOD
+    };
+    assert_eq!(rt; (one, two), (Done::Good(GOOD), Done::Good(reused)));
+    check_pool(
+        &rt,
+        &pool,
+        &[
+            opened(1, want_of(1), NOW),
+            waited(want_of(2), NOW),
+            returned(1, KEEP, NOW),
+            leased(1, want_of(2), NOW),
+            returned(1, KEEP, NOW),
+        ],
+    );
+    Ok(())
+}
