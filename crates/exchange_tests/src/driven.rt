@@ -23,7 +23,7 @@ fn an_executor_drives_an_exchange(rt: HostRuntime) -> Result<(), Fail> {
     let mut exchange = Exchange::new(prepared(&rt), &mut pool, &mut dial, &clock);
     let driven = block_on(&rt, Polled::new(&mut exchange));
     let (done, _, _, _) = exchange.close(NOW);
-    assert!(rt; driven.is_ok());
+    driven?;
     assert_eq!(rt; done, Done::Good(GOOD));
     check_pool(
         &rt,
@@ -66,15 +66,15 @@ fn two_transfers_take_turns_at_a_connection(rt: HostRuntime) -> Result<(), Fail>
     let granted = poll_once(&solo, &mut second, &mut pool, &mut dial);
     let (one, _) = first.close(NOW, &mut pool, &mut dial);
     let (two, _) = second.close(NOW, &mut pool, &mut dial);
-    assert_eq!(rt; stages, (Stage::Reading, Stage::Grant));
-    // whether each poll was ready, and spent a lease
-    assert_eq!(rt; (begun, waiting), ((false, false), (false, false)));
-    assert_eq!(rt; (ended, granted), ((true, true), (true, true)));
     let reused = Answer {
         reused: true,
         ..GOOD
     };
     assert_eq!(rt; (one, two), (Done::Good(GOOD), Done::Good(reused)));
+    assert_eq!(rt; stages, (Stage::Reading, Stage::Grant));
+    // whether each poll was ready, and spent a lease
+    assert_eq!(rt; (begun, waiting), ((false, false), (false, false)));
+    assert_eq!(rt; (ended, granted), ((true, true), (true, true)));
     check_pool(
         &rt,
         &pool,
