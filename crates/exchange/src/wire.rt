@@ -126,7 +126,8 @@ pub trait Dial<W: Wire> {
         ensures counted { CountsDial result (failures self.old) (failures self.new) }
         ensures opens { OpensOne result (opened self.old) (opened self.new) }
         ensures begun { CountsBegun result transfer (begun self.old) (begun self.new) }
-        ensures turns { turn_failures self.new ≡ turn_failures self.old };
+        ensures turns { turn_failures self.new ≡ turn_failures self.old }
+        ensures source { source_name self.new ≡ source_name self.old };
 
     /// Ends what it began for that transfer.
     fn give_up(&mut self, transfer: u64)
@@ -134,7 +135,8 @@ pub trait Dial<W: Wire> {
         ensures begun { (other : ℕ) → begun self.new other → begun self.old other }
         ensures counted { failures self.new ≡ failures self.old }
         ensures opens { opened self.new ≡ opened self.old }
-        ensures turns { turn_failures self.new ≡ turn_failures self.old };
+        ensures turns { turn_failures self.new ≡ turn_failures self.old }
+        ensures source { source_name self.new ≡ source_name self.old };
 
     /// Takes a wire over, which another dial may have made, so that its readiness is seen here.
     fn adopt(&mut self, wire: &mut W)
@@ -142,7 +144,8 @@ pub trait Dial<W: Wire> {
         ensures counted { failures self.new ≡ failures self.old }
         ensures opens { opened self.new ≡ opened self.old }
         ensures begun { (other : ℕ) → begun self.new other → begun self.old other }
-        ensures turns { turn_failures self.new ≡ turn_failures self.old };
+        ensures turns { turn_failures self.new ≡ turn_failures self.old }
+        ensures source { source_name self.new ≡ source_name self.old };
 
     /// Takes a turn of its event loop, which waits at most ten milliseconds.
     fn turn(&mut self) -> Turned

@@ -165,6 +165,7 @@ impl Dial<MemoryWire> for MemoryDial {
         ensures counted { self.new.failures ≡ self.old.failures }
         ensures opens { self.new.opened ≡ self.old.opened }
         ensures turns { self.new.turn_failures ≡ self.old.turn_failures }
+        ensures source { self.new.source.id ≡ self.old.source.id }
         ensures kept { self.new ≡ record self.old { given_up = Some transfer } }
     {
         self.given_up = Some(transfer);
