@@ -236,6 +236,7 @@ impl<W: Wire> Slab<W> {
             ≡ sum_by one_if_some self.old.slots.items) }
         ensures none { IfNone result (self.new.slots.items ≡ []) }
         ensures same_cache { IfNone result (cache.new ≡ cache.old) }
+        ensures same_dial { IfNone result (dial.new ≡ dial.old) }
         ensures counted { D.failures dial.new ≡ D.failures dial.old }
         ensures opens { D.opened dial.new ≡ D.opened dial.old }
         ensures turns { D.turn_failures dial.new ≡ D.turn_failures dial.old }
