@@ -110,6 +110,7 @@ impl<W: Wire> Transfer<W> {
         ensures parts { result.parts ≡ parts }
         ensures begins { result.state ≡ Some at.Asking }
         ensures turn { result.has_yielded ≡ false }
+        ensures unspent { result.has_spent ≡ false }
     {
         Transfer {
             parts,
