@@ -128,8 +128,8 @@ impl<W: Wire> Slab<W> {
         self.len += 1;
     }
 
-    /// Tells that a lease was spent, or the host's limit raised, beside the slab: the next round
-    /// but one polls the first transfer that waits at each site.
+    /// Tells that a lease was spent, a ticket withdrawn, or the host's limit raised, beside the
+    /// slab: the next round but one polls the first transfer that waits at each site.
     pub fn ask_sites(&mut self)
         ensures { self.new.slots ≡ self.old.slots }
     {
