@@ -27,7 +27,7 @@ pub struct Slab<W: Wire> {
     slots: Vec<Option<Transfer<W>>>,
     len: usize,
     schedule: Schedule,
-    // One of its transfers was closed before it had ended.
+    // A place was taken away, so that the schedule may name one that is not there.
     is_closing: bool,
     ghost counted: { len ≡ sum_by one_if_some slots.items },
 }
@@ -60,7 +60,7 @@ impl<W: Wire> Slab<W> {
     }
 
     /// Begins a transfer of what was prepared, which is polled from the next round on. It is given
-    /// back where memory is short, and once a transfer was closed before it had ended.
+    /// back if memory is short, and once [`Slab::close_last`] has taken a place away.
     ///
     /// Cache and clock are those of the rounds: contracts alone look at them.
     pub fn join<C: Cache<W>, K: Clock>(
@@ -215,7 +215,8 @@ impl<W: Wire> Slab<W> {
 
     /// Closes one of the transfers that are left, as [`Transfer::close`] does, at the time that the
     /// clock tells: how it ended, or that it was cancelled, and what was prepared. `None` where
-    /// none is left. From the first one on no round polls any more, and none can join.
+    /// none is left. Once a call has taken a place away, whether or not a transfer stood there, no
+    /// round polls any more, and none can join.
     pub fn close_last<C: Cache<W>, D: Dial<W>, K: Clock>(
         &mut self,
         cache: &mut C,
