@@ -73,6 +73,14 @@ CancelsAt did before after now (Finished done) = after ≡ before
 abbrev pub Cancels : {C W : Type 0} → (C → C → Deed W → Type 0) → C → C → ℕ → Option (State W) → Type 0
 Cancels did before after now state = IsSomeAnd state (CancelsAt did before after now)
 
+-- a cancel calls the dial only for a transfer that dials
+abbrev pub LeavesDialAt : {D W : Type 0} → D → D → State W → Type 0
+LeavesDialAt old new (Dialling lease) = Unit {0}
+LeavesDialAt old new _ = new ≡ old
+
+abbrev pub LeavesDial : {D W : Type 0} → D → D → Option (State W) → Type 0
+LeavesDial old new state = IsSomeAnd state (LeavesDialAt old new)
+
 -- how it ended, or that it was cancelled
 abbrev pub ClosesAt : {W : Type 0} → Done → State W → Type 0
 ClosesAt answered (Finished done) = answered ≡ done

@@ -9,7 +9,7 @@ use Rattle.exchange.specs.declared.transfer.Transfer.{Transfer}
 use Rattle.exchange.specs.Worlds.{World}
 use Rattle.exchange.specs.Owning.{IsReady, Owns}
 use Rattle.exchange.specs.Standing.{Ends}
-use Rattle.exchange.specs.Exchanging.{IsTold, Cancels, Closes, GivesUpDial}
+use Rattle.exchange.specs.Exchanging.{IsTold, Cancels, Closes, GivesUpDial, LeavesDial}
 use Rattle.leasing.specs.Deeds.{Deed}
 
 -- a transfer has what was made by the cache with these tables, and what was done for it led to where it stands
@@ -30,8 +30,8 @@ abbrev pub HasClosed : {W : Type 0} → World W → Done × Prepared → Type 0
 HasClosed world closed = IsReady closed.1 × ((closed.0 ≡ Bad Cancelled) ⊎ HasEnded world closed)
 
 -- a transfer that was kept was closed, at a moment that the clock told: at the cache it was cancelled, and nothing is
--- begun for it at the dial
-pub record ClosesOne {C W : Type 0} (did : C → C → Deed W → Type 0) (world : World W) (home : List Tables) (before after : C) (old new : ℕ → Type 0) (closed : Done × Prepared) : Type 0 where
+-- begun for it at the dial, which stays as it was unless the transfer dialled
+pub record ClosesOne {C D W : Type 0} (did : C → C → Deed W → Type 0) (world : World W) (home : List Tables) (before after : C) (begun_at : D → ℕ → Type 0) (old new : D) (closed : Done × Prepared) : Type 0 where
   pub transfer : Transfer W
   pub kept : IsKept world home transfer
   pub moment : ℕ
@@ -39,7 +39,8 @@ pub record ClosesOne {C W : Type 0} (did : C → C → Deed W → Type 0) (world
   pub cancels : Cancels did before after moment transfer.state
   pub closes : Closes closed.0 transfer.state
   pub parts : closed.1 ≡ transfer.parts
-  pub begun : GivesUpDial old new transfer.parts.want.transfer transfer.state
+  pub begun : GivesUpDial (begun_at old) (begun_at new) transfer.parts.want.transfer transfer.state
+  pub leaves : LeavesDial old new transfer.state
 
 -- one, where there is a transfer
 abbrev pub one_if_some : {W : Type 0} → Option (Transfer W) → ℕ

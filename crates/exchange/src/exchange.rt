@@ -12,7 +12,7 @@ ghost use Rattle.exchange.specs.Waiting.{stage_at};
 ghost use Rattle.exchange.specs.Stepping.{PollsFew};
 ghost use Rattle.exchange.specs.Kept.{OwnsIts, owns_prop};
 ghost use Rattle.exchange.specs.Exchanging.{Stands, Continues, IsFinished, Leaves, Cancels};
-ghost use Rattle.exchange.specs.Exchanging.{Closes, GivesUpDial, DialFailed, OpensFew};
+ghost use Rattle.exchange.specs.Exchanging.{Closes, GivesUpDial, LeavesDial, DialFailed, OpensFew};
 ghost use Rattle.exchange.specs.Exchanging.{DialsItsOwn, SpendsLease};
 ghost use Rattle.exchange.specs.Balance.{HasAll};
 ghost use Rattle.exchange.specs.declared.state.State.TheVariants as at;
@@ -161,6 +161,7 @@ impl<'a, W: Wire, C: Cache<W>, D: Dial<W>, K: Clock> Exchange<'a, W, C, D, K> {
         ensures parts { result.0 ≡ self.entry.transfer.parts }
         ensures begun { GivesUpDial (D.begun self.entry.dial.now) (D.begun result.2.now)
             self.entry.transfer.parts.want.transfer self.entry.transfer.state }
+        ensures leaves { LeavesDial self.entry.dial.now result.2.now self.entry.transfer.state }
         ensures counted { D.failures result.2.now ≡ D.failures self.entry.dial.now }
         ensures opens { D.opened result.2.now ≡ D.opened self.entry.dial.now }
         ensures turns { D.turn_failures result.2.now ≡ D.turn_failures self.entry.dial.now }
@@ -186,6 +187,7 @@ impl<'a, W: Wire, C: Cache<W>, D: Dial<W>, K: Clock> Exchange<'a, W, C, D, K> {
         ensures parts { result.1 ≡ self.entry.transfer.parts }
         ensures begun { GivesUpDial (D.begun self.entry.dial.now) (D.begun result.3.now)
             self.entry.transfer.parts.want.transfer self.entry.transfer.state }
+        ensures leaves { LeavesDial self.entry.dial.now result.3.now self.entry.transfer.state }
         ensures counted { D.failures result.3.now ≡ D.failures self.entry.dial.now }
         ensures opens { D.opened result.3.now ≡ D.opened self.entry.dial.now }
         ensures turns { D.turn_failures result.3.now ≡ D.turn_failures self.entry.dial.now }

@@ -232,7 +232,7 @@ impl<W: Wire> Slab<W> {
             (HasClosed (world_of W.untouched W.happened (K.tells clock.now))) }
         ensures closes { IfSome result (ClosesOne C.did
             (world_of W.untouched W.happened (K.tells clock.now)) (C.home cache.old)
-            cache.old cache.new (D.begun dial.old) (D.begun dial.new)) }
+            cache.old cache.new D.begun dial.old dial.new) }
         ensures fewer { OnSome result (sum_by one_if_some self.new.slots.items + 1
             ≡ sum_by one_if_some self.old.slots.items) }
         ensures none { IfNone result (self.new.slots.items ≡ []) }

@@ -12,7 +12,7 @@ ghost use Rattle.exchange.specs.Waiting.{AtStep, StepLeaves, stage_at};
 ghost use Rattle.exchange.specs.Stepping.{StepIs, StepAnswers, PollsFew};
 ghost use Rattle.exchange.specs.Owning.{IsReady, OwnsAt, Owns};
 ghost use Rattle.exchange.specs.Exchanging.{Continues, IsTold, IsFinished, Leaves, StepEnds};
-ghost use Rattle.exchange.specs.Exchanging.{Cancels, Closes, StaysEnded, GivesUpDial};
+ghost use Rattle.exchange.specs.Exchanging.{Cancels, Closes, StaysEnded, GivesUpDial, LeavesDial};
 ghost use Rattle.exchange.specs.Exchanging.{DialFailed, DialFailsSince, OpensFew, DialsItsOwn};
 ghost use Rattle.exchange.specs.Exchanging.{SpendsLease};
 ghost use Rattle.exchange.specs.Balance.{HasAll};
@@ -309,6 +309,7 @@ impl<W: Wire> Transfer<W> {
         ensures parts { result ≡ self.parts }
         ensures begun { GivesUpDial (D.begun dial.old) (D.begun dial.new)
             self.parts.want.transfer self.state }
+        ensures leaves { LeavesDial dial.old dial.new self.state }
         ensures counted { D.failures dial.new ≡ D.failures dial.old }
         ensures opens { D.opened dial.new ≡ D.opened dial.old }
         ensures turns { D.turn_failures dial.new ≡ D.turn_failures dial.old }
@@ -333,6 +334,7 @@ impl<W: Wire> Transfer<W> {
         ensures parts { result.1 ≡ self.parts }
         ensures begun { GivesUpDial (D.begun dial.old) (D.begun dial.new)
             self.parts.want.transfer self.state }
+        ensures leaves { LeavesDial dial.old dial.new self.state }
         ensures counted { D.failures dial.new ≡ D.failures dial.old }
         ensures opens { D.opened dial.new ≡ D.opened dial.old }
         ensures turns { D.turn_failures dial.new ≡ D.turn_failures dial.old }

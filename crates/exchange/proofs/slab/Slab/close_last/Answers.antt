@@ -29,4 +29,5 @@ returns-in-Some-slot-clause-closes g c =
       closes = c.close.ensures.closes;
       parts = c.close.ensures.parts;
       begun = c.close.ensures.begun;
+      leaves = c.close.ensures.leaves;
     })
