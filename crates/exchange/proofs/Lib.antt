@@ -9,7 +9,6 @@ pub mod Retrying
 pub mod Receiving
 pub mod RequestText
 pub mod Begun
-pub mod Spends
 pub mod Steps
 pub mod Slots
 pub mod Balanced

@@ -114,17 +114,3 @@ NeedsAt name dial source _ _ = ⊥
 
 abbrev pub Needs : {W : Type 0} → (W → ℕ) → ℕ → ℕ → Bool → Option (State W) → Type 0
 Needs name dial source yielded state = IsSomeAnd state (NeedsAt name dial source yielded)
-
--- it has a lease there
-abbrev pub has_lease : {W : Type 0} → State W → Bool
-has_lease (Dialling lease) = true
-has_lease (Sending lease sent) = true
-has_lease (Reading lease) = true
-has_lease _ = false
-
--- where it had a lease and has none any more, it says that it spent one
-abbrev pub SpendsLeaseAt : {W : Type 0} → Bool → State W → State W → Type 0
-SpendsLeaseAt spent state next = has_lease state ≡ true → has_lease next ≡ false → spent ≡ true
-
-abbrev pub SpendsLease : {W : Type 0} → Option (State W) → Option (State W) → Bool → Type 0
-SpendsLease state next spent = IsSomeAnd state (λ first. IsSomeAnd next (SpendsLeaseAt spent first))

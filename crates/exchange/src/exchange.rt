@@ -13,7 +13,7 @@ ghost use Rattle.exchange.specs.Stepping.{PollsFew};
 ghost use Rattle.exchange.specs.Kept.{OwnsIts, owns_prop};
 ghost use Rattle.exchange.specs.Exchanging.{Stands, Continues, IsFinished, Leaves, Cancels};
 ghost use Rattle.exchange.specs.Exchanging.{Closes, GivesUpDial, LeavesDial, DialFailed, OpensFew};
-ghost use Rattle.exchange.specs.Exchanging.{DialsItsOwn, SpendsLease};
+ghost use Rattle.exchange.specs.Exchanging.{DialsItsOwn};
 ghost use Rattle.exchange.specs.Balance.{HasAll};
 ghost use Rattle.exchange.specs.declared.state.State.TheVariants as at;
 
@@ -77,7 +77,7 @@ impl<'a, W: Wire, C: Cache<W>, D: Dial<W>, K: Clock> Exchange<'a, W, C, D, K> {
         ensures steps { PollsFew C.did
             (world_of W.untouched W.happened (K.tells self.old.clock.now))
             self.old.cache.now self.new.cache.now self.new.transfer.has_yielded
-            self.old.transfer.state self.new.transfer.state }
+            self.new.transfer.has_spent self.old.transfer.state self.new.transfer.state }
         ensures over { IsFinished self.old.transfer.state →
             self.new.transfer.state ≡ self.old.transfer.state }
         ensures dialled { DialFailed self.old.transfer.state self.new.transfer.state
@@ -93,8 +93,6 @@ impl<'a, W: Wire, C: Cache<W>, D: Dial<W>, K: Clock> Exchange<'a, W, C, D, K> {
         ensures pending { OnPending result (Leaves W.source_name
             (D.source_name self.new.dial.now) cx.old cx.new self.new.transfer.waker
             self.new.transfer.has_yielded self.new.transfer.state) }
-        ensures spent { SpendsLease self.old.transfer.state self.new.transfer.state
-            self.new.transfer.has_spent }
         ensures kept { Keeps cx.old cx.new }
         ensures same_cache { self.new.cache.ghost_name ≡ self.old.cache.ghost_name }
         ensures same_dial { self.new.dial.ghost_name ≡ self.old.dial.ghost_name }

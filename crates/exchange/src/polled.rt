@@ -8,7 +8,7 @@ ghost use Rattle.exchange.specs.Worlds.{world_of};
 ghost use Rattle.exchange.specs.Stepping.{PollsFew};
 ghost use Rattle.exchange.specs.Balance.{HasAll};
 ghost use Rattle.exchange.specs.Exchanging.{Needs, Continues, IsFinished, Leaves, DialFailed};
-ghost use Rattle.exchange.specs.Exchanging.{OpensFew, DialsItsOwn, SpendsLease};
+ghost use Rattle.exchange.specs.Exchanging.{OpensFew, DialsItsOwn};
 
 use crate::exchange::Exchange;
 use crate::wire::{Clock, Dial, Wire};
@@ -63,8 +63,8 @@ impl<'b, 'a, W: Wire, C: Cache<W>, D: Dial<W>, K: Clock> Future for Polled<'b, '
         ensures steps { PollsFew C.did
             (world_of W.untouched W.happened (K.tells self.old.exchange.now.clock.now))
             self.old.exchange.now.cache.now self.new.exchange.now.cache.now
-            self.new.exchange.now.transfer.has_yielded self.old.exchange.now.transfer.state
-            self.new.exchange.now.transfer.state }
+            self.new.exchange.now.transfer.has_yielded self.new.exchange.now.transfer.has_spent
+            self.old.exchange.now.transfer.state self.new.exchange.now.transfer.state }
         ensures over { IsFinished self.old.exchange.now.transfer.state →
             self.new.exchange.now.transfer.state ≡ self.old.exchange.now.transfer.state }
         ensures dialled { DialFailed self.old.exchange.now.transfer.state
@@ -88,8 +88,6 @@ impl<'b, 'a, W: Wire, C: Cache<W>, D: Dial<W>, K: Clock> Future for Polled<'b, '
         ensures registered { OnPending result (Covers cx.new (λ source. Needs W.source_name
             (D.source_name self.new.exchange.now.dial.now) source
             self.new.exchange.now.transfer.has_yielded self.new.exchange.now.transfer.state)) }
-        ensures spent { SpendsLease self.old.exchange.now.transfer.state
-            self.new.exchange.now.transfer.state self.new.exchange.now.transfer.has_spent }
         ensures kept { Keeps cx.old cx.new }
         ensures same_cache { self.new.exchange.now.cache.ghost_name
             ≡ self.old.exchange.now.cache.ghost_name }

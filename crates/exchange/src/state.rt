@@ -1,7 +1,7 @@
 //! Where a transfer stands, and what it waits for.
 
 ghost use Rattle.std.specs.Prelude.{◌≡◌};
-ghost use Rattle.exchange.specs.Exchanging.{has_lease};
+ghost use Rattle.exchange.specs.Stepping.{has_lease};
 
 use crate::done::Done;
 use bundle::{Lease, Ticket};

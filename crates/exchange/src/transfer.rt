@@ -9,12 +9,11 @@ ghost use Rattle.exchange.specs.Worlds.{world_of};
 ghost use Rattle.exchange.specs.Standing.{GoesOn};
 ghost use Rattle.exchange.specs.Steps.{Opens, DialsAlone};
 ghost use Rattle.exchange.specs.Waiting.{AtStep, StepLeaves, stage_at};
-ghost use Rattle.exchange.specs.Stepping.{StepIs, StepAnswers, PollsFew};
+ghost use Rattle.exchange.specs.Stepping.{StepIs, StepAnswers, StepSpends, PollsFew};
 ghost use Rattle.exchange.specs.Owning.{IsReady, OwnsAt, Owns};
 ghost use Rattle.exchange.specs.Exchanging.{Continues, IsTold, IsFinished, Leaves, StepEnds};
 ghost use Rattle.exchange.specs.Exchanging.{Cancels, Closes, StaysEnded, GivesUpDial, LeavesDial};
 ghost use Rattle.exchange.specs.Exchanging.{DialFailed, DialFailsSince, OpensFew, DialsItsOwn};
-ghost use Rattle.exchange.specs.Exchanging.{SpendsLease};
 ghost use Rattle.exchange.specs.Balance.{HasAll};
 ghost use Rattle.exchange.specs.declared.state.State.TheVariants as at;
 
@@ -145,7 +144,8 @@ impl<W: Wire> Transfer<W> {
         ensures out { HasAll (world_of W.untouched W.happened (K.tells clock.now)) self.new.parts
             self.new.state }
         ensures steps { PollsFew C.did (world_of W.untouched W.happened (K.tells clock.now))
-            cache.old cache.new self.new.has_yielded self.old.state self.new.state }
+            cache.old cache.new self.new.has_yielded self.new.has_spent self.old.state
+            self.new.state }
         ensures over { IsFinished self.old.state → self.new.state ≡ self.old.state }
         ensures dialled { DialFailed self.old.state self.new.state
             (D.failures dial.old) (D.failures dial.new) }
@@ -157,7 +157,6 @@ impl<W: Wire> Transfer<W> {
         ensures finished { IfReady result (λ _. IsFinished self.new.state) }
         ensures pending { OnPending result (Leaves W.source_name (D.source_name dial.new)
             cx.old cx.new self.new.waker self.new.has_yielded self.new.state) }
-        ensures spent { SpendsLease self.old.state self.new.state self.new.has_spent }
         ensures kept { Keeps cx.old cx.new }
     {
         let now = clock.now();
@@ -204,8 +203,8 @@ impl<W: Wire> Transfer<W> {
         ensures ends { StepEnds W.source_name (D.source_name dial.new) cx.old cx.new
             self.new.waker false self.new.state result }
         ensures goes { self.new.has_yielded ≡ false }
-        ensures spent { SpendsLease self.old.state self.new.state self.new.has_spent }
-        ensures stays_spent { self.old.has_spent ≡ true → self.new.has_spent ≡ true }
+        ensures spent { StepSpends result self.old.has_spent self.new.has_spent self.old.state
+            self.new.state }
     {
         let state = self.state.take().unwrap();
         let had_lease = state.has_lease();
@@ -226,12 +225,11 @@ impl<W: Wire> Transfer<W> {
                 Some(Poll::Ready(()))
             }
             Step::Goes(state) => {
-                self.has_spent |= had_lease && !state.has_lease();
+                self.has_spent |= !state.has_lease() && had_lease;
                 put(&mut self.state, state);
                 None
             }
             Step::Waits(state) => {
-                self.has_spent |= had_lease && !state.has_lease();
                 put(&mut self.state, state);
                 Some(Poll::Pending)
             }

@@ -34,4 +34,19 @@ returns-in-Err-clause-story g c =
     asks_refused g.C.Cache.did (world_of g.W.Wire.untouched g.W.Wire.happened (g.K.Clock.tells c.args._clock.now)) p c.args.cache.now now c.args.now c.requires.told c.in-Err.refusal did
 
 pub returns-in-Ok-Lease-clause-steps : goal.returns-in-Ok-Lease-clause-steps
-returns-in-Ok-Lease-clause-steps g c = asks_on g.C.Cache.did (world_of g.W.Wire.untouched g.W.Wire.happened (g.K.Clock.tells c.args._clock.now)) c.args.cache.now c.acquire.new.self c.in-Ok-Lease.lease c.begin.result c.begin.ensures.begins
+returns-in-Ok-Lease-clause-steps g c =
+    let now = c.acquire.new.self in
+    let lease = c.in-Ok-Lease.lease in
+    let did : g.C.Cache.did c.args.cache.now now (leases lease c.args.now) = search rules in
+    asks_on (world_of g.W.Wire.untouched g.W.Wire.happened (g.K.Clock.tells c.args._clock.now)) (g.C.Cache.did c.args.cache.now now) lease c.args.now c.requires.told did c.begin.result c.begin.ensures.begins
+
+pub returns-in-Ok-Wait-clause-steps : goal.returns-in-Ok-Wait-clause-steps
+returns-in-Ok-Wait-clause-steps g c =
+    let did : g.C.Cache.did c.args.cache.now c.acquire.new.self (begins_wait c.in-Ok-Wait.ticket c.args.now) = search rules in
+    (c.args.now, c.requires.told, did)
+
+pub returns-in-Err-clause-steps : goal.returns-in-Err-clause-steps
+returns-in-Err-clause-steps g c =
+    let p = c.args.parts.now in
+    let did : g.C.Cache.did c.args.cache.now c.acquire.new.self (refuses p.site (wanted p) c.args.now c.in-Err.refusal) = search rules in
+    (c.args.now, c.requires.told, (p.site, wanted p, did))

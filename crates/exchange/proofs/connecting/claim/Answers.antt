@@ -28,4 +28,8 @@ pub returns-in-Err-clause-story : goal.returns-in-Err-clause-story
 returns-in-Err-clause-story g c = waits_strange g.C.Cache.did (world_of g.W.Wire.untouched g.W.Wire.happened (g.K.Clock.tells c.args._clock.now)) c.args.parts.now c.args.cache.now c.claim.new.self c.args.ticket c.in-Err.ensures.strange
 
 pub returns-in-Ok-Lease-clause-steps : goal.returns-in-Ok-Lease-clause-steps
-returns-in-Ok-Lease-clause-steps g c = claims_on g.C.Cache.did (world_of g.W.Wire.untouched g.W.Wire.happened (g.K.Clock.tells c.args._clock.now)) c.args.cache.now c.claim.new.self c.args.ticket c.in-Ok-Lease.lease c.begin.result c.begin.ensures.begins
+returns-in-Ok-Lease-clause-steps g c =
+    let now = c.claim.new.self in
+    let lease = c.in-Ok-Lease.lease in
+    let did : g.C.Cache.did c.args.cache.now now (grants lease) = search rules in
+    claims_on (world_of g.W.Wire.untouched g.W.Wire.happened (g.K.Clock.tells c.args._clock.now)) (g.C.Cache.did c.args.cache.now now) lease c.args.ticket did c.begin.result c.begin.ensures.begins

@@ -4,7 +4,6 @@ use Rattle.conn_log.specs.declared.entry.Want.{Want}
 use Rattle.exchange.specs.Worlds.{world_of}
 use Rattle.exchange.proofs.Balanced.{has_all}
 use Rattle.exchange.proofs.Begun.{begun_on}
-use Rattle.exchange.proofs.Spends.{spent_on}
 use Rattle.exchange.proofs.Steps.{takes_more, polls_few, polls_all}
 use Rattle.exchange.proofs.transfer.Transfer.poll.Goals as goal
 
@@ -19,8 +18,7 @@ loop-preserved g c =
     let same : c.loop.self.parts.want.transfer ≡ c.args.self.now.parts.want.transfer = ap (λ (w : Want). w.transfer) c.loop.invariant.same.want in
     let begun = begun_on (g.D.Dial.begun c.args.dial.now) (g.D.Dial.begun c.loop.dial) (g.D.Dial.begun c.step.new.dial) c.args.self.now.parts.want.transfer
     c.args.self.now.state c.loop.self.state c.step.new.self.state c.loop.self.parts.want.transfer same c.loop.invariant.begun c.step.ensures.begun in
-    let spent = spent_on c.args.self.now.state c.loop.self.state c.step.new.self.state c.loop.self.has_spent c.step.new.self.has_spent c.loop.invariant.spent c.step.ensures.spent c.step.ensures.stays_spent in
-    let steps = takes_more g.C.Cache.did (world_of g.W.Wire.untouched g.W.Wire.happened (g.K.Clock.tells c.args.clock.now)) c.args.cache.now c.loop.cache c.step.new.cache c.loop.counter c.args.self.now.state c.loop.self.state c.step.new.self.state c.loop.invariant.steps (rw c.in_default.is at c.step.ensures.steps) in
+    let steps = takes_more g.C.Cache.did (world_of g.W.Wire.untouched g.W.Wire.happened (g.K.Clock.tells c.args.clock.now)) c.args.cache.now c.loop.cache c.step.new.cache c.loop.counter c.loop.self.has_spent c.step.new.self.has_spent c.args.self.now.state c.loop.self.state c.step.new.self.state c.loop.invariant.steps (rw c.in_default.is at c.step.ensures.steps) (rw c.in_default.is at c.step.ensures.spent) in
     record {
       stays = search rules;
       owns = search rules;
@@ -35,13 +33,9 @@ loop-preserved g c =
       begins = search rules;
       going = search rules;
       yielded = search rules;
-      spent = spent;
       context = search rules;
       steps = steps;
     }
-
-pub returns-in-Some-clause-spent : goal.returns-in-Some-clause-spent
-returns-in-Some-clause-spent g c = spent_on c.args.self.now.state c.loop.self.state c.step.new.self.state c.loop.self.has_spent c.step.new.self.has_spent c.loop.invariant.spent c.step.ensures.spent c.step.ensures.stays_spent
 
 pub returns-in-Some-clause-out : goal.returns-in-Some-clause-out
 returns-in-Some-clause-out g c = has_all (world_of g.W.Wire.untouched g.W.Wire.happened (g.K.Clock.tells c.args.clock.now)) c.step.new.self.parts c.step.new.self.state _ c.step.ensures.owns
@@ -53,10 +47,10 @@ pub returns-in-Some-clause-steps : goal.returns-in-Some-clause-steps
 returns-in-Some-clause-steps g c =
     let few : c.loop.counter < 64 = search rules in
     polls_few g.C.Cache.did (world_of g.W.Wire.untouched g.W.Wire.happened (g.K.Clock.tells c.args.clock.now)) c.args.cache.now c.loop.cache c.step.new.cache c.loop.counter
-    c.step.new.self.has_yielded c.in-Some.polled c.args.self.now.state c.loop.self.state c.step.new.self.state g.W.Wire.source_name (g.D.Dial.source_name c.step.new.dial) c.loop.cx c.step.new.cx c.step.new.self.waker
-    c.step.ensures.goes few c.loop.invariant.steps c.in-Some.ensures.steps c.in-Some.ensures.ends
+    c.loop.self.has_spent c.step.new.self.has_spent c.step.new.self.has_yielded c.in-Some.polled c.args.self.now.state c.loop.self.state c.step.new.self.state g.W.Wire.source_name (g.D.Dial.source_name c.step.new.dial) c.loop.cx c.step.new.cx c.step.new.self.waker
+    c.step.ensures.goes few c.loop.invariant.steps c.in-Some.ensures.steps c.in-Some.ensures.spent c.in-Some.ensures.ends
 
 pub returns-clause-steps : goal.returns-clause-steps
 returns-clause-steps g c =
     let all : c.loop.counter ≡ 64 = search rules in
-    polls_all g.C.Cache.did (world_of g.W.Wire.untouched g.W.Wire.happened (g.K.Clock.tells c.args.clock.now)) c.args.cache.now c.loop.cache c.loop.counter c.args.self.now.state c.loop.self.state all c.loop.invariant.steps
+    polls_all g.C.Cache.did (world_of g.W.Wire.untouched g.W.Wire.happened (g.K.Clock.tells c.args.clock.now)) c.args.cache.now c.loop.cache c.loop.counter c.loop.self.has_spent c.args.self.now.state c.loop.self.state all c.loop.invariant.steps

@@ -2,7 +2,7 @@ use Rattle.std.proofs.Common.{◌≡◌, ◌⊎◌, false, IsSomeAnd}
 use Rattle.exchange.specs.Answers.{IsSameJob}
 use Rattle.exchange.specs.Worlds.{world_of}
 use Rattle.exchange.specs.Owning.{IsReady, Owns}
-use Rattle.exchange.specs.Exchanging.{Continues, OpensFew, DialsItsOwn, SpendsLease, IsFinished, IsGoing}
+use Rattle.exchange.specs.Exchanging.{Continues, OpensFew, DialsItsOwn, IsFinished, IsGoing}
 use Rattle.exchange.specs.Stepping.{TakesSome}
 use Rattle.exchange.proofs.transfer.Transfer.poll.Given as goal
 
@@ -21,7 +21,6 @@ invariant-loop g l = record {
   begins : (l.self.state ≡ l.fn.self.state) ⊎ IsSomeAnd l.self.state IsGoing;
   going : (l.counter ≡ 0) ⊎ IsSomeAnd l.self.state IsGoing;
   yielded : l.self.has_yielded ≡ false;
-  spent : SpendsLease l.fn.self.state l.self.state l.self.has_spent;
   context : l.cx ≡ l.fn.cx;
-  steps : TakesSome g.C.Cache.did (world_of g.W.Wire.untouched g.W.Wire.happened (g.K.Clock.tells l.fn.clock)) l.counter l.fn.cache l.cache l.fn.self.state l.self.state;
+  steps : TakesSome g.C.Cache.did (world_of g.W.Wire.untouched g.W.Wire.happened (g.K.Clock.tells l.fn.clock)) l.counter l.fn.cache l.cache l.self.has_spent l.fn.self.state l.self.state;
 }
