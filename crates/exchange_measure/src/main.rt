@@ -7,7 +7,7 @@ mod rounds;
 mod task;
 
 use crate::endless::EndlessDial;
-use crate::rounds::{exchanges, waiting};
+use crate::rounds::{transfers, waiting};
 use crate::task::{Task, task_of};
 use std::env;
 use std::process::ExitCode;
@@ -19,7 +19,7 @@ const FAILED: u8 = 1;
 const BAD_WORDS: u8 = 2;
 
 /// The words that there are.
-const USAGE: &str = "exchanges COUNT, or waiting WAITING ENDS";
+const USAGE: &str = "transfers COUNT, or waiting OTHERS ENDS";
 
 /// What the words ask for with which the program was started.
 fn asked(rt: &HostRuntime) -> Option<Task> {
@@ -47,11 +47,8 @@ fn main(rt: HostRuntime) -> ExitCode {
     };
     let mut dial = EndlessDial::new();
     let good = match task {
-        Task::Exchanges(count) => exchanges(&rt, rt.alloc(), &mut dial, count),
-        Task::Waiting {
-            waiting: others,
-            ends,
-        } => waiting(&rt, rt.alloc(), &mut dial, others, ends),
+        Task::Transfers(count) => transfers(&rt, rt.alloc(), &mut dial, count),
+        Task::Waiting { others, ends } => waiting(&rt, rt.alloc(), &mut dial, others, ends),
     };
     match good {
         Some(good) => print(&rt, good, dial.opened()),

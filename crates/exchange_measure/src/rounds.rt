@@ -69,7 +69,7 @@ fn transfer(
 
 /// So many transfers, one after the other, over one connection, each prepared in the memory of the
 /// one before it; how many were good. `None` where memory is short.
-pub(crate) fn exchanges<R: RandomSource + AllocGlobal>(
+pub(crate) fn transfers<R: RandomSource + AllocGlobal>(
     rt: &R,
     alloc: Global,
     dial: &mut EndlessDial,

@@ -3,18 +3,18 @@
 /// What is measured.
 #[derive(Clone, Copy, Debug, PartialEq, Eq, Drop)]
 pub(crate) enum Task {
-    /// Exchanges, so many, one after the other.
-    Exchanges(u32),
+    /// Transfers, so many, one after the other.
+    Transfers(u32),
     /// Transfers that end, so many, while others wait for a connection of their host.
-    Waiting { waiting: u32, ends: u32 },
+    Waiting { others: u32, ends: u32 },
 }
 
 /// The task that the words ask for, if they ask for one.
 pub(crate) fn task_of(words: &[String]) -> Option<Task> {
     match (words.get(1)?.as_str(), words.len()) {
-        ("exchanges", 3) => Some(Task::Exchanges(number_of(words.get(2)?)?)),
+        ("transfers", 3) => Some(Task::Transfers(number_of(words.get(2)?)?)),
         ("waiting", 4) => Some(Task::Waiting {
-            waiting: number_of(words.get(2)?)?,
+            others: number_of(words.get(2)?)?,
             ends: number_of(words.get(3)?)?,
         }),
         _ => None,
