@@ -7,12 +7,11 @@ ghost use Rattle.exchange.specs.Slabs.{AreKept};
 ghost use Rattle.exchange.specs.Worlds.{world_of};
 
 use crate::drawn::{DrawnDial, DrawnWire};
-use crate::driving::want_of;
+use crate::driving::{prepared_at, want_of};
 use budget::Limits;
 use cache::Pool;
-use conn_key::{CountedMemory, read_target};
 use conn_log::Event;
-use exchange::{Dial, Done, Fault, Job, Prepared, Slab};
+use exchange::{Dial, Done, Fault, Prepared, Slab};
 use exchange_memory::FixedClock;
 use futures::task::{Doorbell, Poll, Solo};
 use persistence::Method;
@@ -40,15 +39,7 @@ fn prepared<R: Abort + AllocGlobal>(rt: &R, transfer: u64) -> Prepared
 {
     let site = (transfer % HOSTS as u64) as u32;
     let url = format!(in rt.alloc(); "http://h{site}.example/{transfer}").expect(rt, "memory");
-    let mut memory = CountedMemory::new(rt.alloc());
-    let target = read_target(&mut memory, &url).expect(rt, "a target");
-    let job = Job {
-        site,
-        want: want_of(transfer),
-        method: Method::Get,
-        target,
-    };
-    Prepared::new(rt.alloc(), &job).expect(rt, "memory")
+    prepared_at(rt, site, Method::Get, &url, want_of(transfer))
 }
 
 impl Ends {
