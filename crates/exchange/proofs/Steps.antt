@@ -68,7 +68,7 @@ module _ {C W : Type 0} (does : C → C → Deed W → Type 0) (world : World W)
       subst (λ (n : ℕ). TakesSome does world n first after spent a c) next (takes_next a b c taken step spends)
 
   -- the last step of a poll
-  pub polls_few : (yielded : Bool) (answer : Poll (Unit {0})) (a b c : Option (State W)) (name : W → ℕ) (dial : ℕ) (old new : Context) (waker : Option Waker) → yielded ≡ false → count < 64 → TakesSome does world count first before already a b → StepAnswers does world before after (Some answer) b c → StepSpends (Some answer) already spent b c → StepEnds name dial old new waker false c (Some answer) → PollsFew does world first after yielded spent a c
+  pub polls_few : (yielded : Bool) (answer : Poll (Unit {0})) (a b c : Option (State W)) (name : W → ℕ) (dial : ℕ) (old new : Context) (waker : Option Waker) → yielded ≡ false → count < 64 → TakesSome does world count first before already a b → StepAnswers does world before after (Some answer) b c → StepSpends (Some answer) already spent b c → StepEnds name dial old new waker c (Some answer) → PollsFew does world first after yielded spent a c
   polls_few true answer a b c name dial old new waker not few taken step spends ends = absurd (true≢false not)
   polls_few false (Ready it) (Some a) (Some b) (Some c) name dial old new waker not few taken step spends ends =
       let end : c ≡ at.Finished ends.1.0 = ap (λ (o : Option (State W)). unwrap_or o c) ends.1.1 in

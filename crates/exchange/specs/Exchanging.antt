@@ -1,5 +1,5 @@
 -- What is true of a transfer between two calls, and what a call leaves.
-use Rattle.std.specs.Prelude.{◌≡◌, ℕ, Bool, true, false, List, Option, Some, None, IsSomeAnd}
+use Rattle.std.specs.Prelude.{◌≡◌, ℕ, Bool, false, List, Option, Some, None, IsSomeAnd}
 use Rattle.futures.specs.declared.task.Poll.{Poll}
 use Rattle.futures.specs.declared.task.Poll.TheVariants.{Ready, Pending}
 use Rattle.futures.specs.declared.task.context.Context.{Context}
@@ -100,10 +100,10 @@ StaysEnded (Finished done) new = new ≡ Finished done
 StaysEnded _ new = Unit {0}
 
 -- how a step ends: it goes on, having left its context alone; it waits; or the transfer has ended
-abbrev pub StepEnds : {W : Type 0} → (W → ℕ) → ℕ → Context → Context → Option Waker → Bool → Option (State W) → Option (Poll (Unit {0})) → Type 0
-StepEnds name dial old new waker yielded state None = (new ≡ old) × IsSomeAnd state IsGoing
-StepEnds name dial old new waker yielded state (Some Pending) = Leaves name dial old new waker yielded state
-StepEnds name dial old new waker yielded state (Some (Ready it)) = (new ≡ old) × IsFinished state
+abbrev pub StepEnds : {W : Type 0} → (W → ℕ) → ℕ → Context → Context → Option Waker → Option (State W) → Option (Poll (Unit {0})) → Type 0
+StepEnds name dial old new waker state None = (new ≡ old) × IsSomeAnd state IsGoing
+StepEnds name dial old new waker state (Some Pending) = Leaves name dial old new waker false state
+StepEnds name dial old new waker state (Some (Ready it)) = (new ≡ old) × IsFinished state
 
 -- what it waits for, by the name of the source
 abbrev pub NeedsAt : {W : Type 0} → (W → ℕ) → ℕ → ℕ → Bool → State W → Type 0

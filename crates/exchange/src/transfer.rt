@@ -11,7 +11,7 @@ ghost use Rattle.exchange.specs.Steps.{Opens, DialsAlone};
 ghost use Rattle.exchange.specs.Waiting.{AtStep, StepLeaves, stage_at};
 ghost use Rattle.exchange.specs.Stepping.{StepIs, StepAnswers, StepSpends, PollsFew};
 ghost use Rattle.exchange.specs.Owning.{IsReady, OwnsAt, Owns};
-ghost use Rattle.exchange.specs.Exchanging.{Continues, IsTold, IsFinished, Leaves, StepEnds};
+ghost use Rattle.exchange.specs.Exchanging.{Continues, IsFinished, Leaves, StepEnds};
 ghost use Rattle.exchange.specs.Exchanging.{Cancels, Closes, StaysEnded, GivesUpDial, LeavesDial};
 ghost use Rattle.exchange.specs.Exchanging.{DialFailed, DialFailsSince, OpensFew, DialsItsOwn};
 ghost use Rattle.exchange.specs.Balance.{HasAll};
@@ -201,7 +201,7 @@ impl<W: Wire> Transfer<W> {
             self.old.parts.want.transfer self.old.state self.new.state }
         ensures turns { D.turn_failures dial.new ≡ D.turn_failures dial.old }
         ensures ends { StepEnds W.source_name (D.source_name dial.new) cx.old cx.new
-            self.new.waker false self.new.state result }
+            self.new.waker self.new.state result }
         ensures goes { self.new.has_yielded ≡ false }
         ensures spent { StepSpends result self.old.has_spent self.new.has_spent self.old.state
             self.new.state }
