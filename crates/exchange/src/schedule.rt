@@ -99,12 +99,16 @@ impl Schedule {
         }
     }
 
-    /// Makes room for that place, where it is the one behind all others, and for waits at that
-    /// site: no host has a site past the most.
-    pub(crate) fn make_room(&mut self, place: usize, site: u32) -> Result<(), AllocError> {
+    /// Makes room for that place, where it is the one behind all others.
+    pub(crate) fn add_place(&mut self, place: usize) -> Result<(), AllocError> {
         if self.links.len() <= place {
             self.links.push(NONE)?;
         }
+        Ok(())
+    }
+
+    /// Makes room for waits at that site: no host has a site past the most.
+    pub(crate) fn add_site(&mut self, site: u32) -> Result<(), AllocError> {
         let sites = site.min(MOST_HOSTS) as usize + 1;
         for _ in self.waiting.len()..sites {
             self.waiting.push(Waiting {

@@ -79,24 +79,38 @@ impl<W: Wire> Slab<W> {
         ensures err { IfErr result (λ same. (same ≡ parts)
             × (self.new.slots.items ≡ self.old.slots.items)) }
     {
-        let places = self.slots.len();
-        if self.is_closing || self.schedule.make_room(places, parts.site).is_err() {
+        if self.is_closing || self.schedule.add_site(parts.site).is_err() {
             return Err(parts);
         }
-        if self.slots.reserve(1).is_err() {
-            return Err(parts);
-        }
-        match self.schedule.take_free() {
-            Some(place) if self.is_vacant(place) => {
+        match self.take_vacant() {
+            Some(place) => {
                 self.fill(place, Transfer::new(parts));
                 self.schedule.becomes_due(place);
             }
-            _ => {
+            None => {
+                let place = self.slots.len();
+                if self.slots.reserve(1).is_err() || self.schedule.add_place(place).is_err() {
+                    return Err(parts);
+                }
                 self.append(Transfer::new(parts));
-                self.schedule.becomes_due(places);
+                self.schedule.becomes_due(place);
             }
         }
         Ok(())
+    }
+
+    // A place where no transfer stands, which is free no more.
+    fn take_vacant(&mut self) -> Option<usize>
+        ensures vacant { IfSome result (λ place.
+            slice_get self.new.slots.items place ≡ Some None) }
+        ensures same { self.new.slots ≡ self.old.slots }
+    {
+        let place = self.schedule.take_free()?;
+        if self.is_vacant(place) {
+            Some(place)
+        } else {
+            None
+        }
     }
 
     // Whether no transfer stands there, and one can.

@@ -4,22 +4,22 @@ use Rattle.exchange.specs.Worlds.{world_of}
 use Rattle.exchange.specs.Slabs.{one_if_some}
 use Rattle.exchange.proofs.Slots.{begins_kept, kept_with, kept_behind, one_more_at}
 use Rattle.exchange.proofs.slab.Slab.join.Goals as goal
-use Rattle.exchange.proofs.slab.Slab.join.Goals.{in-Some, in_default}
+use Rattle.exchange.proofs.slab.Slab.join.Goals.{in-Some, in-None+else-is_err-2+else-is_err-3}
 
 pub returns-clause-kept : goal.returns-clause-kept
 returns-clause-kept g c =
     let world = world_of g.W.Wire.untouched g.W.Wire.happened (g.K.Clock.tells c.args._clock.now) in
     let home = g.C.Cache.home c.args._cache.now in
     let slots = c.args.self.now.slots.items in
-    elim c.match-take_free.branch [
-      | in-Some w ↦ rw (w.self-is, w.fill.ensures, c.reserve.ensures.items) (kept_with world home slots w.new.result (begins_kept world home w.new.result (rw w.new.ensures.parts c.requires.unused) (w.new.ensures.owns home) w.new.ensures.ready w.new.ensures.begins) c.requires.kept w.in-Some.place)
-      | in_default w ↦ rw (w.self-is, w.append.ensures, c.reserve.ensures.items) (kept_behind world home slots w.new-in_default.result (begins_kept world home w.new-in_default.result (rw w.new-in_default.ensures.parts c.requires.unused) (w.new-in_default.ensures.owns home) w.new-in_default.ensures.ready w.new-in_default.ensures.begins) c.requires.kept)
+    elim c.match-take_vacant.branch [
+      | in-Some w ↦ rw (w.self-is, w.fill.ensures, c.take_vacant.ensures.same) (kept_with world home slots w.new.result (begins_kept world home w.new.result (rw w.new.ensures.parts c.requires.unused) (w.new.ensures.owns home) w.new.ensures.ready w.new.ensures.begins) c.requires.kept w.in-Some.place)
+      | in-None+else-is_err-2+else-is_err-3 w ↦ rw (w.self-is, w.append.ensures, w.reserve.ensures.items, c.take_vacant.ensures.same) (kept_behind world home slots w.new-in-None.result (begins_kept world home w.new-in-None.result (rw w.new-in-None.ensures.parts c.requires.unused) (w.new-in-None.ensures.owns home) w.new-in-None.ensures.ready w.new-in-None.ensures.begins) c.requires.kept)
     ]
 
 pub returns-clause-ok : goal.returns-clause-ok
 returns-clause-ok g c =
     let slots = c.args.self.now.slots.items in
-    elim c.match-take_free.branch [
-      | in-Some w ↦ rw (w.self-is, w.fill.ensures, c.reserve.ensures.items) (one_more_at slots w.in-Some.place w.new.result (rw c.reserve.ensures.items at (w.is_vacant.ensures w.if-is_vacant.true)))
-      | in_default w ↦ rw (w.self-is, w.append.ensures, c.reserve.ensures.items) (sum_by_push one_if_some slots _)
+    elim c.match-take_vacant.branch [
+      | in-Some w ↦ rw (w.self-is, w.fill.ensures, c.take_vacant.ensures.same) (one_more_at slots w.in-Some.place w.new.result (rw c.take_vacant.ensures.same at w.in-Some.ensures.vacant))
+      | in-None+else-is_err-2+else-is_err-3 w ↦ rw (w.self-is, w.append.ensures, w.reserve.ensures.items, c.take_vacant.ensures.same) (sum_by_push one_if_some slots _)
     ]
