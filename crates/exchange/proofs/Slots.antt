@@ -1,7 +1,8 @@
 -- What is kept of a slab's transfers where one is put in, polled or taken out.
-use Rattle.std.proofs.Common.{◌≡◌, refl, sym, subst, inl, inr, Bool, ℕ, ◌+◌, ◌≤◌, List, [], ◌∷◌, ◌++◌, length, set, slice_get, Option, Some, None, IfSome, sum_by, arith, length-set}
+use Rattle.std.proofs.Common.{◌≡◌, refl, sym, ap, ◌∙◌, subst, inl, inr, Bool, ℕ, ◌+◌, ◌≤◌, List, [], ◌∷◌, ◌++◌, length, set, slice_get, Option, Some, None, IfSome, sum_by, arith, length-set}
 use Rattle.std.proofs.lemmas.List.Sums.{sum_by-set, sum_by-cons}
-use Rattle.std.proofs.lemmas.List.Elements.{All-set, All-push, All-get_or}
+use Rattle.std.proofs.lemmas.List.{append_assoc, append-nil}
+use Rattle.std.proofs.lemmas.List.Elements.{All-set, All-push, All-get_or, filter_map-append}
 use Rattle.std.proofs.lemmas.Option.{slice_get_within, get_or_from_slice_get}
 use Rattle.bundle.specs.Seats.{Tables}
 use Rattle.leasing.specs.Deeds.{Deed}
@@ -16,8 +17,8 @@ use Rattle.exchange.specs.Story.{AsksAt}
 use Rattle.exchange.specs.Owning.{IsReady, Owns}
 use Rattle.exchange.specs.Since.{Outset}
 use Rattle.exchange.specs.Standing.{StandsFrom}
-use Rattle.exchange.specs.Exchanging.{Stands, Continues, IsToldAt, IsTold, ClosesAt, Closes}
-use Rattle.exchange.specs.Slabs.{IsKept, AreKept, HasEnded, HasClosed, one_if_some}
+use Rattle.exchange.specs.Exchanging.{Stands, Continues, IsToldAt, IsTold, Cancels, ClosesAt, Closes}
+use Rattle.exchange.specs.Slabs.{IsKept, AreKept, HasEnded, HasClosed, ClosesAll, transfers_in, one_if_some}
 
 -- no more transfers than places
 pub within : {W : Type 0} (slots : List (Option (Transfer W))) → sum_by one_if_some slots ≤ length slots
@@ -94,3 +95,28 @@ module _ {W : Type 0} (world : World W) (done : Done) (p : Prepared) (ready : Is
   pub closed_is : (q : Prepared) (state : Option (State W)) → Closes done state → q ≡ p → IsTold world p state → HasClosed world (done, q)
   closed_is q (Some state) closes same told = subst (λ (parts : Prepared). HasClosed world (done, parts)) (sym same) (closed_at state closes told)
   closed_is q None closes same told = absurd closes
+
+-- without its last place a list of places has the transfers of the others
+pub transfers_popped : {W : Type 0} (slots left : List (Option (Transfer W))) (last : Option (Transfer W)) → slots ≡ left ++ (last ∷ []) → transfers_in slots ≡ transfers_in left ++ transfers_in (last ∷ [])
+transfers_popped slots left last pops = ap transfers_in pops ∙ filter_map-append (λ slot. slot) left (last ∷ [])
+
+-- of all these no more than those are left, and the others were closed, the last one first
+abbrev pub ClosesRest : {C W : Type 0} → (C → C → Deed W → Type 0) → World W → C → C → List (Transfer W) → List (Transfer W) → Type 0
+ClosesRest {C} {W} did world before after all left = (closed : List (Transfer W)) × (all ≡ left ++ closed) × ClosesAll did world before after closed
+
+-- none of them was closed yet
+pub closes_none : {C W : Type 0} (does : C → C → Deed W → Type 0) (world : World W) (cache : C) (all : List (Transfer W)) → ClosesRest does world cache cache all all
+closes_none does world cache all = ([], sym (append-nil all), refl)
+
+-- and without an empty last place it has the same
+pub transfers_left : {W : Type 0} (slots left : List (Option (Transfer W))) → slots ≡ left ++ (None ∷ []) → transfers_in left ≡ transfers_in slots
+transfers_left slots left pops = sym (transfers_popped slots left None pops ∙ append-nil (transfers_in left))
+
+module _ {C W : Type 0} (does : C → C → Deed W → Type 0) (world : World W) (before middle after : C) (all : List (Transfer W)) where
+  -- the last of those that are left is closed too
+  pub closes_more : (left next : List (Transfer W)) (t : Transfer W) → ClosesRest does world before middle all left → left ≡ next ++ (t ∷ []) → (moment : ℕ) → world.tells moment → Cancels does middle after moment t.state → ClosesRest does world before after all next
+  closes_more left next t rest taken moment told cancels = (t ∷ rest.0, rest.1 ∙ (ap (λ (l : List (Transfer W)). l ++ rest.0) taken ∙ append_assoc next (t ∷ []) rest.0), (middle, rest.2, (moment, told, cancels)))
+
+  -- none is left
+  pub closes_all : (left : List (Transfer W)) → ClosesRest does world before middle all left → left ≡ [] → after ≡ middle → ClosesAll does world before after all
+  closes_all left rest none same = subst (λ (c : C). ClosesAll does world before c all) (sym same) (subst (λ (l : List (Transfer W)). ClosesAll does world before middle l) (sym (rest.1 ∙ ap (λ (l : List (Transfer W)). l ++ rest.0) none)) rest.2)

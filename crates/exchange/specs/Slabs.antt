@@ -1,5 +1,5 @@
 -- What a slab knows of its transfers.
-use Rattle.std.specs.Prelude.{◌≡◌, ℕ, ◌⊎◌, List, Option, Some, None, IfSome, All}
+use Rattle.std.specs.Prelude.{◌≡◌, ℕ, ◌⊎◌, List, [], ◌∷◌, ◌++◌, filter_map, Option, Some, None, IfSome, All}
 use Rattle.bundle.specs.Seats.{Tables}
 use Rattle.exchange.specs.declared.job.Prepared.{Prepared}
 use Rattle.exchange.specs.declared.done.Done.{Done}
@@ -29,10 +29,15 @@ HasEnded {W} world ended = IsReady ended.1 × ((deeds : List (Deed W)) × Ends w
 abbrev pub HasClosed : {W : Type 0} → World W → Done × Prepared → Type 0
 HasClosed world closed = IsReady closed.1 × ((closed.0 ≡ Bad Cancelled) ⊎ HasEnded world closed)
 
--- a transfer that was kept was closed, at a moment that the clock told: at the cache it was cancelled, and nothing is
+-- the transfers that stand in those places, in their order
+abbrev pub transfers_in : {W : Type 0} → List (Option (Transfer W)) → List (Transfer W)
+transfers_in slots = filter_map (λ slot. slot) slots
+
+-- the last of those that stood in these places was kept and was closed, at a moment that the clock told: at the cache it was cancelled, and nothing is
 -- begun for it at the dial, which stays as it was unless the transfer dialled
-pub record ClosesOne {C D W : Type 0} (did : C → C → Deed W → Type 0) (world : World W) (home : List Tables) (before after : C) (begun_at : D → ℕ → Type 0) (old new : D) (closed : Done × Prepared) : Type 0 where
+pub record ClosesOne {C D W : Type 0} (did : C → C → Deed W → Type 0) (world : World W) (home : List Tables) (before after : C) (begun_at : D → ℕ → Type 0) (old new : D) (slots left : List (Option (Transfer W))) (closed : Done × Prepared) : Type 0 where
   pub transfer : Transfer W
+  pub taken : transfers_in slots ≡ transfers_in left ++ (transfer ∷ [])
   pub kept : IsKept world home transfer
   pub moment : ℕ
   pub told : world.tells moment
@@ -41,6 +46,12 @@ pub record ClosesOne {C D W : Type 0} (did : C → C → Deed W → Type 0) (wor
   pub parts : closed.1 ≡ transfer.parts
   pub begun : GivesUpDial (begun_at old) (begun_at new) transfer.parts.want.transfer transfer.state
   pub leaves : LeavesDial old new transfer.state
+
+-- these were closed, the last one first, each at a moment that the clock told, and nothing else was done at the cache
+abbrev pub ClosesAll : {C W : Type 0} → (C → C → Deed W → Type 0) → World W → C → C → List (Transfer W) → Type 0
+ClosesAll did world before after [] = after ≡ before
+ClosesAll {C} did world before after (transfer ∷ others) =
+    (middle : C) × ClosesAll did world before middle others × ((moment : ℕ) × world.tells moment × Cancels did middle after moment transfer.state)
 
 -- one, where there is a transfer
 abbrev pub one_if_some : {W : Type 0} → Option (Transfer W) → ℕ

@@ -6,7 +6,7 @@ ghost use Rattle.std.specs.Prelude.{vec_len, vec_capacity, slice_get, slice_set}
 ghost use Rattle.exchange.specs.Answers.{IsUnused};
 ghost use Rattle.exchange.specs.Worlds.{world_of};
 ghost use Rattle.exchange.specs.Slabs.{AreKept, HasEnded, HasClosed, ClosesOne};
-ghost use Rattle.exchange.specs.Slabs.{one_if_some};
+ghost use Rattle.exchange.specs.Slabs.{ClosesAll, transfers_in, one_if_some};
 
 use crate::done::Done;
 use crate::job::Prepared;
@@ -246,10 +246,12 @@ impl<W: Wire> Slab<W> {
             (HasClosed (world_of W.untouched W.happened (K.tells clock.now))) }
         ensures closes { IfSome result (ClosesOne C.did
             (world_of W.untouched W.happened (K.tells clock.now)) (C.home cache.old)
-            cache.old cache.new D.begun dial.old dial.new) }
+            cache.old cache.new D.begun dial.old dial.new self.old.slots.items
+            self.new.slots.items) }
         ensures fewer { OnSome result (sum_by one_if_some self.new.slots.items + 1
             ≡ sum_by one_if_some self.old.slots.items) }
         ensures none { IfNone result (self.new.slots.items ≡ []) }
+        ensures none_left { IfNone result (transfers_in self.old.slots.items ≡ []) }
         ensures same_cache { IfNone result (cache.new ≡ cache.old) }
         ensures same_dial { IfNone result (dial.new ≡ dial.old) }
         ensures counted { D.failures dial.new ≡ D.failures dial.old }
@@ -271,6 +273,8 @@ impl<W: Wire> Slab<W> {
         requires kept { AreKept (world_of W.untouched W.happened (K.tells clock.now))
             (C.home cache.old) self.slots.items }
         ensures stays { C.home cache.new ≡ C.home cache.old }
+        ensures closes { ClosesAll C.did (world_of W.untouched W.happened (K.tells clock.now))
+            cache.old cache.new (transfers_in self.slots.items) }
         ensures counted { D.failures dial.new ≡ D.failures dial.old }
         ensures opens { D.opened dial.new ≡ D.opened dial.old }
         ensures turns { D.turn_failures dial.new ≡ D.turn_failures dial.old }

@@ -1,9 +1,9 @@
 -- What was kept of a transfer tells how it ended.
-use Rattle.std.proofs.Common.{IfSome}
+use Rattle.std.proofs.Common.{rules, IfSome, Some, sym, ◌∙◌}
 use Rattle.std.proofs.lemmas.List.Elements.{All-pop}
 use Rattle.exchange.specs.Worlds.{world_of}
 use Rattle.exchange.specs.Slabs.{IsKept}
-use Rattle.exchange.proofs.Slots.{closed_is}
+use Rattle.exchange.proofs.Slots.{closed_is, transfers_popped, transfers_left}
 use Rattle.exchange.proofs.slab.Slab.close_last.Goals as goal
 
 pub returns-in-Some-slot-clause-closed : goal.returns-in-Some-slot-clause-closed
@@ -20,8 +20,10 @@ returns-in-Some-slot-clause-closes g c =
     let t = c.in-Some-slot.transfer in
     let pops = All-pop (λ slot. IfSome slot (IsKept world (g.C.Cache.home c.loop-slot.cache))) c.loop-slot.self.slots.items c.pop.new.self.items c.pop.result c.pop.ensures.items c.loop-slot.invariant.kept in
     let kept : IsKept world (g.C.Cache.home c.loop-slot.cache) t = rw (c.in-Some.is, c.in-Some-slot.is) at pops.1 in
+    let popped = transfers_popped c.loop-slot.self.slots.items c.pop.new.self.items (Some t) (rw (c.in-Some.is, c.in-Some-slot.is) at c.pop.ensures.items) in
     rw (← c.loop-slot.invariant.cache, ← c.loop-slot.invariant.dial) (record {
       transfer = t;
+      taken = sym c.loop-slot.invariant.left ∙ popped;
       kept = kept;
       moment = c.now.result;
       told = c.now.ensures;
@@ -31,3 +33,16 @@ returns-in-Some-slot-clause-closes g c =
       begun = c.close.ensures.begun;
       leaves = c.close.ensures.leaves;
     })
+
+pub loop-slot-preserved : goal.loop-slot-preserved
+loop-slot-preserved g c =
+    let left = transfers_left c.loop-slot.self.slots.items c.pop.new.self.items (rw (c.in-Some.is, c.in_default-slot.is) at c.pop.ensures.items) in
+    let world = world_of g.W.Wire.untouched g.W.Wire.happened (g.K.Clock.tells c.args.clock.now) in
+    let pops = All-pop (λ slot. IfSome slot (IsKept world (g.C.Cache.home c.loop-slot.cache))) c.loop-slot.self.slots.items c.pop.new.self.items c.pop.result c.pop.ensures.items c.loop-slot.invariant.kept in
+    record {
+      kept = pops.0;
+      count = search rules;
+      left = left ∙ c.loop-slot.invariant.left;
+      cache = search rules;
+      dial = search rules;
+    }

@@ -1,6 +1,6 @@
 use Rattle.std.proofs.Common.{◌≡◌, length}
 use Rattle.exchange.specs.Worlds.{world_of}
-use Rattle.exchange.specs.Slabs.{AreKept, one_if_some}
+use Rattle.exchange.specs.Slabs.{AreKept, transfers_in, one_if_some}
 use Rattle.std.specs.Prelude.{sum_by}
 use Rattle.exchange.proofs.slab.Slab.close_last.Given as goal
 
@@ -11,6 +11,7 @@ abbrev pub invariant-loop-slot : goal.invariant-loop-slot
 invariant-loop-slot g l = record {
   kept : AreKept (world_of g.W.Wire.untouched g.W.Wire.happened (g.K.Clock.tells l.fn.clock)) (g.C.Cache.home l.cache) l.self.slots.items;
   count : sum_by one_if_some l.self.slots.items ≡ sum_by one_if_some l.fn.self.slots.items;
+  left : transfers_in l.self.slots.items ≡ transfers_in l.fn.self.slots.items;
   cache : l.cache ≡ l.fn.cache;
   dial : l.dial ≡ l.fn.dial;
 }
