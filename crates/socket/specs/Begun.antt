@@ -1,0 +1,16 @@
+-- For which transfers a connection was begun.
+use Rattle.std.specs.Prelude.{ℕ, nat_eq, IsSome}
+use Rattle.std.specs.HashMap.{get, HashMap}
+use Rattle.socket.specs.declared.begun.Attempt.{Attempt}
+use Rattle.socket.specs.declared.dialled_socket.DialledSocket.{DialledSocket}
+use Rattle.socket.specs.declared.connector.Opening.{Opening}
+use Rattle.socket.specs.declared.connector.Opening.TheVariants.{Open}
+
+-- a connection was begun for that transfer
+abbrev pub IsBegun : {S : Type 0} → HashMap ℕ Attempt S → ℕ → Type 0
+IsBegun begun transfer = IsSome (get nat_eq begun transfer)
+
+-- if it is open, this holds of it
+abbrev pub IfOpen : Opening → (DialledSocket → Type 0) → Type 0
+IfOpen (Open socket) P = P socket
+IfOpen _ P = Unit {0}

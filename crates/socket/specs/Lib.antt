@@ -1,0 +1,4 @@
+pub mod Hosts
+pub mod Begun
+pub mod Sockets
+pub mod Streams

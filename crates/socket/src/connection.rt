@@ -1,0 +1,162 @@
+//! What is known of a connection over a socket, and how its socket is read, written and looked at.
+
+ghost use Rattle.std.specs.Prelude.{◌≡◌, ◌<◌, length, true, false};
+ghost use Rattle.exchange.specs.Wires.{Reads, Writes};
+ghost use Rattle.exchange.specs.Wires.Happening.{is_adopted};
+ghost use Rattle.exchange.specs.Dialling.{OnReadFault, OnWriteFault};
+ghost use Rattle.conn_key.specs.Wants.{Rises};
+ghost use Rattle.socket.specs.Sockets.{IsUntouched, HappensTo, Fails, Judges};
+ghost use Rattle.socket.specs.Streams.{ReadFrom, WrittenTo};
+
+use exchange::{Read, Written};
+use libc::net::{POLLIN, POLLRDHUP, poll};
+use libc::types::pollfd;
+use std::io;
+use std::io::{Error, ErrorKind};
+use std::os::fd::AsRawFd;
+
+/// What has happened on a connection.
+#[derive(Clone, Copy, Debug, PartialEq, Eq)]
+pub(crate) enum Condition {
+    /// Nothing yet.
+    Untouched,
+    /// Its socket was used.
+    Used,
+    /// Its peer said something that no request asked for, or has gone: it is not used again.
+    Unfit,
+}
+
+/// What is known of a connection: to which site's host it was dialled, for which transfer, what has
+/// happened on it, and how often a read or a write failed, a count that stays at the greatest `u64`.
+#[derive(Clone, Copy, Debug, PartialEq, Eq)]
+pub(crate) struct Connection {
+    site: u32,
+    transfer: u64,
+    condition: Condition,
+    failures: u64,
+}
+
+impl Connection {
+    /// A connection to the host of that site, for that transfer.
+    pub(crate) fn new(site: u32, transfer: u64) -> Connection
+        ensures { IsUntouched result site transfer }
+    {
+        Connection {
+            site,
+            transfer,
+            condition: Condition::Untouched,
+            failures: 0,
+        }
+    }
+
+    /// Reads from its socket into the buffer, which must have room.
+    pub(crate) fn read<S: io::Read>(&mut self, socket: &mut S, buffer: &mut [u8]) -> Read
+        requires { 0 < length buffer.old }
+        ensures bytes { ReadFrom (S.remaining socket.old) (S.remaining socket.new) result
+            buffer.new }
+        ensures reads { Reads buffer.new (HappensTo self.old self.new) result }
+        ensures fault { OnReadFault result (Rises self.old.failures self.new.failures) }
+    {
+        if self.condition == Condition::Unfit {
+            self.fail();
+            return Read::Fault;
+        }
+        match socket.read(buffer) {
+            Ok(0) => {
+                self.condition = Condition::Used;
+                Read::End
+            }
+            Ok(count) => {
+                self.condition = Condition::Used;
+                Read::Bytes(count)
+            }
+            Err(error) => {
+                if is_not_yet(&error) {
+                    return Read::NotYet;
+                }
+                self.fail();
+                Read::Fault
+            }
+        }
+    }
+
+    /// Writes a front of the bytes to its socket, of which there must be one.
+    pub(crate) fn write<S: io::Write>(&mut self, socket: &mut S, bytes: &[u8]) -> Written
+        requires { 0 < length bytes.now }
+        ensures bytes { WrittenTo (S.contents socket.old) (S.contents socket.new) result
+            bytes.now }
+        ensures writes { Writes bytes.now (HappensTo self.old self.new) result }
+        ensures fault { OnWriteFault result (Rises self.old.failures self.new.failures) }
+    {
+        if self.condition == Condition::Unfit {
+            self.fail();
+            return Written::Fault;
+        }
+        match socket.write(bytes) {
+            Ok(0) => {
+                self.fail();
+                Written::Fault
+            }
+            Ok(count) => {
+                self.condition = Condition::Used;
+                Written::Took(count)
+            }
+            Err(error) => {
+                if is_not_yet(&error) {
+                    return Written::NotYet;
+                }
+                self.fail();
+                Written::Fault
+            }
+        }
+    }
+
+    /// Another transfer is about to use it. If its socket was found readable, its peer said
+    /// something that no request asked for, or has gone, and it is unfit for use from then on.
+    pub(crate) fn judge(&mut self, is_readable: bool)
+        ensures judged { Judges is_readable self.old self.new }
+        ensures adopted { HappensTo self.old self.new is_adopted }
+    {
+        if is_readable || self.condition == Condition::Unfit {
+            self.condition = Condition::Unfit;
+        } else {
+            self.condition = Condition::Used;
+        }
+    }
+
+    // Counts a failure.
+    fn fail(&mut self)
+        ensures { Fails self.old self.new }
+    {
+        self.failures = self.failures.saturating_add(1);
+        if self.condition == Condition::Untouched {
+            self.condition = Condition::Used;
+        }
+    }
+}
+
+/// Whether a call has only to be made again: it would wait, or its time is up, which the system
+/// tells as one error (the manual page socket(7), at SO_RCVTIMEO), or a signal came.
+fn is_not_yet(error: &Error) -> bool {
+    matches!(error.kind(), ErrorKind::WouldBlock | ErrorKind::Interrupted)
+}
+
+/// How often a look is tried that a signal may have interrupted.
+const MOST_LOOKS: u32 = 3;
+
+/// Whether bytes, the peer's end or an error can be read from a socket, asked without waiting (the
+/// manual page poll(2)). One that cannot be asked counts as readable.
+pub(crate) fn is_readable<S: AsRawFd>(socket: &S) -> bool {
+    for _ in 0..MOST_LOOKS {
+        let mut asked = [pollfd {
+            fd: socket.as_raw_fd(),
+            events: POLLIN | POLLRDHUP,
+            revents: 0,
+        }];
+        let ready = poll(&mut asked, 0);
+        if ready >= 0 {
+            return ready > 0;
+        }
+    }
+    true
+}

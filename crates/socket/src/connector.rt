@@ -1,0 +1,165 @@
+//! How connections are begun and opened, whatever they are used for then.
+
+ghost use Rattle.std.specs.Prelude.{◌≡◌, ℕ};
+ghost use Rattle.exchange.specs.Dialling.{CountsBegun, IfUp};
+ghost use Rattle.socket.specs.Begun.{IsBegun, IfOpen};
+ghost use Rattle.socket.specs.Sockets.{IsUntouched};
+
+use crate::addresses::Addresses;
+use crate::begun::{Attempt, keep, take};
+use crate::dialled_socket::{DialledSocket, Progress};
+use exchange::Dialled;
+use mio::{Events, Poll, Registry};
+use std::alloc::Global;
+use std::collections::HashMap;
+use std::io;
+use std::net::{Net, SocketAddr};
+use std::time::Duration;
+
+/// How many milliseconds a call waits at most.
+pub(crate) const MOST_MILLISECONDS: u64 = 10;
+
+/// How many events one turn takes. What is left is seen by the next turn.
+const MOST_EVENTS: usize = 256;
+
+/// What opens connections: those that it has begun, and the poller that knows them.
+#[derive(Drop)]
+pub(crate) struct Connector<'n, N: Net> {
+    net: &'n N,
+    addresses: Addresses,
+    poll: Poll,
+    events: Events,
+    pub(crate) begun: HashMap<u64, Attempt>,
+}
+
+/// How far a connection has come.
+pub(crate) enum Opening {
+    /// It is open.
+    Open(DialledSocket),
+    /// It is not open yet.
+    Begun(Attempt),
+    /// No address of its host is left.
+    Failed,
+}
+
+impl<'n, N: Net> Connector<'n, N> {
+    /// What opens connections to these addresses; nothing is begun.
+    ///
+    /// # Errors
+    ///
+    /// There is no memory for it, or the system gives no poller.
+    pub(crate) fn new(net: &'n N, alloc: Global, addresses: Addresses) -> io::Result<Self> {
+        Ok(Connector {
+            net,
+            addresses,
+            poll: Poll::new(net)?,
+            events: Events::with_capacity(alloc, MOST_EVENTS)?,
+            begun: HashMap::new(alloc),
+        })
+    }
+
+    /// Opens a connection to the host of that site for that transfer, or goes on with the one that
+    /// was begun for it. The addresses of the host are tried in their order. What is open is
+    /// registered nowhere.
+    pub(crate) fn connect(&mut self, site: u32, transfer: u64) -> Dialled<DialledSocket>
+        ensures up { IfUp result (λ socket. IsUntouched socket.connection site transfer) }
+        ensures begun { CountsBegun result transfer (IsBegun self.old.begun)
+            (IsBegun self.new.begun) }
+    {
+        let opening = match take(&mut self.begun, transfer) {
+            Some(attempt) => self.go_on(attempt, site, transfer),
+            None => self.begin(site, transfer, 0),
+        };
+        match opening {
+            Opening::Open(socket) => Dialled::Up(socket),
+            Opening::Begun(attempt) => {
+                if keep(&mut self.begun, transfer, attempt) {
+                    Dialled::NotYet
+                } else {
+                    Dialled::Fault
+                }
+            }
+            Opening::Failed => Dialled::Fault,
+        }
+    }
+
+    /// Closes what was begun for that transfer.
+    pub(crate) fn give_up(&mut self, transfer: u64)
+        ensures none { IsBegun self.new.begun transfer → ⊥ }
+        ensures others { (other : ℕ) → IsBegun self.new.begun other → IsBegun self.old.begun other }
+    {
+        let _ = take(&mut self.begun, transfer);
+    }
+
+    /// Whether a connection is begun that is not open yet.
+    pub(crate) fn has_begun(&self) -> bool {
+        !self.begun.is_empty()
+    }
+
+    /// What knows when sockets are ready.
+    pub(crate) fn registry(&self) -> &Registry {
+        self.poll.registry()
+    }
+
+    /// Waits until something that is registered is ready, for at most ten milliseconds; whether the
+    /// system let it.
+    pub(crate) fn wait(&mut self) -> bool
+        ensures { self.new.begun ≡ self.old.begun }
+    {
+        let most = Duration::from_millis(MOST_MILLISECONDS);
+        self.poll.poll(&mut self.events, Some(most)).is_ok()
+    }
+
+    // Goes on with an attempt for that transfer and site. One for another is closed.
+    fn go_on(&self, attempt: Attempt, site: u32, transfer: u64) -> Opening
+        ensures { IfOpen result (λ socket. IsUntouched socket.connection site transfer) }
+    {
+        if !attempt.socket.is_for(site, transfer) {
+            return self.begin(site, transfer, 0);
+        }
+        match attempt.socket.progress() {
+            Progress::Open => {
+                let mut socket = attempt.socket;
+                socket.deregister(self.poll.registry());
+                Opening::Open(socket)
+            }
+            Progress::NotYet => Opening::Begun(attempt),
+            Progress::Failed => self.begin(site, transfer, attempt.next),
+        }
+    }
+
+    // Begins a connection for that transfer, to the first of the site's addresses from that place on
+    // that takes one.
+    fn begin(&self, site: u32, transfer: u64, first: usize) -> Opening
+        ensures { IfOpen result (λ socket. IsUntouched socket.connection site transfer) }
+    {
+        let addresses = self.addresses.of(site);
+        for place in first..addresses.len() {
+            match self.attempt(addresses[place], site, transfer, place + 1) {
+                Opening::Failed => {}
+                opening => return opening,
+            }
+        }
+        Opening::Failed
+    }
+
+    // Begins a connection for that transfer, to that address.
+    fn attempt(&self, address: SocketAddr, site: u32, transfer: u64, next: usize) -> Opening
+        ensures { IfOpen result (λ socket. IsUntouched socket.connection site transfer) }
+    {
+        let Ok(mut socket) = DialledSocket::begin(self.net, address, site, transfer) else {
+            return Opening::Failed;
+        };
+        match socket.progress() {
+            Progress::Open => Opening::Open(socket),
+            Progress::Failed => Opening::Failed,
+            Progress::NotYet => {
+                if socket.register(self.poll.registry()) {
+                    Opening::Begun(Attempt { socket, next })
+                } else {
+                    Opening::Failed
+                }
+            }
+        }
+    }
+}

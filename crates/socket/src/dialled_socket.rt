@@ -1,0 +1,99 @@
+//! Sockets that were begun for a transfer. Nobody else puts a socket and what is known of it together.
+
+ghost use Rattle.std.specs.Prelude.{◌≡◌, true, IfOk};
+ghost use Rattle.socket.specs.Sockets.{IsUntouched};
+
+use crate::connection::Connection;
+use mio::net::TcpStream;
+use mio::{Interest, Registry, Token};
+use std::io;
+use std::io::ErrorKind;
+use std::net::{Net, SocketAddr};
+
+/// The token of all that is registered: a turn only ends sooner where something is ready.
+pub(crate) const TOKEN: Token = Token(0);
+
+/// Whether a connection is open.
+#[derive(Clone, Copy, Debug, PartialEq, Eq)]
+pub(crate) enum Progress {
+    Open,
+    NotYet,
+    Failed,
+}
+
+/// A socket that was begun for a transfer, to an address of the host of a site.
+#[derive(Drop)]
+pub(crate) struct DialledSocket {
+    stream: TcpStream,
+    connection: Connection,
+}
+
+impl DialledSocket {
+    /// Begins a connection to that address, for that transfer and site.
+    ///
+    /// # Errors
+    ///
+    /// The system refuses it.
+    pub(crate) fn begin<N: Net>(
+        net: &N,
+        address: SocketAddr,
+        site: u32,
+        transfer: u64,
+    ) -> io::Result<DialledSocket>
+        ensures { IfOk result (λ socket. IsUntouched socket.connection site transfer) }
+    {
+        Ok(DialledSocket {
+            stream: TcpStream::connect(net, address)?,
+            connection: Connection::new(site, transfer),
+        })
+    }
+
+    /// Whether it was begun for that transfer, to the host of that site.
+    pub(crate) fn is_for(&self, site: u32, transfer: u64) -> bool
+        ensures { result ≡ true → IsUntouched self.now.connection site transfer }
+    {
+        self.connection == Connection::new(site, transfer)
+    }
+
+    /// Whether it is open (the manual page connect(2), at EINPROGRESS).
+    pub(crate) fn progress(&self) -> Progress {
+        match self.stream.take_error() {
+            Ok(None) => {}
+            _ => return Progress::Failed,
+        }
+        match self.stream.peer_addr() {
+            Ok(_) => Progress::Open,
+            Err(error) => {
+                if error.kind() == ErrorKind::NotConnected {
+                    Progress::NotYet
+                } else {
+                    Progress::Failed
+                }
+            }
+        }
+    }
+
+    /// Has that registry tell once it is open or has failed; whether it will.
+    pub(crate) fn register(&mut self, registry: &Registry) -> bool
+        ensures { self.new.connection ≡ self.old.connection }
+    {
+        registry
+            .register(&mut self.stream, TOKEN, Interest::WRITABLE)
+            .is_ok()
+    }
+
+    /// The registry tells nothing of it any more.
+    pub(crate) fn deregister(&mut self, registry: &Registry)
+        ensures { self.new.connection ≡ self.old.connection }
+    {
+        let _ = registry.deregister(&mut self.stream);
+    }
+
+    /// The socket, and what is known of it.
+    pub(crate) fn into_parts(self) -> (TcpStream, Connection)
+        ensures { result.1 ≡ self.connection }
+    {
+        let DialledSocket { stream, connection } = self;
+        (stream, connection)
+    }
+}

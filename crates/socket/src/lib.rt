@@ -1,0 +1,18 @@
+//! Connections over sockets: what dials them, and what a request goes over. Waiting ones read and
+//! write with a time limit of ten milliseconds; polled ones never wait, and stand in an event loop.
+#![tactic(auto)]
+
+mod addresses;
+mod begun;
+mod clock;
+mod connection;
+mod connector;
+mod counts;
+mod dialled_socket;
+mod polled;
+mod waiting;
+
+pub use addresses::{AddressFault, Addresses};
+pub use clock::SystemClock;
+pub use polled::{PolledDial, PolledWire};
+pub use waiting::{WaitingDial, WaitingWire};

@@ -1,0 +1,188 @@
+//! Connections whose reads and writes never wait, in an event loop.
+
+ghost use Rattle.std.specs.Prelude.{◌≡◌, IfSome, IfOk};
+
+use crate::addresses::Addresses;
+use crate::connection::{Connection, is_readable};
+use crate::connector::Connector;
+use crate::counts::Counts;
+use crate::dialled_socket::{DialledSocket, TOKEN};
+use exchange::{Dial, Dialled, Read, Turned, Wire, Written};
+use futures::task::Source;
+use mio::net::TcpStream;
+use mio::{Interest, Registry};
+use std::alloc::Global;
+use std::io;
+use std::net::Net;
+use std::os::fd::AsRawFd;
+use std::sync::Arc;
+
+/// A connection over a socket whose reads and writes never wait. The poller of the dial that drives
+/// it knows it, and ends a turn once more can be read than before.
+#[derive(Drop)]
+pub struct PolledWire {
+    stream: TcpStream,
+    connection: Connection,
+    // What knows it.
+    registry: Arc<Registry>,
+    source: Source,
+}
+
+impl PolledWire {
+    // A connection that is open, if that registry takes it.
+    fn new(socket: DialledSocket, registry: &Arc<Registry>) -> Option<PolledWire>
+        ensures { IfSome result (λ wire. wire.connection ≡ socket.connection) }
+    {
+        let known = Arc::clone(registry).ok()?;
+        let (mut stream, connection) = socket.into_parts();
+        stream.set_nodelay(true).ok()?;
+        registry
+            .register(&mut stream, TOKEN, Interest::READABLE)
+            .ok()?;
+        Some(PolledWire {
+            stream,
+            connection,
+            registry: known,
+            source: Source::new(),
+        })
+    }
+
+    // Has that registry know it, and no other; whether it does.
+    fn move_to(&mut self, registry: &Arc<Registry>) -> bool
+        ensures { self.new.connection ≡ self.old.connection }
+    {
+        if self.registry.as_raw_fd() == registry.as_raw_fd() {
+            return true;
+        }
+        let Ok(known) = Arc::clone(registry) else {
+            return false;
+        };
+        let _ = self.registry.deregister(&mut self.stream);
+        let registered = registry.register(&mut self.stream, TOKEN, Interest::READABLE);
+        if registered.is_err() {
+            return false;
+        }
+        self.registry = known;
+        true
+    }
+}
+
+impl Wire for PolledWire {
+    ghost use Rattle.socket.specs.Sockets.{IsUntouched, HappensTo};
+
+    ghost untouched = { λ wire site transfer. IsUntouched wire.connection site transfer };
+
+    ghost happened = { λ old new happening. HappensTo old.connection new.connection happening };
+
+    ghost failures = { λ wire. wire.connection.failures };
+
+    ghost source_name = { λ wire. wire.source.id };
+
+    fn read(&mut self, buffer: &mut [u8]) -> Read {
+        self.connection.read(&mut self.stream, buffer)
+    }
+
+    fn write(&mut self, bytes: &[u8]) -> Written {
+        self.connection.write(&mut self.stream, bytes)
+    }
+
+    fn source(&self) -> &Source {
+        &self.source
+    }
+}
+
+/// What opens connections whose reads and writes never wait, and sees when they can be read.
+#[derive(Drop)]
+pub struct PolledDial<'n, N: Net> {
+    connector: Connector<'n, N>,
+    registry: Arc<Registry>,
+    counts: Counts,
+    source: Source,
+}
+
+impl<'n, N: Net> PolledDial<'n, N> {
+    /// What opens connections to these addresses.
+    ///
+    /// # Errors
+    ///
+    /// There is no memory for it, or the system gives no poller.
+    pub fn new(net: &'n N, alloc: Global, addresses: Addresses) -> io::Result<Self>
+        ensures counts { IfOk result (λ dial.
+            dial.counts ≡ record { opened = 0; failures = 0; turn_failures = 0 }) }
+    {
+        let connector = Connector::new(net, alloc, addresses)?;
+        let registry = Arc::new(alloc, connector.registry().try_clone()?)?;
+        Ok(PolledDial {
+            connector,
+            registry,
+            counts: Counts::new(),
+            source: Source::new(),
+        })
+    }
+
+    /// How many connections it has opened; the count stays at the greatest `u64`.
+    pub fn opened(&self) -> u64
+        ensures { result ≡ self.now.counts.opened }
+    {
+        self.counts.opened
+    }
+
+    /// How many connections it could not open; the count stays at the greatest `u64`.
+    pub fn failures(&self) -> u64
+        ensures { result ≡ self.now.counts.failures }
+    {
+        self.counts.failures
+    }
+}
+
+impl<'n, N: Net> Dial<PolledWire> for PolledDial<'n, N> {
+    ghost use Rattle.std.specs.Prelude.{◌≡◌};
+    ghost use Rattle.socket.specs.Begun.{IsBegun};
+
+    ghost failures = { λ dial. dial.counts.failures };
+
+    ghost opened = { λ dial. dial.counts.opened };
+
+    ghost turn_failures = { λ dial. dial.counts.turn_failures };
+
+    ghost turned = { λ old new. new.connector.begun ≡ old.connector.begun };
+
+    ghost begun = { λ dial transfer. IsBegun dial.connector.begun transfer };
+
+    ghost source_name = { λ dial. dial.source.id };
+
+    fn dial(&mut self, site: u32, transfer: u64) -> Dialled<PolledWire> {
+        let dialled = match self.connector.connect(site, transfer) {
+            Dialled::Up(socket) => match PolledWire::new(socket, &self.registry) {
+                Some(wire) => Dialled::Up(wire),
+                None => Dialled::Fault,
+            },
+            Dialled::NotYet => Dialled::NotYet,
+            Dialled::Fault => Dialled::Fault,
+        };
+        self.counts.note(&dialled);
+        dialled
+    }
+
+    fn give_up(&mut self, transfer: u64) {
+        self.connector.give_up(transfer);
+    }
+
+    fn adopt(&mut self, wire: &mut PolledWire) {
+        let is_known = wire.move_to(&self.registry);
+        wire.connection
+            .judge(!is_known || is_readable(&wire.stream));
+    }
+
+    fn turn(&mut self) -> Turned {
+        if self.connector.wait() {
+            return Turned::Done;
+        }
+        self.counts.fail_turn();
+        Turned::Fault
+    }
+
+    fn source(&self) -> &Source {
+        &self.source
+    }
+}

@@ -1,0 +1,159 @@
+//! Connections whose reads and writes wait, at most ten milliseconds each.
+
+ghost use Rattle.std.specs.Prelude.{◌≡◌, ℕ, IfSome, IfOk};
+
+use crate::addresses::Addresses;
+use crate::connection::{Connection, is_readable};
+use crate::connector::{Connector, MOST_MILLISECONDS};
+use crate::counts::Counts;
+use crate::dialled_socket::DialledSocket;
+use exchange::{Dial, Dialled, Read, Turned, Wire, Written};
+use futures::task::Source;
+use std::alloc::Global;
+use std::io;
+use std::net::{Net, TcpStream};
+use std::time::Duration;
+
+/// A connection over a socket whose reads and writes wait, at most ten milliseconds each. A request
+/// and its answer take two system calls, and a reused one's look takes a third.
+#[derive(Drop)]
+pub struct WaitingWire {
+    stream: TcpStream,
+    connection: Connection,
+    source: Source,
+}
+
+impl WaitingWire {
+    // A connection that is open, if the system lets it wait.
+    fn new(socket: DialledSocket) -> Option<WaitingWire>
+        ensures { IfSome result (λ wire. wire.connection ≡ socket.connection) }
+    {
+        let (stream, connection) = socket.into_parts();
+        let stream = TcpStream::from(stream);
+        let most = Some(Duration::from_millis(MOST_MILLISECONDS));
+        stream.set_nodelay(true).ok()?;
+        stream.set_nonblocking(false).ok()?;
+        stream.set_read_timeout(most).ok()?;
+        stream.set_write_timeout(most).ok()?;
+        Some(WaitingWire {
+            stream,
+            connection,
+            source: Source::new(),
+        })
+    }
+}
+
+impl Wire for WaitingWire {
+    ghost use Rattle.socket.specs.Sockets.{IsUntouched, HappensTo};
+
+    ghost untouched = { λ wire site transfer. IsUntouched wire.connection site transfer };
+
+    ghost happened = { λ old new happening. HappensTo old.connection new.connection happening };
+
+    ghost failures = { λ wire. wire.connection.failures };
+
+    ghost source_name = { λ wire. wire.source.id };
+
+    fn read(&mut self, buffer: &mut [u8]) -> Read {
+        self.connection.read(&mut self.stream, buffer)
+    }
+
+    fn write(&mut self, bytes: &[u8]) -> Written {
+        self.connection.write(&mut self.stream, bytes)
+    }
+
+    fn source(&self) -> &Source {
+        &self.source
+    }
+}
+
+/// What opens connections whose reads and writes wait. It connects without waiting, through a
+/// poller of its own.
+#[derive(Drop)]
+pub struct WaitingDial<'n, N: Net> {
+    connector: Connector<'n, N>,
+    counts: Counts,
+    source: Source,
+}
+
+impl<'n, N: Net> WaitingDial<'n, N> {
+    /// What opens connections to these addresses.
+    ///
+    /// # Errors
+    ///
+    /// There is no memory for it, or the system gives no poller.
+    pub fn new(net: &'n N, alloc: Global, addresses: Addresses) -> io::Result<Self>
+        ensures counts { IfOk result (λ dial.
+            dial.counts ≡ record { opened = 0; failures = 0; turn_failures = 0 }) }
+    {
+        Ok(WaitingDial {
+            connector: Connector::new(net, alloc, addresses)?,
+            counts: Counts::new(),
+            source: Source::new(),
+        })
+    }
+
+    /// How many connections it has opened; the count stays at the greatest `u64`.
+    pub fn opened(&self) -> u64
+        ensures { result ≡ self.now.counts.opened }
+    {
+        self.counts.opened
+    }
+
+    /// How many connections it could not open; the count stays at the greatest `u64`.
+    pub fn failures(&self) -> u64
+        ensures { result ≡ self.now.counts.failures }
+    {
+        self.counts.failures
+    }
+}
+
+impl<'n, N: Net> Dial<WaitingWire> for WaitingDial<'n, N> {
+    ghost use Rattle.std.specs.Prelude.{◌≡◌};
+    ghost use Rattle.socket.specs.Begun.{IsBegun};
+
+    ghost failures = { λ dial. dial.counts.failures };
+
+    ghost opened = { λ dial. dial.counts.opened };
+
+    ghost turn_failures = { λ dial. dial.counts.turn_failures };
+
+    ghost turned = { λ old new. new.connector.begun ≡ old.connector.begun };
+
+    ghost begun = { λ dial transfer. IsBegun dial.connector.begun transfer };
+
+    ghost source_name = { λ dial. dial.source.id };
+
+    fn dial(&mut self, site: u32, transfer: u64) -> Dialled<WaitingWire> {
+        let dialled = match self.connector.connect(site, transfer) {
+            Dialled::Up(socket) => match WaitingWire::new(socket) {
+                Some(wire) => Dialled::Up(wire),
+                None => Dialled::Fault,
+            },
+            Dialled::NotYet => Dialled::NotYet,
+            Dialled::Fault => Dialled::Fault,
+        };
+        self.counts.note(&dialled);
+        dialled
+    }
+
+    fn give_up(&mut self, transfer: u64) {
+        self.connector.give_up(transfer);
+    }
+
+    fn adopt(&mut self, wire: &mut WaitingWire) {
+        wire.connection.judge(is_readable(&wire.stream));
+    }
+
+    fn turn(&mut self) -> Turned {
+        if !self.connector.has_begun() || self.connector.wait() {
+            return Turned::Done;
+        }
+        self.counts.fail_turn();
+        Turned::Fault
+    }
+
+    fn source(&self) -> &Source {
+        &self.source
+    }
+}

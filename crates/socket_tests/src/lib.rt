@@ -1,0 +1,11 @@
+//! Tests of `socket`, over connections of this machine to itself: what no clause says.
+#![tactic(auto)]
+
+#[cfg(test)]
+mod addresses;
+#[cfg(test)]
+mod descriptors;
+#[cfg(test)]
+mod peer;
+#[cfg(test)]
+mod requests;
