@@ -1,0 +1,140 @@
+//! A client, and how it fetches.
+
+ghost use Rattle.std.specs.Prelude.{◌≡◌, ◌<◌, length, IfSome, ⊤};
+ghost use Rattle.std.specs.Option.{ForSome};
+ghost use Rattle.cache.specs.Deeds.{home_of, DidToPool};
+ghost use Rattle.exchange.specs.Answers.{IsPrepared, IsUnused, IsSameJob};
+ghost use Rattle.exchange.specs.Worlds.{world_of};
+ghost use Rattle.exchange.specs.Owning.{IsReady, Owns};
+ghost use Rattle.exchange.specs.Exchanging.{Continues, Stands};
+ghost use Rattle.client.specs.Fetching.{Fetches, Carries};
+
+use cache::Pool;
+use exchange::{Clock, Dial, Done, Fault, Job, Prepared, Stage, Transfer, Turned, Wire};
+use futures::task::{Doorbell, Solo};
+use socket::SystemClock;
+use std::alloc::{AllocError, AllocGlobal, Global};
+use std::random::RandomSource;
+use std::time;
+use std::time::Duration;
+
+/// What sends one request after another over a pool's connections, and gives each back as its
+/// response says. The memory of one request serves the next.
+#[derive(Drop)]
+pub struct Client<'c, W: Wire, D: Dial<W> + Drop, C: time::Clock> {
+    alloc: Global,
+    pool: Pool<W>,
+    dial: D,
+    clock: SystemClock<'c, C>,
+    task: Solo,
+    spare: Option<Prepared>,
+    ghost room: { ForSome spare (λ parts. 0 < length parts.buffer.items) },
+}
+
+impl<'c, W: Wire, D: Dial<W> + Drop, C: time::Clock> Client<'c, W, D, C> {
+    /// A client over that pool, whose connections that dial opens, and which tells the time by that
+    /// clock.
+    ///
+    /// # Errors
+    ///
+    /// There is no memory for it, or the system gives no random number.
+    pub fn new<R: RandomSource + AllocGlobal>(
+        rt: &R,
+        alloc: Global,
+        pool: Pool<W>,
+        dial: D,
+        clock: SystemClock<'c, C>,
+    ) -> Option<Self>
+        ensures pool { IfSome result (λ client. client.pool ≡ pool) }
+        ensures dial { IfSome result (λ client. client.dial ≡ dial) }
+    {
+        let task = Solo::new(rt, Doorbell::spinning()).ok()?;
+        Some(Client {
+            alloc,
+            pool,
+            dial,
+            clock,
+            task,
+            spare: None,
+        })
+    }
+
+    /// Sends the job's request and reads its response. After that long it is cancelled, and also
+    /// where the dial's event loop or the system's clock fails. What there is no memory for is not
+    /// sent, and ends with the fault `Memory`.
+    pub fn fetch(&mut self, job: &Job, limit: Duration) -> Done
+        ensures { Fetches DidToPool (world_of W.untouched W.happened (λ moment. ⊤)) job.now
+            self.old.pool self.new.pool result }
+    {
+        let Some(parts) = self.prepared(job) else {
+            return Done::Bad(Fault::Memory);
+        };
+        let mut transfer = Transfer::new(parts);
+        self.poll_to_its_end(&mut transfer, limit);
+        let now = self.clock.now();
+        let (done, used) = transfer.close(now, &mut self.pool, &mut self.dial);
+        self.spare = Some(used);
+        done
+    }
+
+    /// What opens its connections.
+    pub fn dial(&self) -> &D
+        ensures { result.now ≡ self.now.dial }
+    {
+        &self.dial
+    }
+
+    /// Its connections.
+    pub fn pool(&self) -> &Pool<W>
+        ensures { result.now ≡ self.now.pool }
+    {
+        &self.pool
+    }
+
+    // The job with the memory for it, that of the last one where there was one.
+    fn prepared(&mut self, job: &Job) -> Option<Prepared>
+        ensures prepared { IfSome result (IsPrepared job.now) }
+        ensures pool { self.new.pool ≡ self.old.pool }
+    {
+        match self.spare.take() {
+            None => Prepared::new(self.alloc, job).ok(),
+            Some(used) => match used.again(job) {
+                Ok(parts) => Some(parts),
+                Err((parts, _)) => {
+                    self.spare = Some(parts);
+                    None
+                }
+            },
+        }
+    }
+
+    // Polls a transfer until it has ended, its time is over, or its dial's event loop fails.
+    fn poll_to_its_end(&mut self, transfer: &mut Transfer<W>, limit: Duration)
+        requires owns { Owns (home_of self.old.pool) transfer.old.parts transfer.old.state }
+        requires ready { IsReady transfer.old.parts }
+        ensures owns { Owns (home_of self.new.pool) transfer.new.parts transfer.new.state }
+        ensures ready { IsReady transfer.new.parts }
+        ensures same { IsSameJob transfer.old.parts transfer.new.parts }
+        ensures story { Continues DidToPool (world_of W.untouched W.happened (λ moment. ⊤))
+            transfer.old.parts transfer.new.parts self.old.pool self.new.pool
+            transfer.old.state transfer.new.state }
+    {
+        let begun = self.clock.elapsed();
+        for _ in 0..u64::MAX {
+            let mut context = self.task.begin();
+            let polled = transfer.poll(&mut context, &mut self.pool, &mut self.dial, &self.clock);
+            context.end(&polled);
+            if polled.is_ready() || self.clock.is_past(begun, limit) {
+                return;
+            }
+            if is_dials(transfer.waits_on()) && self.dial.turn() == Turned::Fault {
+                return;
+            }
+        }
+    }
+}
+
+/// Whether a turn of the dial's event loop may bring what is waited for.
+fn is_dials(stage: Stage) -> bool {
+    matches!(stage, Stage::Dialling | Stage::Sending | Stage::Reading)
+}

@@ -1,0 +1,6 @@
+//! A client of one thread: it sends one request after another, and keeps its connections.
+#![tactic(auto)]
+
+mod client;
+
+pub use client::Client;
