@@ -1,7 +1,11 @@
 -- What words ask for that clap refuses.
-use Rattle.std.proofs.Common.{◌≡◌, ℕ, ◌≤◌, arith, Option, None, refl, sym, ◌∙◌, ap, subst, inl, inr}
-use Rattle.std.specs.Prelude.{◌⊎◌}
-use Rattle.clap.specs.Words.{Kinds, IsAmong, Text}
+use Rattle.std.proofs.Common.{◌≡◌, ℕ, ◌≤◌, arith, Bool, true, false, List, [], Option, Some, None, refl, sym, ◌∙◌, ap, ap₂, subst, inl, inr}
+use Rattle.std.specs.Prelude.{◌⊎◌, ◌||◌, codes, if◌then◌else◌, unwrap_or}
+use Rattle.std.specs.Option.{option_map}
+use Rattle.std.specs.Str.{bytes_eq}
+use Rattle.clap.specs.Words.{Kinds, IsAmong, Row, Text, subcommand_name_of, subcommand_rows_of}
+use Rattle.clap.specs.declared.parser.matches.ArgMatches.{ArgMatches}
+use Rattle.clap.specs.Walk.{first_of}
 use Rattle.clap.specs.declared.error.kind.ErrorKind.{ErrorKind}
 use Rattle.clap.specs.declared.error.kind.ErrorKind.TheVariants as kinds
 use Rattle.conn_key.specs.Wants.{Rises}
@@ -11,7 +15,8 @@ use Rattle.cli.specs.declared.request.Request.{Request}
 use Rattle.cli.specs.declared.request.Request.TheVariants as requests
 use Rattle.cli.specs.declared.command_line.Words.{Words}
 use Rattle.cli.specs.declared.command_line.Words.TheVariants.{NoMemory}
-use Rattle.cli.specs.CommandLine.{AnswersError, Asks, HasManner, manner_of, request_file, word_faults}
+use Rattle.cli.specs.CommandLine.{AnswersError, AnswersGet, Asks, HasManner, Said, asked_file, file_said, get, manner_of, request_file, said_in, script, word_faults}
+use Rattle.cli.specs.GetWords.{GetSaid, get_said_in}
 
 -- an error that is no want of memory is one of the faults
 among : (faults : Kinds) (kind : ErrorKind) (manner : Manner) → (kind ≡ kinds.OutOfMemory) ⊎ IsAmong kind faults → manner_of kind ≡ manner → (manners.Memory ≡ manner → ⊥) → HasManner faults manner
@@ -29,21 +34,58 @@ lacks-memory faults kind before mid after (inl lacks) wants is same = inr (subst
 lacks-memory faults kind before mid after (inr here) wants is same = inl (kind, here, is)
 
 -- what an error makes the words ask for is what they may ask for
-pub asks : (faults : Kinds) (file : Option Text) (kind : ErrorKind) (before mid after : ℕ) (request : Request) → (kind ≡ kinds.OutOfMemory) ⊎ IsAmong kind faults
-    → (kind ≡ kinds.OutOfMemory → Rises before mid) → before ≤ mid → AnswersError (manner_of kind) mid after request → Asks faults file before after request
-asks faults file kind before mid after (requests.Script input) fails wants kept answers = absurd answers
-asks faults file kind before mid after (requests.Tell text) fails wants kept answers = among faults kind manners.Asked fails answers (λ e. cc)
-asks faults file kind before mid after (requests.Refuse text) fails wants kept answers = among faults kind manners.Mistake fails answers (λ e. cc)
-asks faults file kind before mid after requests.NoMemory fails wants kept (inl (is, same)) = lacks-memory faults kind before mid after fails wants is same
-asks faults file kind before mid after requests.NoMemory fails wants kept (inr rises) = inr (rises-from before mid after kept rises)
+pub asks : (faults : Kinds) (said : Said) (kind : ErrorKind) (before mid after : ℕ) (request : Request) → (kind ≡ kinds.OutOfMemory) ⊎ IsAmong kind faults
+    → (kind ≡ kinds.OutOfMemory → Rises before mid) → before ≤ mid → AnswersError (manner_of kind) mid after request → Asks faults said before after request
+asks faults said kind before mid after (requests.Script input) fails wants kept answers = absurd answers
+asks faults said kind before mid after (requests.Get plan) fails wants kept answers = absurd answers
+asks faults said kind before mid after (requests.Tell text) fails wants kept answers = among faults kind manners.Asked fails answers (λ e. cc)
+asks faults said kind before mid after (requests.Refuse text) fails wants kept answers = inl (among faults kind manners.Mistake fails answers (λ e. cc))
+asks faults said kind before mid after requests.NoMemory fails wants kept (inl (is, same)) = lacks-memory faults kind before mid after fails wants is same
+asks faults said kind before mid after requests.NoMemory fails wants kept (inr rises) = inr (rises-from before mid after kept rises)
 
--- words that ask for no file make a request that asks for none
-pub asks-no-file : (faults : Kinds) (file : Option Text) (before after : ℕ) (request : Request) → Asks faults file before after request → file ≡ None → request_file request ≡ None
-asks-no-file faults file before after (requests.Script input) asks none = asks.1 ∙ none
-asks-no-file faults file before after (requests.Tell text) asks none = refl
-asks-no-file faults file before after (requests.Refuse text) asks none = refl
-asks-no-file faults file before after requests.NoMemory asks none = refl
+-- what the words after get make the words ask for is what they may ask for
+pub asks-get : (faults : Kinds) (words : GetSaid) (before mid after : ℕ) (request : Request) → faults ≡ [] → before ≤ mid → AnswersGet words mid after request
+    → Asks faults (get words) before after request
+asks-get faults words before mid after (requests.Script input) none kept answers = absurd answers
+asks-get faults words before mid after (requests.Get plan) none kept answers = (none, answers)
+asks-get faults words before mid after (requests.Tell text) none kept answers = absurd answers
+asks-get faults words before mid after (requests.Refuse text) none kept answers = inr (none, answers)
+asks-get faults words before mid after requests.NoMemory none kept answers = inr (rises-from before mid after kept answers)
+
+-- words that say no file make a request that asks for none
+pub asks-no-file : (faults : Kinds) (said : Said) (before after : ℕ) (request : Request) → Asks faults said before after request → file_said said ≡ None → request_file request ≡ None
+asks-no-file faults said before after (requests.Script input) asks none = ap file_said (sym asks.1) ∙ none
+asks-no-file faults said before after (requests.Get plan) asks none = refl
+asks-no-file faults said before after (requests.Tell text) asks none = refl
+asks-no-file faults said before after (requests.Refuse text) asks none = refl
+asks-no-file faults said before after requests.NoMemory asks none = refl
 
 -- words that could not be had for want of memory
 pub lack-memory : (words : Words) → words ≡ NoMemory → HasManner (word_faults words) manners.Memory
 lack-memory words is = subst (λ w. HasManner (word_faults w) manners.Memory) (sym is) (kinds.OutOfMemory, inl refl, refl)
+
+-- neither of two
+pub or-false : {a b c : Bool} → a ≡ (b || c) → b ≡ false → c ≡ false → a ≡ false
+or-false {a} {b} {c} is first second = is ∙ ap (λ x. x || c) first ∙ second
+
+-- what the subcommand that matches name says, by its name and its rows
+entered : (name : Text) (rows : List Row) (met : Option (Text × List Row)) → Some name ≡ option_map (λ (p : Text × List Row). p.0) met → Some rows ≡ option_map (λ (p : Text × List Row). p.1) met
+    → met ≡ Some (name, rows)
+entered name rows None a b = cc
+entered name rows (Some p) a b = ap₂ (λ (n : Text) (r : List Row). Some (n, r)) (ap (λ o. unwrap_or o name) (sym a)) (ap (λ o. unwrap_or o rows) (sym b))
+
+pub says-get : (name : Text) (rows : List Row) (met : Option (Text × List Row)) → Some name ≡ option_map (λ (p : Text × List Row). p.0) met → Some rows ≡ option_map (λ (p : Text × List Row). p.1) met
+    → bytes_eq name (codes "get") ≡ true → get (get_said_in rows) ≡ said_in met
+says-get name rows met a b is = sym (ap said_in (entered name rows met a b) ∙ ap (λ t. if t then get (get_said_in rows) else script (asked_file (first_of (codes "FILE") rows))) is)
+
+pub says-script : (name : Text) (rows : List Row) (met : Option (Text × List Row)) → Some name ≡ option_map (λ (p : Text × List Row). p.0) met → Some rows ≡ option_map (λ (p : Text × List Row). p.1) met
+    → bytes_eq name (codes "get") ≡ false → script (asked_file (first_of (codes "FILE") rows)) ≡ said_in met
+says-script name rows met a b is = sym (ap said_in (entered name rows met a b) ∙ ap (λ t. if t then get (get_said_in rows) else script (asked_file (first_of (codes "FILE") rows))) is)
+
+first-part : {A : Type 0} (name : A → Text) (rows : A → List Row) (met : Option A) → option_map name met ≡ option_map (λ (p : Text × List Row). p.0) (option_map (λ (a : A). (name a, rows a)) met)
+first-part name rows None = refl
+first-part name rows (Some a) = refl
+
+-- the name of the subcommand that was met stands before its rows
+pub name-of-rows : (matches : ArgMatches) → subcommand_name_of matches ≡ option_map (λ (p : Text × List Row). p.0) (subcommand_rows_of matches)
+name-of-rows matches = first-part _ _ _

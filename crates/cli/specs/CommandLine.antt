@@ -1,17 +1,20 @@
 -- The program's command line: what its words ask for, and what the program then does.
 use Rattle.std.specs.Prelude.{◌≡◌, ◌⊎◌, ℕ, true, codes, List, [], ◌∷◌, map, string_bytes, Option, Some, None, if◌then◌else◌, Result, Ok, Err}
 use Rattle.std.specs.Str.{bytes_eq}
-use Rattle.std.specs.Option.{option_and_then, option_map}
-use Rattle.clap.specs.Words.{App, Kinds, IsAmong, Row, Text, fault_of, new_app, new_rule, subcommand_of, subcommand_rows_of, with_rule, with_subcommand}
+use Rattle.clap.specs.Words.{App, Kinds, IsAmong, Row, Rule, Text, fault_of, new_app, new_rule, subcommand_of, with_rule, with_subcommand}
+use Rattle.clap.specs.Lexer.{usize_max}
 use Rattle.clap.specs.Walk.{first_of}
-use Rattle.clap.specs.declared.parser.matches.ArgMatches.{ArgMatches}
+use Rattle.clap.specs.declared.builder.action.ArgAction.TheVariants.{SetTrue}
 use Rattle.clap.specs.declared.error.kind.ErrorKind.{ErrorKind}
 use Rattle.clap.specs.declared.error.kind.ErrorKind.TheVariants as kinds
 use Rattle.conn_key.specs.Wants.{Rises}
 use Rattle.script_text.specs.declared.fault.FaultKind.{FaultKind}
 use Rattle.script_text.specs.declared.fault.ScriptFault.{ScriptFault}
+use Rattle.cli.specs.declared.command_line.Subcommand.{Subcommand}
+use Rattle.cli.specs.declared.command_line.Subcommand.TheVariants as subcommands
 use Rattle.cli.specs.declared.command_line.Words.{Words}
 use Rattle.cli.specs.declared.command_line.Words.TheVariants.{Given, NotText, NoMemory}
+use Rattle.cli.specs.declared.get_plan.GetPlan.{GetPlan}
 use Rattle.cli.specs.declared.input.ScriptInput.{ScriptInput}
 use Rattle.cli.specs.declared.input.ScriptInput.TheVariants.{Standard, File}
 use Rattle.cli.specs.declared.request.Manner.{Manner}
@@ -21,43 +24,75 @@ use Rattle.cli.specs.declared.request.Request.TheVariants as requests
 use Rattle.cli.specs.Streams.{Stream, Puts}
 use Rattle.cli.specs.Running.{RunsScript}
 use Rattle.cli.specs.Files.{RunsFile}
+use Rattle.cli.specs.GetPlan.{IsPlanOf}
+use Rattle.cli.specs.GetWords.{GetSaid, IsRefused, get_said_by, get_said_in}
 
--- curlpool has a version and no help subcommand, and needs its one subcommand, script, which may be given a file
+-- curlpool has a version and no help subcommand, and needs one of its two subcommands
 abbrev pub needing_a_subcommand : App → App
 needing_a_subcommand app = record app { top = record app.top { has_version = true; subcommand_required = true; disable_help_subcommand = true } }
 
-abbrev pub curlpool : App
-curlpool = with_subcommand (needing_a_subcommand (new_app (codes "curlpool"))) (with_rule (new_app (codes "script")) (new_rule (codes "FILE"))).top
+-- script may be given a file
+abbrev pub script_app : App
+script_app = with_rule (new_app (codes "script")) (new_rule (codes "FILE"))
 
--- what may be wrong with the words, where they ask for no script (a request for help counts); nothing, where they do
+-- get has a flag, two options of one value each, and takes one URL or more
+abbrev pub head_rule : Rule
+head_rule = record (new_rule (codes "head")) { long = Some (codes "head"); action = Some SetTrue }
+
+abbrev pub seconds_rule : Text → Rule
+seconds_rule name = record (new_rule name) { long = Some name; value_names = 1 }
+
+abbrev pub url_rule : Rule
+url_rule = record (new_rule (codes "URL")) { range = Some (record { start_inclusive = 1; end_inclusive = usize_max }); required = true }
+
+abbrev pub get_app : App
+get_app = with_rule (with_rule (with_rule (with_rule (new_app (codes "get")) head_rule) (seconds_rule (codes "max-age"))) (seconds_rule (codes "timeout"))) url_rule
+
+abbrev pub curlpool : App
+curlpool = with_subcommand (with_subcommand (needing_a_subcommand (new_app (codes "curlpool"))) script_app.top) get_app.top
+
+-- what may be wrong with the words, where they name no subcommand (a request for help counts); nothing, where they do
 abbrev pub word_faults : Words → Kinds
 word_faults (Given words) = fault_of curlpool (map string_bytes words.items)
 word_faults NotText = kinds.ValueValidation ∷ []
 word_faults NoMemory = kinds.OutOfMemory ∷ []
 
--- the file that matches name, by the rows of the subcommand, if they name one
-abbrev pub file_of : Option (Text × List Row) → Option Text
-file_of entered = option_and_then (λ rows. first_of (codes "FILE") rows) (option_map (λ entry. entry.1) entered)
-
-abbrev pub file_in : ArgMatches → Option Text
-file_in matches = file_of (subcommand_rows_of matches)
+-- what words say: to run the script in a file, or else on standard input; to fetch URLs; or nothing
+pub data Said : Type 0 where
+  nothing : Said
+  script : Option Text → Said
+  get : GetSaid → Said
 
 -- the file to be read, if the words name that one; none is standard input, which `-` names too
 abbrev pub asked_file : Option Text → Option Text
 asked_file None = None
 asked_file (Some name) = if bytes_eq name (codes "-") then None else Some name
 
-abbrev pub script_file : List Text → Option Text
-script_file words = asked_file (file_of (subcommand_of curlpool words))
+-- what matches say, by the name and the rows of the subcommand
+abbrev pub said_in : Option (Text × List Row) → Said
+said_in None = script None
+said_in (Some entered) = if bytes_eq entered.0 (codes "get") then get (get_said_in entered.1) else script (asked_file (first_of (codes "FILE") entered.1))
 
-abbrev pub file_asked : Words → Option Text
-file_asked (Given words) = script_file (map string_bytes words.items)
-file_asked NotText = None
-file_asked NoMemory = None
+abbrev pub said_after : List Text → Said
+said_after words = said_in (subcommand_of curlpool words)
+
+abbrev pub said : Words → Said
+said (Given words) = said_after (map string_bytes words.items)
+said NotText = nothing
+said NoMemory = nothing
+
+-- the file that a script is to be read from; none is standard input, or no script
+abbrev pub file_said : Said → Option Text
+file_said (script file) = file
+file_said _ = None
 
 abbrev pub name_of : ScriptInput → Option Text
 name_of Standard = None
 name_of (File name) = Some (string_bytes name)
+
+abbrev pub said_by : Subcommand → Said
+said_by (subcommands.Script input) = script (name_of input)
+said_by (subcommands.Get words) = get (get_said_by words)
 
 -- what an error of the words is: want of memory, a request for help or the version, or a mistake
 abbrev pub manner_of : ErrorKind → Manner
@@ -69,6 +104,7 @@ manner_of _ = manners.Mistake
 -- what an error makes the words ask for, where so many wants of memory were counted before its text was made and after
 abbrev pub AnswersError : Manner → ℕ → ℕ → Request → Type 0
 AnswersError manner before after (requests.Script input) = ⊥
+AnswersError manner before after (requests.Get plan) = ⊥
 AnswersError manner before after (requests.Tell text) = manner ≡ manners.Asked
 AnswersError manner before after (requests.Refuse text) = manner ≡ manners.Mistake
 AnswersError manner before after requests.NoMemory = ((manner ≡ manners.Memory) × (after ≡ before)) ⊎ Rises before after
@@ -77,13 +113,30 @@ AnswersError manner before after requests.NoMemory = ((manner ≡ manners.Memory
 abbrev pub HasManner : Kinds → Manner → Type 0
 HasManner faults manner = (kind : ErrorKind) × IsAmong kind faults × (manner_of kind ≡ manner)
 
--- what words with these faults, that ask for this file or for standard input, may ask for, where so many wants of memory
--- were counted before they were read and after
-abbrev pub Asks : Kinds → Option Text → ℕ → ℕ → Request → Type 0
-Asks faults file before after (requests.Script input) = (faults ≡ []) × (name_of input ≡ file)
-Asks faults file before after (requests.Tell text) = HasManner faults manners.Asked
-Asks faults file before after (requests.Refuse text) = HasManner faults manners.Mistake
-Asks faults file before after requests.NoMemory = HasManner faults manners.Memory ⊎ Rises before after
+-- what the words after get make the words ask for
+abbrev pub AnswersGet : GetSaid → ℕ → ℕ → Request → Type 0
+AnswersGet said before after (requests.Get plan) = IsPlanOf said plan
+AnswersGet said before after (requests.Refuse text) = IsRefused said
+AnswersGet said before after requests.NoMemory = Rises before after
+AnswersGet said before after request = ⊥
+
+-- they say to fetch URLs, and what they say of it is refused, or asks for this
+abbrev pub RefusesGet : Said → Type 0
+RefusesGet (get said) = IsRefused said
+RefusesGet _ = ⊥
+
+abbrev pub PlansGet : Said → GetPlan → Type 0
+PlansGet (get said) plan = IsPlanOf said plan
+PlansGet _ plan = ⊥
+
+-- what words with these faults, that say so, may ask for, where so many wants of memory were counted before they were
+-- read and after
+abbrev pub Asks : Kinds → Said → ℕ → ℕ → Request → Type 0
+Asks faults said before after (requests.Script input) = (faults ≡ []) × (said ≡ script (name_of input))
+Asks faults said before after (requests.Get plan) = (faults ≡ []) × PlansGet said plan
+Asks faults said before after (requests.Tell text) = HasManner faults manners.Asked
+Asks faults said before after (requests.Refuse text) = HasManner faults manners.Mistake ⊎ ((faults ≡ []) × RefusesGet said)
+Asks faults said before after requests.NoMemory = HasManner faults manners.Memory ⊎ Rises before after
 
 -- the file that a request asks for; none is standard input, or no script
 abbrev pub request_file : Request → Option Text
@@ -130,20 +183,30 @@ pub record EndsAtOnce (ending : ℕ) (unread left old new : Stream) (status : �
   pub unwritten : new ≡ old
   pub ends : status ≡ ending
 
--- what is done for a request, and the status: a script is run; help or the version is told; words that are refused, and
--- want of memory while they are read, end the program at once
-abbrev pub AnswersRequest : Opening → Request → Stream → Stream → Stream → Stream → ℕ → Type 0
-AnswersRequest Opens (requests.Script input) unread left old new status = AnswersScript Opens (name_of input) unread left old new status
-AnswersRequest Opens (requests.Tell text) unread left old new status = TellsText (string_bytes text) unread left old new status
-AnswersRequest Opens (requests.Refuse text) unread left old new status = EndsAtOnce 2 unread left old new status
-AnswersRequest Opens requests.NoMemory unread left old new status = EndsAtOnce 4 unread left old new status
+-- what carrying out a plan may write, and its status
+abbrev pub PlanRun : Type 1
+PlanRun = GetPlan → Stream → Stream → ℕ → Type 0
 
--- what the program does with words that have these faults and ask for this file or for standard input, and its status:
--- what is done for a request that they may ask for, where so many wants of memory were counted before they were read
--- and after
-abbrev pub RunsProgram : Opening → Kinds → Option Text → ℕ → ℕ → Stream → Stream → Stream → Stream → ℕ → Type 0
-RunsProgram Opens faults file before after unread left old new status =
-    (request : Request) × Asks faults file before after request × AnswersRequest Opens request unread left old new status
+-- a plan was carried out: nothing was read
+pub record AnswersPlan (Runs : Stream → Stream → ℕ → Type 0) (unread left old new : Stream) (status : ℕ) : Type 0 where
+  pub unread_yet : left ≡ unread
+  pub runs : Runs old new status
+
+-- what is done for a request, and the status: a script is run, or a plan carried out; help or the version is told; words
+-- that are refused, and want of memory while they are read, end the program at once; the network is left alone, but for a
+-- plan
+abbrev pub AnswersRequest : Opening → PlanRun → Type 0 → Request → Stream → Stream → Stream → Stream → ℕ → Type 0
+AnswersRequest Opens Runs Alone (requests.Script input) unread left old new status = AnswersScript Opens (name_of input) unread left old new status × Alone
+AnswersRequest Opens Runs Alone (requests.Get plan) unread left old new status = AnswersPlan (Runs plan) unread left old new status
+AnswersRequest Opens Runs Alone (requests.Tell text) unread left old new status = TellsText (string_bytes text) unread left old new status × Alone
+AnswersRequest Opens Runs Alone (requests.Refuse text) unread left old new status = EndsAtOnce 2 unread left old new status × Alone
+AnswersRequest Opens Runs Alone requests.NoMemory unread left old new status = EndsAtOnce 4 unread left old new status × Alone
+
+-- what the program does with words that have these faults and say so, and its status: what is done for a request that
+-- they may ask for, where so many wants of memory were counted before they were read and after
+abbrev pub RunsProgram : Opening → PlanRun → Type 0 → Kinds → Said → ℕ → ℕ → Stream → Stream → Stream → Stream → ℕ → Type 0
+RunsProgram Opens Runs Alone faults said before after unread left old new status =
+    (request : Request) × Asks faults said before after request × AnswersRequest Opens Runs Alone request unread left old new status
 
 -- small command lines
 abbrev pub faults_after : List (List ℕ) → Kinds
@@ -164,15 +227,27 @@ TellsVersionOnVersion = faults_after (codes "--version" ∷ []) ≡ kinds.Displa
 abbrev pub RefusesAnotherWord : Type 0
 RefusesAnotherWord = faults_after (codes "script" ∷ codes "a" ∷ codes "again" ∷ []) ≡ kinds.UnknownArgument ∷ []
 
--- the file that small command lines ask for
-abbrev pub file_after : List (List ℕ) → Option Text
-file_after words = script_file (codes "curlpool" ∷ words)
+-- what small command lines say
+abbrev pub small_said : List (List ℕ) → Said
+small_said words = said_after (codes "curlpool" ∷ words)
 
 abbrev pub TakesFile : Type 0
-TakesFile = (faults_after (codes "script" ∷ codes "a" ∷ []) ≡ []) × (file_after (codes "script" ∷ codes "a" ∷ []) ≡ Some (codes "a"))
+TakesFile = (faults_after (codes "script" ∷ codes "a" ∷ []) ≡ []) × (small_said (codes "script" ∷ codes "a" ∷ []) ≡ script (Some (codes "a")))
 
 abbrev pub TakesStandardInput : Type 0
-TakesStandardInput = (file_after (codes "script" ∷ []) ≡ None) × (file_after (codes "script" ∷ codes "-" ∷ []) ≡ None)
+TakesStandardInput = (small_said (codes "script" ∷ []) ≡ script None) × (small_said (codes "script" ∷ codes "-" ∷ []) ≡ script None)
 
 abbrev pub TakesDash : Type 0
 TakesDash = faults_after (codes "script" ∷ codes "-" ∷ []) ≡ []
+
+abbrev pub a_get : List (List ℕ)
+a_get = codes "get" ∷ codes "--head" ∷ codes "a" ∷ codes "--timeout" ∷ codes "9" ∷ codes "b" ∷ []
+
+abbrev pub TakesUrls : Type 0
+TakesUrls = (faults_after a_get ≡ []) × (small_said a_get ≡ get (record { head = true; max_age = None; timeout = Some (codes "9"); urls = codes "a" ∷ codes "b" ∷ [] }))
+
+abbrev pub WantsUrl : Type 0
+WantsUrl = faults_after (codes "get" ∷ []) ≡ kinds.MissingRequiredArgument ∷ []
+
+abbrev pub RefusesTwice : Type 0
+RefusesTwice = faults_after (codes "get" ∷ codes "--max-age=1" ∷ codes "--max-age=2" ∷ codes "a" ∷ []) ≡ kinds.ArgumentConflict ∷ []

@@ -2,4 +2,8 @@ pub mod Streams
 pub mod Watching
 pub mod Running
 pub mod Files
+pub mod GetWords
+pub mod GetPlan
+pub mod GetLines
+pub mod Fetching
 pub mod CommandLine

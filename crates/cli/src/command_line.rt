@@ -1,17 +1,29 @@
 //! The program's command line, and the words that it reads.
 
-ghost use Rattle.std.specs.Prelude.{◌≡◌, IfOk, map, option_map, string_bytes};
-ghost use Rattle.clap.specs.Words.{FailsBy, app_of, fault_of, kind_of};
-ghost use Rattle.cli.specs.CommandLine.{curlpool, file_in, name_of, script_file};
+ghost use Rattle.std.specs.Prelude.{◌≡◌, false, IfOk, map, string_bytes};
+ghost use Rattle.clap.specs.Words.{FailsBy, app_of, fault_of, kind_of, rule_of};
+ghost use Rattle.clap.specs.Words.{subcommand_rows_of, with_subcommand};
+ghost use Rattle.cli.specs.CommandLine.{curlpool, get_app, head_rule, said_after, said_by, said_in};
+ghost use Rattle.cli.specs.CommandLine.{script_app, seconds_rule, url_rule};
 
-use crate::help::COMMANDS;
+use crate::get_words::{GetWords, get_words_of};
+use crate::help::{COMMANDS, LINES};
 use crate::input::{ScriptInput, input_of};
 use clap::error::ErrorKind;
-use clap::{Arg, ArgMatches, Command, Error};
+use clap::{Arg, ArgAction, ArgMatches, Command, Error};
 use std::alloc::{AllocError, Global};
 
 /// What `--help` says of the file.
 const FILE_HELP: &str = "The script's file; standard input, where it is - or left out";
+
+/// What `--help` says of the options and URLs of `get`.
+const HEAD_HELP: &str = "Sends HEAD in place of GET";
+
+const MAX_AGE_HELP: &str = "Most seconds idle for reuse; 118 where it is left out";
+
+const TIMEOUT_HELP: &str = "Seconds after which a transfer is cancelled, 1 to 3600; else 30";
+
+const URL_HELP: &str = "An http URL of localhost or an address; at most 1024";
 
 /// The words with which the program was started, its name first, or why they could not be had.
 #[derive(Drop)]
@@ -24,44 +36,123 @@ pub enum Words {
     NoMemory,
 }
 
+/// The subcommand that words name, with what they say after it.
+#[derive(Drop)]
+pub enum Subcommand {
+    /// To run the script that is read from there.
+    Script(ScriptInput),
+    /// To fetch URLs.
+    Get(GetWords),
+}
+
 /// The program's command line.
 fn command<'a>(alloc: Global) -> Result<Command<'a>, AllocError>
     ensures { IfOk result (λ command. app_of command ≡ curlpool) }
+{
+    let program = Command::new(alloc, "curlpool")
+        .bin_name("curlpool")?
+        .version("0.1.0")
+        .about("libcurl's connection cache: fetches URLs, runs scripts of connection events")
+        .subcommand_required(true)
+        .disable_help_subcommand(true);
+    let program = with_script(alloc, program)?;
+    let program = with_get(alloc, program)?;
+    Ok(program)
+}
+
+/// The command line with the subcommand `script`.
+fn with_script<'a>(alloc: Global, program: Command<'a>) -> Result<Command<'a>, AllocError>
+    ensures { IfOk result (λ command.
+        app_of command ≡ with_subcommand (app_of program.entry) script_app.top) }
 {
     let file = Arg::new(alloc, "FILE").help(FILE_HELP);
     let script = Command::new(alloc, "script")
         .about("Runs a script and writes its transcript")
         .after_help(COMMANDS)
         .arg(file)?;
-    Ok(
-        Command::new(alloc, "curlpool")
-            .bin_name("curlpool")?
-            .version("0.1.0")
-            .about("libcurl's connection cache: runs scripts of connection events")
-            .subcommand_required(true)
-            .disable_help_subcommand(true)
-            .subcommand(script)?,
-    )
+    let whole = program.subcommand(script)?;
+    Ok(whole)
 }
 
-/// The file that the matches name, if they name one.
-fn named_file<'a>(matches: &ArgMatches<'a>) -> Option<&'a str>
-    ensures { option_map (λ name. name.now) result ≡ file_in matches.now }
+/// The command line with the subcommand `get`.
+fn with_get<'a>(alloc: Global, program: Command<'a>) -> Result<Command<'a>, AllocError>
+    ensures { IfOk result (λ command.
+        app_of command ≡ with_subcommand (app_of program.entry) get_app.top) }
+{
+    let head = head_flag(alloc);
+    let max_age = seconds(alloc, "max-age", MAX_AGE_HELP);
+    let timeout = seconds(alloc, "timeout", TIMEOUT_HELP);
+    let urls = url_list(alloc);
+    let with_head = Command::new(alloc, "get").arg(head)?;
+    let with_age = with_head.arg(max_age)?;
+    let with_timeout = with_age.arg(timeout)?;
+    let with_urls = with_timeout.arg(urls)?;
+    let get = with_urls
+        .about("Fetches URLs in turn, and tells how each transfer ended")
+        .after_help(LINES);
+    let whole = program.subcommand(get)?;
+    Ok(whole)
+}
+
+/// The flag that asks for HEAD.
+fn head_flag<'a>(alloc: Global) -> Arg<'a>
+    ensures rule { rule_of result ≡ head_rule }
+    ensures local { result.global ≡ false }
+{
+    Arg::new(alloc, "head")
+        .long("head")
+        .action(ArgAction::SetTrue)
+        .help(HEAD_HELP)
+}
+
+/// The URLs, one or more.
+fn url_list<'a>(alloc: Global) -> Arg<'a>
+    ensures rule { rule_of result ≡ url_rule }
+    ensures local { result.global ≡ false }
+{
+    Arg::new(alloc, "URL")
+        .num_args(1..)
+        .required(true)
+        .help(URL_HELP)
+}
+
+/// An option of that name, whose value is a number of seconds.
+fn seconds<'a>(alloc: Global, name: &'a str, help: &'a str) -> Arg<'a>
+    ensures rule { rule_of result ≡ seconds_rule name.entry.now }
+    ensures local { result.global ≡ false }
+{
+    Arg::new(alloc, name)
+        .long(name)
+        .value_name("SECONDS")
+        .help(help)
+}
+
+/// The subcommand that the matches name.
+fn subcommand_of<'a>(alloc: Global, matches: &ArgMatches<'a>) -> Result<Subcommand, AllocError>
+    ensures { IfOk result (λ subcommand.
+        said_by subcommand ≡ said_in (subcommand_rows_of matches.now)) }
 {
     match matches.subcommand() {
-        Some((_, script)) => script.get_str("FILE"),
-        None => None,
+        Some((name, given)) => {
+            if name == "get" {
+                let words = get_words_of(alloc, given)?;
+                return Ok(Subcommand::Get(words));
+            }
+            let input = input_of(alloc, given.get_str("FILE"))?;
+            Ok(Subcommand::Script(input))
+        }
+        None => Ok(Subcommand::Script(ScriptInput::Standard)),
     }
 }
 
-/// Reads the words; those that it takes ask for a script, which is read from there.
-pub fn parse(alloc: Global, words: &[String]) -> Result<ScriptInput, Error>
+/// Reads the words; those that it takes name a subcommand.
+pub fn parse(alloc: Global, words: &[String]) -> Result<Subcommand, Error>
     ensures fails { FailsBy (fault_of curlpool (map string_bytes words.now)) result }
-    ensures input { IfOk result (λ input.
-        name_of input ≡ script_file (map string_bytes words.now)) }
+    ensures said { IfOk result (λ subcommand.
+        said_by subcommand ≡ said_after (map string_bytes words.now)) }
 {
     let matches = command(alloc)?.try_get_matches_from(words)?;
-    Ok(input_of(alloc, named_file(&matches))?)
+    Ok(subcommand_of(alloc, &matches)?)
 }
 
 /// The error for a word that is not UTF-8.

@@ -1,4 +1,4 @@
-//! The words of a script, for who asks how to write one.
+//! What help says of scripts, and of what `get` writes.
 
 /// What a script says, what its transcript says, and why a script ends early, as tables of at most
 /// 80 columns.
@@ -117,3 +117,35 @@ out of memory       Memory ran out
 
 Status              0: the script ran to its end; 2: the words are refused;
                     3: the script ended early; 4: no memory to read the words";
+
+/// What `get` writes, and how it ends.
+pub const LINES: &str = "\
+Later URLs of a host and port reuse its connection. For each URL, in order, a
+line is written as its transfer ends:
+
+STATUS LENGTH reused|new [retried] URL
+                    The response, and the bytes of its body; whether its
+                    connection was used before; and whether the request was
+                    sent once more, since the connection first used had been
+                    closed or reset, or had bytes that nobody asked for
+FAULT URL           There is no good response
+
+FAULT               Why
+Memory              Memory ran out
+Dial                The connection could not be opened
+Read                A read failed
+Write               A write failed
+BadResponse         What came is no response that can be read
+Cut                 The connection ended before the response was whole
+Refused             The cache gave no connection
+Cancelled           It took longer than the timeout, or the system's clock or
+                    poll failed
+
+For example, of a server on this machine:
+curlpool get http://localhost:8000/a http://localhost:8000/b
+200 103 new http://localhost:8000/a
+200 602 reused http://localhost:8000/b
+
+Status              0: all have responses; 2: the words are refused, and
+                    nothing was dialled; 4: a line has a FAULT, or could not
+                    be written, or memory or the network was missing";

@@ -1,12 +1,15 @@
 //! What the words are read in: `clap`, and memory for texts.
 
 ghost use Rattle.std.specs.Prelude.{◌≡◌, ◌≤◌, IfOk, IfErr, map, string_bytes};
+ghost use Rattle.cli.specs.GetPlan.{IsPlanOf, IsWhy};
+ghost use Rattle.cli.specs.GetWords.{get_said_by};
 ghost use Rattle.clap.specs.Words.{FailsBy, fault_of, kind_of};
 ghost use Rattle.conn_key.specs.Wants.{Rises};
-ghost use Rattle.cli.specs.CommandLine.{curlpool, name_of, script_file};
+ghost use Rattle.cli.specs.CommandLine.{curlpool, said_after, said_by};
 
-use crate::command_line::{not_text, parse};
-use crate::input::ScriptInput;
+use crate::command_line::{Subcommand, not_text, parse};
+use crate::get_plan::{GetPlan, GetRefusal, plan_of};
+use crate::get_words::GetWords;
 use clap::Error;
 use clap::error::ErrorKind;
 use std::alloc::{AllocError, Global};
@@ -19,13 +22,21 @@ pub trait WordsMemory {
     /// How many wants of memory it answered; at the greatest u64 the count stays.
     ghost wants: { Self → ℕ };
 
-    /// Reads the words; those that it takes ask for a script, which is read from there. An error of
-    /// `clap`'s kind for want of memory counts as one.
-    fn parse(&mut self, words: &[String]) -> Result<ScriptInput, Error>
+    /// Reads the words; those that it takes name a subcommand. An error of `clap`'s kind for want
+    /// of memory counts as one.
+    fn parse(&mut self, words: &[String]) -> Result<Subcommand, Error>
         ensures fails { FailsBy (fault_of curlpool (map string_bytes words.now)) result }
-        ensures input { IfOk result (λ input.
-            name_of input ≡ script_file (map string_bytes words.now)) }
+        ensures said { IfOk result (λ subcommand.
+            said_by subcommand ≡ said_after (map string_bytes words.now)) }
         ensures wants { IfErr result (λ error. kind_of error ≡ ErrorKind.OutOfMemory
+            → Rises (wants self.old) (wants self.new)) }
+        ensures kept { wants self.old ≤ wants self.new };
+
+    /// What the words after `get` ask for. A refusal for want of memory counts as one.
+    fn plan(&mut self, words: &GetWords) -> Result<GetPlan, GetRefusal>
+        ensures plan { IfOk result (IsPlanOf (get_said_by words.now)) }
+        ensures refused { IfErr result (IsWhy (get_said_by words.now)) }
+        ensures wants { IfErr result (λ refusal. refusal ≡ GetRefusal.Memory
             → Rises (wants self.old) (wants self.new)) }
         ensures kept { wants self.old ≤ wants self.new };
 
@@ -60,7 +71,7 @@ impl CountedWordsMemory {
 impl WordsMemory for CountedWordsMemory {
     ghost wants = { λ memory. memory.wants };
 
-    fn parse(&mut self, words: &[String]) -> Result<ScriptInput, Error> {
+    fn parse(&mut self, words: &[String]) -> Result<Subcommand, Error> {
         let parsed = parse(self.alloc, words);
         if let Err(error) = &parsed {
             if error.kind() == ErrorKind::OutOfMemory {
@@ -68,6 +79,14 @@ impl WordsMemory for CountedWordsMemory {
             }
         }
         parsed
+    }
+
+    fn plan(&mut self, words: &GetWords) -> Result<GetPlan, GetRefusal> {
+        let plan = plan_of(self.alloc, words);
+        if let Err(GetRefusal::Memory) = &plan {
+            self.wants = self.wants.saturating_add(1);
+        }
+        plan
     }
 
     fn not_text(&mut self) -> Result<Error, AllocError> {

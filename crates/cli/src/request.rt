@@ -2,9 +2,13 @@
 
 ghost use Rattle.std.specs.Prelude.{◌≡◌};
 ghost use Rattle.clap.specs.Words.{kind_of};
-ghost use Rattle.cli.specs.CommandLine.{AnswersError, Asks, file_asked, manner_of, word_faults};
+ghost use Rattle.cli.specs.CommandLine.{AnswersError, AnswersGet, Asks, manner_of, said};
+ghost use Rattle.cli.specs.CommandLine.{word_faults};
+ghost use Rattle.cli.specs.GetWords.{get_said_by};
 
-use crate::command_line::Words;
+use crate::command_line::{Subcommand, Words};
+use crate::get_plan::{GetPlan, GetRefusal};
+use crate::get_words::GetWords;
 use crate::input::ScriptInput;
 use crate::memory::WordsMemory;
 use clap::Error;
@@ -15,6 +19,8 @@ use clap::error::ErrorKind;
 pub enum Request {
     /// To run the script that is read from there.
     Script(ScriptInput),
+    /// To fetch URLs so.
+    Get(GetPlan),
     /// To tell this on standard output: help, or the version.
     Tell(String),
     /// Nothing that the program does: this says why.
@@ -37,12 +43,13 @@ pub enum Manner {
 /// What the words ask for. `NoMemory` comes only where the words could not be had for want of
 /// memory, or the memory counted a want.
 pub fn asked_by<M: WordsMemory>(memory: &mut M, words: Words) -> Request
-    ensures { Asks (word_faults words) (file_asked words) (M.wants memory.old)
+    ensures { Asks (word_faults words) (said words) (M.wants memory.old)
         (M.wants memory.new) result }
 {
     match words {
         Words::Given(words) => match memory.parse(words.as_slice()) {
-            Ok(input) => Request::Script(input),
+            Ok(Subcommand::Script(input)) => Request::Script(input),
+            Ok(Subcommand::Get(words)) => planned(memory, &words),
             Err(error) => refused(memory, error),
         },
         Words::NotText => match memory.not_text() {
@@ -50,6 +57,18 @@ pub fn asked_by<M: WordsMemory>(memory: &mut M, words: Words) -> Request
             Err(_) => Request::NoMemory,
         },
         Words::NoMemory => Request::NoMemory,
+    }
+}
+
+/// What the words after `get` ask for.
+fn planned<M: WordsMemory>(memory: &mut M, words: &GetWords) -> Request
+    ensures { AnswersGet (get_said_by words.now) (M.wants memory.old) (M.wants memory.new)
+        result }
+{
+    match memory.plan(words) {
+        Ok(plan) => Request::Get(plan),
+        Err(GetRefusal::Wrong(text)) => Request::Refuse(text),
+        Err(GetRefusal::Memory) => Request::NoMemory,
     }
 }
 

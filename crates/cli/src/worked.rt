@@ -4,10 +4,13 @@
 ghost use Rattle.cli.specs.CommandLine.{TakesScript, WantsSubcommand, TellsHelpOnHelp};
 ghost use Rattle.cli.specs.CommandLine.{TellsVersionOnVersion, RefusesAnotherWord};
 ghost use Rattle.cli.specs.CommandLine.{TakesFile, TakesStandardInput, TakesDash};
+ghost use Rattle.cli.specs.CommandLine.{TakesUrls, WantsUrl, RefusesTwice};
+ghost use Rattle.cli.specs.GetLines.{TellsResponses, TellsFaults};
 
 /// What is wrong with small command lines, by computation: with `script` alone, or a file after it,
 /// nothing; no word at all, and a word after the file, are refused; `--help` and `--version` are
-/// asked for. Of `script` alone and `script -` the script is read from standard input.
+/// asked for. Of `script` alone and `script -` the script is read from standard input. `get` takes
+/// its options among the URLs, needs a URL, and refuses an option that is given twice.
 #[tactic(auto, unfolding(clap::proofs::OnLiterals::clap_on_literals))]
 pub fn worked_command_lines()
     ensures script { TakesScript }
@@ -18,4 +21,13 @@ pub fn worked_command_lines()
     ensures file { TakesFile }
     ensures standard_input { TakesStandardInput }
     ensures dash { TakesDash }
+    ensures urls { TakesUrls }
+    ensures no_url { WantsUrl }
+    ensures twice { RefusesTwice }
+{}
+
+/// The lines of transfers that ended so, by computation.
+pub fn worked_lines()
+    ensures responses { TellsResponses }
+    ensures faults { TellsFaults }
 {}

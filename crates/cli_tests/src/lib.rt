@@ -2,7 +2,11 @@
 #![tactic(auto)]
 
 #[cfg(test)]
+mod get;
+#[cfg(test)]
 mod limits;
+#[cfg(test)]
+mod networks;
 #[cfg(test)]
 mod streams;
 #[cfg(test)]

@@ -58,9 +58,9 @@ fn a_reader_that_fails_in_the_middle(rt: HostRuntime) -> Result<(), Fail> {
 
 // Takes what goes on as expected, a byte at a time, and then no byte, or fails.
 #[derive(Drop)]
-struct Expecting {
-    rest: &'static [u8],
-    takes_none: bool,
+pub struct Expecting {
+    pub rest: &'static [u8],
+    pub takes_none: bool,
 }
 
 impl Write for Expecting {

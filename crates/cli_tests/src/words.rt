@@ -1,14 +1,16 @@
 //! What words ask for, and what the program then writes.
 
 ghost use Rattle.std.specs.Prelude.{⊤};
+ghost use Rattle.cli.specs.Streams.{CanCount};
 
+use crate::networks::FakeNetwork;
 use crate::streams::REUSE_THEN_DROP;
-use cli::{CountedWordsMemory, ScriptFiles, Words, run_program};
+use cli::{CountedWordsMemory, ScriptFiles, Sink, Words, run_program};
 use std::alloc::{AllocError, Global};
 use std::test::Fail;
 
 // The words after the program's name, of a text with spaces between them.
-fn words(alloc: Global, given: &str) -> Result<Words, AllocError> {
+pub fn words(alloc: Global, given: &str) -> Result<Words, AllocError> {
     let mut words = Vec::new(alloc);
     words.push(String::from_str(alloc, "curlpool")?)?;
     for word in given.split_whitespace() {
@@ -46,13 +48,29 @@ fn run_words(alloc: Global, words: Words, script: &str) -> (u8, Vec<u8>, Vec<u8>
 
 // The same where the script may be typed on a terminal.
 fn run_typed(alloc: Global, words: Words, is_typed: bool, script: &str) -> (u8, Vec<u8>, Vec<u8>) {
+    let mut network = FakeNetwork::new();
+    let mut output = Vec::new(alloc);
+    let (status, errors) = run_on(alloc, words, is_typed, script, &mut network, &mut output);
+    (status, output, errors)
+}
+
+// The same over that network, and onto that output.
+pub fn run_on<W: Sink>(
+    alloc: Global,
+    words: Words,
+    is_typed: bool,
+    script: &str,
+    network: &mut FakeNetwork,
+    output: &mut W,
+) -> (u8, Vec<u8>)
+    requires { CanCount (W.sink output.old) }
+{
     let mut memory = CountedWordsMemory::new(alloc);
     let mut files = OneFile {
         name: "reuse",
         bytes: REUSE_THEN_DROP.0.as_bytes(),
     };
     let mut input = script.as_bytes();
-    let mut output = Vec::new(alloc);
     let mut errors = Vec::new(alloc);
     let status = run_program(
         alloc,
@@ -60,11 +78,12 @@ fn run_typed(alloc: Global, words: Words, is_typed: bool, script: &str) -> (u8, 
         words,
         is_typed,
         &mut files,
+        network,
         &mut input,
-        &mut output,
+        output,
         &mut errors,
     );
-    (status, output, errors)
+    (status, errors)
 }
 
 #[test]
@@ -149,6 +168,7 @@ fn other_words_are_refused(rt: HostRuntime) -> Result<(), Fail> {
 fn help_and_version_are_told_on_standard_output(rt: HostRuntime) -> Result<(), Fail> {
     for &(word, start) in &[
         ("--help", "libcurl's connection cache"),
+        ("get --help", "Fetches URLs in turn"),
         ("--version", "curlpool 0.1.0\n"),
     ] {
         let given = words(rt.alloc(), word)?;

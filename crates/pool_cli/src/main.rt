@@ -1,8 +1,8 @@
-//! The program curlpool: it runs a script of connection events through a pool and writes the
-//! transcript.
+//! The program curlpool: it fetches URLs over kept connections, and runs scripts of connection
+//! events through a pool.
 #![tactic(auto)]
 
-use cli::{CountedWordsMemory, SystemFiles, Watched, Words, run_program};
+use cli::{CountedWordsMemory, SystemFiles, SystemNetwork, Watched, Words, run_program};
 use std::env;
 use std::io::{ErrorKind, IsTerminal};
 use std::process::ExitCode;
@@ -28,6 +28,7 @@ fn main(rt: HostRuntime) -> ExitCode {
     let words = given_words(&rt);
     let mut memory = CountedWordsMemory::new(rt.alloc());
     let mut files = SystemFiles::new(&rt);
+    let mut network = SystemNetwork::new(&rt);
     let stdin = rt.stdin();
     let is_typed = stdin.is_terminal();
     let mut input = Watched::new(stdin);
@@ -39,6 +40,7 @@ fn main(rt: HostRuntime) -> ExitCode {
         words,
         is_typed,
         &mut files,
+        &mut network,
         &mut input,
         &mut output,
         &mut errors,

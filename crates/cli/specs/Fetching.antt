@@ -1,0 +1,92 @@
+-- What fetching the URLs does, and what is written of it.
+use Rattle.std.specs.Prelude.{◌≡◌, ◌==◌, ℕ, List, [], ◌∷◌, ◌++◌, length, string_bytes, count_by, if◌then◌else◌, Result, Ok, Err}
+use Rattle.std.specs.Io.KnownBytes.{Appends}
+use Rattle.clap.specs.Words.{Text}
+use Rattle.exchange.specs.declared.done.Done.{Done}
+use Rattle.exchange.specs.declared.job.Job.{Job}
+use Rattle.script_text.specs.declared.fault.FaultKind.{FaultKind}
+use Rattle.script_text.specs.declared.fault.FaultKind.TheVariants.{Memory, Write}
+use Rattle.socket.specs.declared.addresses.Addresses.{Addresses}
+use Rattle.cli.specs.GetLines.{is_bad, line_of}
+use Rattle.cli.specs.Streams.{Stream, PutsFront, SameFailures, OneMoreFailed}
+use Rattle.cli.specs.declared.fetching.NetworkFault.{NetworkFault}
+use Rattle.cli.specs.declared.get_plan.GetPlan.{GetPlan}
+use Rattle.cli.specs.declared.get_plan.UrlJob.{UrlJob}
+
+-- from the one time to the other a job was carried out, and this came of it
+abbrev pub Carrying : Type 0 → Type 1
+Carrying F = F → F → Job → Done → Type 0
+
+-- the first of the jobs were carried out, one after another, from the one time to the other, and these came of them
+abbrev pub AreFetched : {F : Type 0} → Carrying F → F → F → List UrlJob → List Done → Type 0
+AreFetched Fetched first last jobs [] = last ≡ first
+AreFetched Fetched first last [] (done ∷ others) = ⊥
+AreFetched {F} Fetched first last (given ∷ jobs) (done ∷ others) = (next : F) × Fetched first next given.job done × AreFetched Fetched next last jobs others
+
+-- the lines of these
+abbrev pub lines_of : List UrlJob → List Done → Text
+lines_of jobs [] = []
+lines_of [] (done ∷ others) = []
+lines_of (given ∷ jobs) (done ∷ others) = line_of (string_bytes given.url) done ++ lines_of jobs others
+
+-- a line is not written whole: none of it, where memory was short; a front of it, where a write failed
+abbrev pub LineFails : Stream → Stream → Text → FaultKind → Type 0
+LineFails old new line Memory = Appends old.bytes new.bytes [] × SameFailures old new
+LineFails old new line Write = PutsFront old.bytes new.bytes line × OneMoreFailed old new
+LineFails old new line kind = ⊥
+
+abbrev pub PutsLine : {A : Type 0} → Stream → Stream → Text → Result A FaultKind → Type 0
+PutsLine old new line (Ok done) = Appends old.bytes new.bytes line × SameFailures old new
+PutsLine old new line (Err kind) = LineFails old new line kind
+
+-- the lines of these are written
+abbrev pub WritesLines : List UrlJob → List Done → Stream → Stream → Type 0
+WritesLines jobs dones old new = Appends old.bytes new.bytes (lines_of jobs dones) × SameFailures old new
+
+-- the line of the last is not written whole, those of the others are
+pub record StopsAtLine (jobs : List UrlJob) (dones : List Done) (old new : Stream) (kind : FaultKind) : Type 0 where
+  pub before : List Done
+  pub last : Done
+  pub dones_are : dones ≡ before ++ (last ∷ [])
+  pub url : Text
+  pub mid : Stream
+  pub written : WritesLines jobs before old mid
+  pub line_is : lines_of jobs dones ≡ lines_of jobs before ++ line_of url last
+  pub fails : LineFails mid new (line_of url last) kind
+
+-- all were carried out and told, and so many failed; or a line could not be written, after which none was carried out
+abbrev pub EndsFetching : List UrlJob → List Done → Stream → Stream → Result ℕ FaultKind → Type 0
+EndsFetching jobs dones old new (Ok failed) = (length dones ≡ length jobs) × WritesLines jobs dones old new × (failed ≡ count_by is_bad dones)
+EndsFetching jobs dones old new (Err kind) = StopsAtLine jobs dones old new kind
+
+pub record Fetches {F : Type 0} (Fetched : Carrying F) (first last : F) (jobs : List UrlJob) (old new : Stream) (result : Result ℕ FaultKind) : Type 0 where
+  pub dones : List Done
+  pub fetched : AreFetched Fetched first last jobs dones
+  pub ends : EndsFetching jobs dones old new result
+
+-- 0 where all were good and written, else 4
+abbrev pub fetched_status : Result ℕ FaultKind → ℕ
+fetched_status (Ok failed) = if failed == 0 then 0 else 4
+fetched_status (Err kind) = 4
+
+-- what opening a network for these addresses, and so many seconds a transfer, may give: a fetcher, or why there is none
+abbrev pub Connecting : Type 0 → Type 1
+Connecting F = Addresses → ℕ → Result F NetworkFault → Type 0
+
+-- the fetcher carries out the jobs
+pub record RunsFetcher {F : Type 0} (Fetched : Carrying F) (first : F) (jobs : List UrlJob) (old new : Stream) (status : ℕ) : Type 0 where
+  pub last : F
+  pub result : Result ℕ FaultKind
+  pub fetches : Fetches Fetched first last jobs old new result
+  pub ends : status ≡ fetched_status result
+
+-- nothing is written where there is none
+abbrev pub RunsOpened : {F : Type 0} → Carrying F → List UrlJob → Result F NetworkFault → Stream → Stream → ℕ → Type 0
+RunsOpened Fetched jobs (Ok first) old new status = RunsFetcher Fetched first jobs old new status
+RunsOpened Fetched jobs (Err fault) old new status = (new ≡ old) × (status ≡ 4)
+
+-- the jobs of a plan are carried out by one fetcher, of the network that is opened for its addresses
+pub record RunsPlan {F : Type 0} (Opens : Connecting F) (Fetched : Carrying F) (plan : GetPlan) (old new : Stream) (status : ℕ) : Type 0 where
+  pub opened : Result F NetworkFault
+  pub opens : Opens plan.addresses plan.timeout opened
+  pub runs : RunsOpened Fetched plan.jobs.items opened old new status

@@ -1,0 +1,102 @@
+-- The transfers that the words after `get` ask for.
+use Rattle.std.specs.Prelude.{◌≡◌, ◌≤◌, ◌+◌, ℕ, Bool, false, List, [], ◌∷◌, length, string_bytes, Option, None, Some, if◌then◌else◌, Result, Ok, Err}
+use Rattle.std.specs.Global.{Vec}
+use Rattle.std.specs.List.{Any}
+use Rattle.std.specs.declared.net.socket_addr.SocketAddr.{SocketAddr}
+use Rattle.clap.specs.Words.{Text}
+use Rattle.persistence.specs.declared.method.Method.{Method}
+use Rattle.persistence.specs.declared.method.Method.TheVariants.{Get, Head}
+use Rattle.conn_key.specs.Site.{site_of}
+use Rattle.conn_key.specs.Sites.{index_or_next, with_site}
+use Rattle.conn_key.specs.Target.{GivesTarget}
+use Rattle.conn_key.specs.declared.site.Site.{Site}
+use Rattle.conn_key.specs.declared.target.Target.{Target}
+use Rattle.conn_log.specs.declared.entry.Want.{Want}
+use Rattle.socket.specs.Hosts.{Names}
+use Rattle.cli.specs.GetWords.{GetSaid, IsBadUrl, IsRefused, max_age_said, timeout_said}
+use Rattle.cli.specs.declared.get_plan.GetPlan.{GetPlan}
+use Rattle.cli.specs.declared.get_plan.GetRefusal.{GetRefusal}
+use Rattle.cli.specs.declared.get_plan.GetRefusal.TheVariants.{Memory, Wrong}
+use Rattle.cli.specs.declared.get_plan.UrlJob.{UrlJob}
+
+abbrev pub method_said : Bool → Method
+method_said head = if head then Head else Get
+
+-- the transfer with that number reuses a connection that was idle for at most so many seconds, whatever its age
+abbrev pub want_said : ℕ → ℕ → Want
+want_said number max_age = record { transfer = number; max_age = max_age; max_life = 0; lane = 0; fresh = false; forbid_reuse = false }
+
+-- the job of a URL, where these are the sites of the URLs before it
+pub record IsJobOf (method : Method) (want : Want) (sites : List Site) (url : Text) (given : UrlJob) : Type 0 where
+  pub url_given : string_bytes given.url ≡ url
+  pub target : GivesTarget url given.job.target
+  pub site : given.job.site ≡ index_or_next sites (site_of given.job.target)
+  pub want_given : given.job.want ≡ want
+  pub method_given : given.job.method ≡ method
+
+abbrev pub with_site_of : List Site → UrlJob → List Site
+with_site_of sites given = with_site sites (site_of given.job.target)
+
+-- the jobs of the URLs, one for each, in order, with numbers from that one on
+abbrev pub AreJobs : Method → ℕ → List Site → ℕ → List Text → List UrlJob → Type 0
+AreJobs method max_age sites number [] [] = Unit {0}
+AreJobs method max_age sites number (url ∷ urls) (given ∷ rest) =
+    IsJobOf method (want_said number max_age) sites url given × AreJobs method max_age (with_site_of sites given) (number + 1) urls rest
+AreJobs method max_age sites number _ _ = ⊥
+
+-- the sites after these, with those of the jobs
+abbrev pub sites_with : List Site → List UrlJob → List Site
+sites_with sites [] = sites
+sites_with sites (given ∷ rest) = sites_with (with_site_of sites given) rest
+
+-- each site has the addresses that its host names
+abbrev pub HaveAddresses : List Site → List (Vec SocketAddr) → Type 0
+HaveAddresses [] [] = Unit {0}
+HaveAddresses (site ∷ sites) (list ∷ lists) = Names site.0 site.1 list.items × HaveAddresses sites lists
+HaveAddresses _ _ = ⊥
+
+-- the jobs of the URLs, numbered from 1, with the addresses of their sites, and the seconds after which each is cancelled
+pub record IsPlanOf (said : GetSaid) (plan : GetPlan) : Type 0 where
+  pub max_age : ℕ
+  pub age_said : max_age_said said.max_age ≡ Some max_age
+  pub seconds_said : timeout_said said.timeout ≡ Some plan.timeout
+  pub few : length said.urls ≤ 1024
+  pub jobs : AreJobs (method_said said.head) max_age [] 1 said.urls plan.jobs.items
+  pub addresses : HaveAddresses (sites_with [] plan.jobs.items) plan.addresses.hosts.items
+
+-- why there is no plan: the words are refused, or memory ran out
+abbrev pub IsWhy : GetSaid → GetRefusal → Type 0
+IsWhy said Memory = Unit {0}
+IsWhy said (Wrong text) = IsRefused said
+
+-- a number is what the words say, or they say none
+abbrev pub SaysNumber : Option ℕ → Result ℕ GetRefusal → Type 0
+SaysNumber said (Ok number) = said ≡ Some number
+SaysNumber said (Err Memory) = Unit {0}
+SaysNumber said (Err (Wrong text)) = said ≡ None
+
+-- a URL that is refused is bad, if memory did not run out
+abbrev pub IsWhyOfUrl : Text → GetRefusal → Type 0
+IsWhyOfUrl url Memory = Unit {0}
+IsWhyOfUrl url (Wrong text) = IsBadUrl url
+
+-- the same of one among several
+abbrev pub IsWhyOfUrls : List Text → GetRefusal → Type 0
+IsWhyOfUrls urls Memory = Unit {0}
+IsWhyOfUrls urls (Wrong text) = Any IsBadUrl urls
+
+-- the sites with that one, which has the addresses that its host names
+pub record AddsSite (old new : List Site) (lists : List (Vec SocketAddr)) (target : Target) : Type 0 where
+  pub sites : new ≡ with_site old (site_of target)
+  pub addresses : HaveAddresses new lists
+  pub few : length new ≤ length old + 1
+
+-- a job is added to these sites
+pub record AddsJob (method : Method) (want : Want) (old new : List Site) (lists : List (Vec SocketAddr)) (url : Text) (given : UrlJob) : Type 0 where
+  pub is_job : IsJobOf method want old url given
+  pub adds : AddsSite old new lists given.job.target
+
+-- the jobs of these URLs, numbered from 1, with the addresses of their sites
+pub record Plans (method : Method) (max_age : ℕ) (urls : List Text) (jobs : List UrlJob) (lists : List (Vec SocketAddr)) : Type 0 where
+  pub are_jobs : AreJobs method max_age [] 1 urls jobs
+  pub addresses : HaveAddresses (sites_with [] jobs) lists

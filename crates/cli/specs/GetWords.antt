@@ -1,0 +1,63 @@
+-- What the words after `get` say, and when they are refused.
+use Rattle.std.specs.Prelude.{◌≡◌, ◌≢◌, ◌⊎◌, ◌<◌, ◌^◌, ◌&&◌, ℕ, Bool, false, nat_le, codes, List, [], length, map, string_bytes, Option, None, Some, unwrap_or, if◌then◌else◌}
+use Rattle.std.specs.Str.{bytes_eq}
+use Rattle.std.specs.List.{Any}
+use Rattle.std.specs.Option.{option_and_then, option_map, option_map_or}
+use Rattle.clap.specs.Words.{Row, Text}
+use Rattle.clap.specs.Walk.{all_of, first_of}
+use Rattle.conn_key.specs.Target.{GivesTarget, Refuses}
+use Rattle.conn_key.specs.declared.target.KeyError.{KeyError}
+use Rattle.conn_key.specs.declared.target.KeyError.TheVariants.{Memory}
+use Rattle.conn_key.specs.declared.target.Target.{Target}
+use Rattle.script_text.specs.Words.{number}
+use Rattle.socket.specs.Hosts.{HasNoAddress}
+use Rattle.cli.specs.declared.get_words.GetWords.{GetWords}
+
+-- whether HEAD is to be sent, the numbers as they were given, and the URLs
+pub record GetSaid : Type 0 where
+  pub head : Bool
+  pub max_age : Option Text
+  pub timeout : Option Text
+  pub urls : List Text
+
+-- a flag that is used has the value true
+abbrev pub is_set : Option Text → Bool
+is_set value = option_map_or (λ text. bytes_eq text (codes "true")) value false
+
+-- what the rows of the subcommand say
+abbrev pub get_said_in : List Row → GetSaid
+get_said_in rows = record {
+  head = is_set (first_of (codes "head") rows);
+  max_age = first_of (codes "max-age") rows;
+  timeout = first_of (codes "timeout") rows;
+  urls = unwrap_or (all_of (codes "URL") rows) [];
+}
+
+abbrev pub get_said_by : GetWords → GetSaid
+get_said_by words = record {
+  head = words.head;
+  max_age = option_map string_bytes words.max_age;
+  timeout = option_map string_bytes words.timeout;
+  urls = map string_bytes words.urls.items;
+}
+
+-- the most seconds idle for reuse: any number of 64 bits, 118 where none is given
+abbrev pub max_age_said : Option Text → Option ℕ
+max_age_said None = Some 118
+max_age_said (Some text) = number (2 ^ 64) text
+
+-- the seconds after which a transfer is cancelled: from 1 to 3,600, 30 where none is given
+abbrev pub if_hour : ℕ → Option ℕ
+if_hour seconds = if nat_le 1 seconds && nat_le seconds 3600 then Some seconds else None
+
+abbrev pub timeout_said : Option Text → Option ℕ
+timeout_said None = Some 30
+timeout_said (Some text) = option_and_then if_hour (number (2 ^ 64) text)
+
+-- the text is no URL that leads to a target; or the host of its target is neither localhost nor an address
+abbrev pub IsBadUrl : Text → Type 0
+IsBadUrl url = ((error : KeyError) × Refuses url error × (error ≢ Memory)) ⊎ ((target : Target) × GivesTarget url target × HasNoAddress (string_bytes target.host))
+
+-- a number is out of its range, the URLs are more than 1,024, or one of them is bad
+abbrev pub IsRefused : GetSaid → Type 0
+IsRefused said = ((max_age_said said.max_age ≡ None) ⊎ (timeout_said said.timeout ≡ None)) ⊎ ((1024 < length said.urls) ⊎ Any IsBadUrl said.urls)

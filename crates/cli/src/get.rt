@@ -1,0 +1,123 @@
+//! Fetches URLs, and tells how each transfer ended.
+
+ghost use Rattle.std.specs.Prelude.{◌≡◌};
+ghost use Rattle.cli.specs.Fetching.{Fetches, PutsLine, RunsPlan, fetched_status};
+ghost use Rattle.cli.specs.GetLines.{is_bad, line_of};
+ghost use Rattle.cli.specs.Streams.{CanCount};
+
+use crate::fetching::{Fetcher, Network};
+use crate::get_line::line_text;
+use crate::get_plan::{GetPlan, UrlJob};
+use crate::streams::Sink;
+use exchange::Done;
+use script_text::FaultKind;
+use std::alloc::Global;
+use std::io::Write;
+
+/// All was fetched and told.
+const DONE: u8 = 0;
+
+/// Something was not.
+const FAILED: u8 = 4;
+
+/// Carries out a plan: fetches its URLs one after another, and writes a line on `output` as each
+/// transfer ends. Answers the status: 0 if all had good responses and were told, else 4. What goes
+/// wrong is told on `errors`.
+pub fn run_plan<N: Network, W: Sink, E: Write>(
+    alloc: Global,
+    plan: GetPlan,
+    network: &mut N,
+    output: &mut W,
+    errors: &mut E,
+) -> u8
+    requires { CanCount (W.sink output.old) }
+    ensures { RunsPlan (N.opens network.old network.new) N.Fetcher.fetched plan
+        (W.sink output.old) (W.sink output.new) result }
+{
+    let GetPlan {
+        jobs,
+        addresses,
+        timeout,
+    } = plan;
+    match network.open(alloc, addresses, timeout) {
+        Ok(mut fetcher) => {
+            let result = fetch_all(alloc, &mut fetcher, jobs.as_slice(), output);
+            status_told(errors, jobs.len(), result)
+        }
+        Err(fault) => {
+            let _ = writeln!(errors, "run: {fault}");
+            FAILED
+        }
+    }
+}
+
+/// Carries out the jobs and writes their lines. Answers how many failed.
+///
+/// # Errors
+///
+/// `Write` if a line could not be written, `Memory` if there was no memory for it. The jobs after
+/// it are not carried out.
+fn fetch_all<F: Fetcher, W: Sink>(
+    alloc: Global,
+    fetcher: &mut F,
+    jobs: &[UrlJob],
+    output: &mut W,
+) -> Result<usize, FaultKind>
+    requires { CanCount (W.sink output.old) }
+    ensures { Fetches F.fetched fetcher.old fetcher.new jobs.now (W.sink output.old)
+        (W.sink output.new) result }
+{
+    let mut failed = 0;
+    for given in jobs {
+        let done = fetcher.fetch(&given.job);
+        if let Err(kind) = put_line(alloc, given.url.as_str(), done, output) {
+            return Err(kind);
+        }
+        if is_bad(done) {
+            failed += 1;
+        }
+    }
+    Ok(failed)
+}
+
+/// Whether a transfer has no good response.
+fn is_bad(done: Done) -> bool
+    ensures { result ≡ is_bad done }
+{
+    match done {
+        Done::Good(_) => false,
+        Done::Bad(_) => true,
+    }
+}
+
+/// Writes the line of a transfer.
+///
+/// # Errors
+///
+/// `Write` if a write failed, `Memory` if there was no memory for the line.
+fn put_line<W: Sink>(alloc: Global, url: &str, done: Done, output: &mut W) -> Result<(), FaultKind>
+    requires { CanCount (W.sink output.old) }
+    ensures { PutsLine (W.sink output.old) (W.sink output.new) (line_of url.now done) result }
+{
+    match line_text(alloc, url, done) {
+        Ok(text) => output.put(text.as_bytes()),
+        Err(_) => Err(FaultKind::Memory),
+    }
+}
+
+/// The status of a program that fetched so many URLs; what went wrong is told.
+fn status_told<E: Write>(errors: &mut E, count: usize, fetched: Result<usize, FaultKind>) -> u8
+    ensures { result ≡ fetched_status fetched }
+{
+    match fetched {
+        Ok(0) => DONE,
+        Ok(failed) => {
+            let _ = writeln!(errors, "run: {failed} of {count} failed");
+            FAILED
+        }
+        Err(fault) => {
+            let _ = writeln!(errors, "run: {fault}");
+            FAILED
+        }
+    }
+}

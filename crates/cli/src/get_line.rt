@@ -1,0 +1,75 @@
+//! The line that tells how a transfer ended.
+
+ghost use Rattle.std.specs.Prelude.{◌≡◌, Some, IfOk, string_bytes};
+ghost use Rattle.cli.specs.GetLines.{end_text, fault_name, line_of, retry_word, reuse_word};
+
+use exchange::{Answer, Done, Fault};
+use std::alloc::{AllocError, Global};
+use std::fmt;
+
+/// The name of a fault.
+#[derive(Drop)]
+struct FaultName(Fault);
+
+impl fmt::Display for FaultName {
+    ghost output = { λ name. Some (fault_name name.0) };
+
+    fn fmt<W: fmt::Write>(&self, f: &mut fmt::Formatter<W>) -> fmt::Result {
+        match self.0 {
+            Fault::Memory => write!(f, "Memory"),
+            Fault::Dial => write!(f, "Dial"),
+            Fault::Read => write!(f, "Read"),
+            Fault::Write => write!(f, "Write"),
+            Fault::BadResponse => write!(f, "BadResponse"),
+            Fault::Cut => write!(f, "Cut"),
+            Fault::Refused(_) => write!(f, "Refused"),
+            Fault::Cancelled => write!(f, "Cancelled"),
+        }
+    }
+}
+
+/// How a transfer ended, in words.
+#[derive(Drop)]
+struct EndText(Done);
+
+impl fmt::Display for EndText {
+    ghost output = { λ text. Some (end_text text.0) };
+
+    fn fmt<W: fmt::Write>(&self, f: &mut fmt::Formatter<W>) -> fmt::Result {
+        match self.0 {
+            Done::Good(answer) => {
+                let status = answer.status;
+                let length = answer.body_len;
+                let reuse = reuse_word(answer.reused);
+                let retry = retry_word(answer.retried);
+                write!(f, "{status} {length} {reuse}{retry}")
+            }
+            Done::Bad(fault) => {
+                let name = FaultName(fault);
+                write!(f, "{name}")
+            }
+        }
+    }
+}
+
+/// Whether the connection was used before.
+fn reuse_word(reused: bool) -> &'static str
+    ensures { result.now ≡ reuse_word reused }
+{
+    if reused { "reused" } else { "new" }
+}
+
+/// Whether the request was sent once more.
+fn retry_word(retried: bool) -> &'static str
+    ensures { result.now ≡ retry_word retried }
+{
+    if retried { " retried" } else { "" }
+}
+
+/// The line that tells how the transfer of that URL ended.
+pub fn line_text(alloc: Global, url: &str, done: Done) -> Result<String, AllocError>
+    ensures { IfOk result (λ text. string_bytes text ≡ line_of url.now done) }
+{
+    let end = EndText(done);
+    format!(in alloc; "{end} {url}\n")
+}

@@ -1,0 +1,112 @@
+//! A network that is no network: how a transfer ends stands in its path.
+
+ghost use Rattle.std.specs.Prelude.{⊤};
+
+use budget::Refusal;
+use cli::{Fetcher, Network, NetworkFault};
+use exchange::{Answer, Done, Fault, Job};
+use persistence::{Facts, Framing, Method, Version};
+use socket::Addresses;
+use std::alloc::Global;
+
+/// The paths of transfers that fail, each with its fault and the fault's name.
+pub const FAULTS: [(&str, Fault, &str); 8] = [
+    ("/memory", Fault::Memory, "Memory"),
+    ("/dial", Fault::Dial, "Dial"),
+    ("/read", Fault::Read, "Read"),
+    ("/write", Fault::Write, "Write"),
+    ("/bad", Fault::BadResponse, "BadResponse"),
+    ("/cut", Fault::Cut, "Cut"),
+    ("/refused", Fault::Refused(Refusal::Exhausted), "Refused"),
+    ("/cancelled", Fault::Cancelled, "Cancelled"),
+];
+
+/// The facts of each response, of which no line tells.
+const FACTS: Facts = Facts {
+    version: Version::V11,
+    close: false,
+    keep_alive: false,
+    request_close: false,
+    framing: Framing::Counted,
+    both_lengths: false,
+    upgraded: false,
+    whole: true,
+    surplus: false,
+};
+
+/// What a network was opened with, and what its jobs wanted.
+#[derive(Drop)]
+pub struct FakeNetwork {
+    pub fault: Option<NetworkFault>,
+    /// How often it was opened, for how many sites, and with which timeout.
+    pub openings: u32,
+    pub sites: usize,
+    pub timeout: u32,
+}
+
+impl FakeNetwork {
+    pub fn new() -> FakeNetwork {
+        FakeNetwork {
+            fault: None,
+            openings: 0,
+            sites: 0,
+            timeout: 0,
+        }
+    }
+}
+
+impl Network for FakeNetwork {
+    type Fetcher = FakeFetcher;
+
+    ghost opens = { λ _ _ _ _ _. ⊤ };
+
+    fn open(
+        &mut self,
+        _alloc: Global,
+        addresses: Addresses,
+        timeout: u32,
+    ) -> Result<FakeFetcher, NetworkFault> {
+        self.openings = self.openings.saturating_add(1);
+        self.sites = addresses.len();
+        self.timeout = timeout;
+        match self.fault {
+            Some(fault) => Err(fault),
+            None => Ok(FakeFetcher { open: [false; 64] }),
+        }
+    }
+}
+
+/// Keeps one connection to each of the first sites.
+#[derive(Drop)]
+pub struct FakeFetcher {
+    open: [bool; 64],
+}
+
+impl Fetcher for FakeFetcher {
+    ghost fetched = { λ _ _ _ _. ⊤ };
+
+    fn fetch(&mut self, job: &Job) -> Done {
+        let path = job.target.path.as_str();
+        for row in &FAULTS {
+            if row.0 == path {
+                return Done::Bad(row.1);
+            }
+        }
+        let site = job.site as usize;
+        let reused = site < 64 && self.open[site] && job.want.max_age != 0;
+        if site < 64 {
+            self.open[site] = true;
+        }
+        let body_len = match job.method {
+            Method::Get => path.len() as u64,
+            Method::Head => 0,
+        };
+        Done::Good(Answer {
+            status: 200,
+            body_len,
+            facts: FACTS,
+            reused,
+            retried: path == "/again",
+        })
+    }
+}
