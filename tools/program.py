@@ -4,6 +4,7 @@ import shutil
 import signal
 import subprocess
 import sys
+import time
 
 TOP = os.path.dirname(os.path.dirname(os.path.abspath(__file__)))
 NAME = "pool_cli"
@@ -56,6 +57,24 @@ def build_unless_current():
     """Builds the program where it is missing or older than its sources."""
     if not is_current() and subprocess.run([os.path.join(TOP, "tools", "build-program")]).returncode != 0:
         sys.exit("tools/build-program did not build the program")
+
+
+def built(crate, command, product, words=()):
+    """A crate's file in out. rt makes it first where it is missing or older than its sources, and runs a program with
+    these words."""
+    path = os.path.join(TOP, "crates", crate, "out", product)
+    if not is_newest(path, crate):
+        if not has_rt():
+            sys.exit(1)
+        say(f"rt {command} builds {crate}, which proves it")
+        began = time.time_ns()
+        done = subprocess.run(["rt", command, "--", *words] if words else ["rt", command],
+                              cwd=os.path.join(TOP, "crates", crate), stdin=subprocess.DEVNULL, stdout=sys.stderr)
+        if done.returncode != 0 or not os.path.exists(path):
+            sys.exit(f"curlpool: rt {command} did not build {crate}")
+        # rt leaves a file as it is where that stays the same
+        os.utime(path, ns=(began, began))
+    return path
 
 
 def say(text):

@@ -1,0 +1,65 @@
+"""The programs that real-servers tries: where they are, and what a run of them gave."""
+import os
+import signal
+import subprocess
+from subprocess import DEVNULL, PIPE
+from typing import NamedTuple, Optional
+
+from program import TOP, built
+
+CRATE = "socket_requests"
+# one request, to where nobody listens
+FEWEST_WORDS = ["waiting", "0", "1", "1", "http://127.0.0.1:1/1"]
+# no case takes a tenth of that; but ./curlpool takes a minute or more before it runs the program unproved
+SECONDS = 60
+SECONDS_UNPROVED = 300
+SECONDS_TO_END = 10
+
+
+class Run(NamedTuple):
+    """How a run ended, and what it wrote; it has no status where it did not end in time."""
+
+    status: Optional[int]
+    output: str
+    errors: str
+
+
+def curlpool():
+    """The program curlpool, proved or unproved. PROGRAM names another one that is built already."""
+    return os.environ.get("PROGRAM") or os.path.join(TOP, "curlpool")
+
+
+def socket_requests():
+    """The program socket_requests, which is built first where it is missing or older than its sources. REQUESTS names
+    another one that is built already."""
+    return os.environ.get("REQUESTS") or built(CRATE, "run", CRATE, FEWEST_WORDS)
+
+
+def end(started):
+    """Ends a process that was started in a group of its own, and what is left of the group."""
+    if started.poll() is not None:
+        return
+    started.terminate()
+    try:
+        started.wait(SECONDS_TO_END)
+    except subprocess.TimeoutExpired:
+        os.killpg(started.pid, signal.SIGKILL)
+        started.wait()
+
+
+def run(words, seconds=SECONDS):
+    """Runs a command, for so long at most."""
+    started = subprocess.Popen(words, stdin=DEVNULL, stdout=PIPE, stderr=PIPE, encoding="utf8", errors="replace",
+                               start_new_session=True)
+    try:
+        output, errors = started.communicate(timeout=seconds)
+        return Run(started.returncode, output, errors)
+    except subprocess.TimeoutExpired:
+        return Run(None, "", f"it did not end within {seconds} seconds")
+    finally:
+        end(started)
+
+
+def get(words):
+    """Runs curlpool get with these words."""
+    return run([curlpool(), "get", *words], SECONDS_UNPROVED)
