@@ -1,0 +1,36 @@
+"""The commands that tools/measure runs, and how it shows what it found."""
+import os
+import shutil
+import subprocess
+import sys
+
+from program import TOP
+
+
+def need(command):
+    """Ends the run where a command is not there."""
+    if shutil.which(command) is None:
+        sys.exit(f"tools/measure: {command} is not on the path")
+
+
+def run(words, **options):
+    """What a command printed, on both streams; it has to end well."""
+    done = subprocess.run(words, stdout=subprocess.PIPE, stderr=subprocess.STDOUT, text=True, **options)
+    if done.returncode != 0:
+        sys.exit(f"tools/measure: {' '.join(words)} ended with {done.returncode}:\n{done.stdout[-2000:]}")
+    return done.stdout
+
+
+def compiled(source, room, *libraries):
+    """A program in C, a file of tools, built there."""
+    need("cc")
+    program = os.path.join(room, os.path.basename(source).removesuffix(".c"))
+    run(["cc", "-O2", "-o", program, os.path.join(TOP, "tools", source), *libraries])
+    return program
+
+
+def show(head, rows):
+    print(f"| {' | '.join(head)} |\n|{'---|' * len(head)}")
+    for row in rows:
+        print(f"| {' | '.join(f'{it:,}' if isinstance(it, int) else it for it in row)} |")
+    print()
