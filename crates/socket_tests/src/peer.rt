@@ -14,9 +14,9 @@ pub(crate) const OK: &[u8] = b"HTTP/1.1 200 OK\r\nContent-Length: 2\r\n\r\nok";
 /// A whole response that nobody asked for.
 const UNASKED: &[u8] = b"HTTP/1.1 200 OK\r\nContent-Length: 7\r\n\r\nunasked";
 
-/// What a server does once a request has come.
+/// How a server behaves once a request has come.
 #[derive(Clone, Copy, Debug, PartialEq, Eq)]
-pub(crate) enum Deed {
+pub(crate) enum Behaviour {
     /// It answers, and keeps the connection.
     Answers,
     /// It answers, and sends a whole response that nobody asked for at once.
@@ -61,8 +61,8 @@ impl Peer {
         self.listener.accept().is_ok()
     }
 
-    /// Takes the connection that came, if one did, and does that on the last one.
-    pub(crate) fn does(&mut self, deed: Deed) -> io::Result<()> {
+    /// Takes the connection that came, if one did, and behaves so on the last one.
+    pub(crate) fn does(&mut self, behaviour: Behaviour) -> io::Result<()> {
         if let Ok((stream, _)) = self.listener.accept() {
             stream.set_nonblocking(false)?;
             self.stream = Some(stream);
@@ -70,25 +70,29 @@ impl Peer {
         let Some(mut stream) = self.stream.take() else {
             return Ok(());
         };
-        if deed == Deed::Resets {
+        if behaviour == Behaviour::Resets {
             return Ok(());
         }
         let mut request = [0u8; 200];
         let _ = stream.read(&mut request)?;
-        let front = if deed == Deed::Cuts { &OK[..30] } else { OK };
+        let front = if behaviour == Behaviour::Cuts {
+            &OK[..30]
+        } else {
+            OK
+        };
         stream.write_all(front)?;
-        if deed == Deed::SaysMore {
+        if behaviour == Behaviour::SaysMore {
             stream.write_all(UNASKED)?;
         }
-        if deed != Deed::AnswersAndEnds && deed != Deed::Cuts {
+        if behaviour != Behaviour::AnswersAndEnds && behaviour != Behaviour::Cuts {
             self.stream = Some(stream);
         }
         Ok(())
     }
 
-    /// The response was read: sends what it says later.
-    pub(crate) fn is_read(&mut self, deed: Deed) -> io::Result<()> {
-        if deed == Deed::SaysMoreLater
+    /// Sends what it says once its response was read, if it does.
+    pub(crate) fn says_more_later(&mut self, behaviour: Behaviour) -> io::Result<()> {
+        if behaviour == Behaviour::SaysMoreLater
             && let Some(stream) = &mut self.stream
         {
             stream.write_all(UNASKED)?;

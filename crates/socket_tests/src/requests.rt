@@ -3,7 +3,7 @@
 ghost use Rattle.std.specs.Prelude.{IfOk};
 ghost use Rattle.exchange.specs.Answers.{IsUnused};
 
-use crate::peer::{Deed, Peer, addresses_of, target_of};
+use crate::peer::{Behaviour, Peer, addresses_of, target_of};
 use budget::Limits;
 use cache::Pool;
 use conn_log::Want;
@@ -32,7 +32,7 @@ enum Outcome {
 /// What the server does at the first request, and what comes of it and of the second one, which is
 /// always answered.
 struct Row {
-    deed: Deed,
+    behaviour: Behaviour,
     first: Outcome,
     second: Outcome,
     /// How many connections were opened.
@@ -41,37 +41,37 @@ struct Row {
 
 const ROWS: [Row; 6] = [
     Row {
-        deed: Deed::Answers,
+        behaviour: Behaviour::Answers,
         first: Outcome::New,
         second: Outcome::Reused,
         opened: 1,
     },
     Row {
-        deed: Deed::SaysMore,
+        behaviour: Behaviour::SaysMore,
         first: Outcome::New,
         second: Outcome::New,
         opened: 2,
     },
     Row {
-        deed: Deed::SaysMoreLater,
+        behaviour: Behaviour::SaysMoreLater,
         first: Outcome::New,
         second: Outcome::Retried,
         opened: 2,
     },
     Row {
-        deed: Deed::AnswersAndEnds,
+        behaviour: Behaviour::AnswersAndEnds,
         first: Outcome::New,
         second: Outcome::Retried,
         opened: 2,
     },
     Row {
-        deed: Deed::Cuts,
+        behaviour: Behaviour::Cuts,
         first: Outcome::Bad(Fault::Cut),
         second: Outcome::New,
         opened: 2,
     },
     Row {
-        deed: Deed::Resets,
+        behaviour: Behaviour::Resets,
         first: Outcome::Bad(Fault::Read),
         second: Outcome::New,
         opened: 2,
@@ -119,7 +119,7 @@ fn prepared(rt: &HostRuntime, transfer: u64, port: u16) -> Result<Prepared, Fail
 fn requested<W: Wire, D: Dial<W>, K: Clock>(
     task: &Solo,
     peer: &mut Peer,
-    deed: Deed,
+    behaviour: Behaviour,
     parts: Prepared,
     pool: &mut Pool<W>,
     dial: &mut D,
@@ -132,7 +132,7 @@ fn requested<W: Wire, D: Dial<W>, K: Clock>(
         let mut context = task.begin();
         let polled = exchange.poll(&mut context);
         context.end(&polled);
-        if polled.is_ready() || peer.does(deed).is_err() {
+        if polled.is_ready() || peer.does(behaviour).is_err() {
             break;
         }
         let _ = exchange.turn();
@@ -144,7 +144,7 @@ fn requested<W: Wire, D: Dial<W>, K: Clock>(
 // What comes of the two requests of a row.
 fn outcomes<W: Wire, D: Dial<W>>(
     rt: &HostRuntime,
-    deed: Deed,
+    behaviour: Behaviour,
     peer: &mut Peer,
     dial: &mut D,
 ) -> Result<(Outcome, Outcome), Fail> {
@@ -154,9 +154,17 @@ fn outcomes<W: Wire, D: Dial<W>>(
     let port = peer.port()?;
     let parts = prepared(rt, 1, port)?;
     let next = prepared(rt, 2, port)?;
-    let first = requested(&task, peer, deed, parts, &mut pool, dial, &clock);
-    peer.is_read(deed)?;
-    let second = requested(&task, peer, Deed::Answers, next, &mut pool, dial, &clock);
+    let first = requested(&task, peer, behaviour, parts, &mut pool, dial, &clock);
+    peer.says_more_later(behaviour)?;
+    let second = requested(
+        &task,
+        peer,
+        Behaviour::Answers,
+        next,
+        &mut pool,
+        dial,
+        &clock,
+    );
     Ok((first, second))
 }
 
@@ -166,7 +174,7 @@ fn requests_go_over_waiting_sockets(rt: HostRuntime) -> Result<(), Fail> {
         let mut peer = Peer::new(&rt)?;
         let addresses = addresses_of(&rt, "127.0.0.1", peer.port()?)?;
         let mut dial = WaitingDial::new(&rt, rt.alloc(), addresses)?;
-        let outcomes = outcomes(&rt, row.deed, &mut peer, &mut dial)?;
+        let outcomes = outcomes(&rt, row.behaviour, &mut peer, &mut dial)?;
         assert_eq!(rt; outcomes, (row.first, row.second));
         assert_eq!(rt; dial.opened(), row.opened);
     }
@@ -179,7 +187,7 @@ fn requests_go_over_polled_sockets(rt: HostRuntime) -> Result<(), Fail> {
         let mut peer = Peer::new(&rt)?;
         let addresses = addresses_of(&rt, "127.0.0.1", peer.port()?)?;
         let mut dial = PolledDial::new(&rt, rt.alloc(), addresses)?;
-        let outcomes = outcomes(&rt, row.deed, &mut peer, &mut dial)?;
+        let outcomes = outcomes(&rt, row.behaviour, &mut peer, &mut dial)?;
         assert_eq!(rt; outcomes, (row.first, row.second));
         assert_eq!(rt; dial.opened(), row.opened);
     }
