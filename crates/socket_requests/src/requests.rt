@@ -148,6 +148,8 @@ fn print_totals(rt: &HostRuntime, totals: Totals, opened: u64) -> Option<()> {
         bytes,
     } = totals;
     println!(rt;
-        "good {good} failed {failed} opened {opened} reused {reused} retried {retried} bytes {bytes}"
-    ).ok()
+        "good {good} failed {failed} opened {opened} reused {reused} \
+            retried {retried} bytes {bytes}"
+    )
+    .ok()
 }
