@@ -7,7 +7,7 @@ ghost use Rattle.exchange.specs.Answers.{IsPrepared, IsUnused, IsSameJob};
 ghost use Rattle.exchange.specs.Worlds.{world_of};
 ghost use Rattle.exchange.specs.Owning.{IsReady, Owns};
 ghost use Rattle.exchange.specs.Exchanging.{Continues, Stands};
-ghost use Rattle.client.specs.Fetching.{Fetches, Carries};
+ghost use Rattle.client.specs.Fetching.{Fetches};
 
 use cache::Pool;
 use exchange::{Clock, Dial, Done, Fault, Job, Prepared, Stage, Transfer, Turned, Wire};

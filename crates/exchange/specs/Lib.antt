@@ -12,5 +12,6 @@ pub mod Stepping
 pub mod Owning
 pub mod Kept
 pub mod Exchanging
+pub mod Carrying
 pub mod Balance
 pub mod Slabs

@@ -4,7 +4,7 @@ use Rattle.cache.specs.Deeds.{DidToPool}
 use Rattle.exchange.specs.Worlds.{world_of}
 use Rattle.exchange.specs.Since.{since}
 use Rattle.exchange.specs.Exchanging.{Stands}
-use Rattle.client.specs.Fetching.{IsForJob}
+use Rattle.exchange.specs.Carrying.{IsForJob}
 use Rattle.client.proofs.client.Client.fetch.Goals as goal
 
 pub returns : goal.returns
