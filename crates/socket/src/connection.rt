@@ -27,7 +27,7 @@ pub(crate) enum Condition {
 }
 
 /// What is known of a connection: to which site's host it was dialled, for which transfer, what has
-/// happened on it, and how often a read or a write failed, a count that stays at the greatest `u64`.
+/// happened on it, and how often a read or a write failed, counted up to the greatest `u64`.
 #[derive(Clone, Copy, Debug, PartialEq, Eq)]
 pub(crate) struct Connection {
     site: u32,

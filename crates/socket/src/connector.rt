@@ -17,7 +17,7 @@ use std::net::{Net, SocketAddr};
 use std::time::Duration;
 
 /// How many milliseconds a call waits at most.
-pub(crate) const MOST_MILLISECONDS: u64 = 10;
+pub(crate) const MOST_WAIT_MILLISECONDS: u64 = 10;
 
 /// How many events one turn takes. What is left is seen by the next turn.
 const MOST_EVENTS: usize = 256;
@@ -106,7 +106,7 @@ impl<'n, N: Net> Connector<'n, N> {
     pub(crate) fn wait(&mut self) -> bool
         ensures { self.new.begun ≡ self.old.begun }
     {
-        let most = Duration::from_millis(MOST_MILLISECONDS);
+        let most = Duration::from_millis(MOST_WAIT_MILLISECONDS);
         self.poll.poll(&mut self.events, Some(most)).is_ok()
     }
 
@@ -128,8 +128,8 @@ impl<'n, N: Net> Connector<'n, N> {
         }
     }
 
-    // Begins a connection for that transfer, to the first of the site's addresses from that place on
-    // that takes one.
+    // Begins a connection for that transfer, to the first of the site's addresses that takes one,
+    // from that place on.
     fn begin(&self, site: u32, transfer: u64, first: usize) -> Opening
         ensures { IfOpen result (λ socket. IsUntouched socket.connection site transfer) }
     {

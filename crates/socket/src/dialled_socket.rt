@@ -1,4 +1,4 @@
-//! Sockets that were begun for a transfer. Nobody else puts a socket and what is known of it together.
+//! Sockets that were begun for a transfer. Only here are a socket and what is known of it paired.
 
 ghost use Rattle.std.specs.Prelude.{◌≡◌, true, IfOk};
 ghost use Rattle.socket.specs.Sockets.{IsUntouched};

@@ -4,7 +4,7 @@ ghost use Rattle.std.specs.Prelude.{◌≡◌, ℕ, IfSome, IfOk};
 
 use crate::addresses::Addresses;
 use crate::connection::{Connection, is_readable};
-use crate::connector::{Connector, MOST_MILLISECONDS};
+use crate::connector::{Connector, MOST_WAIT_MILLISECONDS};
 use crate::counts::Counts;
 use crate::dialled_socket::DialledSocket;
 use exchange::{Dial, Dialled, Read, Turned, Wire, Written};
@@ -30,7 +30,7 @@ impl WaitingWire {
     {
         let (stream, connection) = socket.into_parts();
         let stream = TcpStream::from(stream);
-        let most = Some(Duration::from_millis(MOST_MILLISECONDS));
+        let most = Some(Duration::from_millis(MOST_WAIT_MILLISECONDS));
         stream.set_nodelay(true).ok()?;
         stream.set_nonblocking(false).ok()?;
         stream.set_read_timeout(most).ok()?;
