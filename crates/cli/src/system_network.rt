@@ -62,11 +62,11 @@ impl<'a> Network for SystemNetwork<'a> {
             Err(error) => return Err(fault_of(&error)),
         };
         match Client::new(self.rt, alloc, pool, dial, clock) {
-            Some(client) => Ok(SystemFetcher {
+            Ok(client) => Ok(SystemFetcher {
                 client,
                 limit: Duration::from_secs(timeout as u64),
             }),
-            None => Err(NetworkFault::Memory),
+            Err(error) => Err(fault_of(&error)),
         }
     }
 }

@@ -1,12 +1,12 @@
 //! A client, and how it fetches.
 
-ghost use Rattle.std.specs.Prelude.{◌≡◌, ◌<◌, length, IfSome, ⊤};
+ghost use Rattle.std.specs.Prelude.{◌≡◌, ◌<◌, length, IfOk, IfSome, ⊤};
 ghost use Rattle.std.specs.Option.{ForSome};
 ghost use Rattle.cache.specs.Deeds.{home_of, DidToPool};
-ghost use Rattle.exchange.specs.Answers.{IsPrepared, IsUnused, IsSameJob};
+ghost use Rattle.exchange.specs.Answers.{IsPrepared, IsSameJob};
 ghost use Rattle.exchange.specs.Worlds.{world_of};
 ghost use Rattle.exchange.specs.Owning.{IsReady, Owns};
-ghost use Rattle.exchange.specs.Exchanging.{Continues, Stands};
+ghost use Rattle.exchange.specs.Exchanging.{Continues};
 ghost use Rattle.client.specs.Fetching.{Fetches};
 
 use cache::Pool;
@@ -15,8 +15,8 @@ use futures::task::{Doorbell, Solo};
 use socket::SystemClock;
 use std::alloc::{AllocError, AllocGlobal, Global};
 use std::random::RandomSource;
-use std::time;
 use std::time::Duration;
+use std::{io, time};
 
 /// What sends one request after another over a pool's connections, and gives each back as its
 /// response says. The memory of one request serves the next.
@@ -44,17 +44,16 @@ impl<'c, W: Wire, D: Dial<W> + Drop, C: time::Clock> Client<'c, W, D, C> {
         pool: Pool<W>,
         dial: D,
         clock: SystemClock<'c, C>,
-    ) -> Option<Self>
-        ensures pool { IfSome result (λ client. client.pool ≡ pool) }
-        ensures dial { IfSome result (λ client. client.dial ≡ dial) }
+    ) -> io::Result<Self>
+        ensures pool { IfOk result (λ client. client.pool ≡ pool) }
+        ensures dial { IfOk result (λ client. client.dial ≡ dial) }
     {
-        let task = Solo::new(rt, Doorbell::spinning()).ok()?;
-        Some(Client {
+        Ok(Client {
             alloc,
             pool,
             dial,
             clock,
-            task,
+            task: Solo::new(rt, Doorbell::spinning())?,
             spare: None,
         })
     }
@@ -127,7 +126,7 @@ impl<'c, W: Wire, D: Dial<W> + Drop, C: time::Clock> Client<'c, W, D, C> {
             if polled.is_ready() || self.clock.is_past(begun, limit) {
                 return;
             }
-            if is_dials(transfer.waits_on()) && self.dial.turn() == Turned::Fault {
+            if needs_turn(transfer.waits_on()) && self.dial.turn() == Turned::Fault {
                 return;
             }
         }
@@ -135,6 +134,6 @@ impl<'c, W: Wire, D: Dial<W> + Drop, C: time::Clock> Client<'c, W, D, C> {
 }
 
 /// Whether a turn of the dial's event loop may bring what is waited for.
-fn is_dials(stage: Stage) -> bool {
+fn needs_turn(stage: Stage) -> bool {
     matches!(stage, Stage::Dialling | Stage::Sending | Stage::Reading)
 }

@@ -65,7 +65,7 @@ fn client_of<'c, W: Wire, D: Dial<W> + Drop>(
     let hosts = task.sites.len() as u32;
     let pool = Pool::new(rt.alloc(), limits, hosts).ok()?;
     let clock = SystemClock::new(rt).ok()?;
-    Client::new(rt, rt.alloc(), pool, dial, clock)
+    Client::new(rt, rt.alloc(), pool, dial, clock).ok()
 }
 
 // Makes the requests, as often as the task says. Where that is once, each has a line.
