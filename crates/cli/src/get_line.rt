@@ -66,7 +66,11 @@ fn retry_word(retried: bool) -> &'static str
     if retried { " retried" } else { "" }
 }
 
-/// The line that tells how the transfer of that URL ended.
+/// The line that tells how the transfer of that URL ended, with the line feed at its end.
+///
+/// # Errors
+///
+/// There is no memory for it.
 pub fn line_text(alloc: Global, url: &str, done: Done) -> Result<String, AllocError>
     ensures { IfOk result (λ text. string_bytes text ≡ line_of url.now done) }
 {

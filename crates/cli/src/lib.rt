@@ -26,6 +26,7 @@ pub use command_line::{Subcommand, Words};
 pub use fetching::{Fetcher, Network, NetworkFault};
 pub use files::{ScriptFiles, SystemFiles};
 pub use get::run_plan;
+pub use get_line::line_text;
 pub use get_plan::{GetPlan, GetRefusal, UrlJob};
 pub use get_words::GetWords;
 pub use input::ScriptInput;

@@ -3,8 +3,9 @@
 use crate::task::Task;
 use budget::Limits;
 use cache::Pool;
+use cli::line_text;
 use client::Client;
-use exchange::{Answer, Dial, Done, Fault, Wire};
+use exchange::{Dial, Done, Wire};
 use socket::{PolledDial, SystemClock, WaitingDial};
 use std::alloc::AllocGlobal;
 use std::io::Write;
@@ -110,32 +111,8 @@ fn request_each<W: Wire, D: Dial<W> + Drop>(
 
 // Prints what came of a request.
 fn print_line(rt: &HostRuntime, done: Done, url: &str) -> Option<()> {
-    match done {
-        Done::Good(answer) => print_answer(rt, answer, url),
-        Done::Bad(fault) => println!(rt; "{} {url}", fault_name(fault)).ok(),
-    }
-}
-
-// Prints an answer.
-fn print_answer(rt: &HostRuntime, answer: Answer, url: &str) -> Option<()> {
-    let use_word = if answer.reused { "reused" } else { "new" };
-    let retry = if answer.retried { " retried" } else { "" };
-    let (status, length) = (answer.status, answer.body_len);
-    println!(rt; "{status} {length} {use_word}{retry} {url}").ok()
-}
-
-// The name of a fault.
-fn fault_name(fault: Fault) -> &'static str {
-    match fault {
-        Fault::Memory => "Memory",
-        Fault::Dial => "Dial",
-        Fault::Read => "Read",
-        Fault::Write => "Write",
-        Fault::BadResponse => "BadResponse",
-        Fault::Cut => "Cut",
-        Fault::Refused(_) => "Refused",
-        Fault::Cancelled => "Cancelled",
-    }
+    let line = line_text(rt.alloc(), url, done).ok()?;
+    print!(rt; "{line}").ok()
 }
 
 // Prints what came of all requests.
