@@ -1,0 +1,31 @@
+use Rattle.std.proofs.Common.{rules, ap, sym, subst, ◌∙◌, ℕ, List, [], ◌∷◌, ◌++◌}
+use Rattle.std.proofs.lemmas.List.Elements.{All-push}
+use Rattle.claim.specs.Draws.{Drawn}
+use Rattle.exchange.specs.declared.done.Done.{Done}
+use Rattle.exchange.specs.Worlds.{world_of}
+use Rattle.driver.specs.Results.{IsResultAt, CarriesOutAll}
+use Rattle.driver.specs.Workers.{AreResults, DrawsOne, numbers_of}
+use Rattle.driver.proofs.Carried.{carried_more}
+use Rattle.driver.proofs.Collected.{numbers_both}
+use Rattle.driver.proofs.worker.Worker.draw_all.Goals as goal
+
+pub loop-preserved : goal.loop-preserved
+loop-preserved g c =
+    let did = g.C.Cache.did in
+    let world = (world_of g.W.Wire.untouched g.W.Wire.happened (g.K.Clock.tells c.args.shared.now.clock.now)) in
+    let may_stop = (g.G.Gate.may_stop c.args.shared.now.gate.now) in
+    let jobs = c.args.shared.now.jobs.now in
+    let before = c.loop.self in
+    let after = c.draw.new.self in
+    let one : DrawsOne did world may_stop jobs c.loop.cache c.draw.new.cache before.seat after.seat before.results after.results = search rules in
+    record {
+      home = search rules;
+      carried = subst (CarriesOutAll did world jobs c.args.cache.now c.draw.new.cache) (sym one.added) (carried_more did world jobs c.args.cache.now c.loop.cache c.draw.new.cache before.results one.number one.done c.loop.invariant.carried one.carried);
+      claim = search rules;
+      share = search rules;
+      not_past = ap (λ (seat : Drawn). seat.past) one.drawn ∙ c.loop.invariant.not_past;
+      drawn = ap (λ (seat : Drawn). seat.drawn) one.drawn ∙ ap (λ (numbers : List ℕ). numbers ++ one.number ∷ []) c.loop.invariant.drawn ∙ sym (numbers_both before.results ((one.number, one.done) ∷ [])) ∙ ap numbers_of (sym one.added);
+      results = subst (AreResults world may_stop jobs) (sym one.added) (All-push (λ (result : ℕ × Done). IsResultAt world may_stop jobs result.0 result.1) before.results (one.number, one.done) c.loop.invariant.results one.result_is);
+      well = search rules;
+      pass = search rules;
+    }

@@ -1,0 +1,6 @@
+pub mod Gates
+pub mod Faults
+pub mod Results
+pub mod Workers
+pub mod Running
+pub mod Hiring

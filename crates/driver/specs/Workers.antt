@@ -1,0 +1,53 @@
+-- What a worker does, by the numbers that it draws.
+use Rattle.std.specs.Prelude.{◌≡◌, ℕ, ◌+◌, ◌∷◌, ◌++◌, List, [], map, Bool, true, false, Result, Ok, Err, Option, Some}
+use Rattle.std.specs.List.{All}
+use Rattle.leasing.specs.Deeds.{Deed}
+use Rattle.bundle.specs.Passes.{Accounts}
+use Rattle.claim.specs.Draws.{Drawn}
+use Rattle.exchange.specs.declared.job.Job.{Job}
+use Rattle.exchange.specs.declared.done.Done.{Done}
+use Rattle.exchange.specs.Worlds.{World}
+use Rattle.driver.specs.declared.fault.DriverFault.{DriverFault}
+use Rattle.driver.specs.Faults.{IsWorkerFault}
+use Rattle.driver.specs.Results.{IsResultAt, CarriesOutAt}
+
+-- a worker: its seat, its pass unless a desk has it, how the jobs that it drew ended, each with its number, and why it
+-- gave up, if it did
+pub record WorkerShown : Type 0 where
+  pub seat : Drawn
+  pub pass : Option Accounts
+  pub results : List (ℕ × Done)
+  pub fault : Option DriverFault
+
+-- a worker that leaves that
+abbrev pub left_with : Drawn → Accounts → List (ℕ × Done) → Option DriverFault → WorkerShown
+left_with seat pass results fault = record { seat = seat; pass = Some pass; results = results; fault = fault }
+
+-- the numbers of the jobs of these results
+abbrev pub numbers_of : List (ℕ × Done) → List ℕ
+numbers_of results = map (λ (result : ℕ × Done). result.0) results
+
+-- each result is that of the job whose number it bears
+abbrev pub AreResults : {W : Type 0} → World W → (ℕ → Type 0) → List Job → List (ℕ × Done) → Type 0
+AreResults world may_stop jobs results = All (λ (result : ℕ × Done). IsResultAt world may_stop jobs result.0 result.1) results
+
+-- a worker drew the number of a job and carried it out, and has its result behind the others
+pub record DrawsOne {C W : Type 0} (did : C → C → Deed W → Type 0) (world : World W) (may_stop : ℕ → Type 0) (jobs : List Job) (before after : C) (seat next : Drawn) (results more : List (ℕ × Done)) : Type 0 where
+  pub number : ℕ
+  pub done : Done
+  pub drawn : next ≡ record seat { drawn = seat.drawn ++ number ∷ [] }
+  pub added : more ≡ results ++ (number, done) ∷ []
+  pub result_is : IsResultAt world may_stop jobs number done
+  pub carried : CarriesOutAt did world jobs number before after done
+
+-- it drew a number past the jobs, and did nothing
+pub record DrawsNone {C : Type 0} (before after : C) (seat next : Drawn) (results more : List (ℕ × Done)) : Type 0 where
+  pub past : next ≡ record seat { past = seat.past + 1 }
+  pub none_added : more ≡ results
+  pub nothing : after ≡ before
+
+-- whether there was a job, or why the worker gave up
+abbrev pub Goes : {C W : Type 0} → (C → C → Deed W → Type 0) → World W → (ℕ → Type 0) → List Job → C → C → Drawn → Drawn → List (ℕ × Done) → List (ℕ × Done) → Result Bool DriverFault → Type 0
+Goes did world may_stop jobs before after seat next results more (Ok true) = DrawsOne did world may_stop jobs before after seat next results more
+Goes did world may_stop jobs before after seat next results more (Ok false) = DrawsNone before after seat next results more
+Goes did world may_stop jobs before after seat next results more (Err fault) = IsWorkerFault fault

@@ -1,0 +1,159 @@
+//! What carries out one job at a time.
+
+ghost use Rattle.std.specs.Prelude.{◌≡◌, ◌<◌, ◌⊎◌, length, IfOk, IfErr};
+ghost use Rattle.std.specs.Option.{ForSome};
+ghost use Rattle.exchange.specs.Answers.{IsPrepared, IsSameJob};
+ghost use Rattle.exchange.specs.Worlds.{world_of};
+ghost use Rattle.exchange.specs.Owning.{IsReady, Owns};
+ghost use Rattle.exchange.specs.Exchanging.{Continues, IsFinished};
+ghost use Rattle.driver.specs.Results.{IsResultAt, CarriesOutAt};
+ghost use Rattle.driver.specs.Faults.{IsWorkerFault};
+
+use crate::fault::DriverFault;
+use crate::gate::Gate;
+use crate::shared::Shared;
+use exchange::{Clock, Dial, Done, Job, Prepared, Stage, Transfer, Turned, Wire};
+use futures::task::Solo;
+use leasing::Cache;
+use std::alloc::Global;
+use std::marker::PhantomData;
+use std::sync::Wait;
+
+/// What carries out one job at a time, over a dial: the memory of one job serves the next.
+#[derive(Drop)]
+pub(crate) struct Carrier<'d, W: Wire, D: Dial<W>> {
+    alloc: Global,
+    dial: &'d mut D,
+    task: Solo,
+    spare: Option<Prepared>,
+    of: PhantomData<W>,
+    ghost room: { ForSome spare (λ parts. 0 < length parts.buffer.items) },
+}
+
+impl<'d, W: Wire, D: Dial<W>> Carrier<'d, W, D> {
+    pub(crate) fn new(alloc: Global, dial: &'d mut D, task: Solo) -> Self {
+        Carrier {
+            alloc,
+            dial,
+            task,
+            spare: None,
+            of: PhantomData,
+        }
+    }
+
+    /// Carries out the job of that number: how it ended.
+    pub(crate) fn carry_out<C: Cache<W>, K: Clock, G: Gate, R: Wait>(
+        &mut self,
+        rt: &R,
+        shared: &Shared<'_, K, G>,
+        cache: &mut C,
+        number: u64,
+    ) -> Result<Done, DriverFault>
+        requires there { number < length shared.now.jobs.now }
+        ensures ok { IfOk result (IsResultAt (world_of W.untouched W.happened (K.tells
+            shared.now.clock.now)) (G.may_stop shared.now.gate.now) shared.now.jobs.now number) }
+        ensures carried { IfOk result (CarriesOutAt C.did (world_of W.untouched W.happened
+            (K.tells shared.now.clock.now)) shared.now.jobs.now number cache.old cache.new) }
+        ensures err { IfErr result IsWorkerFault }
+        ensures home { C.home cache.new ≡ C.home cache.old }
+    {
+        let parts = self.prepared(&shared.jobs[number as usize])?;
+        shared.gate.before(number);
+        let mut transfer = Transfer::new(parts);
+        let polled = self.poll_to_its_end(rt, shared, cache, number, &mut transfer);
+        let now = shared.clock.now();
+        let (done, used) = transfer.close(now, cache, self.dial);
+        self.spare = Some(used);
+        shared.bell.ring();
+        shared.gate.after(number);
+        polled?;
+        Ok(done)
+    }
+
+    // The job with the memory for it, that of the last one where there was one.
+    fn prepared(&mut self, job: &Job) -> Result<Prepared, DriverFault>
+        ensures ok { IfOk result (IsPrepared job.now) }
+        ensures err { IfErr result IsWorkerFault }
+    {
+        let prepared = match self.spare.take() {
+            None => Prepared::new(self.alloc, job),
+            Some(used) => match used.again(job) {
+                Ok(parts) => Ok(parts),
+                Err((parts, error)) => {
+                    self.spare = Some(parts);
+                    Err(error)
+                }
+            },
+        };
+        match prepared {
+            Ok(parts) => Ok(parts),
+            Err(_error) => Err(DriverFault::Memory),
+        }
+    }
+
+    // Polls a transfer until it has ended, the gate ends it, or a worker has met a fault.
+    fn poll_to_its_end<C: Cache<W>, K: Clock, G: Gate, R: Wait>(
+        &mut self,
+        rt: &R,
+        shared: &Shared<'_, K, G>,
+        cache: &mut C,
+        number: u64,
+        transfer: &mut Transfer<W>,
+    ) -> Result<(), DriverFault>
+        requires owns { Owns (C.home cache.old) transfer.old.parts transfer.old.state }
+        requires ready { IsReady transfer.old.parts }
+        ensures ok { IfOk result (λ it. IsFinished transfer.new.state
+            ⊎ G.may_stop shared.now.gate.now number) }
+        ensures err { IfErr result IsWorkerFault }
+        ensures home { C.home cache.new ≡ C.home cache.old }
+        ensures owns { Owns (C.home cache.new) transfer.new.parts transfer.new.state }
+        ensures ready { IsReady transfer.new.parts }
+        ensures same { IsSameJob transfer.old.parts transfer.new.parts }
+        ensures story { Continues C.did (world_of W.untouched W.happened (K.tells
+            shared.now.clock.now)) transfer.old.parts transfer.new.parts cache.old cache.new
+            transfer.old.state transfer.new.state }
+    {
+        for _ in rt.forever() {
+            if shared.gate.stop(number) {
+                return Ok(());
+            }
+            if let Some(fault) = shared.faults.met() {
+                return Err(fault);
+            }
+            let rings = shared.bell.rings();
+            let mut context = self.task.begin();
+            let polled = transfer.poll(&mut context, cache, self.dial, shared.clock);
+            context.end(&polled);
+            if polled.is_ready() {
+                return Ok(());
+            }
+            if self.wait(rt, shared, transfer.waits_on(), rings)? && shared.gate.stop(number) {
+                return Ok(());
+            }
+        }
+        unreachable!()
+    }
+
+    // Waits for what may bring a transfer on, by a turn of its dial or a park; whether it did.
+    fn wait<K: Clock, G: Gate, R: Wait>(
+        &mut self,
+        rt: &R,
+        shared: &Shared<'_, K, G>,
+        stage: Stage,
+        rings: u64,
+    ) -> Result<bool, DriverFault>
+        ensures err { IfErr result IsWorkerFault }
+    {
+        match stage {
+            Stage::Turn => Ok(false),
+            Stage::Grant => {
+                shared.bell.wait(rt, rings);
+                Ok(true)
+            }
+            Stage::Dialling | Stage::Sending | Stage::Reading => match self.dial.turn() {
+                Turned::Done => Ok(true),
+                Turned::Fault => Err(DriverFault::Poll),
+            },
+        }
+    }
+}

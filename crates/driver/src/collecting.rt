@@ -1,0 +1,82 @@
+//! The end of a run: the results in the order of the jobs, and the passes.
+
+ghost use Rattle.std.specs.Prelude.{◌≡◌, ◌+◌, ◌<◌, ◌≤◌, length, IfOk, IfErr, []};
+ghost use Rattle.std.specs.Prelude.{vec_len, vec_capacity};
+ghost use Rattle.std.specs.List.{All};
+ghost use Rattle.budget.specs.Words.{whole};
+ghost use Rattle.claim.specs.Draws.{first_seat};
+ghost use Rattle.exchange.specs.Worlds.{world_of};
+ghost use Rattle.shared_cache.specs.Passes.{IsPassOf};
+ghost use Rattle.driver.specs.Faults.{IsWorkerFault};
+ghost use Rattle.driver.specs.Running.{IsRun};
+ghost use Rattle.driver.specs.Hiring.{HasWorked, IsPlaced};
+
+use crate::fault::DriverFault;
+use crate::gate::Gate;
+use crate::running::RunReport;
+use crate::shared::Shared;
+use crate::worker::{Left, Worker};
+use budget::Pass;
+use bundle::Did;
+use claim::ClaimSeat;
+use exchange::{Clock, Dial, Done, Wire};
+use shared_cache::Names;
+
+/// Puts the results of all workers in the order of the jobs, and takes their passes back.
+pub(crate) fn collect<W: Wire, N: Names, D: Dial<W>, K: Clock, G: Gate>(
+    shared: &Shared<'_, K, G>,
+    seat: ClaimSeat,
+    workers: Vec<Worker<'_, W, D>>,
+    results: Vec<Done>,
+    passes: Vec<Pass<Did>>,
+) -> Result<RunReport, (DriverFault, Vec<Pass<Did>>)>
+    requires jobs { shared.now.claim.now.jobs ≡ length shared.now.jobs.now }
+    requires some { 0 < vec_len workers }
+    requires claim { seat ≡ record (first_seat shared.now.claim.now) { share = seat.share } }
+    requires share { seat.share + vec_len workers ≡ whole }
+    requires results { vec_len results ≡ length shared.now.jobs.now }
+    requires worked { All (HasWorked (world_of W.untouched W.happened (K.tells
+        shared.now.clock.now)) (G.may_stop shared.now.gate.now) N.names shared.now.claim.now
+        shared.now.jobs.now) workers.items }
+    requires none { passes.items ≡ [] }
+    requires room { vec_len workers ≤ vec_capacity passes }
+    ensures ok { IfOk result (IsRun (world_of W.untouched W.happened (K.tells
+        shared.now.clock.now)) (G.may_stop shared.now.gate.now) N.names shared.now.jobs.now
+        (vec_len workers.entry)) }
+    ensures err { IfErr result (λ refused. IsWorkerFault refused.0) }
+    ensures passes { IfErr result (λ refused. All (IsPassOf N.names) refused.1.items) }
+{
+    let mut seat = seat;
+    let mut workers = workers;
+    let mut results = results;
+    let mut passes = passes;
+    let mut fault = None;
+    while let Some(worker) = workers.pop() {
+        let Left {
+            seat: other,
+            pass,
+            results: own,
+            fault: met,
+        } = worker.leave();
+        shared.claim.join(&mut seat, other);
+        place(&mut results, &own);
+        passes.push_reserved(pass);
+        fault = met.or(fault);
+    }
+    workers.destroy_empty();
+    if let Some(fault) = fault {
+        return Err((fault, passes));
+    }
+    let _drawn = shared.claim.load(&mut seat);
+    Ok(RunReport { results, passes })
+}
+
+// Puts each result in the place of its job.
+fn place(results: &mut [Done], own: &[(u64, Done)])
+    requires { All (λ result. result.0 < length results.old) own.now }
+    ensures { IsPlaced own.now results.old results.new }
+{
+    for (number, done) in own {
+        results[*number as usize] = *done;
+    }
+}

@@ -1,0 +1,199 @@
+//! A worker, which draws jobs and carries out one after another.
+
+ghost use Rattle.std.specs.Prelude.{◌≡◌, ◌<◌, length, IfSome, IfNone, IsSome, OnErr};
+ghost use Rattle.std.specs.Prelude.{Some, None, []};
+ghost use Rattle.exchange.specs.Worlds.{world_of};
+ghost use Rattle.driver.specs.Faults.{IsWorkerFault};
+ghost use Rattle.driver.specs.Results.{CarriesOutAll};
+ghost use Rattle.driver.specs.Workers.{AreResults, numbers_of, Goes, left_with};
+
+use crate::carrier::Carrier;
+use crate::fault::DriverFault;
+use crate::gate::Gate;
+use crate::shared::Shared;
+use budget::Pass;
+use bundle::Did;
+use claim::ClaimSeat;
+use exchange::{Clock, Dial, Done, Wire};
+use leasing::Cache;
+use std::alloc::Global;
+use std::marker::Model;
+use std::mem;
+use std::sync::Wait;
+
+/// What a thread works with: what carries its jobs out, its seat at the word that they are drawn
+/// from, its pass, how its jobs ended, and why it gave up, if it did.
+pub(crate) struct Worker<'d, W: Wire, D: Dial<W>> {
+    carrier: Carrier<'d, W, D>,
+    seat: ClaimSeat,
+    // None while a desk has it.
+    pass: Option<Pass<Did>>,
+    // Each with the number of its job.
+    results: Vec<(u64, Done)>,
+    fault: Option<DriverFault>,
+}
+
+impl<'d, W: Wire, D: Dial<W>> Model for Worker<'d, W, D> {
+    ghost use Rattle.driver.specs.Workers.{WorkerShown};
+
+    ghost Value = { WorkerShown };
+
+    ghost view = { λ worker. record {
+      seat = worker.seat;
+      pass = worker.pass;
+      results = worker.results.items;
+      fault = worker.fault;
+    } };
+}
+
+/// What a worker leaves.
+pub(crate) struct Left {
+    pub(crate) seat: ClaimSeat,
+    pub(crate) pass: Pass<Did>,
+    pub(crate) results: Vec<(u64, Done)>,
+    pub(crate) fault: Option<DriverFault>,
+}
+
+impl<'d, W: Wire, D: Dial<W>> Worker<'d, W, D> {
+    /// A worker with that pass and that seat, which has done nothing yet.
+    pub(crate) fn new(
+        alloc: Global,
+        carrier: Carrier<'d, W, D>,
+        seat: ClaimSeat,
+        pass: Pass<Did>,
+    ) -> Self
+        ensures seat { result.seat ≡ seat }
+        ensures pass { result.pass ≡ Some pass }
+        ensures no_results { result.results ≡ [] }
+        ensures well { result.fault ≡ None }
+    {
+        Worker {
+            carrier,
+            seat,
+            pass: Some(pass),
+            results: Vec::new(alloc),
+            fault: None,
+        }
+    }
+
+    /// Lends its pass. Asked of the caller: it has it.
+    pub(crate) fn take_pass(&mut self) -> Pass<Did>
+        requires { IsSome self.old.pass }
+        ensures pass { self.old.pass ≡ Some result }
+        ensures none { self.new ≡ record self.old { pass = None } }
+    {
+        let Some(pass) = self.pass.take() else {
+            unreachable!()
+        };
+        pass
+    }
+
+    /// Takes its pass back. Asked of the caller: it was lent.
+    pub(crate) fn put_pass(&mut self, pass: Pass<Did>)
+        requires { self.old.pass ≡ None }
+        ensures { self.new ≡ record self.old { pass = Some pass } }
+    {
+        match mem::replace(&mut self.pass, Some(pass)) {
+            None => {}
+            Some(_) => unreachable!(),
+        }
+    }
+
+    /// Ends it. Asked of the caller: it has its pass.
+    pub(crate) fn leave(self) -> Left
+        requires { IsSome self.pass }
+        ensures { self.entry ≡ left_with result.seat result.pass result.results.items result.fault }
+    {
+        let Worker {
+            carrier: _,
+            seat,
+            pass,
+            results,
+            fault,
+        } = self;
+        let Some(pass) = pass else { unreachable!() };
+        Left {
+            seat,
+            pass,
+            results,
+            fault,
+        }
+    }
+
+    /// Draws jobs and carries them out, until none is left or any worker has met a fault.
+    pub(crate) fn draw_all<C: Cache<W>, K: Clock, G: Gate, R: Wait>(
+        &mut self,
+        rt: &R,
+        shared: &Shared<'_, K, G>,
+        cache: &mut C,
+    )
+        requires claim { self.old.seat.claim ≡ shared.now.claim.now }
+        requires jobs { shared.now.claim.now.jobs ≡ length shared.now.jobs.now }
+        requires not_past { self.old.seat.past ≡ 0 }
+        requires no_draws { self.old.seat.drawn ≡ [] }
+        requires no_results { self.old.results ≡ [] }
+        requires well { self.old.fault ≡ None }
+        ensures home { C.home cache.new ≡ C.home cache.old }
+        ensures carried { IfNone self.new.fault (CarriesOutAll C.did (world_of W.untouched
+            W.happened (K.tells shared.now.clock.now)) shared.now.jobs.now cache.old cache.new
+            self.new.results) }
+        ensures claim { self.new.seat.claim ≡ self.old.seat.claim }
+        ensures share { self.new.seat.share ≡ self.old.seat.share }
+        ensures drawn { IfNone self.new.fault (
+            self.new.seat.drawn ≡ numbers_of self.new.results) }
+        ensures past { IfNone self.new.fault (0 < self.new.seat.past) }
+        ensures results { AreResults (world_of W.untouched W.happened (K.tells
+            shared.now.clock.now)) (G.may_stop shared.now.gate.now) shared.now.jobs.now
+            self.new.results }
+        ensures fault { IfSome self.new.fault IsWorkerFault }
+        ensures pass { self.new.pass ≡ self.old.pass }
+    {
+        for _ in rt.forever() {
+            match self.draw(rt, shared, cache) {
+                Ok(true) => {}
+                Ok(false) => return,
+                Err(fault) => {
+                    shared.faults.meet(fault);
+                    self.fault = Some(fault);
+                    return;
+                }
+            }
+        }
+        unreachable!()
+    }
+
+    // Draws a job and carries it out; whether there was one.
+    fn draw<C: Cache<W>, K: Clock, G: Gate, R: Wait>(
+        &mut self,
+        rt: &R,
+        shared: &Shared<'_, K, G>,
+        cache: &mut C,
+    ) -> Result<bool, DriverFault>
+        requires claim { self.old.seat.claim ≡ shared.now.claim.now }
+        requires jobs { shared.now.claim.now.jobs ≡ length shared.now.jobs.now }
+        requires not_past { self.old.seat.past ≡ 0 }
+        ensures goes { Goes C.did (world_of W.untouched W.happened (K.tells
+            shared.now.clock.now)) (G.may_stop shared.now.gate.now) shared.now.jobs.now
+            cache.old cache.new self.old.seat self.new.seat self.old.results
+            self.new.results result }
+        ensures gave_up { OnErr result (self.new.results ≡ self.old.results) }
+        ensures home { C.home cache.new ≡ C.home cache.old }
+        ensures claim { self.new.seat.claim ≡ self.old.seat.claim }
+        ensures share { self.new.seat.share ≡ self.old.seat.share }
+        ensures fault { self.new.fault ≡ self.old.fault }
+        ensures pass { self.new.pass ≡ self.old.pass }
+    {
+        if let Some(fault) = shared.faults.met() {
+            return Err(fault);
+        }
+        let Ok(()) = self.results.reserve(1) else {
+            return Err(DriverFault::Memory);
+        };
+        let Some(number) = shared.claim.draw(&mut self.seat) else {
+            return Ok(false);
+        };
+        let done = self.carrier.carry_out(rt, shared, cache, number)?;
+        self.results.push_reserved((number, done));
+        Ok(true)
+    }
+}
