@@ -1,0 +1,80 @@
+//! What the report adds up and counts.
+
+ghost use Rattle.std.specs.Prelude.{◌≡◌, count_by, sum_by};
+ghost use Rattle.cache_report.specs.Report.{shown_sum, totals, is_bad, is_reused, is_retried};
+ghost use Rattle.cache_report.specs.Report.{body_len};
+
+use exchange::Done;
+use shared_cache::HostCount;
+
+/// The sums of what happened at all hosts.
+pub(crate) fn totals(hosts: &[HostCount]) -> HostCount
+    ensures { result ≡ totals hosts.now }
+{
+    let mut total = HostCount {
+        opened: 0,
+        reused: 0,
+        closed: 0,
+        waited: 0,
+        alive: 0,
+    };
+    for host in hosts {
+        total.opened = total.opened.saturating_add(host.opened);
+        total.reused = total.reused.saturating_add(host.reused);
+        total.closed = total.closed.saturating_add(host.closed);
+        total.waited = total.waited.saturating_add(host.waited);
+        total.alive = total.alive.saturating_add(host.alive);
+    }
+    total
+}
+
+/// How many bytes came as bodies of whole responses.
+pub(crate) fn body_total(results: &[Done]) -> u64
+    ensures { result ≡ shown_sum (sum_by body_len results.now) }
+{
+    let mut total: u64 = 0;
+    for done in results {
+        total = total.saturating_add(body_len(done));
+    }
+    total
+}
+
+// How many bytes the body of a whole response has.
+fn body_len(done: &Done) -> u64
+    ensures { result ≡ body_len done.now }
+{
+    match done {
+        Done::Good(answer) => answer.body_len,
+        Done::Bad(_) => 0,
+    }
+}
+
+/// How many transfers have no whole response.
+pub(crate) fn bad_count(results: &[Done]) -> u64
+    ensures { result ≡ count_by is_bad results.now }
+{
+    results
+        .iter()
+        .filter(|done| matches!(**done, Done::Bad(_)))
+        .count() as u64
+}
+
+/// How many have one over a connection that was used before.
+pub(crate) fn reused_count(results: &[Done]) -> u64
+    ensures { result ≡ count_by is_reused results.now }
+{
+    results
+        .iter()
+        .filter(|done| matches!(**done, Done::Good(answer) if answer.reused))
+        .count() as u64
+}
+
+/// How many have one after their request was sent once more.
+pub(crate) fn retried_count(results: &[Done]) -> u64
+    ensures { result ≡ count_by is_retried results.now }
+{
+    results
+        .iter()
+        .filter(|done| matches!(**done, Done::Good(answer) if answer.retried))
+        .count() as u64
+}
