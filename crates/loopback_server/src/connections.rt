@@ -1,0 +1,89 @@
+//! The connections that peers have opened.
+
+use crate::connection::{Connection, Next};
+use crate::request::MOST_FIELDS;
+use httparse::spans::{EMPTY_HEADER_SPAN, HeaderSpan};
+use mio::net::{TcpListener, TcpStream};
+use mio::{Interest, Registry, Token};
+use slab::Slab;
+use std::alloc::{AllocError, Global};
+use std::io;
+
+/// How many connections are taken from one listener in a row.
+const MOST_TAKEN: u32 = 64;
+
+/// The connections. The token of one is its key, past the tokens of the listeners.
+#[derive(Drop)]
+pub(crate) struct Connections {
+    alloc: Global,
+    listeners: usize,
+    slab: Slab<Connection>,
+    // Where the fields of a head are written.
+    spans: Vec<HeaderSpan>,
+}
+
+impl Connections {
+    /// No connections, beside that many listeners.
+    ///
+    /// # Errors
+    ///
+    /// There is no memory for them.
+    pub(crate) fn new(alloc: Global, listeners: usize) -> Result<Connections, AllocError> {
+        Ok(Connections {
+            alloc,
+            listeners,
+            slab: Slab::new(alloc),
+            spans: vec![in alloc; EMPTY_HEADER_SPAN; MOST_FIELDS]?,
+        })
+    }
+
+    /// Takes the connections that wait at the listener of that token. One for which there is no
+    /// memory is closed. The registry tells again if others wait.
+    ///
+    /// # Errors
+    ///
+    /// The registry refuses to.
+    pub(crate) fn take_from(
+        &mut self,
+        listener: &mut TcpListener,
+        registry: &Registry,
+        token: Token,
+    ) -> io::Result<()> {
+        for _ in 0..MOST_TAKEN {
+            let Ok((stream, _)) = listener.accept() else {
+                break;
+            };
+            let _ = self.add(stream, registry);
+        }
+        registry.reregister(listener, token, Interest::READABLE)
+    }
+
+    // Adds a connection.
+    fn add(&mut self, stream: TcpStream, registry: &Registry) -> io::Result<()> {
+        self.slab.reserve(1)?;
+        let Some(token) = self.slab.vacant_key().checked_add(self.listeners) else {
+            return Err(AllocError.into());
+        };
+        let connection = Connection::new(self.alloc, stream, registry, Token(token))?;
+        self.slab.insert_reserved(connection);
+        Ok(())
+    }
+
+    /// Goes on with the connection of that token, if it is still there. One that ends is closed.
+    pub(crate) fn advance(&mut self, registry: &Registry, token: Token) {
+        let Some(key) = token.0.checked_sub(self.listeners) else {
+            return;
+        };
+        let Some(connection) = self.slab.get_mut(key) else {
+            return;
+        };
+        let is_open = match connection.advance(self.spans.as_mut_slice()) {
+            Next::Waits => true,
+            Next::More => connection.reregister(registry, token).is_ok(),
+            Next::Ends => false,
+        };
+        if !is_open {
+            let _ = self.slab.try_remove(key);
+        }
+    }
+}
