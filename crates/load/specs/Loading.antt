@@ -1,0 +1,24 @@
+-- What a load leaves.
+use Rattle.std.specs.Prelude.{◌≡◌, ℕ, List}
+use Rattle.budget.specs.Limits.{Bounds}
+use Rattle.exchange.specs.declared.job.Job.{Job}
+use Rattle.exchange.specs.Worlds.{World}
+use Rattle.shared_cache.specs.Names.{CacheNames, IsPlanFor}
+use Rattle.shared_cache.specs.Gathering.{IsGathered}
+use Rattle.driver.specs.declared.running.RunReport.{RunReport}
+use Rattle.driver.specs.Running.{IsRun}
+use Rattle.load.specs.declared.loading.Loaded.{Loaded}
+
+-- The results are those of a run over the cache of those names, which no gate stopped; the account is that of this cache
+-- at its end, with the passes of the run.
+pub record IsLoadedBy {W : Type 0} (world : World W) (names : CacheNames) (jobs : List Job) (workers : ℕ) (loaded : Loaded) : Type 0 where
+  pub report : RunReport
+  pub ran : IsRun world (λ job. ⊥) names jobs workers report
+  pub results_are : loaded.results ≡ report.results
+  pub gathered_is : IsGathered names report.passes.items loaded.gathered
+
+-- and that cache was made under these limits, for so many hosts
+pub record IsLoaded {W : Type 0} (world : World W) (limits : Bounds) (hosts : ℕ) (jobs : List Job) (workers : ℕ) (loaded : Loaded) : Type 0 where
+  pub names : CacheNames
+  pub planned : IsPlanFor limits hosts names
+  pub by_them : IsLoadedBy world names jobs workers loaded

@@ -1,0 +1,129 @@
+//! A load: its plan, its cache, its run, and its account.
+
+ghost use Rattle.std.specs.Prelude.{◌≡◌, ◌≤◌, IfOk, length, ⊤};
+ghost use Rattle.std.specs.List.{All};
+ghost use Rattle.shared_cache.specs.Passes.{IsPassOf};
+ghost use Rattle.shared_cache.specs.Gathering.{IsGathered};
+ghost use Rattle.exchange.specs.Worlds.{world_of};
+ghost use Rattle.load.specs.Loading.{IsLoaded, IsLoadedBy};
+
+use crate::dials::dials_for;
+use crate::error::LoadError;
+use budget::{Limits, Pass, Refusal};
+use bundle::Did;
+use driver::{DriverFault, NoGate, RunReport, run};
+use exchange::{Done, Job, Wire};
+use shared_cache::{Gathered, Names, Plan, SharedCache};
+use socket::{SystemClock, WaitingWire};
+use std::alloc::{AllocGlobal, Global};
+use std::marker::Brand;
+use std::net::SocketAddr;
+use std::random::RandomSource;
+use std::sync::Wait;
+use std::thread::Threads;
+
+/// What a load leaves.
+#[derive(Drop)]
+pub struct Loaded {
+    /// How each job ended, in the order of the jobs.
+    pub results: Vec<Done>,
+    /// The account of the cache. The connections that it left open close with it.
+    pub gathered: Gathered<WaitingWire>,
+}
+
+/// Carries out the jobs by so many threads, which share one cache under these limits, and gathers
+/// the cache. Connections to a site, at most 1,024 of them, are opened to its address; a read or
+/// a write waits ten milliseconds at most.
+///
+/// # Errors
+///
+/// What [`run`] refuses; also [`DriverFault::Poll`] where the system gives no poller or no time,
+/// and [`DriverFault::Memory`] for want of memory before and after the run. [`LoadError::Gather`]
+/// is not met.
+pub fn load<R: Threads + Wait + RandomSource + AllocGlobal + Sync>(
+    rt: &R,
+    system: &HostRuntime,
+    alloc: Global,
+    limits: Limits,
+    sites: &[SocketAddr],
+    jobs: &[Job],
+    workers: u32,
+) -> Result<Loaded, LoadError>
+    requires { length sites.now ≤ 1024 }
+    ensures { IfOk result (IsLoaded (world_of ⟦<WaitingWire as Wire>⟧.untouched
+        ⟦<WaitingWire as Wire>⟧.happened (λ moment. ⊤)) limits (length sites.now) jobs.now
+        workers) }
+{
+    let hosts = sites.len() as u32;
+    let planned: Result<Plan<WaitingWire>, Refusal> = Plan::new(alloc, limits, hosts);
+    match planned {
+        Ok(plan) => load_by::<Brand, R>(rt, system, alloc, plan, sites, jobs, workers),
+        Err(_refusal) => Err(LoadError::Run(DriverFault::Memory)),
+    }
+}
+
+// The same, over the cache of that plan.
+fn load_by<N: Names + Send + Sync, R: Threads + Wait + RandomSource + AllocGlobal + Sync>(
+    rt: &R,
+    system: &HostRuntime,
+    alloc: Global,
+    plan: Plan<WaitingWire>,
+    sites: &[SocketAddr],
+    jobs: &[Job],
+    workers: u32,
+) -> Result<Loaded, LoadError>
+    requires { plan ≡ N.names }
+    ensures { IfOk result (IsLoadedBy (world_of ⟦<WaitingWire as Wire>⟧.untouched
+        ⟦<WaitingWire as Wire>⟧.happened (λ moment. ⊤)) N.names jobs.now workers) }
+{
+    let made: Result<SharedCache<WaitingWire, N>, (Plan<WaitingWire>, Refusal)> = SharedCache::new(
+        alloc, plan,
+    );
+    let Ok(cache) = made else {
+        return Err(LoadError::Run(DriverFault::Memory));
+    };
+    let mut dials = dials_for(system, alloc, sites, workers)?;
+    let Ok(clock) = SystemClock::new(system) else {
+        return Err(LoadError::Run(DriverFault::Poll));
+    };
+    match run(rt, alloc, &cache, jobs, &mut dials, &clock, &NoGate) {
+        Ok(report) => account_of(alloc, cache, report),
+        Err((fault, passes)) => {
+            discard_all(passes);
+            Err(LoadError::Run(fault))
+        }
+    }
+}
+
+// The results of a run, with the account of its cache.
+fn account_of<N: Names>(
+    alloc: Global,
+    cache: SharedCache<WaitingWire, N>,
+    report: RunReport,
+) -> Result<Loaded, LoadError>
+    requires { All (IsPassOf N.names) report.passes.items }
+    ensures results { IfOk result (λ loaded. loaded.results ≡ report.results) }
+    ensures gathered { IfOk result (λ loaded.
+        IsGathered N.names report.passes.items loaded.gathered) }
+{
+    let RunReport { results, passes } = report;
+    match cache.gather(alloc, passes) {
+        Ok(gathered) => Ok(Loaded { results, gathered }),
+        Err((_cache, passes, refusal)) => {
+            discard_all(passes);
+            match refusal {
+                Refusal::Memory => Err(LoadError::Run(DriverFault::Memory)),
+                _ => Err(LoadError::Gather),
+            }
+        }
+    }
+}
+
+// Gives the passes up.
+fn discard_all(passes: Vec<Pass<Did>>) {
+    let mut passes = passes;
+    while let Some(pass) = passes.pop() {
+        pass.discard();
+    }
+    passes.destroy_empty();
+}
