@@ -4,3 +4,5 @@ pub mod Running
 pub mod Fetches
 pub mod Plans
 pub mod GetRows
+pub mod LoadRows
+pub mod LoadPlans

@@ -16,6 +16,7 @@ use Rattle.cli.specs.declared.command_line.Words.{Words}
 use Rattle.cli.specs.declared.command_line.Words.TheVariants.{Given, NotText, NoMemory}
 use Rattle.cli.specs.declared.get_plan.GetPlan.{GetPlan}
 use Rattle.cli.specs.declared.input.ScriptInput.{ScriptInput}
+use Rattle.cli.specs.declared.options.LoadOptions.{LoadOptions}
 use Rattle.cli.specs.declared.input.ScriptInput.TheVariants.{Standard, File}
 use Rattle.cli.specs.declared.request.Manner.{Manner}
 use Rattle.cli.specs.declared.request.Manner.TheVariants as manners
@@ -26,8 +27,9 @@ use Rattle.cli.specs.Running.{RunsScript}
 use Rattle.cli.specs.Files.{RunsFile}
 use Rattle.cli.specs.GetPlan.{IsPlanOf}
 use Rattle.cli.specs.GetWords.{GetSaid, IsRefused, get_said_by, get_said_in}
+use Rattle.cli.specs.LoadWords.{IsLoadOf, IsLoadRefused, LoadSaid, load_said_by, load_said_in}
 
--- curlpool has a version and no help subcommand, and needs one of its two subcommands
+-- curlpool has a version and no help subcommand, and needs one of its three subcommands
 abbrev pub needing_a_subcommand : App → App
 needing_a_subcommand app = record app { top = record app.top { has_version = true; subcommand_required = true; disable_help_subcommand = true } }
 
@@ -39,17 +41,22 @@ script_app = with_rule (new_app (codes "script")) (new_rule (codes "FILE"))
 abbrev pub head_rule : Rule
 head_rule = record (new_rule (codes "head")) { long = Some (codes "head"); action = Some SetTrue }
 
-abbrev pub seconds_rule : Text → Rule
-seconds_rule name = record (new_rule name) { long = Some name; value_names = 1 }
+abbrev pub value_rule : Text → Rule
+value_rule name = record (new_rule name) { long = Some name; value_names = 1 }
 
 abbrev pub url_rule : Rule
 url_rule = record (new_rule (codes "URL")) { range = Some (record { start_inclusive = 1; end_inclusive = usize_max }); required = true }
 
 abbrev pub get_app : App
-get_app = with_rule (with_rule (with_rule (with_rule (new_app (codes "get")) head_rule) (seconds_rule (codes "max-age"))) (seconds_rule (codes "timeout"))) url_rule
+get_app = with_rule (with_rule (with_rule (with_rule (new_app (codes "get")) head_rule) (value_rule (codes "max-age"))) (value_rule (codes "timeout"))) url_rule
+
+-- load has six options of one value each
+abbrev pub load_app : App
+load_app = with_rule (with_rule (with_rule (with_rule (with_rule (with_rule (new_app (codes "load")) (value_rule (codes "sites"))) (value_rule (codes "jobs"))) (value_rule (codes "workers")))
+    (value_rule (codes "host-limit"))) (value_rule (codes "total"))) (value_rule (codes "connects"))
 
 abbrev pub curlpool : App
-curlpool = with_subcommand (with_subcommand (needing_a_subcommand (new_app (codes "curlpool"))) script_app.top) get_app.top
+curlpool = with_subcommand (with_subcommand (with_subcommand (needing_a_subcommand (new_app (codes "curlpool"))) script_app.top) get_app.top) load_app.top
 
 -- what may be wrong with the words, where they name no subcommand (a request for help counts); nothing, where they do
 abbrev pub word_faults : Words → Kinds
@@ -57,11 +64,12 @@ word_faults (Given words) = fault_of curlpool (map string_bytes words.items)
 word_faults NotText = kinds.ValueValidation ∷ []
 word_faults NoMemory = kinds.OutOfMemory ∷ []
 
--- what words say: to run the script in a file, or else on standard input; to fetch URLs; or nothing
+-- what words say: to run the script in a file, or else on standard input; to fetch URLs; to carry out a load; or nothing
 pub data Said : Type 0 where
   nothing : Said
   script : Option Text → Said
   get : GetSaid → Said
+  load : LoadSaid → Said
 
 -- the file to be read, if the words name that one; none is standard input, which `-` names too
 abbrev pub asked_file : Option Text → Option Text
@@ -71,7 +79,9 @@ asked_file (Some name) = if bytes_eq name (codes "-") then None else Some name
 -- what matches say, by the name and the rows of the subcommand
 abbrev pub said_in : Option (Text × List Row) → Said
 said_in None = script None
-said_in (Some entered) = if bytes_eq entered.0 (codes "get") then get (get_said_in entered.1) else script (asked_file (first_of (codes "FILE") entered.1))
+said_in (Some entered) =
+    if bytes_eq entered.0 (codes "get") then get (get_said_in entered.1)
+    else (if bytes_eq entered.0 (codes "load") then load (load_said_in entered.1) else script (asked_file (first_of (codes "FILE") entered.1)))
 
 abbrev pub said_after : List Text → Said
 said_after words = said_in (subcommand_of curlpool words)
@@ -93,6 +103,7 @@ name_of (File name) = Some (string_bytes name)
 abbrev pub said_by : Subcommand → Said
 said_by (subcommands.Script input) = script (name_of input)
 said_by (subcommands.Get words) = get (get_said_by words)
+said_by (subcommands.Load words) = load (load_said_by words)
 
 -- what an error of the words is: want of memory, a request for help or the version, or a mistake
 abbrev pub manner_of : ErrorKind → Manner
@@ -105,6 +116,7 @@ manner_of _ = manners.Mistake
 abbrev pub AnswersError : Manner → ℕ → ℕ → Request → Type 0
 AnswersError manner before after (requests.Script input) = ⊥
 AnswersError manner before after (requests.Get plan) = ⊥
+AnswersError manner before after (requests.Load options) = ⊥
 AnswersError manner before after (requests.Tell text) = manner ≡ manners.Asked
 AnswersError manner before after (requests.Refuse text) = manner ≡ manners.Mistake
 AnswersError manner before after requests.NoMemory = ((manner ≡ manners.Memory) × (after ≡ before)) ⊎ Rises before after
@@ -120,22 +132,37 @@ AnswersGet said before after (requests.Refuse text) = IsRefused said
 AnswersGet said before after requests.NoMemory = Rises before after
 AnswersGet said before after request = ⊥
 
--- they say to fetch URLs, and what they say of it is refused, or asks for this
-abbrev pub RefusesGet : Said → Type 0
-RefusesGet (get said) = IsRefused said
-RefusesGet _ = ⊥
+-- what the words after load make the words ask for
+abbrev pub AnswersLoad : LoadSaid → ℕ → ℕ → Request → Type 0
+AnswersLoad said before after (requests.Load options) = IsLoadOf said options
+AnswersLoad said before after (requests.Refuse text) = IsLoadRefused said
+AnswersLoad said before after requests.NoMemory = Rises before after
+AnswersLoad said before after request = ⊥
+
+-- they say to fetch URLs, or to carry out a load, and what they say of it is refused
+abbrev pub RefusesSaid : Said → Type 0
+RefusesSaid (get said) = IsRefused said
+RefusesSaid (load said) = IsLoadRefused said
+RefusesSaid _ = ⊥
+
+-- or it asks for this
 
 abbrev pub PlansGet : Said → GetPlan → Type 0
 PlansGet (get said) plan = IsPlanOf said plan
 PlansGet _ plan = ⊥
+
+abbrev pub SaysLoad : Said → LoadOptions → Type 0
+SaysLoad (load said) options = IsLoadOf said options
+SaysLoad _ options = ⊥
 
 -- what words with these faults, that say so, may ask for, where so many wants of memory were counted before they were
 -- read and after
 abbrev pub Asks : Kinds → Said → ℕ → ℕ → Request → Type 0
 Asks faults said before after (requests.Script input) = (faults ≡ []) × (said ≡ script (name_of input))
 Asks faults said before after (requests.Get plan) = (faults ≡ []) × PlansGet said plan
+Asks faults said before after (requests.Load options) = (faults ≡ []) × SaysLoad said options
 Asks faults said before after (requests.Tell text) = HasManner faults manners.Asked
-Asks faults said before after (requests.Refuse text) = HasManner faults manners.Mistake ⊎ ((faults ≡ []) × RefusesGet said)
+Asks faults said before after (requests.Refuse text) = HasManner faults manners.Mistake ⊎ ((faults ≡ []) × RefusesSaid said)
 Asks faults said before after requests.NoMemory = HasManner faults manners.Memory ⊎ Rises before after
 
 -- the file that a request asks for; none is standard input, or no script
@@ -187,26 +214,31 @@ pub record EndsAtOnce (ending : ℕ) (unread left old new : Stream) (status : �
 abbrev pub PlanRun : Type 1
 PlanRun = GetPlan → Stream → Stream → ℕ → Type 0
 
--- a plan was carried out: nothing was read
+-- a plan or a load was carried out: nothing was read
 pub record AnswersPlan (Runs : Stream → Stream → ℕ → Type 0) (unread left old new : Stream) (status : ℕ) : Type 0 where
   pub unread_yet : left ≡ unread
   pub runs : Runs old new status
 
--- what is done for a request, and the status: a script is run, or a plan carried out; help or the version is told; words
--- that are refused, and want of memory while they are read, end the program at once; the network is left alone, but for a
--- plan
-abbrev pub AnswersRequest : Opening → PlanRun → Type 0 → Request → Stream → Stream → Stream → Stream → ℕ → Type 0
-AnswersRequest Opens Runs Alone (requests.Script input) unread left old new status = AnswersScript Opens (name_of input) unread left old new status × Alone
-AnswersRequest Opens Runs Alone (requests.Get plan) unread left old new status = AnswersPlan (Runs plan) unread left old new status
-AnswersRequest Opens Runs Alone (requests.Tell text) unread left old new status = TellsText (string_bytes text) unread left old new status × Alone
-AnswersRequest Opens Runs Alone (requests.Refuse text) unread left old new status = EndsAtOnce 2 unread left old new status × Alone
-AnswersRequest Opens Runs Alone requests.NoMemory unread left old new status = EndsAtOnce 4 unread left old new status × Alone
+-- what carrying out a load may write, and its status
+abbrev pub LoadRun : Type 1
+LoadRun = LoadOptions → Stream → Stream → ℕ → Type 0
+
+-- what is done for a request, and the status: a script is run, or a plan or a load carried out; help or the version is
+-- told; words that are refused, and want of memory while they are read, end the program at once; the network is left alone,
+-- but for a plan
+abbrev pub AnswersRequest : Opening → PlanRun → Type 0 → LoadRun → Request → Stream → Stream → Stream → Stream → ℕ → Type 0
+AnswersRequest Opens Runs Alone Loads (requests.Script input) unread left old new status = AnswersScript Opens (name_of input) unread left old new status × Alone
+AnswersRequest Opens Runs Alone Loads (requests.Get plan) unread left old new status = AnswersPlan (Runs plan) unread left old new status
+AnswersRequest Opens Runs Alone Loads (requests.Load options) unread left old new status = AnswersPlan (Loads options) unread left old new status × Alone
+AnswersRequest Opens Runs Alone Loads (requests.Tell text) unread left old new status = TellsText (string_bytes text) unread left old new status × Alone
+AnswersRequest Opens Runs Alone Loads (requests.Refuse text) unread left old new status = EndsAtOnce 2 unread left old new status × Alone
+AnswersRequest Opens Runs Alone Loads requests.NoMemory unread left old new status = EndsAtOnce 4 unread left old new status × Alone
 
 -- what the program does with words that have these faults and say so, and its status: what is done for a request that
 -- they may ask for, where so many wants of memory were counted before they were read and after
-abbrev pub RunsProgram : Opening → PlanRun → Type 0 → Kinds → Said → ℕ → ℕ → Stream → Stream → Stream → Stream → ℕ → Type 0
-RunsProgram Opens Runs Alone faults said before after unread left old new status =
-    (request : Request) × Asks faults said before after request × AnswersRequest Opens Runs Alone request unread left old new status
+abbrev pub RunsProgram : Opening → PlanRun → Type 0 → LoadRun → Kinds → Said → ℕ → ℕ → Stream → Stream → Stream → Stream → ℕ → Type 0
+RunsProgram Opens Runs Alone Loads faults said before after unread left old new status =
+    (request : Request) × Asks faults said before after request × AnswersRequest Opens Runs Alone Loads request unread left old new status
 
 -- small command lines
 abbrev pub faults_after : List (List ℕ) → Kinds
@@ -251,3 +283,16 @@ WantsUrl = faults_after (codes "get" ∷ []) ≡ kinds.MissingRequiredArgument �
 
 abbrev pub RefusesTwice : Type 0
 RefusesTwice = faults_after (codes "get" ∷ codes "--max-age=1" ∷ codes "--max-age=2" ∷ codes "a" ∷ []) ≡ kinds.ArgumentConflict ∷ []
+
+abbrev pub a_load : List (List ℕ)
+a_load = codes "load" ∷ codes "--jobs" ∷ codes "3" ∷ codes "--connects=07" ∷ []
+
+abbrev pub TakesNumbers : Type 0
+TakesNumbers = (faults_after a_load ≡ [])
+    × (small_said a_load ≡ load (record { sites = None; jobs = Some (codes "3"); workers = None; host_limit = None; total = None; connects = Some (codes "07") }))
+
+abbrev pub RefusesNumberTwice : Type 0
+RefusesNumberTwice = faults_after (codes "load" ∷ codes "--total=1" ∷ codes "--total=1" ∷ []) ≡ kinds.ArgumentConflict ∷ []
+
+abbrev pub WantsNumber : Type 0
+WantsNumber = faults_after (codes "load" ∷ codes "--sites" ∷ []) ≡ kinds.InvalidValue ∷ []

@@ -6,4 +6,8 @@ pub mod GetWords
 pub mod GetPlan
 pub mod GetLines
 pub mod Fetching
+pub mod LoadRanges
+pub mod LoadWords
+pub mod LoadJobs
+pub mod Loading
 pub mod CommandLine

@@ -4,11 +4,13 @@ ghost use Rattle.std.specs.Prelude.{◌≡◌, false, IfOk, map, string_bytes};
 ghost use Rattle.clap.specs.Words.{FailsBy, app_of, fault_of, kind_of, rule_of};
 ghost use Rattle.clap.specs.Words.{subcommand_rows_of, with_subcommand};
 ghost use Rattle.cli.specs.CommandLine.{curlpool, get_app, head_rule, said_after, said_by, said_in};
-ghost use Rattle.cli.specs.CommandLine.{script_app, seconds_rule, url_rule};
+ghost use Rattle.cli.specs.CommandLine.{load_app, script_app, url_rule, value_rule};
 
 use crate::get_words::{GetWords, get_words_of};
 use crate::help::{COMMANDS, LINES};
 use crate::input::{ScriptInput, input_of};
+use crate::load_command::load_subcommand;
+use crate::load_words::{LoadWords, load_words_of};
 use clap::error::ErrorKind;
 use clap::{Arg, ArgAction, ArgMatches, Command, Error};
 use std::alloc::{AllocError, Global};
@@ -43,6 +45,8 @@ pub enum Subcommand {
     Script(ScriptInput),
     /// To fetch URLs.
     Get(GetWords),
+    /// To carry out a load.
+    Load(LoadWords),
 }
 
 /// The program's command line.
@@ -57,6 +61,7 @@ fn command<'a>(alloc: Global) -> Result<Command<'a>, AllocError>
         .disable_help_subcommand(true);
     let program = with_script(alloc, program)?;
     let program = with_get(alloc, program)?;
+    let program = with_load(alloc, program)?;
     Ok(program)
 }
 
@@ -94,6 +99,16 @@ fn with_get<'a>(alloc: Global, program: Command<'a>) -> Result<Command<'a>, Allo
     Ok(whole)
 }
 
+/// The command line with the subcommand `load`.
+fn with_load<'a>(alloc: Global, program: Command<'a>) -> Result<Command<'a>, AllocError>
+    ensures { IfOk result (λ command.
+        app_of command ≡ with_subcommand (app_of program.entry) load_app.top) }
+{
+    let load = load_subcommand(alloc)?;
+    let whole = program.subcommand(load)?;
+    Ok(whole)
+}
+
 /// The flag that asks for HEAD.
 fn head_flag<'a>(alloc: Global) -> Arg<'a>
     ensures rule { rule_of result ≡ head_rule }
@@ -118,7 +133,7 @@ fn url_list<'a>(alloc: Global) -> Arg<'a>
 
 /// An option of that name, whose value is a number of seconds.
 fn seconds<'a>(alloc: Global, name: &'a str, help: &'a str) -> Arg<'a>
-    ensures rule { rule_of result ≡ seconds_rule name.entry.now }
+    ensures rule { rule_of result ≡ value_rule name.entry.now }
     ensures local { result.global ≡ false }
 {
     Arg::new(alloc, name)
@@ -137,6 +152,10 @@ fn subcommand_of<'a>(alloc: Global, matches: &ArgMatches<'a>) -> Result<Subcomma
             if name == "get" {
                 let words = get_words_of(alloc, given)?;
                 return Ok(Subcommand::Get(words));
+            }
+            if name == "load" {
+                let words = load_words_of(alloc, given)?;
+                return Ok(Subcommand::Load(words));
             }
             let input = input_of(alloc, given.get_str("FILE"))?;
             Ok(Subcommand::Script(input))

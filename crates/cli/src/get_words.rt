@@ -49,7 +49,7 @@ fn is_set(value: Option<&str>) -> bool
 }
 
 /// A copy of a text, if there is one.
-fn owned(alloc: Global, text: Option<&str>) -> Result<Option<String>, AllocError>
+pub(crate) fn owned(alloc: Global, text: Option<&str>) -> Result<Option<String>, AllocError>
     ensures { IfOk result (λ copy.
         option_map string_bytes copy ≡ option_map (λ text. text.now) text.entry) }
 {

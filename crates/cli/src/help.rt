@@ -1,4 +1,4 @@
-//! What help says of scripts, and of what `get` writes.
+//! What help says of scripts, and of what `get` and `load` write.
 
 /// What a script says, what its transcript says, and why a script ends early, as tables of at most
 /// 80 columns.
@@ -149,3 +149,41 @@ curlpool get http://localhost:8000/a http://localhost:8000/b
 Status              0: all have responses; 2: the words are refused, and
                     nothing was dialled; 4: a line has a FAULT, or could not
                     be written, or memory or the network was missing";
+
+/// What `load` does and writes, and how it ends.
+pub const REPORT: &str = "\
+A server in this process listens on 127.0.0.1, on a port for each site, and
+answers each request with the body ok. Threads draw the jobs 0, 1, 2 ..; job K
+asks for /K of site K modulo the sites, over a connection that the threads
+share. A number is decimal digits, without a sign.
+
+Line of report      Its numbers in order
+host                Of each site: its index; connections opened; requests on
+                    one that had been used before; connections closed;
+                    requests that waited for one; and connections open at the
+                    end
+all                 The number of sites, and the sums of the others
+jobs                Requests; those without a good response; good ones on a
+                    connection that had been used before; good ones that were
+                    sent once more; and the bytes of their bodies
+
+For example, one thread needs one connection:
+curlpool load --sites 1 --jobs 3 --workers 1
+host       0       1       2       0       0       1
+all        1       1       2       0       0       1
+jobs       3       0       2       0       6
+
+run: ..             Why there is no report, or not the whole of it
+out of memory       Memory ran out
+bad workers         There are none, or too many
+poll failed         The system's wait for connections failed
+job collected twice Two results came of one job
+job missing         No result came of a job
+cannot start thread A thread was refused
+cannot listen       The server's ports were refused
+cannot gather       What the threads did could not be brought together
+cannot write        The report could not be written
+
+Status              0: the report is written, whatever became of the requests;
+                    2: the words are refused, and nothing was done; 4: a line
+                    run: .. tells why there is no report";

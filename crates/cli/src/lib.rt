@@ -1,5 +1,5 @@
 //! The parts of the program curlpool: what its words ask for, the streams that it reads and writes,
-//! how a script is run through a pool, and how URLs are fetched.
+//! how a script is run through a pool, how URLs are fetched, and what a load is given and tells.
 #![tactic(auto)]
 
 mod command_line;
@@ -11,13 +11,22 @@ mod get_plan;
 mod get_words;
 mod help;
 mod input;
+mod load_command;
+mod load_numbers;
+mod load_planning;
+mod load_range;
+mod load_report;
+mod load_words;
+mod loading;
 mod memory;
 mod numbers;
+mod options;
 mod planning;
 mod program;
 mod request;
 mod script;
 mod streams;
+mod system_load;
 mod system_network;
 mod watched;
 mod worked;
@@ -30,11 +39,19 @@ pub use get_line::line_text;
 pub use get_plan::{GetPlan, GetRefusal, UrlJob};
 pub use get_words::GetWords;
 pub use input::ScriptInput;
+pub use load_numbers::load_options;
+pub use load_planning::load_jobs;
+pub use load_range::NumberRange;
+pub use load_report::run_load;
+pub use load_words::LoadWords;
+pub use loading::LoadFault;
 pub use memory::{CountedWordsMemory, WordsMemory};
+pub use options::LoadOptions;
 pub use program::{answer_request, run_program};
 pub use request::{Manner, Request, asked_by};
 pub use script::{run_bytes, run_file, run_script};
 pub use streams::{SCRIPT_LIMIT, Sink, Source, read_script};
+pub use system_load::load_on_system;
 pub use system_network::{SystemFetcher, SystemNetwork};
 pub use watched::{ReadFailed, Watched, WriteFailed};
 pub use worked::{worked_command_lines, worked_lines};

@@ -3,6 +3,7 @@
 ghost use Rattle.std.specs.Prelude.{◌≡◌, ◌≤◌, IfOk, IfErr, map, string_bytes};
 ghost use Rattle.cli.specs.GetPlan.{IsPlanOf, IsWhy};
 ghost use Rattle.cli.specs.GetWords.{get_said_by};
+ghost use Rattle.cli.specs.LoadWords.{IsLoadOf, IsLoadRefused, IsWhyNot, load_said_by};
 ghost use Rattle.clap.specs.Words.{FailsBy, fault_of, kind_of};
 ghost use Rattle.conn_key.specs.Wants.{Rises};
 ghost use Rattle.cli.specs.CommandLine.{curlpool, said_after, said_by};
@@ -10,6 +11,9 @@ ghost use Rattle.cli.specs.CommandLine.{curlpool, said_after, said_by};
 use crate::command_line::{Subcommand, not_text, parse};
 use crate::get_plan::{GetPlan, GetRefusal, plan_of};
 use crate::get_words::GetWords;
+use crate::load_numbers::load_options;
+use crate::load_words::LoadWords;
+use crate::options::LoadOptions;
 use clap::Error;
 use clap::error::ErrorKind;
 use std::alloc::{AllocError, Global};
@@ -37,6 +41,15 @@ pub trait WordsMemory {
         ensures plan { IfOk result (IsPlanOf (get_said_by words.now)) }
         ensures refused { IfErr result (IsWhy (get_said_by words.now)) }
         ensures wants { IfErr result (λ refusal. refusal ≡ GetRefusal.Memory
+            → Rises (wants self.old) (wants self.new)) }
+        ensures kept { wants self.old ≤ wants self.new };
+
+    /// The numbers that the words after `load` give. An error of `clap`'s kind for want of memory
+    /// counts as one.
+    fn load_options(&mut self, words: &LoadWords) -> Result<LoadOptions, Error>
+        ensures options { IfOk result (IsLoadOf (load_said_by words.now)) }
+        ensures refused { IfErr result (IsWhyNot (IsLoadRefused (load_said_by words.now))) }
+        ensures wants { IfErr result (λ error. kind_of error ≡ ErrorKind.OutOfMemory
             → Rises (wants self.old) (wants self.new)) }
         ensures kept { wants self.old ≤ wants self.new };
 
@@ -87,6 +100,16 @@ impl WordsMemory for CountedWordsMemory {
             self.wants = self.wants.saturating_add(1);
         }
         plan
+    }
+
+    fn load_options(&mut self, words: &LoadWords) -> Result<LoadOptions, Error> {
+        let options = load_options(self.alloc, words);
+        if let Err(error) = &options {
+            if error.kind() == ErrorKind::OutOfMemory {
+                self.wants = self.wants.saturating_add(1);
+            }
+        }
+        options
     }
 
     fn not_text(&mut self) -> Result<Error, AllocError> {

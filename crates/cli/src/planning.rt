@@ -58,7 +58,7 @@ pub fn plan_jobs(
 }
 
 /// What the transfer with that number wants.
-fn want_of(transfer: u64, max_age: u64) -> Want
+pub(crate) fn want_of(transfer: u64, max_age: u64) -> Want
     ensures { result ≡ want_said transfer max_age }
 {
     Want {

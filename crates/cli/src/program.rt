@@ -5,6 +5,7 @@ ghost use Rattle.cli.specs.CommandLine.{AnswersRequest, AnswersScript, RunsProgr
 ghost use Rattle.cli.specs.CommandLine.{file_said, name_of, request_file, said, status_of};
 ghost use Rattle.cli.specs.CommandLine.{word_faults};
 ghost use Rattle.cli.specs.Fetching.{RunsPlan};
+ghost use Rattle.cli.specs.Loading.{RunsLoad};
 ghost use Rattle.cli.specs.Streams.{CanCount};
 
 use crate::command_line::Words;
@@ -12,7 +13,10 @@ use crate::fetching::Network;
 use crate::files::ScriptFiles;
 use crate::get::run_plan;
 use crate::input::ScriptInput;
+use crate::load_report::run_load;
+use crate::loading::LoadFault;
 use crate::memory::WordsMemory;
+use crate::options::LoadOptions;
 use crate::request::{Request, asked_by};
 use crate::script::{run_file, run_script};
 use crate::streams::{Sink, Source};
@@ -37,27 +41,38 @@ const HOW_TO_END: &str = "Write a script, and end it with Ctrl-D on an empty lin
 
 /// Does what the words ask for, and answers the status with which the program ends: 0 where it did
 /// so, 2 where the words are refused, 3 where the script has a fault, and 4 where memory ran out
-/// while reading words, or not every URL was fetched and told. The script is read from the file
-/// among `files` that the words name, or else from `input`; URLs are fetched over `network`. What
-/// goes wrong is told on `errors`, and there too how to end a script that `is_typed` on a terminal,
-/// since it is read whole; on `output` stands the transcript, the lines of transfers or the help
-/// that was asked for, and nothing else.
-pub fn run_program<M: WordsMemory, F: ScriptFiles, N: Network, R: Source, W: Sink, E: Write>(
+/// while reading words, not every URL was fetched and told, or a load has no report. The script is
+/// read from the file among `files` that the words name, or else from `input`; URLs are fetched
+/// over `network`, and `load` carries out loads. What goes wrong is told on `errors`, and there
+/// too how to end a script that `is_typed` on a terminal, since it is read whole; on `output`
+/// stands the transcript, the lines of transfers, the report or the help that was asked for, and
+/// nothing else.
+pub fn run_program<
+    M: WordsMemory,
+    F: ScriptFiles,
+    N: Network,
+    L: FnOnce(Global, LoadOptions) -> Result<String, LoadFault> + Drop,
+    R: Source,
+    W: Sink,
+    E: Write,
+>(
     alloc: Global,
     memory: &mut M,
     words: Words,
     is_typed: bool,
     files: &mut F,
     network: &mut N,
+    load: L,
     input: &mut R,
     output: &mut W,
     errors: &mut E,
 ) -> u8
     requires input { CanCount (R.source input.old) }
     requires output { CanCount (W.sink output.old) }
+    requires load { L.IsAlwaysCallable load }
     ensures runs { RunsProgram (F.opens files.old files.new)
         (RunsPlan (N.opens network.old network.new) N.Fetcher.fetched)
-        (network.new ≡ network.old) (word_faults words) (said words)
+        (network.new ≡ network.old) (RunsLoad (L.post load alloc)) (word_faults words) (said words)
         (M.wants memory.old) (M.wants memory.new) (R.source input.old) (R.source input.new)
         (W.sink output.old) (W.sink output.new) result }
     ensures unopened { file_said (said words) ≡ None → files.new ≡ files.old }
@@ -66,7 +81,7 @@ pub fn run_program<M: WordsMemory, F: ScriptFiles, N: Network, R: Source, W: Sin
     if is_typed && asks_for_input(&request) {
         say(errors, HOW_TO_END);
     }
-    answer_request(alloc, request, files, network, input, output, errors)
+    answer_request(alloc, request, files, network, load, input, output, errors)
 }
 
 /// Whether the script on standard input is to be run.
@@ -74,28 +89,38 @@ fn asks_for_input(request: &Request) -> bool {
     matches!(request, Request::Script(ScriptInput::Standard))
 }
 
-/// Does what is asked for, and answers the status: runs the script, fetches the URLs, tells help or
-/// the version on `output`, or tells on `errors` why nothing is done.
-pub fn answer_request<F: ScriptFiles, N: Network, R: Source, W: Sink, E: Write>(
+/// Does what is asked for, and answers the status: runs the script, fetches the URLs, carries out
+/// the load, tells help or the version on `output`, or tells on `errors` why nothing is done.
+pub fn answer_request<
+    F: ScriptFiles,
+    N: Network,
+    L: FnOnce(Global, LoadOptions) -> Result<String, LoadFault> + Drop,
+    R: Source,
+    W: Sink,
+    E: Write,
+>(
     alloc: Global,
     request: Request,
     files: &mut F,
     network: &mut N,
+    load: L,
     input: &mut R,
     output: &mut W,
     errors: &mut E,
 ) -> u8
     requires input { CanCount (R.source input.old) }
     requires output { CanCount (W.sink output.old) }
+    requires load { L.IsAlwaysCallable load }
     ensures answers { AnswersRequest (F.opens files.old files.new)
         (RunsPlan (N.opens network.old network.new) N.Fetcher.fetched)
-        (network.new ≡ network.old) request
+        (network.new ≡ network.old) (RunsLoad (L.post load alloc)) request
         (R.source input.old) (R.source input.new) (W.sink output.old) (W.sink output.new) result }
     ensures unopened { request_file request ≡ None → files.new ≡ files.old }
 {
     match request {
         Request::Script(from) => answer_script(alloc, from, files, input, output, errors),
         Request::Get(plan) => run_plan(alloc, plan, network, output, errors),
+        Request::Load(options) => run_load(alloc, options, load, output, errors),
         Request::Tell(text) => {
             // Where that fails there is nobody left to tell.
             let _ = output.put(text.as_bytes());

@@ -2,15 +2,18 @@
 
 ghost use Rattle.std.specs.Prelude.{◌≡◌};
 ghost use Rattle.clap.specs.Words.{kind_of};
-ghost use Rattle.cli.specs.CommandLine.{AnswersError, AnswersGet, Asks, manner_of, said};
-ghost use Rattle.cli.specs.CommandLine.{word_faults};
+ghost use Rattle.cli.specs.CommandLine.{AnswersError, AnswersGet, AnswersLoad, Asks, manner_of};
+ghost use Rattle.cli.specs.CommandLine.{said, word_faults};
 ghost use Rattle.cli.specs.GetWords.{get_said_by};
+ghost use Rattle.cli.specs.LoadWords.{load_said_by};
 
 use crate::command_line::{Subcommand, Words};
 use crate::get_plan::{GetPlan, GetRefusal};
 use crate::get_words::GetWords;
 use crate::input::ScriptInput;
+use crate::load_words::LoadWords;
 use crate::memory::WordsMemory;
+use crate::options::LoadOptions;
 use clap::Error;
 use clap::error::ErrorKind;
 
@@ -21,6 +24,8 @@ pub enum Request {
     Script(ScriptInput),
     /// To fetch URLs so.
     Get(GetPlan),
+    /// To carry out a load with these numbers.
+    Load(LoadOptions),
     /// To tell this on standard output: help, or the version.
     Tell(String),
     /// Nothing that the program does: this says why.
@@ -50,6 +55,7 @@ pub fn asked_by<M: WordsMemory>(memory: &mut M, words: Words) -> Request
         Words::Given(words) => match memory.parse(words.as_slice()) {
             Ok(Subcommand::Script(input)) => Request::Script(input),
             Ok(Subcommand::Get(words)) => planned(memory, &words),
+            Ok(Subcommand::Load(words)) => numbered(memory, &words),
             Err(error) => refused(memory, error),
         },
         Words::NotText => match memory.not_text() {
@@ -69,6 +75,17 @@ fn planned<M: WordsMemory>(memory: &mut M, words: &GetWords) -> Request
         Ok(plan) => Request::Get(plan),
         Err(GetRefusal::Wrong(text)) => Request::Refuse(text),
         Err(GetRefusal::Memory) => Request::NoMemory,
+    }
+}
+
+/// What the words after `load` ask for.
+fn numbered<M: WordsMemory>(memory: &mut M, words: &LoadWords) -> Request
+    ensures { AnswersLoad (load_said_by words.now) (M.wants memory.old) (M.wants memory.new)
+        result }
+{
+    match memory.load_options(words) {
+        Ok(options) => Request::Load(options),
+        Err(error) => refused(memory, error),
     }
 }
 

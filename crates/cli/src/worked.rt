@@ -5,12 +5,14 @@ ghost use Rattle.cli.specs.CommandLine.{TakesScript, WantsSubcommand, TellsHelpO
 ghost use Rattle.cli.specs.CommandLine.{TellsVersionOnVersion, RefusesAnotherWord};
 ghost use Rattle.cli.specs.CommandLine.{TakesFile, TakesStandardInput, TakesDash};
 ghost use Rattle.cli.specs.CommandLine.{TakesUrls, WantsUrl, RefusesTwice};
+ghost use Rattle.cli.specs.CommandLine.{TakesNumbers, WantsNumber, RefusesNumberTwice};
 ghost use Rattle.cli.specs.GetLines.{TellsResponses, TellsFaults};
 
 /// What is wrong with small command lines, by computation: with `script` alone, or a file after it,
 /// nothing; no word at all, and a word after the file, are refused; `--help` and `--version` are
 /// asked for. Of `script` alone and `script -` the script is read from standard input. `get` takes
-/// its options among the URLs, needs a URL, and refuses an option that is given twice.
+/// its options among the URLs, needs a URL, and refuses an option that is given twice. `load` takes
+/// its numbers as they are given, needs one after an option, and refuses an option given twice.
 #[tactic(auto, unfolding(clap::proofs::OnLiterals::clap_on_literals))]
 pub fn worked_command_lines()
     ensures script { TakesScript }
@@ -24,6 +26,9 @@ pub fn worked_command_lines()
     ensures urls { TakesUrls }
     ensures no_url { WantsUrl }
     ensures twice { RefusesTwice }
+    ensures numbers { TakesNumbers }
+    ensures no_number { WantsNumber }
+    ensures number_twice { RefusesNumberTwice }
 {}
 
 /// The lines of transfers that ended so, by computation.

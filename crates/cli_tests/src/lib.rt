@@ -6,6 +6,10 @@ mod get;
 #[cfg(test)]
 mod limits;
 #[cfg(test)]
+mod load_rows;
+#[cfg(test)]
+mod loads;
+#[cfg(test)]
 mod networks;
 #[cfg(test)]
 mod streams;

@@ -3,6 +3,7 @@
 ghost use Rattle.std.specs.Prelude.{⊤};
 ghost use Rattle.cli.specs.Streams.{CanCount};
 
+use crate::loads::FakeLoader;
 use crate::networks::FakeNetwork;
 use crate::streams::REUSE_THEN_DROP;
 use cli::{CountedWordsMemory, ScriptFiles, Sink, Words, run_program};
@@ -65,6 +66,22 @@ pub fn run_on<W: Sink>(
 ) -> (u8, Vec<u8>)
     requires { CanCount (W.sink output.old) }
 {
+    let mut loader = FakeLoader::new(Ok(""));
+    run_over(alloc, words, is_typed, script, network, &mut loader, output)
+}
+
+// The same where that carries out loads.
+pub fn run_over<W: Sink>(
+    alloc: Global,
+    words: Words,
+    is_typed: bool,
+    script: &str,
+    network: &mut FakeNetwork,
+    loader: &mut FakeLoader<'_>,
+    output: &mut W,
+) -> (u8, Vec<u8>)
+    requires { CanCount (W.sink output.old) }
+{
     let mut memory = CountedWordsMemory::new(alloc);
     let mut files = OneFile {
         name: "reuse",
@@ -79,6 +96,7 @@ pub fn run_on<W: Sink>(
         is_typed,
         &mut files,
         network,
+        |alloc, options| loader.load(alloc, options),
         &mut input,
         output,
         &mut errors,
@@ -169,6 +187,7 @@ fn help_and_version_are_told_on_standard_output(rt: HostRuntime) -> Result<(), F
     for &(word, start) in &[
         ("--help", "libcurl's connection cache"),
         ("get --help", "Fetches URLs in turn"),
+        ("load --help", "Sends requests by threads"),
         ("--version", "curlpool 0.1.0\n"),
     ] {
         let given = words(rt.alloc(), word)?;

@@ -1,8 +1,10 @@
-//! The program curlpool: it fetches URLs over kept connections, and runs scripts of connection
-//! events through a pool.
+//! The program curlpool: it fetches URLs over kept connections, runs scripts of connection events
+//! through a pool, and puts a shared cache under load.
 #![tactic(auto)]
 
-use cli::{CountedWordsMemory, SystemFiles, SystemNetwork, Watched, Words, run_program};
+use cli::{
+    CountedWordsMemory, SystemFiles, SystemNetwork, Watched, Words, load_on_system, run_program,
+};
 use std::env;
 use std::io::{ErrorKind, IsTerminal};
 use std::process::ExitCode;
@@ -41,6 +43,7 @@ fn main(rt: HostRuntime) -> ExitCode {
         is_typed,
         &mut files,
         &mut network,
+        |alloc, options| load_on_system(&rt, &rt, alloc, options),
         &mut input,
         &mut output,
         &mut errors,

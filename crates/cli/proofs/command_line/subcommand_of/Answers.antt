@@ -11,3 +11,4 @@ returns-in_ok-input-in-Some c =
     let file = c.in_ok-input-in-Some.ensures ∙ ap asked_file (c.get_str.ensures ∙ first_value-rows found (codes "FILE")) in
     ap script file
     ∙ says-script c.in-Some.name.now (rows_of found) (subcommand_rows_of c.args.matches.now) (c.in-Some.ensures.name ∙ name-of-rows c.args.matches.now) c.in-Some.ensures.rows (sym c.eq.ensures ∙ c.if-eq.false)
+    (sym c.eq-in-Some.ensures ∙ c.if-eq-2.false)

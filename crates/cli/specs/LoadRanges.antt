@@ -1,0 +1,35 @@
+-- The numbers that a load is given, and their ranges.
+use Rattle.std.specs.Prelude.{ℕ, ◌≤◌, ◌*◌}
+use Rattle.cli.specs.declared.load_range.NumberRange.{NumberRange}
+
+abbrev pub sites_range : NumberRange
+sites_range = record { least = 1; greatest = 8 }
+
+abbrev pub jobs_range : NumberRange
+jobs_range = record { least = 1; greatest = 10000 }
+
+abbrev pub workers_range : NumberRange
+workers_range = record { least = 1; greatest = 64 }
+
+-- 0 stands for no limit
+abbrev pub limit_range : NumberRange
+limit_range = record { least = 0; greatest = 65535 }
+
+abbrev pub connects_range : NumberRange
+connects_range = record { least = 1; greatest = 65535 }
+
+-- as many connections are kept as CURLMOPT_MAXCONNECTS of libcurl has it by default: four for each transfer
+abbrev pub connects_for : ℕ → ℕ
+connects_for jobs = 4 * jobs
+
+abbrev pub IsIn : NumberRange → ℕ → Type 0
+IsIn range number = (range.least ≤ number) × (number ≤ range.greatest)
+
+-- the six numbers of a load
+pub record AreInRange (sites jobs workers host_limit total connects : ℕ) : Type 0 where
+  pub sites_in : IsIn sites_range sites
+  pub jobs_in : IsIn jobs_range jobs
+  pub workers_in : IsIn workers_range workers
+  pub host_limit_in : IsIn limit_range host_limit
+  pub total_in : IsIn limit_range total
+  pub connects_in : IsIn connects_range connects

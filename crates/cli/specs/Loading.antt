@@ -1,0 +1,41 @@
+-- What a load does, and what is written of it.
+use Rattle.std.specs.Prelude.{◌≡◌, ℕ, codes, String, string_bytes, Result, Ok, Err}
+use Rattle.std.specs.Global.{Global}
+use Rattle.clap.specs.Words.{Text}
+use Rattle.script_text.specs.declared.fault.FaultKind.{FaultKind}
+use Rattle.cli.specs.Streams.{Stream, Puts}
+use Rattle.cli.specs.declared.options.LoadOptions.{LoadOptions}
+use Rattle.cli.specs.declared.loading.LoadFault.{LoadFault}
+use Rattle.cli.specs.declared.loading.LoadFault.TheVariants.{Memory, BadWorkers, Poll, Doubled, Missing, Spawn, Listen, Gather, Write}
+
+-- what is told of each fault, after `run: `
+abbrev pub load_fault_text : LoadFault → Text
+load_fault_text Memory = codes "out of memory"
+load_fault_text BadWorkers = codes "bad workers"
+load_fault_text Poll = codes "poll failed"
+load_fault_text Doubled = codes "job collected twice"
+load_fault_text Missing = codes "job missing"
+load_fault_text Spawn = codes "cannot start thread"
+load_fault_text Listen = codes "cannot listen"
+load_fault_text Gather = codes "cannot gather"
+load_fault_text Write = codes "cannot write"
+
+-- a load with these numbers gives this report, or has this fault
+abbrev pub Loading : Type 1
+Loading = LoadOptions → Result (String Global) LoadFault → Type 0
+
+-- 0 where the report was written whole, else 4
+abbrev pub written_status : {A : Type 0} → Result A FaultKind → ℕ
+written_status (Ok done) = 0
+written_status (Err kind) = 4
+
+-- the report is written, or a front of it where writing fails; where there is none, nothing is written
+abbrev pub WritesReport : Result (String Global) LoadFault → Stream → Stream → ℕ → Type 0
+WritesReport (Ok report) old new status = (result : Result (Unit {0}) FaultKind) × Puts old new (string_bytes report) result × (status ≡ written_status result)
+WritesReport (Err fault) old new status = (new ≡ old) × (status ≡ 4)
+
+-- a load was carried out, and its report written
+pub record RunsLoad (Loads : Loading) (options : LoadOptions) (old new : Stream) (status : ℕ) : Type 0 where
+  pub outcome : Result (String Global) LoadFault
+  pub loads : Loads options outcome
+  pub writes : WritesReport outcome old new status

@@ -1,0 +1,50 @@
+//! Carries out a load, and writes its report.
+
+ghost use Rattle.std.specs.Prelude.{◌≡◌};
+ghost use Rattle.cli.specs.Loading.{RunsLoad};
+ghost use Rattle.cli.specs.Streams.{CanCount};
+
+use crate::loading::LoadFault;
+use crate::options::LoadOptions;
+use crate::streams::Sink;
+use script_text::FaultKind;
+use std::alloc::Global;
+use std::io::Write;
+
+/// The report was written.
+const DONE: u8 = 0;
+
+/// There is no report, or it was not written whole.
+const FAILED: u8 = 4;
+
+/// Carries out a load with these numbers by `load`, and writes its report on `output`. Answers the
+/// status: 0 if the report was written whole, else 4. What goes wrong is told on `errors`.
+pub fn run_load<L: FnOnce(Global, LoadOptions) -> Result<String, LoadFault>, W: Sink, E: Write>(
+    alloc: Global,
+    options: LoadOptions,
+    load: L,
+    output: &mut W,
+    errors: &mut E,
+) -> u8
+    requires output { CanCount (W.sink output.old) }
+    requires load { L.IsAlwaysCallable load }
+    ensures { RunsLoad (L.post load alloc) options
+        (W.sink output.old) (W.sink output.new) result }
+{
+    match load(alloc, options) {
+        Ok(report) => match output.put(report.as_bytes()) {
+            Ok(()) => DONE,
+            Err(FaultKind::Memory) => failed(errors, LoadFault::Memory),
+            Err(_) => failed(errors, LoadFault::Write),
+        },
+        Err(fault) => failed(errors, fault),
+    }
+}
+
+/// The status of a load that has that fault, which is told.
+fn failed<E: Write>(errors: &mut E, fault: LoadFault) -> u8
+    ensures { result ≡ 4 }
+{
+    let _ = writeln!(errors, "run: {fault}");
+    FAILED
+}

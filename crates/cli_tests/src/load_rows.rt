@@ -1,0 +1,279 @@
+//! The numbers of a load, its jobs, and what the program writes of it.
+
+use crate::loads::FakeLoader;
+use crate::networks::FakeNetwork;
+use crate::streams::Expecting;
+use crate::words::{run_over, words};
+use cli::{LoadFault, Watched, Words, load_jobs};
+use persistence::Method;
+use std::alloc::Global;
+use std::test::Fail;
+
+// What the program does with these words: its status, and what it writes.
+fn run_load(alloc: Global, given: Words, loader: &mut FakeLoader<'_>) -> (u8, Vec<u8>, Vec<u8>) {
+    let mut network = FakeNetwork::new();
+    let mut output = Vec::new(alloc);
+    let (status, errors) = run_over(alloc, given, false, "", &mut network, loader, &mut output);
+    (status, output, errors)
+}
+
+/// Words, and the numbers that a load is given: sites, jobs, workers, the limit of a host, of the
+/// total, and how many are kept.
+const NUMBERS: [(&str, [u32; 6]); 16] = [
+    ("load", [2, 20, 4, 0, 0, 80]),
+    ("load --sites 1", [1, 20, 4, 0, 0, 80]),
+    ("load --sites 8", [8, 20, 4, 0, 0, 80]),
+    ("load --jobs 1", [2, 1, 4, 0, 0, 4]),
+    ("load --jobs=10000", [2, 10_000, 4, 0, 0, 40_000]),
+    ("load --workers 1", [2, 20, 1, 0, 0, 80]),
+    ("load --workers=64", [2, 20, 64, 0, 0, 80]),
+    ("load --host-limit 0", [2, 20, 4, 0, 0, 80]),
+    ("load --host-limit 65535", [2, 20, 4, 65_535, 0, 80]),
+    ("load --total=0", [2, 20, 4, 0, 0, 80]),
+    ("load --total 65535", [2, 20, 4, 0, 65_535, 80]),
+    ("load --connects 1", [2, 20, 4, 0, 0, 1]),
+    ("load --connects 65535", [2, 20, 4, 0, 0, 65_535]),
+    ("load --connects 7 --jobs 3", [2, 3, 4, 0, 0, 7]),
+    (
+        "load --jobs 00000000000000000000000000003 --sites=01",
+        [1, 3, 4, 0, 0, 12],
+    ),
+    (
+        "load --connects 6 --total 5 --host-limit 4 --workers 3 --jobs 2 --sites 1",
+        [1, 2, 3, 4, 5, 6],
+    ),
+];
+
+#[test]
+fn words_give_numbers(rt: HostRuntime) -> Result<(), Fail> {
+    for &(text, numbers) in &NUMBERS {
+        let mut loader = FakeLoader::new(Ok("all\n"));
+        let given = words(rt.alloc(), text)?;
+        let (status, output, errors) = run_load(rt.alloc(), given, &mut loader);
+        assert_eq!(rt; loader.asked, 1, "{text}");
+        assert_eq!(rt; loader.numbers, numbers, "{text}");
+        assert!(rt; errors.is_empty());
+        assert_eq!(rt; output.as_slice(), b"all\n".as_slice());
+        assert_eq!(rt; status, 0);
+    }
+    Ok(())
+}
+
+/// Words that are refused, and how the message begins.
+const REFUSED: [(&str, &str); 27] = [
+    (
+        "load --sites 0",
+        "error: invalid value '0' for '--sites <NUMBER>': not a number from 1 to 8\n",
+    ),
+    ("load --sites 9", "error: invalid value '9' for '--sites "),
+    (
+        "load --jobs 0",
+        "error: invalid value '0' for '--jobs <NUMBER>': not a number from 1 to 10000\n",
+    ),
+    (
+        "load --jobs 10001",
+        "error: invalid value '10001' for '--jobs ",
+    ),
+    (
+        "load --workers 0",
+        "error: invalid value '0' for '--workers <NUMBER>': not a number from 1 to 64\n",
+    ),
+    (
+        "load --workers 65",
+        "error: invalid value '65' for '--workers ",
+    ),
+    (
+        "load --host-limit 65536",
+        "error: invalid value '65536' for '--host-limit <NUMBER>': not a number from 0 to 65535\n",
+    ),
+    (
+        "load --total 65536",
+        "error: invalid value '65536' for '--total <NUMBER>': not a number from 0 to 65535\n",
+    ),
+    (
+        "load --connects 0",
+        "error: invalid value '0' for '--connects <NUMBER>': not a number from 1 to 65535\n",
+    ),
+    ("load --connects 65536", "error: invalid value '65536' for "),
+    (
+        "load --connects 4294967297",
+        "error: invalid value '4294967297' for ",
+    ),
+    (
+        "load --total 18446744073709551616",
+        "error: invalid value '18446744073709551616' for ",
+    ),
+    (
+        "load --sites",
+        "error: a value is required for '--sites <NUMBER>'",
+    ),
+    (
+        "load --jobs",
+        "error: a value is required for '--jobs <NUMBER>'",
+    ),
+    (
+        "load --sites 1 --sites 1",
+        "error: the argument '--sites <NUMBER>' cannot be used",
+    ),
+    (
+        "load --jobs 1 --jobs 2",
+        "error: the argument '--jobs <NUMBER>' cannot be used",
+    ),
+    (
+        "load --workers 1 --workers=1",
+        "error: the argument '--workers <NUMBER>' cannot",
+    ),
+    (
+        "load --host-limit=1 --host-limit=1",
+        "error: the argument '--host-limit <NUMBER>' ",
+    ),
+    (
+        "load --total 1 --total 0",
+        "error: the argument '--total <NUMBER>' cannot be used",
+    ),
+    (
+        "load --connects 1 --connects 1",
+        "error: the argument '--connects <NUMBER>' cannot",
+    ),
+    ("load --jobs +1", "error: invalid value '+1' for '--jobs "),
+    ("load --jobs -1", "error: unexpected argument '-1' found"),
+    ("load --jobs=-1", "error: invalid value '-1' for '--jobs "),
+    ("load --total=-0", "error: invalid value '-0' for '--total "),
+    ("load --jobs=", "error: "),
+    ("load --port 1", "error: unexpected argument '--port' found"),
+    ("load 3", "error: unexpected argument '3' found"),
+];
+
+#[test]
+fn words_are_refused(rt: HostRuntime) -> Result<(), Fail> {
+    let mut loader = FakeLoader::new(Ok("all\n"));
+    for &(text, start) in &REFUSED {
+        let given = words(rt.alloc(), text)?;
+        let (status, output, errors) = run_load(rt.alloc(), given, &mut loader);
+        assert!(rt; errors.starts_with(start.as_bytes()), "{text}");
+        assert!(rt; output.is_empty(), "{text}");
+        assert_eq!(rt; status, 2, "{text}");
+    }
+    assert_eq!(rt; loader.asked, 0);
+    Ok(())
+}
+
+#[test]
+fn usage_stands_below_a_refusal(rt: HostRuntime) -> Result<(), Fail> {
+    let mut loader = FakeLoader::new(Ok("all\n"));
+    let given = words(rt.alloc(), "load --jobs 0x3")?;
+    let (status, _, errors) = run_load(rt.alloc(), given, &mut loader);
+    let told = "error: invalid value '0x3' for '--jobs <NUMBER>': not a number from 1 to 10000\n\n\
+        Usage: curlpool load [OPTIONS]\n\nFor more information, try '--help'.\n";
+    assert_eq!(rt; errors.as_slice(), told.as_bytes());
+    assert_eq!(rt; status, 2);
+    Ok(())
+}
+
+/// The faults of a load, and what is told of each.
+const FAULTS: [(LoadFault, &str); 9] = [
+    (LoadFault::Memory, "run: out of memory\n"),
+    (LoadFault::BadWorkers, "run: bad workers\n"),
+    (LoadFault::Poll, "run: poll failed\n"),
+    (LoadFault::Doubled, "run: job collected twice\n"),
+    (LoadFault::Missing, "run: job missing\n"),
+    (LoadFault::Spawn, "run: cannot start thread\n"),
+    (LoadFault::Listen, "run: cannot listen\n"),
+    (LoadFault::Gather, "run: cannot gather\n"),
+    (LoadFault::Write, "run: cannot write\n"),
+];
+
+#[test]
+fn faults_are_told(rt: HostRuntime) -> Result<(), Fail> {
+    for &(fault, told) in &FAULTS {
+        let mut loader = FakeLoader::new(Err(fault));
+        let given = words(rt.alloc(), "load --jobs 3")?;
+        let (status, output, errors) = run_load(rt.alloc(), given, &mut loader);
+        assert_eq!(rt; errors.as_slice(), told.as_bytes());
+        assert!(rt; output.is_empty());
+        assert_eq!(rt; status, 4);
+    }
+    Ok(())
+}
+
+#[test]
+fn a_report_that_cannot_be_written(rt: HostRuntime) -> Result<(), Fail> {
+    for &takes_none in &[false, true] {
+        let mut loader = FakeLoader::new(Ok("host 0\nall 1\n"));
+        let mut writer = Expecting {
+            rest: b"host 0\nal",
+            takes_none,
+        };
+        let mut network = FakeNetwork::new();
+        let mut output = Watched::new(&mut writer);
+        let given = words(rt.alloc(), "load")?;
+        let (status, errors) = run_over(
+            rt.alloc(),
+            given,
+            false,
+            "",
+            &mut network,
+            &mut loader,
+            &mut output,
+        );
+        assert!(rt; writer.rest.is_empty());
+        assert_eq!(rt; errors.as_slice(), b"run: cannot write\n".as_slice());
+        assert_eq!(rt; status, 4);
+    }
+    Ok(())
+}
+
+// Under `rt try --test --fail-alloc N`: the status tells, and the report is written whole or not
+// at all.
+#[test]
+fn want_of_memory_is_told(rt: HostRuntime) -> Result<(), Fail> {
+    let Ok(given) = words(rt.alloc(), "load --jobs 0003") else {
+        return Ok(());
+    };
+    let mut loader = FakeLoader::new(Ok("all\n"));
+    let (status, output, _) = run_load(rt.alloc(), given, &mut loader);
+    if status == 0 {
+        assert_eq!(rt; output.as_slice(), b"all\n".as_slice());
+    } else {
+        assert_eq!(rt; status, 4);
+        assert!(rt; output.is_empty());
+    }
+    Ok(())
+}
+
+/// The jobs of a load over three sites: site, port and path.
+const JOBS: [(u32, u16, &str); 11] = [
+    (0, 8001, "/0"),
+    (1, 65_535, "/1"),
+    (2, 1, "/2"),
+    (0, 8001, "/3"),
+    (1, 65_535, "/4"),
+    (2, 1, "/5"),
+    (0, 8001, "/6"),
+    (1, 65_535, "/7"),
+    (2, 1, "/8"),
+    (0, 8001, "/9"),
+    (1, 65_535, "/10"),
+];
+
+#[test]
+fn jobs_go_round_the_sites(rt: HostRuntime) -> Result<(), Fail> {
+    let ports: [u16; 3] = [8001, 65_535, 1];
+    let jobs = load_jobs(rt.alloc(), 11, ports.as_slice())?;
+    assert_eq!(rt; jobs.len(), 11);
+    let mut number: u64 = 0;
+    for (job, &(site, port, path)) in jobs.iter().zip(JOBS.iter()) {
+        assert_eq!(rt; job.site, site);
+        assert_eq!(rt; job.target.port, port);
+        assert_eq!(rt; job.target.path.as_str(), path);
+        assert_eq!(rt; job.target.host.as_str(), "127.0.0.1");
+        assert_eq!(rt; job.method, Method::Get);
+        assert_eq!(rt; job.want.transfer, number);
+        assert_eq!(rt; job.want.lane, 0);
+        assert_eq!(rt; job.want.max_age, 118);
+        assert_eq!(rt; job.want.max_life, 0);
+        assert!(rt; !job.want.fresh && !job.want.forbid_reuse);
+        number = number.saturating_add(1);
+    }
+    Ok(())
+}
