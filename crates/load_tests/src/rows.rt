@@ -1,0 +1,55 @@
+//! Loads of one thread, whose reports are known byte for byte.
+
+use crate::running::run_words;
+use cli::load_on_system;
+use std::test::Fail;
+
+/// Words, the status with which the program ends, and what it prints.
+const ROWS: [(&str, u8, &str); 3] = [
+    // One connection, which is opened for the first job, and kept.
+    (
+        "load --sites 1 --jobs 3 --workers 1",
+        0,
+        "host       0       1       2       0       0       1\n\
+        all        1       1       2       0       0       1\n\
+        jobs       3       0       2       0       6\n",
+    ),
+    // Each job closes the connection of the one before, which is to the other site.
+    (
+        "load --sites 2 --jobs 4 --workers 1 --total 1",
+        0,
+        "host       0       2       0       2       0       0\n\
+        host       1       2       0       1       0       1\n\
+        all        2       4       0       3       0       1\n\
+        jobs       4       0       0       0       8\n",
+    ),
+    ("load --jobs 0", 2, ""),
+];
+
+#[test]
+fn reports_of_one_thread(rt: HostRuntime) -> Result<(), Fail> {
+    for &(text, status, printed) in &ROWS {
+        let ran = run_words(
+            &rt,
+            text,
+            |alloc, options| load_on_system(&rt, &rt, alloc, options),
+        )?;
+        assert_eq!(rt;
+            ran.status,
+            status,
+            "in ample memory, {text}: {:?}",
+            ran.errors
+        );
+        assert_eq!(rt;
+            ran.output.as_slice(),
+            printed.as_bytes(),
+            "in ample memory, {text}"
+        );
+        assert_eq!(rt;
+            ran.errors.is_empty(),
+            status == 0,
+            "in ample memory, {text}"
+        );
+    }
+    Ok(())
+}
