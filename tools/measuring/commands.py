@@ -6,6 +6,9 @@ import sys
 
 from program import TOP
 
+# valgrind counts byte by byte what a processor clears in one instruction; so it clears by several
+PLAIN_CLEARS = {"GLIBC_TUNABLES": "glibc.cpu.x86_rep_stosb_threshold=1000000000"}
+
 
 def need(command):
     """Ends the run where a command is not there."""

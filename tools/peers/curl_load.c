@@ -1,8 +1,8 @@
-// curl_load REQUESTS PORT..: libcurl by its easy interface, with one handle, whose cache keeps the connections. It sends
-// so many requests, one after another, to the ports of 127.0.0.1 in turn, and prints what came of them.
+// curl_load THREADS REQUESTS PORT..: libcurl by its easy interface, with one handle for each thread, whose cache keeps the
+// connections. It sends so many requests to the ports of 127.0.0.1 in turn, each thread one after another, and prints
+// what came of them.
+#include "threads.h"
 #include <curl/curl.h>
-#include <stdio.h>
-#include <stdlib.h>
 
 enum { MOST_URL = 80 };
 static const long MOST_KEPT = 64;
@@ -26,28 +26,27 @@ static CURL *new_handle(long *bytes) {
     return handle;
 }
 
-int main(int count, char **words) {
-    if (count < 3) {
-        fputs("curl_load REQUESTS PORT..\n", stderr);
-        return 2;
-    }
-    long requests = atol(words[1]);
-    int sites = count - 2;
-    long good = 0;
-    long opened = 0;
-    long bytes = 0;
-    curl_global_init(CURL_GLOBAL_ALL);
-    CURL *handle = new_handle(&bytes);
-    for (long number = 0; number < requests; number++) {
+// Sends requests until all are sent.
+static void *send_some(void *load_of_all) {
+    struct load *load = load_of_all;
+    struct counts counts = {0};
+    CURL *handle = new_handle(&counts.bytes);
+    long number;
+    while ((number = next_request(load)) >= 0) {
         char url[MOST_URL];
         long connects = 0;
-        snprintf(url, sizeof url, "http://127.0.0.1:%s/%ld", words[2 + number % sites], number);
+        snprintf(url, sizeof url, "http://127.0.0.1:%s/%ld", load->ports[number % load->sites], number);
         curl_easy_setopt(handle, CURLOPT_URL, url);
-        good += curl_easy_perform(handle) == CURLE_OK;
+        counts.good += curl_easy_perform(handle) == CURLE_OK;
         curl_easy_getinfo(handle, CURLINFO_NUM_CONNECTS, &connects);
-        opened += connects;
+        counts.opened += connects;
     }
     curl_easy_cleanup(handle);
-    printf("good %ld opened %ld bytes %ld\n", good, opened, bytes);
-    return 0;
+    add_counts(load, &counts);
+    return NULL;
+}
+
+int main(int count, char **words) {
+    curl_global_init(CURL_GLOBAL_ALL);
+    return run_load("curl_load THREADS REQUESTS PORT..", count, words, send_some);
 }

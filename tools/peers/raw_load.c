@@ -1,14 +1,15 @@
-// raw_load REQUESTS PORT..: the least that a client can do which keeps its connections. It sends so many requests, one
-// after another, to the ports of 127.0.0.1 in turn, over one connection to each, whose reads never wait; where nothing
-// has come it waits in an epoll. It prints what came of them.
+// raw_load THREADS REQUESTS PORT..: the least that a client can do which keeps its connections. It sends so many requests
+// to the ports of 127.0.0.1 in turn; each thread sends one after another, over a connection of its own to each port, whose
+// reads never wait; where nothing has come it waits in an epoll of its own. It prints what came of them.
 #define _GNU_SOURCE
 #include "loopback.h"
+#include "threads.h"
 #include <errno.h>
 #include <string.h>
 #include <sys/epoll.h>
 #include <unistd.h>
 
-enum { MOST_SITES = 64, MOST_READ = 4096, MOST_WRITTEN = 128, MOST_MILLISECONDS = 10 };
+enum { MOST_READ = 4096, MOST_WRITTEN = 128, MOST_MILLISECONDS = 10 };
 static const char LENGTH[] = "Content-Length:";
 
 // Opens a connection, of which the epoll tells whenever more has come.
@@ -63,28 +64,29 @@ static long read_response(int epoll, int connection) {
     }
 }
 
-int main(int count, char **words) {
-    if (count < 3 || count > 2 + MOST_SITES) {
-        fputs("raw_load REQUESTS PORT..\n", stderr);
-        return 2;
-    }
-    long requests = atol(words[1]);
-    int sites = count - 2;
+// Sends requests until all are sent.
+static void *send_some(void *load_of_all) {
+    struct load *load = load_of_all;
     int connections[MOST_SITES] = {0};
     int epoll = epoll_create1(EPOLL_CLOEXEC);
-    long opened = 0;
-    long bytes = 0;
+    struct counts counts = {0};
+    long number;
     need(epoll >= 0, "epoll_create1");
-    for (long number = 0; number < requests; number++) {
-        long site = number % sites;
-        uint16_t port = (uint16_t)atoi(words[2 + site]);
+    while ((number = next_request(load)) >= 0) {
+        long site = number % load->sites;
+        uint16_t port = (uint16_t)atoi(load->ports[site]);
         if (connections[site] == 0) {
             connections[site] = dial(epoll, port);
-            opened++;
+            counts.opened++;
         }
         send_request(connections[site], number, port);
-        bytes += read_response(epoll, connections[site]);
+        counts.bytes += read_response(epoll, connections[site]);
+        counts.good++;
     }
-    printf("good %ld opened %ld bytes %ld\n", requests, opened, bytes);
-    return 0;
+    add_counts(load, &counts);
+    return NULL;
+}
+
+int main(int count, char **words) {
+    return run_load("raw_load THREADS REQUESTS PORT..", count, words, send_some);
 }

@@ -1,0 +1,112 @@
+//! How the requests are made, and what came of them.
+
+ghost use Rattle.std.specs.Prelude.{◌≡◌, length, IfSome};
+
+use crate::task::Task;
+use budget::Limits;
+use cli::load_jobs;
+use exchange::Done;
+use load::load;
+use shared_cache::HostCount;
+use std::alloc::{AllocGlobal, Global};
+use std::net::{IpAddr, Ipv4Addr, SocketAddr};
+use std::random::RandomSource;
+use std::sync::Wait;
+use std::thread::Threads;
+
+/// The most sites that there may be; there is one at least.
+const MOST_SITES: usize = 1_024;
+
+/// The most connections that are kept while they are idle.
+const KEPT: u32 = 65_535;
+
+/// What came of all requests.
+#[derive(Clone, Copy, Debug)]
+pub(crate) struct Totals {
+    /// How many were answered.
+    pub(crate) good: u64,
+    /// How many there were.
+    pub(crate) jobs: u64,
+    /// How many went over a connection that was used before.
+    pub(crate) reused: u64,
+    /// How many were sent again over a new connection.
+    pub(crate) retried: u64,
+    /// How many connections were opened.
+    pub(crate) opened: u64,
+    /// How many of them were closed.
+    pub(crate) closed: u64,
+    /// How many of them are left open.
+    pub(crate) alive: u64,
+    /// How many bytes all bodies have.
+    pub(crate) bytes: u64,
+}
+
+impl Totals {
+    // Of no request.
+    fn new() -> Self {
+        Totals {
+            good: 0,
+            jobs: 0,
+            reused: 0,
+            retried: 0,
+            opened: 0,
+            closed: 0,
+            alive: 0,
+            bytes: 0,
+        }
+    }
+
+    // Counts what came of a request.
+    fn add(&mut self, done: &Done) {
+        self.jobs = self.jobs.saturating_add(1);
+        if let Done::Good(answer) = done {
+            self.good = self.good.saturating_add(1);
+            self.reused = self.reused.saturating_add(answer.reused as u64);
+            self.retried = self.retried.saturating_add(answer.retried as u64);
+            self.bytes = self.bytes.saturating_add(answer.body_len);
+        }
+    }
+
+    // Counts the connections of a host.
+    fn add_host(&mut self, host: &HostCount) {
+        self.opened = self.opened.saturating_add(host.opened);
+        self.closed = self.closed.saturating_add(host.closed);
+        self.alive = self.alive.saturating_add(host.alive);
+    }
+}
+
+/// What came of the requests of the task; none where they can't be made.
+pub(crate) fn totals_of<R: Threads + Wait + RandomSource + AllocGlobal + Sync>(
+    rt: &R,
+    system: &HostRuntime,
+    alloc: Global,
+    task: &Task,
+) -> Option<Totals> {
+    let limits = Limits::new(0, task.total, KEPT).ok()?;
+    let sites = sites_at(alloc, &task.ports)?;
+    if sites.is_empty() || sites.len() > MOST_SITES {
+        return None;
+    }
+    let jobs = load_jobs(alloc, task.jobs, &task.ports).ok()?;
+    let loaded = load(rt, system, alloc, limits, &sites, &jobs, task.workers).ok()?;
+    let mut totals = Totals::new();
+    for done in &loaded.results {
+        totals.add(done);
+    }
+    for host in &loaded.gathered.hosts {
+        totals.add_host(host);
+    }
+    Some(totals)
+}
+
+// The address of each site, which listens at that port of 127.0.0.1.
+fn sites_at(alloc: Global, ports: &[u16]) -> Option<Vec<SocketAddr>>
+    ensures { IfSome result (λ sites. length sites.items ≡ length ports.now) }
+{
+    let mut sites = Vec::new(alloc);
+    for port in ports {
+        let site = SocketAddr::new(IpAddr::V4(Ipv4Addr::LOCALHOST), *port);
+        sites.push(site).ok()?;
+    }
+    Some(sites)
+}

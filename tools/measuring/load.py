@@ -1,0 +1,54 @@
+"""The tables of tools/measure of a load: what a request takes of threads that share one cache, with libcurl and with raw
+epoll, and where they share one connection."""
+import functools
+import os
+import statistics
+import tempfile
+
+from program import built
+
+from .clients import Client, cost_of_request, make_peers, serving, show_calls, show_costs
+from .commands import compiled, show
+
+CRATE = "load_requests"
+# one request, to where nobody listens
+FEWEST_WORDS = ["1", "0", "1", "1"]
+SITES, WORKERS = 2, 4
+ROUNDS = 21
+ROUNDS_OF_ONE = 5
+
+
+def load_requests():
+    """The program load_requests, which is built first where it is missing or older than its sources. LOAD_REQUESTS names
+    another one that is built already."""
+    return os.environ.get("LOAD_REQUESTS") or built(CRATE, "run", CRATE, FEWEST_WORDS)
+
+
+def words_of_load(program, total, count, ports):
+    return [program, str(WORKERS), str(total), str(count), *ports]
+
+
+def show_one_connection(program, server):
+    """What a job takes where all threads share one connection, and so wait for one another."""
+    client = Client("curlpool", functools.partial(words_of_load, program, 1))
+    rows = []
+    for sites in (1, SITES):
+        with serving([server], sites) as ports:
+            found = [cost_of_request(client, ports) for _ in range(ROUNDS_OF_ONE)]
+        costs, opened = zip(*found, strict=True)
+        rows.append((sites, round(statistics.median(1 / cost.clock for cost in costs)),
+                     f"{statistics.median(1e6 * cost.processors for cost in costs):.1f}", max(opened)))
+    show(("sites", "jobs a second", "processor microseconds a job", "connections"), rows)
+    print(f"Medians of {ROUNDS_OF_ONE} rounds, {WORKERS} threads, at most one connection open.\n")
+
+
+def load():
+    program = load_requests()
+    with tempfile.TemporaryDirectory() as room:
+        server = compiled("peers/server.c", room)
+        client = Client("curlpool, one shared cache", functools.partial(words_of_load, program, 0))
+        peers = make_peers(WORKERS, room)
+        with serving([server], SITES) as ports:
+            show_costs([client, *peers], peers, ports, ROUNDS, compares_speed=True)
+        show_calls([client, *peers], server, SITES)
+        show_one_connection(program, server)
