@@ -24,12 +24,12 @@ use Rattle.conn_log.proofs.Steps.{is_open_is, opened_not_closed, idle_open_unhel
 
 -- what a legal log keeps, entry for entry: numbers are opened once, and closed only then; what is held is
 -- open, and so is what is to be closed next; and the counts add up
-record AddsUp (log : List Entry) : Type 0 where
-  distinct : AreDistinct (opened log)
-  closed_opened : (c : ℕ) → is_closed log c ≡ true → is_among c (opened log) ≡ true
-  held_open : (c : ℕ) → is_some (holder_want log c) ≡ true → is_open log c ≡ true
-  owed_open : (c : ℕ) (cause : Cause) → owed log ≡ Some (c, cause) → is_open log c ≡ true
-  sum : length (open_connections log) + (counts log).closed ≡ (counts log).opened
+pub record AddsUp (log : List Entry) : Type 0 where
+  pub distinct : AreDistinct (opened log)
+  pub closed_opened : (c : ℕ) → is_closed log c ≡ true → is_among c (opened log) ≡ true
+  pub held_open : (c : ℕ) → is_some (holder_want log c) ≡ true → is_open log c ≡ true
+  pub owed_open : (c : ℕ) (cause : Cause) → owed log ≡ Some (c, cause) → is_open log c ≡ true
+  pub sum : length (open_connections log) + (counts log).closed ≡ (counts log).opened
 
 none_some : {X : Type 0} {x : X} → None ≡ Some x → ⊥
 none_some same = false≢true (ap is_some same)
@@ -138,7 +138,7 @@ module _ (settings : LimitAndFirst) (moment : ℕ) (log : List Entry) (so_far : 
   entry_adds_up (Left transfer) allowed = left_adds_up transfer
   entry_adds_up (Limit most) allowed = limit_adds_up most
 
-adds_up : (settings : LimitAndFirst) (log : List Entry) → IsLegal settings log → AddsUp log
+pub adds_up : (settings : LimitAndFirst) (log : List Entry) → IsLegal settings log → AddsUp log
 adds_up settings [] legal = record {
   distinct = tt;
   closed_opened = λ c closed. absurd (false≢true closed);

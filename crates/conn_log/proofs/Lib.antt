@@ -12,3 +12,9 @@ pub mod Order
 pub mod StartCounts
 pub mod Extremes
 pub mod CountSums
+pub mod Cuts
+pub mod Tallies
+pub mod Bases
+pub mod Entries
+pub mod Telling
+pub mod Rests

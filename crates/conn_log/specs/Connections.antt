@@ -3,6 +3,7 @@
 use Rattle.std.specs.Prelude.{ℕ, ◌-◌, max, Bool, false, not, ◌||◌, ◌==◌, if◌then◌else◌, List, [], ◌∷◌, map, filter, Option, Some, None, is_none}
 use Rattle.std.specs.Option.{option_map, option_map_or}
 use Rattle.std.specs.List.{list_any}
+use Rattle.persistence.specs.declared.facts.Facts.{Facts}
 use Rattle.persistence.specs.Persistent.{is_persistent}
 use Rattle.conn_log.specs.declared.entry.Want.{Want}
 use Rattle.conn_log.specs.declared.entry.Event.{Event}
@@ -145,3 +146,12 @@ persists_after _ c persists = persists
 abbrev pub came_back_persistent : List Entry → ℕ → Bool
 came_back_persistent [] c = false
 came_back_persistent (e ∷ before) c = persists_after e.event c (came_back_persistent before c)
+
+-- last facts: the facts with which the connection last came back
+abbrev pub last_facts_after : Event → ℕ → Option Facts → Option Facts
+last_facts_after (Returned d facts) c last = if d == c then Some facts else last
+last_facts_after _ c last = last
+
+abbrev pub last_facts : List Entry → ℕ → Option Facts
+last_facts [] c = None
+last_facts (e ∷ before) c = last_facts_after e.event c (last_facts before c)

@@ -1,5 +1,5 @@
 -- What happened to connections and to those who wait for one, counted by kind.
-use Rattle.std.specs.Prelude.{◌+◌, List, [], ◌∷◌}
+use Rattle.std.specs.Prelude.{ℕ, ◌+◌, ◌≤◌, List, [], ◌∷◌}
 use Rattle.conn_log.specs.declared.entry.Event.{Event}
 use Rattle.conn_log.specs.declared.entry.Event.TheVariants.{Opened, Leased, Closed, Waited}
 use Rattle.conn_log.specs.declared.entry.Entry.{Entry}
@@ -17,3 +17,14 @@ counts_after _ so_far = so_far
 abbrev pub counts : List Entry → Counts
 counts [] = record { opened = 0; reused = 0; closed = 0; waited = 0 }
 counts (e ∷ before) = counts_after e.event (counts before)
+
+-- the counts of two parts of a log together
+abbrev pub both_counts : Counts → Counts → Counts
+both_counts x y = record { opened = x.opened + y.opened; reused = x.reused + y.reused; closed = x.closed + y.closed; waited = x.waited + y.waited }
+
+-- none of them is above that
+pub record CountsWithin (most : ℕ) (counts : Counts) : Type 0 where
+  pub opened : counts.opened ≤ most
+  pub reused : counts.reused ≤ most
+  pub closed : counts.closed ≤ most
+  pub waited : counts.waited ≤ most

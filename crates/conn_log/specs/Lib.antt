@@ -8,4 +8,6 @@ pub mod Log
 pub mod Sound
 pub mod Starts
 pub mod Counts
+pub mod Bases
+pub mod Behind
 pub mod Laws

@@ -1,7 +1,8 @@
 -- What the plain readers ask of a part of a log: whether what waits in one entry still waits after
 -- the entries that came later, and whether what one opens stays open. The model of a log needs none of
 -- it.
-use Rattle.std.specs.Prelude.{ℕ, Bool, false, not, ◌==◌, ◌||◌, List, [], ◌∷◌}
+use Rattle.std.specs.Prelude.{ℕ, Bool, true, false, not, ◌==◌, ◌||◌, List, [], ◌∷◌, filter}
+use Rattle.conn_log.specs.declared.entry.Want.{Want}
 use Rattle.conn_log.specs.declared.entry.Event.{Event}
 use Rattle.conn_log.specs.declared.entry.Event.TheVariants.{Opened, Leased, Waited, Left}
 use Rattle.conn_log.specs.declared.entry.Entry.{Entry}
@@ -24,7 +25,20 @@ abbrev pub is_left_waiting : Event → List Entry → Bool
 is_left_waiting (Waited want) others = not (is_wait_ended others want.transfer)
 is_left_waiting _ others = false
 
+-- of these wants those that no entry of these ends
+abbrev pub left_waiting : List Entry → List Want → List Want
+left_waiting others wants = filter (λ (want : Want). not (is_wait_ended others want.transfer)) wants
+
 -- the event opens a connection that the log does not close
 abbrev pub is_left_open : Event → List Entry → Bool
 is_left_open (Opened c want) log = not (is_closed log c)
 is_left_open _ log = false
+
+-- a transfer began to wait in one of these entries
+abbrev pub begins_wait : Event → Bool
+begins_wait (Waited want) = true
+begins_wait _ = false
+
+abbrev pub is_anyone_waited : List Entry → Bool
+is_anyone_waited [] = false
+is_anyone_waited (e ∷ others) = begins_wait e.event || is_anyone_waited others

@@ -22,6 +22,11 @@ abbrev pub waiting : List Entry → List Want
 waiting [] = []
 waiting (e ∷ before) = waiting_after e.event (waiting before)
 
+-- the wants that wait once these entries have followed where others waited
+abbrev pub waiting_since : List Want → List Entry → List Want
+waiting_since before_them [] = before_them
+waiting_since before_them (e ∷ before) = waiting_after e.event (waiting_since before_them before)
+
 -- the transfer waits
 abbrev pub waits : List Entry → ℕ → Bool
 waits log transfer = list_any (λ (want : Want). want.transfer == transfer) (waiting log)

@@ -1,6 +1,6 @@
 -- What small logs say. Each log is the transcript of the worked script of its name, written as it is
 -- printed, oldest first; what it has to say was read off the transcript.
-use Rattle.std.specs.Prelude.{◌≡◌, ℕ, true, false, List, [], ◌∷◌, take, reverse, Some, None}
+use Rattle.std.specs.Prelude.{◌≡◌, ℕ, true, false, List, [], ◌∷◌, take, reverse, Option, Some, None}
 use Rattle.persistence.specs.declared.facts.Facts.{Facts}
 use Rattle.persistence.specs.declared.facts.Framing.TheVariants.{Counted}
 use Rattle.persistence.specs.declared.facts.Version.TheVariants.{V11}
@@ -13,6 +13,9 @@ use Rattle.conn_log.specs.Connections.{open_connections, idle_connections, Holdi
 use Rattle.conn_log.specs.Waiting.{waiting}
 use Rattle.conn_log.specs.Fit.{is_too_old, newest_fit, oldest, idle_in_order}
 use Rattle.conn_log.specs.Legal.{LimitAndFirst, limit_in_force, owed, IsLegal, IsQuiet}
+use Rattle.conn_log.specs.declared.base.OpenConnection.{OpenConnection}
+use Rattle.conn_log.specs.Bases.{summary}
+use Rattle.conn_log.specs.Behind.{open_behind, holder_behind, oldest_stamp_behind}
 
 -- the entries of a transcript
 infix 80 opened◌for◌at◌
@@ -357,3 +360,26 @@ pub record LimitLowered : Type 0 where
   pub raised : limit_in_force (limits 4) (log_after 9 limit_lowered) ≡ 3
   pub legal : IsLegal (limits 4) (log_after 9 limit_lowered)
   pub quiet : IsQuiet (limits 4) false (log_after 9 limit_lowered)
+
+-- what is left of these logs once they are cut: of the two idle ones each; of a held one its holder's want; of
+-- waits those that still wait; of a closed one nothing but that its number was used; and of limits the last
+abbrev pub known : ℕ → ℕ → Option Facts → Option Want → OpenConnection
+known born_at back_at facts holder = record { lane = 0; born = born_at; since = back_at; facts = facts; holder = holder }
+
+pub record CutLogs : Type 0 where
+  pub both_idle : (summary (log_after 4 newest_is_reused)).connections ≡ (1, known 0 5 (Some keep) None) ∷ (2, known 0 9 (Some keep) None) ∷ []
+  pub one_held : (summary (log_after 5 newest_is_reused)).connections ≡ (1, known 0 5 (Some keep) None) ∷ (2, known 0 9 (Some keep) (Some (get 3))) ∷ []
+  pub both_wait : (summary (log_after 3 withdraw_a_grant)).waiting ≡ get 2 ∷ get 3 ∷ []
+  pub one_waits : (summary (log_after 5 withdraw_a_grant)).waiting ≡ get 3 ∷ []
+  pub none_open : (summary (log_after 4 reuse_then_drop)).connections ≡ []
+  pub number_used : (summary (log_after 4 reuse_then_drop)).greatest ≡ 1
+  pub last : (summary (log_after 4 reuse_then_drop)).last_moment ≡ 4
+  pub no_limit : (summary (log_after 3 limit_raised)).limit ≡ None
+  pub new_limit : (summary (log_after 7 limit_raised)).limit ≡ Some 2
+  pub counted : (summary (log_after 7 withdraw_a_grant)).counts ≡ record { opened = 2; reused = 1; closed = 1; waited = 2 }
+  pub still_open : open_behind (summary (log_after 3 limit_raised)) (limit 2 at 5 ∷ []) ≡ 1 ∷ []
+  pub opened_later : open_behind (summary (log_after 3 limit_raised)) (opened 2 for get 2 at 5 ∷ limit 2 at 5 ∷ []) ≡ 2 ∷ 1 ∷ []
+  pub closed_later : open_behind (summary (log_after 4 newest_is_reused)) (closed 1 for HostRoom at 9 ∷ []) ≡ 2 ∷ []
+  pub holder_kept : holder_behind (summary (log_after 5 newest_is_reused)) [] 2 ≡ Some 3
+  pub came_back : holder_behind (summary (log_after 5 newest_is_reused)) (returned 2 with keep at 11 ∷ []) 2 ≡ None
+  pub longest_idle : oldest_stamp_behind (summary (log_after 4 newest_is_reused)) (leased 1 to get 3 at 9 ∷ []) 7 ≡ Some (record { since = 9; host = 7; number = 2 })

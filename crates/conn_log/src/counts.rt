@@ -1,10 +1,9 @@
-ghost use Rattle.std.specs.Prelude.{◌≡◌};
-ghost use Rattle.conn_log.specs.Counts.{counts as counts_of};
+ghost use Rattle.std.specs.Prelude.{◌≡◌, ℕ, ◌-◌, ◌^◌, length, reverse};
+ghost use Rattle.conn_log.specs.Counts.{counts as counts_of, both_counts, CountsWithin};
 
-use crate::entry::Event;
-use crate::log::Log;
+use crate::entry::{Entry, Event};
 
-/// What happened at one host since its log began, counted by kind.
+/// What happened at one host, counted by kind.
 #[derive(Clone, Copy, Debug, PartialEq, Eq)]
 pub struct Counts {
     /// How many connections were opened.
@@ -17,12 +16,12 @@ pub struct Counts {
     pub waited: u64,
 }
 
-impl Log {
-    /// What happened so far, counted by one scan of the entries. It takes no memory.
-    pub fn counts(&self) -> Counts
-        ensures { result ≡ counts_of self.now.entries }
+impl Counts {
+    /// What happened in these entries, oldest first, counted by one scan. It takes no memory.
+    pub fn of(entries: &[Entry]) -> Counts
+        ensures counts { result ≡ counts_of (reverse entries.now) }
+        ensures within { CountsWithin (length entries.now) result }
     {
-        let entries = self.since(0);
         let mut counts = Counts {
             opened: 0,
             reused: 0,
@@ -39,5 +38,18 @@ impl Log {
             }
         }
         counts
+    }
+
+    /// What happened in both.
+    pub(crate) fn with(&self, others: &Counts) -> Counts
+        requires { (few : ℕ) × CountsWithin few self.now × CountsWithin (2 ^ 64 - 1 - few) others.now }
+        ensures { result ≡ both_counts self.now others.now }
+    {
+        Counts {
+            opened: self.opened + others.opened,
+            reused: self.reused + others.reused,
+            closed: self.closed + others.closed,
+            waited: self.waited + others.waited,
+        }
     }
 }

@@ -3,6 +3,8 @@
 ghost use Rattle.conn_log.specs.Laws.{OpenAndClosedAreOpened, OldestIsIdleForLongest};
 ghost use Rattle.conn_log.specs.Laws.{NoOldestIfNoneIsIdle, NewestFitIsIdleForShortest};
 ghost use Rattle.conn_log.specs.Laws.{NoNewestIfNoneIsFit};
+ghost use Rattle.conn_log.specs.Laws.{CutsFollowEachOther, PartsAddUp, ABaseTellsItsEntries};
+ghost use Rattle.conn_log.specs.Laws.{BaseAndRestTellTheWhole};
 
 /// Of a legal log the connections that are open and those that were closed are as many as were
 /// opened.
@@ -23,4 +25,19 @@ pub fn oldest_came_back_first()
 pub fn newest_fit_came_back_last()
     ensures newest { NewestFitIsIdleForShortest }
     ensures none { NoNewestIfNoneIsFit }
+{}
+
+/// Of every log, wherever it is cut: the base that is led on through the rest is that of the whole,
+/// and what both parts count is what the whole counts.
+pub fn parts_add_up()
+    ensures bases { CutsFollowEachOther }
+    ensures counts { PartsAddUp }
+{}
+
+/// Of a legal log the base has what the entries say themselves, each thing of them; and what a base
+/// and a rest tell of connections is what the whole log tells. Of another log they may differ: a
+/// base forgets the numbers of closed connections, so one that is opened again counts as open.
+pub fn bases_tell()
+    ensures entries { ABaseTellsItsEntries }
+    ensures whole { BaseAndRestTellTheWhole }
 {}

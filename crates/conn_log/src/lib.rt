@@ -2,14 +2,18 @@
 //! and the plain readers that answer them by scanning.
 #![tactic(auto)]
 
+mod base;
 mod counts;
 mod entry;
 pub mod laws;
 mod log;
+mod past;
 mod readers;
 mod stamp;
+mod still_waiting;
 pub mod worked;
 
+pub use base::{Base, OpenConnection};
 pub use counts::Counts;
 pub use entry::{Cause, Entry, Event, Want};
 pub use log::{Log, LogFault};

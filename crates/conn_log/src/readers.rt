@@ -1,27 +1,50 @@
-//! Plain readers of a log: each scans the entries for its answer, whatever the log. In one that is
-//! not legal a connection that was opened twice counts twice, one that was closed stays closed
-//! though it is opened again, and one that is leased after it was closed has a holder though it is
-//! not open.
+//! Plain readers of a log: each scans the base and the rest for its answer, whatever the log. They
+//! say what base and rest tell; of a legal log that is what the whole history tells.
+//!
+//! In a log that is not legal a connection that was opened twice in the rest counts twice; one that
+//! was closed in the rest stays closed though it is opened again; and one that is leased after it was
+//! closed has a holder though it is not open.
 
-ghost use Rattle.std.specs.Prelude.{◌≡◌, ℕ, ◌+◌, ◌<◌, ◌≤◌, List, ◌∷◌, length, reverse, filter, not};
+ghost use Rattle.std.specs.Prelude.{◌≡◌, ℕ, ◌+◌, ◌<◌, ◌≤◌, ◌^◌, List, [], ◌∷◌, length, reverse, filter, not};
 ghost use Rattle.conn_log.specs.Connections.{open_connections, is_closed, holder as holder_of};
-ghost use Rattle.conn_log.specs.Connections.{since as since_of};
 ghost use Rattle.conn_log.specs.Waiting.{waiting};
-ghost use Rattle.conn_log.specs.Scan.{is_wait_ended, is_left_waiting, is_left_open};
+ghost use Rattle.conn_log.specs.Scan.{is_wait_ended, left_waiting, is_left_waiting, is_left_open};
 ghost use Rattle.conn_log.specs.Fit.{oldest_stamp};
+ghost use Rattle.conn_log.specs.Legal.{LimitAndFirst, IsLegal};
+ghost use Rattle.conn_log.specs.Bases.{summary, past_of, rest_of};
+ghost use Rattle.conn_log.specs.Behind.{open_behind, left_open, numbers_in, holder_behind};
+ghost use Rattle.conn_log.specs.Behind.{oldest_stamp_behind, oldest_among, since_behind};
 
+use crate::base::Base;
 use crate::entry::{Entry, Event};
 use crate::log::Log;
 use crate::stamp::Stamp;
 
 /// How many connections are open: opened and not closed.
 pub fn open_count(log: &Log) -> usize
-    ensures { result ≡ length (open_connections log.now.entries) }
+    ensures behind { let base = summary (past_of log.now) in
+        result ≡ length (open_behind base (rest_of log.now)) }
+    ensures whole { (settings : LimitAndFirst) → IsLegal settings log.now.entries →
+        result ≡ length (open_connections log.now.entries) }
 {
-    let entries = log.since(0);
+    let rest = log.rest();
+    let mut count = open_in_base(log.base(), rest);
+    for entry in rest {
+        if stays_open(entry, rest) {
+            count += 1;
+        }
+    }
+    count
+}
+
+// How many of the base's connections the rest does not close.
+fn open_in_base(base: &Base, rest: &[Entry]) -> usize
+    ensures count { result ≡ length (left_open (reverse rest.now) (numbers_in base.now)) }
+    ensures few { result < 2 ^ 63 }
+{
     let mut count = 0;
-    for entry in entries {
-        if stays_open(entry, entries) {
+    for number in base.connections().keys() {
+        if !was_closed(rest, *number) {
             count += 1;
         }
     }
@@ -30,43 +53,90 @@ pub fn open_count(log: &Log) -> usize
 
 /// The stamp of the connection that is idle for the longest, at a host of that index.
 pub fn idle_oldest(log: &Log, host: u32) -> Option<Stamp>
-    ensures { result ≡ oldest_stamp log.now.entries host }
+    ensures behind { let base = summary (past_of log.now) in
+        result ≡ oldest_stamp_behind base (rest_of log.now) host }
+    ensures whole { (settings : LimitAndFirst) → IsLegal settings log.now.entries →
+        result ≡ oldest_stamp log.now.entries host }
 {
-    let entries = log.since(0);
-    let mut oldest: Option<Stamp> = None;
-    for entry in entries {
+    let (base, rest) = (log.base(), log.rest());
+    let mut oldest = oldest_in_base(base, rest, host);
+    for entry in rest {
         if let Event::Opened { connection, .. } = entry.event {
-            if !was_closed(entries, connection) && held_by(entries, connection).is_none() {
-                let stamp = Stamp {
-                    since: last_return(entries, connection),
-                    host,
-                    number: connection,
-                };
-                oldest = Some(match oldest {
-                    Some(earlier) if earlier.is_earlier(&stamp) => earlier,
-                    _ => stamp,
-                });
-            }
+            oldest = oldest_with(oldest, base, rest, connection, host);
         }
     }
     oldest
 }
 
+// The stamp of the one of the base's connections that is idle for the longest after the rest.
+fn oldest_in_base(base: &Base, rest: &[Entry], host: u32) -> Option<Stamp>
+    ensures { result ≡ oldest_among base.now (reverse rest.now) host (numbers_in base.now) }
+{
+    let mut oldest = None;
+    for number in base.connections().keys() {
+        oldest = oldest_with(oldest, base, rest, *number, host);
+    }
+    oldest
+}
+
+// The one idle for the longest of those of which it was found, with one connection more.
+fn oldest_with(
+    oldest: Option<Stamp>,
+    base: &Base,
+    rest: &[Entry],
+    connection: u32,
+    host: u32,
+) -> Option<Stamp>
+    ensures { (numbers : List ℕ) →
+        oldest ≡ oldest_among base.now (reverse rest.now) host numbers →
+        result ≡ oldest_among base.now (reverse rest.now) host (connection ∷ numbers) }
+{
+    if was_closed(rest, connection) || held_by(base, rest, connection).is_some() {
+        return oldest;
+    }
+    let stamp = Stamp {
+        since: last_return(base, rest, connection),
+        host,
+        number: connection,
+    };
+    match oldest {
+        Some(earlier) if earlier.is_earlier(&stamp) => oldest,
+        _ => Some(stamp),
+    }
+}
+
 /// The transfer that holds the connection, if any.
 pub fn holder(log: &Log, connection: u32) -> Option<u64>
-    ensures { result ≡ holder_of log.now.entries connection }
+    ensures behind { let base = summary (past_of log.now) in
+        result ≡ holder_behind base (rest_of log.now) connection }
+    ensures whole { (settings : LimitAndFirst) → IsLegal settings log.now.entries →
+        result ≡ holder_of log.now.entries connection }
 {
-    held_by(log.since(0), connection)
+    held_by(log.base(), log.rest(), connection)
 }
 
 /// How many transfers wait: those that neither started nor left since.
 pub fn waiting_len(log: &Log) -> usize
     ensures { result ≡ length (waiting log.now.entries) }
 {
-    let entries = log.since(0);
+    let rest = log.rest();
+    let mut count = waiting_in_base(log.base(), rest);
+    for (place, entry) in rest.iter().enumerate() {
+        if still_waits(entry, &rest[place + 1..]) {
+            count += 1;
+        }
+    }
+    count
+}
+
+// How many of the base's waits the rest does not end.
+fn waiting_in_base(base: &Base, rest: &[Entry]) -> usize
+    ensures count { result ≡ length (left_waiting rest.now base.now.waiting) }
+    ensures few { result < 2 ^ 63 }
+{
     let mut count = 0;
-    for (place, entry) in entries.iter().enumerate() {
-        if still_waits(entry, &entries[place + 1..]) {
+    for want in base.waiting() {
+        if !ends_wait_of(rest, want.transfer) {
             count += 1;
         }
     }
@@ -100,12 +170,20 @@ fn was_closed(entries: &[Entry], connection: u32) -> bool
     closed
 }
 
-// Who holds the connection after the entries.
-fn held_by(entries: &[Entry], connection: u32) -> Option<u64>
-    ensures { result ≡ holder_of (reverse entries.now) connection }
+// Who holds the connection as far as the base tells.
+fn holder_in(base: &Base, connection: u32) -> Option<u64>
+    ensures { result ≡ holder_behind base.now [] connection }
 {
-    let mut holder = None;
-    for entry in entries {
+    let want = base.connections().get(&connection)?.holder?;
+    Some(want.transfer)
+}
+
+// Who holds the connection after the rest.
+fn held_by(base: &Base, rest: &[Entry], connection: u32) -> Option<u64>
+    ensures { result ≡ holder_behind base.now (reverse rest.now) connection }
+{
+    let mut holder = holder_in(base, connection);
+    for entry in rest {
         match entry.event {
             Event::Opened {
                 connection: number,
@@ -138,11 +216,14 @@ fn held_by(entries: &[Entry], connection: u32) -> Option<u64>
 }
 
 // The moment in which the connection last came back, and 0 where it never did.
-fn last_return(entries: &[Entry], connection: u32) -> u64
-    ensures { result ≡ since_of (reverse entries.now) connection }
+fn last_return(base: &Base, rest: &[Entry], connection: u32) -> u64
+    ensures { result ≡ since_behind base.now (reverse rest.now) connection }
 {
-    let mut since = 0;
-    for entry in entries {
+    let mut since = match base.connections().get(&connection) {
+        Some(known) => known.since,
+        None => 0,
+    };
+    for entry in rest {
         if let Event::Returned {
             connection: number,
             ..

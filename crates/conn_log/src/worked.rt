@@ -6,9 +6,10 @@ ghost use Rattle.conn_log.specs.Worked.{IdleLongerThanTheAge, AsOldAsTheLifetime
 ghost use Rattle.conn_log.specs.Worked.{OlderThanTheLifetime, AnotherLaneAtTheHostLimit};
 ghost use Rattle.conn_log.specs.Worked.{ForbiddenAndCut, MomentGoesBack, WaitThenClaim};
 ghost use Rattle.conn_log.specs.Worked.{WithdrawAGrant, MomentsClampedPerHost, LimitRaised};
-ghost use Rattle.conn_log.specs.Worked.{LimitLowered};
+ghost use Rattle.conn_log.specs.Worked.{LimitLowered, CutLogs};
 
-/// What small logs say, by computation: each clause is named for the script of its log.
+/// What small logs say, by computation: each clause but the last is named for the script of its
+/// log.
 pub fn worked_logs()
     ensures busy_and_no_such_site { BusyAndNoSuchSite }
     ensures reuse_then_drop { ReuseThenDrop }
@@ -26,4 +27,5 @@ pub fn worked_logs()
     ensures moments_clamped_per_host { MomentsClampedPerHost }
     ensures limit_raised { LimitRaised }
     ensures limit_lowered { LimitLowered }
+    ensures cut_logs { CutLogs }
 {}

@@ -1,11 +1,10 @@
-use Rattle.std.proofs.Common.{◌≡◌, ◌≤◌, not, filter, length, reverse, take, drop}
-use Rattle.conn_log.specs.declared.entry.Want.{Want}
-use Rattle.conn_log.specs.Waiting.{waiting}
-use Rattle.conn_log.specs.Scan.{is_wait_ended}
+use Rattle.std.proofs.Common.{◌≡◌, ◌+◌, ◌<◌, ◌^◌, length}
+use Rattle.conn_log.specs.Bases.{summary, past_of}
+use Rattle.conn_log.proofs.Waits.{left_at}
 use Rattle.conn_log.proofs.readers.waiting_len.Given as goal
 
 abbrev pub invariant-loop-place : goal.invariant-loop-place
 invariant-loop-place l = record {
-  counted : l.count ≡ length (filter (λ (want : Want). not (is_wait_ended (drop l.place l.entries) want.transfer)) (waiting (reverse (take l.place l.entries))));
-  bounded : l.count ≤ l.place;
+  counted : l.count ≡ length (left_at (summary (past_of l.fn.log)).waiting l.rest l.place);
+  bounded : l.count < 2 ^ 63 + l.place;
 }

@@ -1,6 +1,6 @@
 use Rattle.std.proofs.Common.{◌≡◌, ◌≤◌, reverse, take}
 use Rattle.conn_log.specs.Counts.{counts}
-use Rattle.conn_log.proofs.log.Log.counts.Given as goal
+use Rattle.conn_log.proofs.counts.Counts.of.Given as goal
 
 abbrev pub invariant-loop-entry : goal.invariant-loop-entry
 invariant-loop-entry l = record {
