@@ -48,6 +48,7 @@ fn a_log_counts_what_happened(rt: HostRuntime) -> Result<(), Fail> {
         let (entries, expected) = *row;
         let log = log_of(&rt, rt.alloc(), entries)?;
         assert_eq!(rt; log.counts(), expected, "{entries:?}");
+        assert_eq!(rt; Counts::of(entries), expected, "{entries:?}");
     }
     Ok(())
 }

@@ -5,7 +5,7 @@ use std::alloc::Global;
 use std::process::Abort;
 
 /// What transfers want in the scripts, where nothing else is said.
-fn get(transfer: u64) -> Want {
+pub(crate) fn get(transfer: u64) -> Want {
     Want {
         transfer,
         lane: 0,
@@ -17,7 +17,7 @@ fn get(transfer: u64) -> Want {
 }
 
 /// The facts of a response that lets its connection persist.
-const KEEP: Facts = Facts {
+pub(crate) const KEEP: Facts = Facts {
     version: Version::V11,
     close: false,
     keep_alive: false,
@@ -75,6 +75,13 @@ pub(crate) fn left(transfer: u64, moment: u64) -> Entry {
     Entry {
         moment,
         event: Event::Left { transfer },
+    }
+}
+
+pub(crate) fn limited(limit: u32, moment: u64) -> Entry {
+    Entry {
+        moment,
+        event: Event::Limit { limit },
     }
 }
 

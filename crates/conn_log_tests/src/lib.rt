@@ -4,6 +4,8 @@
 #[cfg(test)]
 mod counts;
 #[cfg(test)]
+mod cuts;
+#[cfg(test)]
 mod entries;
 #[cfg(test)]
 mod log;

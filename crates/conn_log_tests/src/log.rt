@@ -45,7 +45,7 @@ fn want_of_memory_leaves_the_log(rt: HostRuntime) {
     let room = log.room();
     match log.reserve(100) {
         Ok(()) => assert!(rt; log.room() >= 100),
-        Err(LogFault::Memory) => assert_eq!(rt; log.room(), room),
+        Err(fault) => assert_eq!(rt; (fault, log.room()), (LogFault::Memory, room)),
     }
     assert_eq!(rt; log.since(0), [opened(1, 1, 7)].as_slice());
 }
@@ -55,6 +55,10 @@ fn faults_are_printed(rt: HostRuntime) -> Result<(), Fail> {
     assert_eq!(rt;
         LogFault::Memory.to_string(rt.alloc())?.as_str(),
         "out of memory"
+    );
+    assert_eq!(rt;
+        LogFault::Exhausted.to_string(rt.alloc())?.as_str(),
+        "log exhausted"
     );
     Ok(())
 }
