@@ -68,22 +68,22 @@ module _ {S : Type 0} (settings : LimitAndFirst) (log after : List Entry) (grant
   stream_got orderly streams (Again booking) out told = tt
 
   -- who has a lease and who a ticket
-  module _ (settings' : LimitAndFirst) (host host' : ℕ) (streams streams' : List (ℕ × S)) (booked booked' : List ℕ) (tables tables' : Tables) where
+  module _ (settings' : LimitAndFirst) (host host' : ℕ) (streams streams' : List (ℕ × S)) (booked booked' : List ℕ) (tables tables' : Tables) (cut_away cut_away' : ℕ) where
     abbrev before : HostShown S
-    before = record { log = log; settings = settings; host = host; streams = streams; unclaimed = grant_starts grants; booked = booked; tables = tables }
+    before = record { log = log; cut_away = cut_away; settings = settings; host = host; streams = streams; unclaimed = grant_starts grants; booked = booked; tables = tables }
 
     abbrev shown : List (Grant S) → HostShown S
-    shown left = record { log = after; settings = settings'; host = host'; streams = streams'; unclaimed = grant_starts left; booked = booked'; tables = tables' }
+    shown left = record { log = after; cut_away = cut_away'; settings = settings'; host = host'; streams = streams'; unclaimed = grant_starts left; booked = booked'; tables = tables' }
 
     lease_there : (got : Got S) → Outcome want log after got → GivesLease got (λ lease. GetsLease before (shown grants) want.transfer lease.start.number)
-    lease_there (Lease lease) out = begun_lease settings log after grants kept want free out.others settings' host host' streams streams' booked booked' tables tables' lease.start.number out.number out.awaited
+    lease_there (Lease lease) out = begun_lease settings log after grants kept want free out.others settings' host host' streams streams' booked booked' tables tables' cut_away cut_away' lease.start.number out.number out.awaited
     lease_there (Wait ticket) out = tt
     lease_there (NoRoom booking) out = tt
     lease_there (Again booking) out = tt
 
     ticket_there : (got : Got S) → Outcome want log after got → GivesTicket got (λ ticket. GetsTicket before (shown grants) want)
     ticket_there (Lease lease) out = tt
-    ticket_there (Wait ticket) out = begun_ticket settings log after grants kept want free out.others settings' host host' streams streams' booked booked' tables tables' out.held out.awaited
+    ticket_there (Wait ticket) out = begun_ticket settings log after grants kept want free out.others settings' host host' streams streams' booked booked' tables tables' cut_away cut_away' out.held out.awaited
     ticket_there (NoRoom booking) out = tt
     ticket_there (Again booking) out = tt
 
@@ -133,9 +133,9 @@ module _ {S : Type 0} (old new : HostState S) (front streams : List (ℕ × S)) 
   halfway_kept (Again booking) keeps = λ d still. kept_at d (keeps d still)
 
 -- the answer and the log of it, in the words of the host before the call
-pub acquires : {S : Type 0} (is_last : Bool) (answer : Try) (settings : LimitAndFirst) (log : List Entry) (host : ℕ) (streams : List (ℕ × S)) (grants : List (Grant S)) (booked : List ℕ) (tables : Tables) (old new : HostShown S) (want : Want) (now m : ℕ) (got : Got S) → (let inside : HostShown S = record { log = log; settings = settings; host = host; streams = streams; unclaimed = grant_starts grants; booked = booked; tables = tables } in inside ≡ old) → m ≡ moment_at log now → (let due = start_behind (waiting log) is_last answer settings want m log in new.log ≡ due.log → IsGot host want due.reply got → Acquires is_last answer old new want now got)
-acquires {S} is_last answer settings log host streams grants booked tables old new want now m got view moment_is log_is is =
-    let inside : HostShown S = record { log = log; settings = settings; host = host; streams = streams; unclaimed = grant_starts grants; booked = booked; tables = tables } in
+pub acquires : {S : Type 0} (is_last : Bool) (answer : Try) (settings : LimitAndFirst) (log : List Entry) (host : ℕ) (streams : List (ℕ × S)) (grants : List (Grant S)) (booked : List ℕ) (tables : Tables) (cut_away : ℕ) (old new : HostShown S) (want : Want) (now m : ℕ) (got : Got S) → (let inside : HostShown S = record { log = log; cut_away = cut_away; settings = settings; host = host; streams = streams; unclaimed = grant_starts grants; booked = booked; tables = tables } in inside ≡ old) → m ≡ moment_at log now → (let due = start_behind (waiting log) is_last answer settings want m log in new.log ≡ due.log → IsGot host want due.reply got → Acquires is_last answer old new want now got)
+acquires {S} is_last answer settings log host streams grants booked tables cut_away old new want now m got view moment_is log_is is =
+    let inside : HostShown S = record { log = log; cut_away = cut_away; settings = settings; host = host; streams = streams; unclaimed = grant_starts grants; booked = booked; tables = tables } in
     subst (λ (v : HostShown S). Acquires is_last answer v new want now got) view (record {
       log = log_is ∙ ap (λ k. (start_behind (waiting log) is_last answer settings want k log).log) moment_is;
       got_is = subst (λ (k : ℕ). IsGot host want (start_behind (waiting log) is_last answer settings want k log).reply got) moment_is is;

@@ -100,12 +100,12 @@ module _ {S : Type 0} where
       | inr other ↦ ticketed_same log after (grant_transfers grants) (grant_transfers grants) u (others u other.0) refl ∙ sym (ap (λ b. if b then None else ticketed log (grant_transfers grants) u) other.0)
     ]
 
-    module _ (settings' : LimitAndFirst) (host host' : ℕ) (streams streams' : List (ℕ × S)) (booked booked' : List ℕ) (tables tables' : Tables) where
+    module _ (settings' : LimitAndFirst) (host host' : ℕ) (streams streams' : List (ℕ × S)) (booked booked' : List ℕ) (tables tables' : Tables) (cut_away cut_away' : ℕ) where
       abbrev host_before : HostShown S
-      host_before = record { log = log; settings = settings; host = host; streams = streams; unclaimed = grant_starts grants; booked = booked; tables = tables }
+      host_before = record { log = log; cut_away = cut_away; settings = settings; host = host; streams = streams; unclaimed = grant_starts grants; booked = booked; tables = tables }
 
       abbrev host_after : HostShown S
-      host_after = record { log = after; settings = settings'; host = host'; streams = streams'; unclaimed = grant_starts grants; booked = booked'; tables = tables' }
+      host_after = record { log = after; cut_away = cut_away'; settings = settings'; host = host'; streams = streams'; unclaimed = grant_starts grants; booked = booked'; tables = tables' }
 
       -- it holds that connection now, and waits not
       pub begun_lease : (c : ℕ) → held_number after want.transfer ≡ Some c → waiting_want (waiting after) want.transfer ≡ None → GetsLease host_before host_after want.transfer c
@@ -184,8 +184,8 @@ module _ {S : Type 0} where
       by_grant (Some grant) here = never grant.want (sym (ticket_granted log grants kept t grant.want (ap (option_map (λ (g : Grant S). g.want)) here)) ∙ none)
 
   -- who has what once a transfer has spent what it had
-  pub freed_spends : (t : ℕ) (log : List Entry) (grants : List (Grant S)) (after : List Entry) (left : List (Grant S)) (settings settings' : LimitAndFirst) (host host' : ℕ) (streams streams' : List (ℕ × S)) (booked booked' : List ℕ) (tables tables' : Tables) → Freed t log grants after left → Spends (record { log = log; settings = settings; host = host; streams = streams; unclaimed = grant_starts grants; booked = booked; tables = tables }) (record { log = after; settings = settings'; host = host'; streams = streams'; unclaimed = grant_starts left; booked = booked'; tables = tables' }) t
-  freed_spends t log grants after left settings settings' host host' streams streams' booked booked' tables tables' freed =
+  pub freed_spends : (t : ℕ) (log : List Entry) (grants : List (Grant S)) (after : List Entry) (left : List (Grant S)) (settings settings' : LimitAndFirst) (host host' : ℕ) (streams streams' : List (ℕ × S)) (booked booked' : List ℕ) (tables tables' : Tables) (cut_away cut_away' : ℕ) → Freed t log grants after left → Spends (record { log = log; cut_away = cut_away; settings = settings; host = host; streams = streams; unclaimed = grant_starts grants; booked = booked; tables = tables }) (record { log = after; cut_away = cut_away'; settings = settings'; host = host'; streams = streams'; unclaimed = grant_starts left; booked = booked'; tables = tables' }) t
+  freed_spends t log grants after left settings settings' host host' streams streams' booked booked' tables tables' cut_away cut_away' freed =
       let itself : (t == t) ≡ true = grind (arith, nat_tests) in
       record {
         leases = freed.leases;
@@ -256,8 +256,8 @@ module _ {S : Type 0} where
     others_stay : (u : ℕ) → (t == u) ≡ false → is_among u (grant_transfers (without_grant t grants)) ≡ is_among u (grant_transfers grants)
     others_stay u other = among_without log grants t u kept ∙ ap (λ b. not b && is_among u (grant_transfers grants)) other
 
-    pub claimed_lease : (settings' : LimitAndFirst) (host host' : ℕ) (streams streams' : List (ℕ × S)) (booked booked' : List ℕ) (tables tables' : Tables) → GetsLease (record { log = log; settings = settings; host = host; streams = streams; unclaimed = grant_starts grants; booked = booked; tables = tables }) (record { log = log; settings = settings'; host = host'; streams = streams'; unclaimed = grant_starts (without_grant t grants); booked = booked'; tables = tables' }) t grant.number
-    claimed_lease settings' host host' streams streams' booked booked' tables tables' = record {
+    pub claimed_lease : (settings' : LimitAndFirst) (host host' : ℕ) (streams streams' : List (ℕ × S)) (booked booked' : List ℕ) (tables tables' : Tables) (cut_away cut_away' : ℕ) → GetsLease (record { log = log; cut_away = cut_away; settings = settings; host = host; streams = streams; unclaimed = grant_starts grants; booked = booked; tables = tables }) (record { log = log; cut_away = cut_away'; settings = settings'; host = host'; streams = streams'; unclaimed = grant_starts (without_grant t grants); booked = booked'; tables = tables' }) t grant.number
+    claimed_lease settings' host host' streams streams' booked booked' tables tables' cut_away cut_away' = record {
       leases = λ u. elim (eqb_tells t u) [
         | inl same ↦
             let out_u : is_among u (grant_transfers (without_grant t grants)) ≡ false = subst (λ (n : ℕ). is_among n (grant_transfers (without_grant t grants)) ≡ false) same.1 (not_without log grants t kept) in
@@ -274,11 +274,11 @@ module _ {S : Type 0} where
       ];
     }
 
-    pub claimed_left : (left : List (Grant S)) → left ≡ without_grant t grants → (settings' : LimitAndFirst) (host host' : ℕ) (streams streams' : List (ℕ × S)) (booked booked' : List ℕ) (tables tables' : Tables) → GetsLease (record { log = log; settings = settings; host = host; streams = streams; unclaimed = grant_starts grants; booked = booked; tables = tables }) (record { log = log; settings = settings'; host = host'; streams = streams'; unclaimed = grant_starts left; booked = booked'; tables = tables' }) t grant.number
-    claimed_left left e_left settings' host host' streams streams' booked booked' tables tables' =
-        let old : HostShown S = record { log = log; settings = settings; host = host; streams = streams; unclaimed = grant_starts grants; booked = booked; tables = tables } in
-        let new : List (Grant S) → HostShown S = λ gs. record { log = log; settings = settings'; host = host'; streams = streams'; unclaimed = grant_starts gs; booked = booked'; tables = tables' } in
-        subst (λ gs. GetsLease old (new gs) t grant.number) (sym e_left) (claimed_lease settings' host host' streams streams' booked booked' tables tables')
+    pub claimed_left : (left : List (Grant S)) → left ≡ without_grant t grants → (settings' : LimitAndFirst) (host host' : ℕ) (streams streams' : List (ℕ × S)) (booked booked' : List ℕ) (tables tables' : Tables) (cut_away cut_away' : ℕ) → GetsLease (record { log = log; cut_away = cut_away; settings = settings; host = host; streams = streams; unclaimed = grant_starts grants; booked = booked; tables = tables }) (record { log = log; cut_away = cut_away'; settings = settings'; host = host'; streams = streams'; unclaimed = grant_starts left; booked = booked'; tables = tables' }) t grant.number
+    claimed_left left e_left settings' host host' streams streams' booked booked' tables tables' cut_away cut_away' =
+        let old : HostShown S = record { log = log; cut_away = cut_away; settings = settings; host = host; streams = streams; unclaimed = grant_starts grants; booked = booked; tables = tables } in
+        let new : List (Grant S) → HostShown S = λ gs. record { log = log; cut_away = cut_away'; settings = settings'; host = host'; streams = streams'; unclaimed = grant_starts gs; booked = booked'; tables = tables' } in
+        subst (λ gs. GetsLease old (new gs) t grant.number) (sym e_left) (claimed_lease settings' host host' streams streams' booked booked' tables tables' cut_away cut_away')
 
     -- with the stream that came back under its number
     pub claimed_stream : (xs : List (ℕ × S)) → grant.stream ≡ (if is_some grant.stream then stream_of (grant_streams grants ++ xs) grant.number else None)

@@ -22,3 +22,4 @@ pub mod LimitLogs
 pub mod ComingBack
 pub mod Asking
 pub mod RepliesInKind
+pub mod Parts

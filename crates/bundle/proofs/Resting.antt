@@ -112,7 +112,7 @@ full_told (Some Contended) there not_got not_missed = absurd (not_missed refl)
 
 -- a host, from its state, what it granted, and who is halfway
 abbrev pub shown : {S : Type 0} → HostState S → List (Grant S) → List ℕ → Tables → HostShown S
-shown state grants booked tables = record { log = state.log; settings = state.settings; host = state.host; streams = grant_streams grants ++ state.streams; unclaimed = grant_starts grants; booked = booked; tables = tables }
+shown state grants booked tables = record { log = state.log; cut_away = state.cut_away; settings = state.settings; host = state.host; streams = grant_streams grants ++ state.streams; unclaimed = grant_starts grants; booked = booked; tables = tables }
 
 -- a lease that was taken apart, and has its stream and its seat again, is as it was
 pub same_lease : {S : Type 0} (lease after : Leasing S) (used between : Using S) (tables now : Tables) (stream back : S) → lease ≡ lease_at tables used → used.stream ≡ Some stream → (let taken : Using S = record { site = used.site; start = used.start; stream = None } in between ≡ taken) → (let given : Using S = record { site = between.site; start = between.start; stream = Some back } in after ≡ lease_at now given) → now ≡ tables → back ≡ stream → after ≡ lease

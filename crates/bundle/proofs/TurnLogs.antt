@@ -187,5 +187,5 @@ pub grows_at : (log outer after : List Entry) → log ≡ outer → GrowsBy log 
 grows_at log outer after same grew = subst (λ l. GrowsBy l after) same grew
 
 -- who has a lease or a ticket is who had it
-pub grants_keep : {S : Type 0} (log : List Entry) (grants : List (Grant S)) (after : List Entry) (granted : List (Grant S)) (settings settings' : LimitAndFirst) (host host' : ℕ) (streams streams' : List (ℕ × S)) (booked booked' : List ℕ) (tables tables' : Tables) → Grants log grants after granted → KeepsAll (record { log = log; settings = settings; host = host; streams = streams; unclaimed = grant_starts grants; booked = booked; tables = tables }) (record { log = after; settings = settings'; host = host'; streams = streams'; unclaimed = grant_starts granted; booked = booked'; tables = tables' })
-grants_keep log grants after granted settings settings' host host' streams streams' booked booked' tables tables' same = record { leases = same.leases; tickets = same.tickets }
+pub grants_keep : {S : Type 0} (log : List Entry) (grants : List (Grant S)) (after : List Entry) (granted : List (Grant S)) (settings settings' : LimitAndFirst) (host host' : ℕ) (streams streams' : List (ℕ × S)) (booked booked' : List ℕ) (tables tables' : Tables) (cut_away cut_away' : ℕ) → Grants log grants after granted → KeepsAll (record { log = log; cut_away = cut_away; settings = settings; host = host; streams = streams; unclaimed = grant_starts grants; booked = booked; tables = tables }) (record { log = after; cut_away = cut_away'; settings = settings'; host = host'; streams = streams'; unclaimed = grant_starts granted; booked = booked'; tables = tables' })
+grants_keep log grants after granted settings settings' host host' streams streams' booked booked' tables tables' cut_away cut_away' same = record { leases = same.leases; tickets = same.tickets }

@@ -1,5 +1,5 @@
 -- A lease, a ticket, and what a host shows to those who use its bundle.
-use Rattle.std.specs.Prelude.{◌≡◌, ℕ, ◌-◌, Bool, true, false, ◌==◌, ◌&&◌, ◌||◌, if◌then◌else◌, List, [], ◌∷◌, map, Option, Some, None, is_some}
+use Rattle.std.specs.Prelude.{◌≡◌, ℕ, ◌-◌, Bool, true, false, ◌==◌, ◌&&◌, ◌||◌, if◌then◌else◌, List, [], ◌∷◌, length, map, drop, Option, Some, None, is_some}
 use Rattle.std.specs.List.{list_any}
 use Rattle.std.specs.Option.{option_map_or}
 use Rattle.std.specs.Bool.{beq}
@@ -7,7 +7,7 @@ use Rattle.bundle.specs.Seats.{Tables}
 use Rattle.conn_log.specs.declared.entry.Want.{Want}
 use Rattle.conn_log.specs.declared.entry.Entry.{Entry}
 use Rattle.conn_log.specs.Connections.{is_among, is_open, is_idle, is_held_by, held_number}
-use Rattle.conn_log.specs.Waiting.{waiting, waits}
+use Rattle.conn_log.specs.Waiting.{waiting}
 use Rattle.conn_log.specs.Legal.{LimitAndFirst}
 use Rattle.host_state.specs.Queue.{waiting_want}
 use Rattle.host_rules.specs.Calls.{Start, Wait, last_start}
@@ -50,17 +50,22 @@ pub record Booked : Type 0 where
   pub site : ℕ
   pub want : Want
 
--- a host: its log, its first limit and first number, its index, the streams by number (of its idle
--- connections, and of those granted ones that came back and are not claimed), the starts that it granted and
--- that are not claimed, the transfers whose acquire is halfway, and its tables
+-- a host: its log, how many of the log's entries were cut away, its first limit and first number, its index, the
+-- streams by number (of its idle connections, and of those granted ones that came back and are not claimed), the
+-- starts that it granted and that are not claimed, the transfers whose acquire is halfway, and its tables
 pub record HostShown (S : Type 0) : Type 0 where
   pub log : List Entry
+  pub cut_away : ℕ
   pub settings : LimitAndFirst
   pub host : ℕ
   pub streams : List (ℕ × S)
   pub unclaimed : List Start
   pub booked : List ℕ
   pub tables : Tables
+
+-- those of its log's entries that were cut away
+abbrev pub cut_entries : {S : Type 0} → HostShown S → List Entry
+cut_entries host = drop (length host.log - host.cut_away) host.log
 
 -- who starts
 abbrev pub starters : List Start → List ℕ
@@ -109,7 +114,7 @@ is_valid_ticket host want = option_map_or (is_same_want want) (ticket_want host 
 
 -- a host without connections
 abbrev pub IsNewHost : {S : Type 0} → ℕ → ℕ → ℕ → HostShown S → Type 0
-IsNewHost limit index first bundle = bundle ≡ record { log = []; settings = record { limit = limit; first = first }; host = index; streams = []; unclaimed = []; booked = []; tables = bundle.tables }
+IsNewHost limit index first bundle = bundle ≡ record { log = []; cut_away = 0; settings = record { limit = limit; first = first }; host = index; streams = []; unclaimed = []; booked = []; tables = bundle.tables }
 
 -- the transfer holds the lease's connection, as the log shows
 abbrev pub is_held_lease : {S : Type 0} → HostShown S → Leasing S → Bool
@@ -160,8 +165,9 @@ pub record KeepsAll {S : Type 0} (old new : HostShown S) : Type 0 where
 abbrev pub IsBookedHere : {S : Type 0} → HostShown S → Booked → Type 0
 IsBookedHere host booking = (booking.site ≡ host.host) × (is_among booking.want.transfer host.booked ≡ true)
 
--- the host stays what it is
+-- the host stays what it is, and nothing is cut away from its log
 pub record StaysThere {S : Type 0} (old new : HostShown S) : Type 0 where
   pub settings : new.settings ≡ old.settings
   pub host : new.host ≡ old.host
   pub tables : new.tables ≡ old.tables
+  pub cut_away : new.cut_away ≡ old.cut_away

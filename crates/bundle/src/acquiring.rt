@@ -349,7 +349,7 @@ fn lease_at_once<S: Drop, P: Permits>(
     };
     permits.release_kept();
     // One more can be counted.
-    let (_open, _entries) = (state.open_len(), state.log().len());
+    let (_open, _entries) = (state.open_len(), state.log().total_len());
     let seat = seats.lease(number, want.transfer);
     let used = Use::reusing(state.host(), number, want, moment, stream);
     Some(Lease::new(used, seat))

@@ -49,6 +49,7 @@ impl<S: Drop> Model for Bundle<S> {
 
     ghost view = { λ bundle. record {
       log = bundle.state.log;
+      cut_away = bundle.state.cut_away;
       settings = bundle.state.settings;
       host = bundle.state.host;
       streams = grant_streams bundle.grants.items ++ bundle.state.streams;
@@ -106,6 +107,7 @@ impl<S: Drop> Bundle<S> {
     /// that the starts that are over are their difference.
     pub fn log(&self) -> &Log
         ensures entries { result.now.entries ≡ self.now.log }
+        ensures cut_away { result.now.cut_away ≡ self.now.cut_away }
         ensures sound { IsSound self.now.settings self.now.log }
         ensures legal { IsLegal self.now.settings self.now.log }
         ensures quiet { let queued = is_queued self.now.settings self.now.log in

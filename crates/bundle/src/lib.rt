@@ -4,6 +4,7 @@
 mod acquiring;
 mod answers;
 mod booking;
+mod cutting;
 mod did;
 mod grant;
 mod host;

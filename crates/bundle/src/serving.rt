@@ -123,7 +123,7 @@ pub(crate) fn start_or_wait<S: Drop, P: Permits>(
     let _open = state.open_len();
     if let Some((number, stream)) = state.lease_newest_fit(&want, moment) {
         permits.release_kept();
-        let _entries = state.log().len();
+        let _entries = state.log().total_len();
         let seat = seats.lease(number, want.transfer);
         let used = Use::reusing(state.host(), number, want, moment, stream);
         return Got::Lease(Lease::new(used, seat));
@@ -179,7 +179,7 @@ fn start_as_told<S: Drop, P: Permits>(
             // One more can be counted.
             let _open = state.open_len();
             let number = state.open(&want, moment);
-            let _entries = state.log().len();
+            let _entries = state.log().total_len();
             let seat = seats.lease(number, want.transfer);
             let used = Use::opened(state.host(), number, want, moment);
             Got::Lease(Lease::new(used, seat))
@@ -242,7 +242,7 @@ fn start_in_place<S: Drop, P: Permits>(
     // One more can be counted.
     let _open = state.open_len();
     let number = state.open(&want, moment);
-    let _entries = state.log().len();
+    let _entries = state.log().total_len();
     let seat = seats.lease(number, want.transfer);
     let used = Use::opened(state.host(), number, want, moment);
     Got::Lease(Lease::new(used, seat))
@@ -309,7 +309,7 @@ pub(crate) fn open_for_head<S: Drop>(
     let _log = state.log();
     let _open = state.open_len();
     let number = state.open(&head, moment);
-    let _entries = state.log().len();
+    let _entries = state.log().total_len();
     seats.grant(number, head.transfer);
     grants.push_reserved(Grant {
         want: head,
@@ -455,7 +455,7 @@ fn grant_or_replace<S: Drop>(
     let _log = state.log();
     if let Some((number, stream)) = state.lease_newest_fit(&head, moment) {
         // One more can be counted.
-        let (_open, _entries) = (state.open_len(), state.log().len());
+        let (_open, _entries) = (state.open_len(), state.log().total_len());
         seats.grant(number, head.transfer);
         grants.push_reserved(Grant {
             want: head,

@@ -30,7 +30,7 @@ closes_then moment old middle new first then = record {
   waiting = then.waiting ∙ first.waiting;
   later = then.later;
   booked = then.booked ∙ first.booked;
-  same = record { settings = then.same.settings ∙ first.same.settings; host = then.same.host ∙ first.same.host };
+  same = record { settings = then.same.settings ∙ first.same.settings; host = then.same.host ∙ first.same.host; cut_away = then.same.cut_away ∙ first.same.cut_away };
 }
 
 -- the first of a list is closed before so many of the others
@@ -44,15 +44,15 @@ drop_of_each (suc n) [] = refl
 drop_of_each n (y ∷ idle) = refl
 
 -- so many were closed
-pub record HasClosed {S : Type 0} (settings : LimitAndFirst) (log : List Entry) (greatest_used : ℕ) (idle : List (Idle S)) (held : ℕ → Option Held) (held_len moment n host booked : ℕ) (has_limit_room : Bool) (after : List Entry) (left : List (Idle S)) : Type 0 where
+pub record HasClosed {S : Type 0} (settings : LimitAndFirst) (log : List Entry) (greatest_used : ℕ) (idle : List (Idle S)) (held : ℕ → Option Held) (held_len moment n host booked cut_away : ℕ) (has_limit_room : Bool) (after : List Entry) (left : List (Idle S)) : Type 0 where
   pub replays : Replays settings after greatest_used left held held_len
-  pub closes : ClosesIdle moment (record { log = log; settings = settings; host = host; streams = streams_of idle; booked = booked; has_limit_room = has_limit_room }) (record { log = after; settings = settings; host = host; streams = streams_of left; booked = booked; has_limit_room = has_limit_room })
+  pub closes : ClosesIdle moment (record { log = log; cut_away = cut_away; settings = settings; host = host; streams = streams_of idle; booked = booked; has_limit_room = has_limit_room }) (record { log = after; cut_away = cut_away; settings = settings; host = host; streams = streams_of left; booked = booked; has_limit_room = has_limit_room })
   pub fewer_open : length (open_connections log) ≡ length (open_connections after) + n
   pub fewer_idle : length (idle_connections log) ≡ length (idle_connections after) + n
   pub limit : limit_in_force settings after ≡ limit_in_force settings log
 
-pub has_closed : {S : Type 0} (settings : LimitAndFirst) (log : List Entry) (greatest_used : ℕ) (idle : List (Idle S)) (held : ℕ → Option Held) (held_len : ℕ) → Replays settings log greatest_used idle held held_len → (moment n host booked : ℕ) (has_limit_room : Bool) → last_moment log ≤ moment → n ≤ length idle → HasClosed settings log greatest_used idle held held_len moment n host booked has_limit_room (close_each HostRoom moment (take n (numbers idle)) log) (drop n idle)
-has_closed settings log greatest_used idle held held_len r moment zero host booked has_limit_room later within = record {
+pub has_closed : {S : Type 0} (settings : LimitAndFirst) (log : List Entry) (greatest_used : ℕ) (idle : List (Idle S)) (held : ℕ → Option Held) (held_len : ℕ) → Replays settings log greatest_used idle held held_len → (moment n host booked cut_away : ℕ) (has_limit_room : Bool) → last_moment log ≤ moment → n ≤ length idle → HasClosed settings log greatest_used idle held held_len moment n host booked cut_away has_limit_room (close_each HostRoom moment (take n (numbers idle)) log) (drop n idle)
+has_closed settings log greatest_used idle held held_len r moment zero host booked cut_away has_limit_room later within = record {
   replays = r;
   closes = record {
     opened = refl;
@@ -63,18 +63,18 @@ has_closed settings log greatest_used idle held held_len r moment zero host book
     waiting = refl;
     later = later;
     booked = refl;
-    same = record { settings = refl; host = refl };
+    same = record { settings = refl; host = refl; cut_away = refl };
   };
   fewer_open = omega arith;
   fewer_idle = omega arith;
   limit = refl;
 }
-has_closed settings log greatest_used [] held held_len r moment (suc n) host booked has_limit_room later within = absurd (omega (arith, within))
-has_closed {S} settings log greatest_used (x ∷ idle) held held_len r moment (suc n) host booked has_limit_room later within =
+has_closed settings log greatest_used [] held held_len r moment (suc n) host booked cut_away has_limit_room later within = absurd (omega (arith, within))
+has_closed {S} settings log greatest_used (x ∷ idle) held held_len r moment (suc n) host booked cut_away has_limit_room later within =
     let some : 0 < length (x ∷ idle) = omega arith in
     let closed = replays_close settings log greatest_used (x ∷ idle) held held_len r moment later HostRoom 0 x some refl refl in
-    let rest = has_closed settings (add moment (Closed x.number HostRoom) log) greatest_used idle held held_len closed moment n host booked has_limit_room (omega arith) (omega (arith, within)) in
-    let first = closes_one settings log greatest_used (x ∷ idle) held held_len r moment HostRoom 0 x host booked has_limit_room some refl in
+    let rest = has_closed settings (add moment (Closed x.number HostRoom) log) greatest_used idle held held_len closed moment n host booked cut_away has_limit_room (omega arith) (omega (arith, within)) in
+    let first = closes_one settings log greatest_used (x ∷ idle) held held_len r moment HostRoom 0 x host booked cut_away has_limit_room some refl in
     record {
       replays = rest.replays;
       closes = closes_then moment _ _ _ first rest.closes;
@@ -84,9 +84,9 @@ has_closed {S} settings log greatest_used (x ∷ idle) held held_len r moment (s
     }
 
 -- and then the limit changed
-pub sets_limit : {S : Type 0} (settings : LimitAndFirst) (log : List Entry) (greatest_used : ℕ) (idle : List (Idle S)) (held : ℕ → Option Held) (held_len : ℕ) → Replays settings log greatest_used idle held held_len → (moment n host booked : ℕ) (had has : Bool) → last_moment log ≤ moment → n ≤ length idle → (most : ℕ) → n ≡ length (open_connections log) - most → SetsLimit most moment n (record { log = log; settings = settings; host = host; streams = streams_of idle; booked = booked; has_limit_room = had }) (record { log = add moment (Limit most) (close_each HostRoom moment (take n (numbers idle)) log); settings = settings; host = host; streams = streams_of (drop n idle); booked = booked; has_limit_room = has })
-sets_limit settings log greatest_used idle held held_len r moment n host booked had has later within most above =
-    let closed = has_closed settings log greatest_used idle held held_len r moment n host booked had later within in
+pub sets_limit : {S : Type 0} (settings : LimitAndFirst) (log : List Entry) (greatest_used : ℕ) (idle : List (Idle S)) (held : ℕ → Option Held) (held_len : ℕ) → Replays settings log greatest_used idle held held_len → (moment n host booked cut_away : ℕ) (had has : Bool) → last_moment log ≤ moment → n ≤ length idle → (most : ℕ) → n ≡ length (open_connections log) - most → SetsLimit most moment n (record { log = log; cut_away = cut_away; settings = settings; host = host; streams = streams_of idle; booked = booked; has_limit_room = had }) (record { log = add moment (Limit most) (close_each HostRoom moment (take n (numbers idle)) log); cut_away = cut_away; settings = settings; host = host; streams = streams_of (drop n idle); booked = booked; has_limit_room = has })
+sets_limit settings log greatest_used idle held held_len r moment n host booked cut_away had has later within most above =
+    let closed = has_closed settings log greatest_used idle held held_len r moment n host booked cut_away had later within in
     record {
       log = ap (λ ns. add moment (Limit most) (close_each HostRoom moment ns log)) (ap (λ k. take k (numbers idle)) above ∙ ap (take (length (open_connections log) - most)) (numbers_in_order r));
       fewer_open = closed.fewer_open;
@@ -101,11 +101,11 @@ sets_limit settings log greatest_used idle held held_len r moment n host booked 
         waiting = closed.closes.waiting;
         later = omega arith;
         booked = refl;
-        same = record { settings = refl; host = refl };
+        same = record { settings = refl; host = refl; cut_away = refl };
       };
     }
 
 pub replays_set : {S : Type 0} (settings : LimitAndFirst) (log : List Entry) (greatest_used : ℕ) (idle : List (Idle S)) (held : ℕ → Option Held) (held_len : ℕ) → Replays settings log greatest_used idle held held_len → (moment n : ℕ) → last_moment log ≤ moment → n ≤ length idle → (most : ℕ) → length (open_connections log) ≤ most + n → Replays settings (add moment (Limit most) (close_each HostRoom moment (take n (numbers idle)) log)) greatest_used (drop n idle) held held_len
 replays_set settings log greatest_used idle held held_len r moment n later within most above =
-    let closed = has_closed settings log greatest_used idle held held_len r moment n 0 0 true later within in
+    let closed = has_closed settings log greatest_used idle held held_len r moment n 0 0 0 true later within in
     replays_limit settings _ greatest_used (drop n idle) held held_len closed.replays moment closed.closes.later most (omega (arith, closed.fewer_open, above))

@@ -372,8 +372,8 @@ module _ {S : Type 0} (settings : LimitAndFirst) (log : List Entry) (greatest_us
       nobodys (Some v) t e = absurd (cc)
 
   -- and nothing else
-  pub closes_one : (moment : ℕ) (cause : Cause) (place : ℕ) (x : Idle S) (host booked : ℕ) (has_limit_room : Bool) → place < length idle → x ≡ get_or idle place x → ClosesIdle moment (record { log = log; settings = settings; host = host; streams = streams_of idle; booked = booked; has_limit_room = has_limit_room }) (record { log = record { moment = moment; event = Closed x.number cause } ∷ log; settings = settings; host = host; streams = streams_of (remove idle place); booked = booked; has_limit_room = has_limit_room })
-  closes_one moment cause place x host booked has_limit_room within is = record {
+  pub closes_one : (moment : ℕ) (cause : Cause) (place : ℕ) (x : Idle S) (host booked cut_away : ℕ) (has_limit_room : Bool) → place < length idle → x ≡ get_or idle place x → ClosesIdle moment (record { log = log; cut_away = cut_away; settings = settings; host = host; streams = streams_of idle; booked = booked; has_limit_room = has_limit_room }) (record { log = record { moment = moment; event = Closed x.number cause } ∷ log; cut_away = cut_away; settings = settings; host = host; streams = streams_of (remove idle place); booked = booked; has_limit_room = has_limit_room })
+  closes_one moment cause place x host booked cut_away has_limit_room within is = record {
     opened = refl;
     starts = refl;
     still = λ d now. and_right (not (x.number == d)) (is_open log d) (sym (gone d) ∙ now);
@@ -382,7 +382,7 @@ module _ {S : Type 0} (settings : LimitAndFirst) (log : List Entry) (greatest_us
     waiting = refl;
     later = omega arith;
     booked = refl;
-    same = record { settings = refl; host = refl };
+    same = record { settings = refl; host = refl; cut_away = refl };
   }
     where
       gone : (d : ℕ) → is_open (record { moment = moment; event = Closed x.number cause } ∷ log) d ≡ (not (x.number == d) && is_open log d)
@@ -392,15 +392,15 @@ module _ {S : Type 0} (settings : LimitAndFirst) (log : List Entry) (greatest_us
       other d apart = grind (arith, apart)
 
   -- the first that a closing picks was closed
-  pub closes_next : (closing : Closing) (moment place : ℕ) (x : Idle S) (host booked : ℕ) (has_limit_room : Bool) → last_moment log ≤ moment → PicksFirst closing moment (length (open_connections log)) idle place → x ≡ get_or idle place x → ClosesNext closing moment (record { log = log; settings = settings; host = host; streams = streams_of idle; booked = booked; has_limit_room = has_limit_room }) (record { log = record { moment = moment; event = Closed x.number (cause_of closing) } ∷ log; settings = settings; host = host; streams = streams_of (remove idle place); booked = booked; has_limit_room = has_limit_room })
-  closes_next closing moment place x host booked has_limit_room later first is = record {
+  pub closes_next : (closing : Closing) (moment place : ℕ) (x : Idle S) (host booked cut_away : ℕ) (has_limit_room : Bool) → last_moment log ≤ moment → PicksFirst closing moment (length (open_connections log)) idle place → x ≡ get_or idle place x → ClosesNext closing moment (record { log = log; cut_away = cut_away; settings = settings; host = host; streams = streams_of idle; booked = booked; has_limit_room = has_limit_room }) (record { log = record { moment = moment; event = Closed x.number (cause_of closing) } ∷ log; cut_away = cut_away; settings = settings; host = host; streams = streams_of (remove idle place); booked = booked; has_limit_room = has_limit_room })
+  closes_next closing moment place x host booked cut_away has_limit_room later first is = record {
     number = x.number;
     picked = picked_read r closing moment ∙ ap numbers (first.picks x is) ∙ ap (λ ns. x.number ∷ ns) others;
     log = refl;
     fewer_open = fewer_open_at moment (cause_of closing) place x first.in_range is;
     fewer_idle = fewer_idle_at moment (cause_of closing) place x first.in_range is;
     limit = refl;
-    closes = closes_one moment (cause_of closing) place x host booked has_limit_room first.in_range is;
+    closes = closes_one moment (cause_of closing) place x host booked cut_away has_limit_room first.in_range is;
   }
     where
       after : List Entry
@@ -415,8 +415,8 @@ module _ {S : Type 0} (settings : LimitAndFirst) (log : List Entry) (greatest_us
           ∙ sym (picked_read (replays_close moment later (cause_of closing) place x first.in_range is (of_idle closing)) closing moment)
 
   -- the first one was closed
-  pub closes_first : (cause : Cause) (moment : ℕ) (x : Idle S) (host booked : ℕ) (has_limit_room : Bool) → 0 < length idle → x ≡ get_or idle 0 x → ClosesFirst cause moment (record { log = log; settings = settings; host = host; streams = streams_of idle; booked = booked; has_limit_room = has_limit_room }) (record { log = record { moment = moment; event = Closed x.number cause } ∷ log; settings = settings; host = host; streams = streams_of (remove idle 0); booked = booked; has_limit_room = has_limit_room })
-  closes_first cause moment x host booked has_limit_room some is = record {
+  pub closes_first : (cause : Cause) (moment : ℕ) (x : Idle S) (host booked cut_away : ℕ) (has_limit_room : Bool) → 0 < length idle → x ≡ get_or idle 0 x → ClosesFirst cause moment (record { log = log; cut_away = cut_away; settings = settings; host = host; streams = streams_of idle; booked = booked; has_limit_room = has_limit_room }) (record { log = record { moment = moment; event = Closed x.number cause } ∷ log; cut_away = cut_away; settings = settings; host = host; streams = streams_of (remove idle 0); booked = booked; has_limit_room = has_limit_room })
+  closes_first cause moment x host booked cut_away has_limit_room some is = record {
     number = x.number;
     oldest = oldest_first r x some is;
     log = refl;
@@ -425,7 +425,7 @@ module _ {S : Type 0} (settings : LimitAndFirst) (log : List Entry) (greatest_us
     fewer_open = fewer_open_at moment cause 0 x some is;
     fewer_idle = fewer_idle_at moment cause 0 x some is;
     limit = refl;
-    closes = closes_one moment cause 0 x host booked has_limit_room some is;
+    closes = closes_one moment cause 0 x host booked cut_away has_limit_room some is;
   }
 
   -- one more waits, or one that waited leaves

@@ -21,11 +21,12 @@ use Rattle.host_state.specs.declared.closing.Closing.TheVariants.{Above}
 use Rattle.host_state.specs.Steps.{add, is_full, cause_of, picked, without_picked}
 use Rattle.host_state.specs.Idle.{find_number, numbers, facts_of_idle, stream_of, AreInOrder}
 
--- a host as a step sees it: its log, the limit with which it began and its first number, its index, the
--- streams of its idle connections by number, how many acquires are halfway, and whether there is room for the
--- entry of a changed limit
+-- a host as a step sees it: its log, how many of the log's entries were cut away, the limit with which it began
+-- and its first number, its index, the streams of its idle connections by number, how many acquires are halfway,
+-- and whether there is room for the entry of a changed limit
 pub record HostState (S : Type 0) : Type 0 where
   pub log : List Entry
+  pub cut_away : ℕ
   pub settings : LimitAndFirst
   pub host : ℕ
   pub streams : List (ℕ × S)
@@ -68,10 +69,11 @@ abbrev pub booked_after_start : List Want → ℕ → ℕ
 booked_after_start [] booked = booked - 1
 booked_after_start (head ∷ others) booked = booked
 
--- the host stays, with the limit with which it began and its first number
+-- the host stays, with the limit with which it began and its first number, and nothing is cut away from its log
 pub record IsSameHost {S : Type 0} (old new : HostState S) : Type 0 where
   pub settings : new.settings ≡ old.settings
   pub host : new.host ≡ old.host
+  pub cut_away : new.cut_away ≡ old.cut_away
 
 -- the limit in force
 abbrev pub limit_of : {S : Type 0} → HostState S → ℕ
@@ -184,7 +186,7 @@ OpensOnly c old new = (d : ℕ) → (c == d) ≡ false → is_open new d ≡ tru
 
 -- a host without connections
 abbrev pub IsNewState : {S : Type 0} → ℕ → ℕ → ℕ → HostState S → Type 0
-IsNewState limit index first state = state ≡ record { log = []; settings = record { limit = limit; first = first }; host = index; streams = []; booked = 0; has_limit_room = false }
+IsNewState limit index first state = state ≡ record { log = []; cut_away = 0; settings = record { limit = limit; first = first }; host = index; streams = []; booked = 0; has_limit_room = false }
 
 -- what is kept of a held connection once it came back at that moment
 abbrev pub idle_since : {S : Type 0} → Held → ℕ → S → Idle S

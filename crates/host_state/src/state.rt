@@ -1,10 +1,11 @@
 ghost use Rattle.std.specs.Prelude.{◌≡◌, ℕ, ◌+◌, ◌-◌, ◌*◌, ◌<◌, ◌≤◌, [], true, false, ◌&&◌, ◌==◌};
-ghost use Rattle.std.specs.Prelude.{length, Some, None, IfOk, OnOk, OnErr, IfSome, IfNone};
-ghost use Rattle.std.specs.Prelude.{OnSome, is_some, if◌then◌else◌, take, drop};
+ghost use Rattle.std.specs.Prelude.{length, Some, None, IfOk, IfErr, OnOk, OnErr, IfSome, IfNone};
+ghost use Rattle.std.specs.Prelude.{OnSome, is_some, if◌then◌else◌, take, drop, reverse};
 ghost use Rattle.std.specs.VecDeque.{deque_capacity};
 ghost use Rattle.persistence.specs.declared.facts.Facts.{Facts};
 ghost use Rattle.persistence.specs.Persistent.{is_persistent};
 ghost use Rattle.conn_log.specs.declared.entry.Entry.{Entry};
+ghost use Rattle.conn_log.specs.declared.log.LogFault.TheVariants.{Memory, Exhausted};
 ghost use Rattle.conn_log.specs.declared.entry.Event.TheVariants.{Opened, Closed, Waited, Left};
 ghost use Rattle.conn_log.specs.declared.entry.Event.TheVariants.{Returned as CameBack};
 ghost use Rattle.conn_log.specs.Connections.{last_moment, held_number, is_idle};
@@ -14,6 +15,7 @@ ghost use Rattle.conn_log.specs.Fit.{newest_fit, oldest_too_old, oldest_stamp};
 ghost use Rattle.conn_log.specs.Sound.{IsSound, IsNext, is_of_holder, is_of_idle};
 ghost use Rattle.host_state.specs.Steps.{add, next_number, picked};
 ghost use Rattle.host_state.specs.Steps.{is_full, is_exhausted, moment_at, close_each};
+ghost use Rattle.host_state.specs.Steps.{is_too_long_to_cut};
 ghost use Rattle.host_state.specs.Idle.{stream_of, numbers};
 ghost use Rattle.host_state.specs.Queue.{waiting_want};
 ghost use Rattle.host_state.specs.State.{HostState, IsSameHost, ClosesNext, SetsLimit};
@@ -84,6 +86,7 @@ impl<S: Drop> Model for State<S> {
 
     ghost view = { λ state. record {
       log = state.log.entries;
+      cut_away = state.log.cut_away;
       settings = record { limit = state.host_limit; first = state.first };
       host = state.host;
       streams = streams_of state.idle.items;
@@ -140,6 +143,7 @@ impl<S: Drop> State<S> {
     /// The host's log, which is sound.
     pub fn log(&self) -> &Log
         ensures entries { result.now.entries ≡ self.now.log }
+        ensures cut_away { result.now.cut_away ≡ self.now.cut_away }
         ensures sound { IsSound self.now.settings self.now.log }
         ensures room { HasRoomToSpend self.now.booked self.now.log result.now.room }
         ensures streams { (c : ℕ) →
@@ -409,6 +413,23 @@ impl<S: Drop> State<S> {
         true
     }
 
+    /// Cuts the log: hands out the entries since the last cut, oldest first. All else stays, as does
+    /// the room for what is to come.
+    ///
+    /// The fault is [`LogFault::Exhausted`] if more than 9,223,372,036,854,775,807 entries would be
+    /// cut away, else [`LogFault::Memory`]; then nothing has changed.
+    pub fn cut(&mut self) -> Result<Vec<Entry>, LogFault>
+        ensures part { IfOk result (λ part.
+            part.items ≡ drop self.old.cut_away (reverse self.old.log)) }
+        ensures ok { OnOk result (self.new ≡ record self.old { cut_away = length self.old.log }) }
+        ensures not_exhausted { OnOk result (is_too_long_to_cut self.old.log ≡ false) }
+        ensures fault { IfErr result (λ fault.
+            fault ≡ (if is_too_long_to_cut self.old.log then Exhausted else Memory)) }
+        ensures err { OnErr result (self.new ≡ self.old) }
+    {
+        Ok(self.log.cut()?)
+    }
+
     /// Makes room for the entry of a changed limit. Where memory runs out nothing has changed.
     pub fn reserve_for_limit(&mut self) -> Result<(), LogFault>
         ensures ok { OnOk result (self.new ≡ record self.old { has_limit_room = true }) }
@@ -669,6 +690,7 @@ fn close_oldest_of<S: Drop>(idle: &mut VecDeque<Idle<S>>, log: &mut Log, count: 
     ensures capacity { deque_capacity idle.new ≡ deque_capacity idle.old }
     ensures entries { let closed = take count (numbers idle.old.items) in
         log.new.entries ≡ close_each HostRoom moment closed log.old.entries }
+    ensures cut_away { log.new.cut_away ≡ log.old.cut_away }
     ensures room { log.old.room ≤ log.new.room + count }
 {
     let mut left = count;
@@ -706,6 +728,7 @@ fn append_return(log: &mut Log, moment: u64, connection: u32, facts: Facts)
     requires room { 0 < log.old.room }
     requires moment { last_moment log.old.entries ≤ moment }
     ensures entries { log.new.entries ≡ add moment (CameBack connection facts) log.old.entries }
+    ensures cut_away { log.new.cut_away ≡ log.old.cut_away }
     ensures room { log.new.room + 1 ≡ log.old.room }
 {
     let event = Event::Returned { connection, facts };

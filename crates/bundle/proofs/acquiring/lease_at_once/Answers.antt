@@ -48,4 +48,4 @@ lease-seat-requires-clause-few g c =
     let after = c.lease_last.new.self in
     let leased = c.in-Some.ensures.some in
     let begins = begins_lease before after c.in-Some.number c.args.moment c.args.want leased.log leased.as_many_open leased.fewer_idle in
-    start_fits before.log after.log c.args.seats.now c.requires.seated begins.starts c.len-entries.result (c.len-entries.ensures ∙ ap length c.log.ensures.entries) c.len-entries.type_inv
+    start_fits before.log after.log c.args.seats.now c.requires.seated begins.starts c.total_len-entries.result (c.total_len-entries.ensures ∙ ap length c.log.ensures.entries) c.total_len-entries.type_inv

@@ -25,8 +25,8 @@ grant-requires-clause-apart g c =
 pub grant-requires-clause-few : goal.grant-requires-clause-few
 grant-requires-clause-few g c =
     let more = ap start_count c.in-Some-lease_newest_fit.ensures.some.log in
-    let entries = c.len-entries.ensures ∙ ap length c.log.ensures.entries in
-    start_fits c.args.state.now.log c.lease_newest_fit.new.self.log c.args.seats.now c.requires.seated more c.len-entries.result entries c.len-entries.type_inv
+    let entries = c.total_len-entries.ensures ∙ ap length c.log.ensures.entries in
+    start_fits c.args.state.now.log c.lease_newest_fit.new.self.log c.args.seats.now c.requires.seated more c.total_len-entries.result entries c.total_len-entries.type_inv
 
 pub returns-in-Some-lease_newest_fit-clause-starts : goal.returns-in-Some-lease_newest_fit-clause-starts
 returns-in-Some-lease_newest_fit-clause-starts g c = record {

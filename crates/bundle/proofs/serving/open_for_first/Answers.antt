@@ -40,5 +40,5 @@ loop-opened-preserved g c =
       spare = head.spare;
       streams = head.streams ∙ kept.streams;
       booked = head.booked ∙ kept.booked;
-      same = record { settings = same; host = head.same.host ∙ kept.same.host };
+      same = record { settings = same; host = head.same.host ∙ kept.same.host; cut_away = head.same.cut_away ∙ kept.same.cut_away };
     }

@@ -21,8 +21,8 @@ grant-requires-clause-room g c = few_fit c.args.state.now.log c.args.seats.now c
 pub grant-requires-clause-few : goal.grant-requires-clause-few
 grant-requires-clause-few g c =
     let more = ap start_count c.open-number.ensures.log in
-    let entries = c.len-entries.ensures ∙ ap length c.log.ensures.entries in
-    start_fits c.args.state.now.log c.open-number.new.self.log c.args.seats.now c.requires.seated more c.len-entries.result entries c.len-entries.type_inv
+    let entries = c.total_len-entries.ensures ∙ ap length c.log.ensures.entries in
+    start_fits c.args.state.now.log c.open-number.new.self.log c.args.seats.now c.requires.seated more c.total_len-entries.result entries c.total_len-entries.type_inv
 
 pub returns-clause-starts : goal.returns-clause-starts
 returns-clause-starts g c = record {

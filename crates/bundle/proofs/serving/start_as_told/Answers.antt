@@ -25,7 +25,7 @@ lease-seat-requires-clause-few g c =
     let after = c.open-number.new.self in
     let opened = c.open-number.ensures in
     let begins = begins_open before after c.open-number.result c.args.moment c.args.want opened.log opened.more_open opened.as_many_idle in
-    start_fits before.log after.log c.args.seats.now c.requires.seated begins.starts c.len-entries.result (c.len-entries.ensures ∙ ap length c.log.ensures.entries) c.len-entries.type_inv
+    start_fits before.log after.log c.args.seats.now c.requires.seated begins.starts c.total_len-entries.result (c.total_len-entries.ensures ∙ ap length c.log.ensures.entries) c.total_len-entries.type_inv
 
 pub returns-then-is_last-clause-asked : goal.returns-then-is_last-clause-asked
 returns-then-is_last-clause-asked g c = then_none g.P.Permits.asked g.met.P.Permits.asked_on _ _ _ _ _ c.reserve_open.ensures.asked c.start_in_place.ensures.unasked

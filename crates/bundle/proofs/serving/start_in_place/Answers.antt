@@ -39,4 +39,4 @@ lease-seat-requires-clause-few g c =
     let closed = c.close_oldest.ensures in
     let opened = c.open-number.ensures in
     let begins = begins_open between after c.open-number.result c.args.moment c.args.want opened.log opened.more_open opened.as_many_idle in
-    start_fits before.log after.log c.args.seats.now c.requires.seated (omega (arith, begins.starts, closed.closes.starts)) c.len-entries.result (c.len-entries.ensures ∙ ap length c.log.ensures.entries) c.len-entries.type_inv
+    start_fits before.log after.log c.args.seats.now c.requires.seated (omega (arith, begins.starts, closed.closes.starts)) c.total_len-entries.result (c.total_len-entries.ensures ∙ ap length c.log.ensures.entries) c.total_len-entries.type_inv

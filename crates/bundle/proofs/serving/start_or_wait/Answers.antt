@@ -43,7 +43,7 @@ lease-seat-requires-clause-few g c =
     let closed = c.close_idle.ensures in
     let leased = c.in-Some.ensures.some in
     let begins = begins_lease young after c.in-Some.number c.args.moment c.args.want leased.log leased.as_many_open leased.fewer_idle in
-    start_fits before.log after.log c.args.seats.now c.requires.seated (omega (arith, begins.starts, closed.closes.starts)) c.len-entries.result (c.len-entries.ensures ∙ ap length c.log.ensures.entries) c.len-entries.type_inv
+    start_fits before.log after.log c.args.seats.now c.requires.seated (omega (arith, begins.starts, closed.closes.starts)) c.total_len-entries.result (c.total_len-entries.ensures ∙ ap length c.log.ensures.entries) c.total_len-entries.type_inv
 
 pub returns-then-anyone_waits-clause-asked : goal.returns-then-anyone_waits-clause-asked
 returns-then-anyone_waits-clause-asked g c =

@@ -15,6 +15,7 @@ invariant-loop-left g l = record {
   items : drop l.left l.idle.items ≡ drop l.count l.initial.idle.items;
   capacity : deque_capacity l.idle ≡ deque_capacity l.initial.idle;
   entries : close_each HostRoom l.moment (take l.left (numbers l.idle.items)) l.log.entries ≡ close_each HostRoom l.moment (take l.count (numbers l.initial.idle.items)) l.initial.log.entries;
+  cut_away : l.log.cut_away ≡ l.initial.log.cut_away;
   spent : l.initial.log.room + l.left ≤ l.log.room + l.count;
 }
 

@@ -56,7 +56,7 @@ returns-in-Some-clause-told g c =
     let inside = c.self.inside in
     let leased = c.in-Some.ensures in
     let new = c.lease_at_once.new in
-    (Given, g.met.P.Permits.not_asked_to_open c.args.permits.now new.permits leased.stays, acquires false Given inside.state.settings inside.state.log inside.state.host (grant_streams inside.grants.items ++ inside.state.streams) inside.grants.items inside.bookings.items inside.seats.tables c.args.self.now _ c.args.want c.args.now c.moment-moment.result (Lease c.in-Some.lease) c.self.view_is c.moment-moment.ensures leased.due.0 leased.due.1)
+    (Given, g.met.P.Permits.not_asked_to_open c.args.permits.now new.permits leased.stays, acquires false Given inside.state.settings inside.state.log inside.state.host (grant_streams inside.grants.items ++ inside.state.streams) inside.grants.items inside.bookings.items inside.seats.tables inside.state.cut_away c.args.self.now _ c.args.want c.args.now c.moment-moment.result (Lease c.in-Some.lease) c.self.view_is c.moment-moment.ensures leased.due.0 leased.due.1)
 
 pub returns-in-Some-clause-stream : goal.returns-in-Some-clause-stream
 returns-in-Some-clause-stream g c =
@@ -81,7 +81,7 @@ returns-in-Some-clause-gets_lease g c =
     let inside = c.self.inside in
     let new = c.lease_at_once.new.state in
     let it = at_once g c in
-    lease_got inside.state.settings inside.state.log new.log inside.grants.items c.self.invariant.grants c.args.want it.out.free new.settings inside.state.host new.host (grant_streams inside.grants.items ++ inside.state.streams) (grant_streams inside.grants.items ++ new.streams) inside.bookings.items inside.bookings.items inside.seats.tables c.lease_at_once.new.seats.tables inside.grants.items refl c.args.self.now c.self.view_is c.args.want refl (Lease c.in-Some.lease) it.outcome
+    lease_got inside.state.settings inside.state.log new.log inside.grants.items c.self.invariant.grants c.args.want it.out.free new.settings inside.state.host new.host (grant_streams inside.grants.items ++ inside.state.streams) (grant_streams inside.grants.items ++ new.streams) inside.bookings.items inside.bookings.items inside.seats.tables c.lease_at_once.new.seats.tables inside.state.cut_away new.cut_away inside.grants.items refl c.args.self.now c.self.view_is c.args.want refl (Lease c.in-Some.lease) it.outcome
 
 pub returns-in-Some-clause-grew : goal.returns-in-Some-clause-grew
 returns-in-Some-clause-grew g c =
@@ -204,7 +204,7 @@ returns-clause-told g c =
     let inside = c.self.inside in
     let told = c.start_or_wait-got.ensures.told in
     let new = c.start_or_wait-got.new in
-    (told.0, subst (λ p. g.P.Permits.opening p new.permits told.0) c.in_default.ensures.none_permits told.1, acquires false told.0 inside.state.settings inside.state.log inside.state.host (grant_streams inside.grants.items ++ inside.state.streams) inside.grants.items inside.bookings.items inside.seats.tables c.args.self.now _ c.args.want c.args.now c.moment-moment.result c.start_or_wait-got.result c.self.view_is c.moment-moment.ensures (due_log g c) (due_got g c))
+    (told.0, subst (λ p. g.P.Permits.opening p new.permits told.0) c.in_default.ensures.none_permits told.1, acquires false told.0 inside.state.settings inside.state.log inside.state.host (grant_streams inside.grants.items ++ inside.state.streams) inside.grants.items inside.bookings.items inside.seats.tables inside.state.cut_away c.args.self.now _ c.args.want c.args.now c.moment-moment.result c.start_or_wait-got.result c.self.view_is c.moment-moment.ensures (due_log g c) (due_got g c))
 
 pub returns-clause-stream : goal.returns-clause-stream
 returns-clause-stream g c =
@@ -245,21 +245,21 @@ returns-clause-gets_lease g c =
     let inside = c.self.inside in
     let new = c.start_or_wait-got.new.state in
     let it = left g c in
-    lease_got inside.state.settings inside.state.log new.log inside.grants.items c.self.invariant.grants c.args.want it.out.free new.settings inside.state.host new.host (grant_streams inside.grants.items ++ inside.state.streams) (grant_streams c.reserve.new.self.items ++ new.streams) inside.bookings.items c.add_booking.new.bookings.items inside.seats.tables c.start_or_wait-got.new.seats.tables c.reserve.new.self.items c.reserve.ensures.items c.args.self.now c.self.view_is c.args.want refl c.start_or_wait-got.result it.outcome
+    lease_got inside.state.settings inside.state.log new.log inside.grants.items c.self.invariant.grants c.args.want it.out.free new.settings inside.state.host new.host (grant_streams inside.grants.items ++ inside.state.streams) (grant_streams c.reserve.new.self.items ++ new.streams) inside.bookings.items c.add_booking.new.bookings.items inside.seats.tables c.start_or_wait-got.new.seats.tables inside.state.cut_away new.cut_away c.reserve.new.self.items c.reserve.ensures.items c.args.self.now c.self.view_is c.args.want refl c.start_or_wait-got.result it.outcome
 
 pub returns-clause-gets_ticket : goal.returns-clause-gets_ticket
 returns-clause-gets_ticket g c =
     let inside = c.self.inside in
     let new = c.start_or_wait-got.new.state in
     let it = left g c in
-    ticket_got inside.state.settings inside.state.log new.log inside.grants.items c.self.invariant.grants c.args.want it.out.free new.settings inside.state.host new.host (grant_streams inside.grants.items ++ inside.state.streams) (grant_streams c.reserve.new.self.items ++ new.streams) inside.bookings.items c.add_booking.new.bookings.items inside.seats.tables c.start_or_wait-got.new.seats.tables c.reserve.new.self.items c.reserve.ensures.items c.args.self.now c.self.view_is c.args.want refl c.start_or_wait-got.result it.outcome
+    ticket_got inside.state.settings inside.state.log new.log inside.grants.items c.self.invariant.grants c.args.want it.out.free new.settings inside.state.host new.host (grant_streams inside.grants.items ++ inside.state.streams) (grant_streams c.reserve.new.self.items ++ new.streams) inside.bookings.items c.add_booking.new.bookings.items inside.seats.tables c.start_or_wait-got.new.seats.tables inside.state.cut_away new.cut_away c.reserve.new.self.items c.reserve.ensures.items c.args.self.now c.self.view_is c.args.want refl c.start_or_wait-got.result it.outcome
 
 pub returns-clause-gets_booking : goal.returns-clause-gets_booking
 returns-clause-gets_booking g c =
     let inside = c.self.inside in
     let new = c.start_or_wait-got.new.state in
     let it = left g c in
-    booking_got inside.state.settings inside.state.log new.log inside.grants.items c.self.invariant.grants c.args.want it.out.free new.settings inside.state.host new.host (grant_streams inside.grants.items ++ inside.state.streams) (grant_streams c.reserve.new.self.items ++ new.streams) inside.bookings.items c.add_booking.new.bookings.items inside.seats.tables c.start_or_wait-got.new.seats.tables c.reserve.new.self.items c.reserve.ensures.items c.args.self.now c.self.view_is c.args.want refl c.start_or_wait-got.result it.outcome
+    booking_got inside.state.settings inside.state.log new.log inside.grants.items c.self.invariant.grants c.args.want it.out.free new.settings inside.state.host new.host (grant_streams inside.grants.items ++ inside.state.streams) (grant_streams c.reserve.new.self.items ++ new.streams) inside.bookings.items c.add_booking.new.bookings.items inside.seats.tables c.start_or_wait-got.new.seats.tables inside.state.cut_away new.cut_away c.reserve.new.self.items c.reserve.ensures.items c.args.self.now c.self.view_is c.args.want refl c.start_or_wait-got.result it.outcome
 
 -- the pass that it is lent
 pub tell-requires : goal.tell-requires
@@ -347,14 +347,14 @@ returns-in-Some-clause-is_for g c =
     let inside = c.self.inside in
     let leased = c.in-Some.ensures in
     let after = record c.args.self.now { log = c.lease_at_once.new.state.log } in
-    acquired_for false Given c.args.self.now after c.args.want c.args.now _ (acquires false Given inside.state.settings inside.state.log inside.state.host (grant_streams inside.grants.items ++ inside.state.streams) inside.grants.items inside.bookings.items inside.seats.tables c.args.self.now after c.args.want c.args.now c.moment-moment.result (Lease c.in-Some.lease) c.self.view_is c.moment-moment.ensures leased.due.0 leased.due.1)
+    acquired_for false Given c.args.self.now after c.args.want c.args.now _ (acquires false Given inside.state.settings inside.state.log inside.state.host (grant_streams inside.grants.items ++ inside.state.streams) inside.grants.items inside.bookings.items inside.seats.tables inside.state.cut_away c.args.self.now after c.args.want c.args.now c.moment-moment.result (Lease c.in-Some.lease) c.self.view_is c.moment-moment.ensures leased.due.0 leased.due.1)
 
 pub returns-clause-is_for : goal.returns-clause-is_for
 returns-clause-is_for g c =
     let inside = c.self.inside in
     let got = c.start_or_wait-got in
     let after = record c.args.self.now { log = got.new.state.log } in
-    acquired_for false got.ensures.told.0 c.args.self.now after c.args.want c.args.now got.result (acquires false got.ensures.told.0 inside.state.settings inside.state.log inside.state.host (grant_streams inside.grants.items ++ inside.state.streams) inside.grants.items inside.bookings.items inside.seats.tables c.args.self.now after c.args.want c.args.now c.moment-moment.result got.result c.self.view_is c.moment-moment.ensures (due_log g c) (due_got g c))
+    acquired_for false got.ensures.told.0 c.args.self.now after c.args.want c.args.now got.result (acquires false got.ensures.told.0 inside.state.settings inside.state.log inside.state.host (grant_streams inside.grants.items ++ inside.state.streams) inside.grants.items inside.bookings.items inside.seats.tables inside.state.cut_away c.args.self.now after c.args.want c.args.now c.moment-moment.result got.result c.self.view_is c.moment-moment.ensures (due_log g c) (due_got g c))
 
 -- the log that it leaves
 pub returns-in-Some-clause-settled : goal.returns-in-Some-clause-settled

@@ -137,7 +137,7 @@ returns-clause-gets_lease g c =
     let is = sym c.in-Some.ensures.grant in
     let who : t ≡ c.args.ticket.wait.want.transfer = ap (λ (w : Want). w.transfer) c.want-want.ensures in
     let number : grant.number ≡ c.new-2.result.start.number = ap (λ (l : Leasing g.row.S.Denot). l.start.number) (sym (c.new-2.ensures ∙ ap (lease_at c.claim-seat.result.tables) c.granted-used.ensures)) in
-    gets_at _ _ _ _ _ _ _ c.self.view_is who number (claimed_left state.settings state.log inv.settled.sound.orderly grants inv.grants t grant is c.take_grant.new.grants.items c.take_grant.ensures.others _ _ _ _ _ _ _ _ _)
+    gets_at _ _ _ _ _ _ _ c.self.view_is who number (claimed_left state.settings state.log inv.settled.sound.orderly grants inv.grants t grant is c.take_grant.new.grants.items c.take_grant.ensures.others _ _ _ _ _ _ _ _ _ _ _)
 
 pub returns-in_default-clause-settled : goal.returns-in_default-clause-settled
 returns-in_default-clause-settled g c = (invariant_of-self g c).settled

@@ -98,7 +98,7 @@ returns-clause-streams g c d other still =
 pub returns-clause-spends : goal.returns-clause-spends
 returns-clause-spends g c =
     let settled = handed_on g c in
-    spends_at _ _ _ _ _ c.self.view_is (apart_transfer c.args.lease _ _ c.take_apart-used.ensures.used _ _ c.number-connection.ensures c.transfer-transfer.ensures) (freed_spends _ _ _ _ _ _ _ _ _ _ _ _ _ _ _ settled.freed)
+    spends_at _ _ _ _ _ c.self.view_is (apart_transfer c.args.lease _ _ c.take_apart-used.ensures.used _ _ c.number-connection.ensures c.transfer-transfer.ensures) (freed_spends _ _ _ _ _ _ _ _ _ _ _ _ _ _ _ _ _ settled.freed)
 
 pub returns-clause-grew : goal.returns-clause-grew
 returns-clause-grew g c =

@@ -39,7 +39,7 @@ returns-clause-keeps g c =
     let inv = c.self.invariant in
     let closes = c.close_idle-closed.ensures.closes in
     let after = prune_keeps _ _ _ _ _ _ c.args.now _ inv.settled inv.grants inv.bookings closes.same.settings c.moment-moment.ensures closes.holders closes.waiting c.args.max_age c.args.max_life c.close_idle-closed.ensures.log in
-    keeps_at _ _ _ c.self.view_is (grants_keep _ _ _ _ _ _ _ _ _ _ _ _ _ _ after.same)
+    keeps_at _ _ _ c.self.view_is (grants_keep _ _ _ _ _ _ _ _ _ _ _ _ _ _ _ _ after.same)
 
 pub returns-clause-grew : goal.returns-clause-grew
 returns-clause-grew g c =

@@ -36,7 +36,7 @@ returns-clause-keeps g c =
     let inv = c.self.invariant in
     let queued = ap (λ (v : HostShown g.row.S.Denot). is_queued v.settings v.log) c.self.view_is ∙ c.requires.queued in
     let after = turn_keeps _ _ _ _ _ _ _ c.args.now _ inv.settled queued inv.grants inv.bookings c.open_for_head.ensures.same.settings c.moment-moment.ensures c.open_for_head.ensures.log c.open_for_head.ensures.grants in
-    keeps_at _ _ _ c.self.view_is (grants_keep _ _ _ _ _ _ _ _ _ _ _ _ _ _ after.same)
+    keeps_at _ _ _ c.self.view_is (grants_keep _ _ _ _ _ _ _ _ _ _ _ _ _ _ _ _ after.same)
 
 pub returns-clause-grew : goal.returns-clause-grew
 returns-clause-grew g c =

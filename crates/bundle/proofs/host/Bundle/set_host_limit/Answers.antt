@@ -135,7 +135,7 @@ returns-clause-streams g c d still =
     ∙ ap (λ (v : HostShown g.row.S.Denot). stream_of v.streams d) c.self.view_is
 
 pub returns-clause-keeps : goal.returns-clause-keeps
-returns-clause-keeps g c = keeps_at _ _ _ c.self.view_is (grants_keep _ _ _ _ _ _ _ _ _ _ _ _ _ _ (left_after g c).same)
+returns-clause-keeps g c = keeps_at _ _ _ c.self.view_is (grants_keep _ _ _ _ _ _ _ _ _ _ _ _ _ _ _ _ (left_after g c).same)
 
 pub returns-clause-grew : goal.returns-clause-grew
 returns-clause-grew g c = grows_at _ _ _ (ap (λ (v : HostShown g.row.S.Denot). v.log) c.self.view_is) (left_after g c).grew

@@ -110,7 +110,7 @@ pub returns-in-Idle-clause-spends : goal.returns-in-Idle-clause-spends
 returns-in-Idle-clause-spends g c =
     let transfer_is = apart_transfer c.args.lease _ _ c.take_apart-used.ensures.used _ _ c.number-number.ensures c.transfer-transfer.ensures in
     let settled = passed g c in
-    spends_at _ _ _ _ _ c.self.view_is transfer_is (freed_spends _ _ _ _ _ _ _ _ _ _ _ _ _ _ _ settled.freed)
+    spends_at _ _ _ _ _ c.self.view_is transfer_is (freed_spends _ _ _ _ _ _ _ _ _ _ _ _ _ _ _ _ _ settled.freed)
 
 pub returns-in-Idle-clause-grew : goal.returns-in-Idle-clause-grew
 returns-in-Idle-clause-grew g c =
@@ -171,7 +171,7 @@ pub returns-in-Ended-clause-spends : goal.returns-in-Ended-clause-spends
 returns-in-Ended-clause-spends g c =
     let transfer_is = apart_transfer c.args.lease _ _ c.take_apart-used.ensures.used _ _ c.number-number.ensures c.transfer-transfer.ensures in
     let settled = use_ended g c in
-    spends_at _ _ _ _ _ c.self.view_is transfer_is (freed_spends _ _ _ _ _ _ _ _ _ _ _ _ _ _ _ settled.freed)
+    spends_at _ _ _ _ _ c.self.view_is transfer_is (freed_spends _ _ _ _ _ _ _ _ _ _ _ _ _ _ _ _ _ settled.freed)
 
 pub returns-in-Ended-clause-grew : goal.returns-in-Ended-clause-grew
 returns-in-Ended-clause-grew g c =
@@ -432,7 +432,7 @@ pub returns-else-not-close_if_full-clause-spends : goal.returns-else-not-close_i
 returns-else-not-close_if_full-clause-spends g c =
     let transfer_is = apart_transfer c.args.lease _ _ c.take_apart-used.ensures.used _ _ c.number-number.ensures c.transfer-transfer.ensures in
     let settled = not_kept g c in
-    spends_at _ _ _ _ _ c.self.view_is transfer_is (freed_spends _ _ _ _ _ _ _ _ _ _ _ _ _ _ _ settled.freed)
+    spends_at _ _ _ _ _ c.self.view_is transfer_is (freed_spends _ _ _ _ _ _ _ _ _ _ _ _ _ _ _ _ _ settled.freed)
 
 pub returns-else-not-close_if_full-clause-grew : goal.returns-else-not-close_if_full-clause-grew
 returns-else-not-close_if_full-clause-grew g c =

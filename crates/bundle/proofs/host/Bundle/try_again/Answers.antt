@@ -93,21 +93,21 @@ returns-clause-gets_lease g c =
     let inside = c.self.inside in
     let tried = c.start_or_wait-got in
     let it = left g c in
-    lease_got inside.state.settings inside.state.log tried.new.state.log inside.grants.items c.self.invariant.grants c.spend-want.result it.out.free tried.new.state.settings inside.state.host tried.new.state.host (grant_streams inside.grants.items ++ inside.state.streams) (grant_streams inside.grants.items ++ tried.new.state.streams) inside.bookings.items c.take_booking.new.bookings.items inside.seats.tables tried.new.seats.tables inside.grants.items refl c.args.self.now c.self.view_is c.args.booking.want c.spend-want.ensures tried.result it.outcome
+    lease_got inside.state.settings inside.state.log tried.new.state.log inside.grants.items c.self.invariant.grants c.spend-want.result it.out.free tried.new.state.settings inside.state.host tried.new.state.host (grant_streams inside.grants.items ++ inside.state.streams) (grant_streams inside.grants.items ++ tried.new.state.streams) inside.bookings.items c.take_booking.new.bookings.items inside.seats.tables tried.new.seats.tables inside.state.cut_away tried.new.state.cut_away inside.grants.items refl c.args.self.now c.self.view_is c.args.booking.want c.spend-want.ensures tried.result it.outcome
 
 pub returns-clause-gets_ticket : goal.returns-clause-gets_ticket
 returns-clause-gets_ticket g c =
     let inside = c.self.inside in
     let tried = c.start_or_wait-got in
     let it = left g c in
-    ticket_got inside.state.settings inside.state.log tried.new.state.log inside.grants.items c.self.invariant.grants c.spend-want.result it.out.free tried.new.state.settings inside.state.host tried.new.state.host (grant_streams inside.grants.items ++ inside.state.streams) (grant_streams inside.grants.items ++ tried.new.state.streams) inside.bookings.items c.take_booking.new.bookings.items inside.seats.tables tried.new.seats.tables inside.grants.items refl c.args.self.now c.self.view_is c.args.booking.want c.spend-want.ensures tried.result it.outcome
+    ticket_got inside.state.settings inside.state.log tried.new.state.log inside.grants.items c.self.invariant.grants c.spend-want.result it.out.free tried.new.state.settings inside.state.host tried.new.state.host (grant_streams inside.grants.items ++ inside.state.streams) (grant_streams inside.grants.items ++ tried.new.state.streams) inside.bookings.items c.take_booking.new.bookings.items inside.seats.tables tried.new.seats.tables inside.state.cut_away tried.new.state.cut_away inside.grants.items refl c.args.self.now c.self.view_is c.args.booking.want c.spend-want.ensures tried.result it.outcome
 
 pub returns-clause-gets_booking : goal.returns-clause-gets_booking
 returns-clause-gets_booking g c =
     let inside = c.self.inside in
     let tried = c.start_or_wait-got in
     let it = left g c in
-    booking_got inside.state.settings inside.state.log tried.new.state.log inside.grants.items c.self.invariant.grants c.spend-want.result it.out.free tried.new.state.settings inside.state.host tried.new.state.host (grant_streams inside.grants.items ++ inside.state.streams) (grant_streams inside.grants.items ++ tried.new.state.streams) inside.bookings.items c.take_booking.new.bookings.items inside.seats.tables tried.new.seats.tables inside.grants.items refl c.args.self.now c.self.view_is c.args.booking.want c.spend-want.ensures tried.result it.outcome
+    booking_got inside.state.settings inside.state.log tried.new.state.log inside.grants.items c.self.invariant.grants c.spend-want.result it.out.free tried.new.state.settings inside.state.host tried.new.state.host (grant_streams inside.grants.items ++ inside.state.streams) (grant_streams inside.grants.items ++ tried.new.state.streams) inside.bookings.items c.take_booking.new.bookings.items inside.seats.tables tried.new.seats.tables inside.state.cut_away tried.new.state.cut_away inside.grants.items refl c.args.self.now c.self.view_is c.args.booking.want c.spend-want.ensures tried.result it.outcome
 
 pub returns-clause-grew : goal.returns-clause-grew
 returns-clause-grew g c =
@@ -141,7 +141,7 @@ returns-clause-is_for g c =
     let tried = c.start_or_wait-got in
     let told = tried.ensures.told in
     let after = record c.args.self.now { log = tried.new.state.log } in
-    let does = acquires c.args.is_last told.0 inside.state.settings inside.state.log inside.state.host (grant_streams inside.grants.items ++ inside.state.streams) inside.grants.items inside.bookings.items inside.seats.tables c.args.self.now after c.spend-want.result c.args.now c.moment-moment.result tried.result c.self.view_is c.moment-moment.ensures told.2.0 told.2.1 in
+    let does = acquires c.args.is_last told.0 inside.state.settings inside.state.log inside.state.host (grant_streams inside.grants.items ++ inside.state.streams) inside.grants.items inside.bookings.items inside.seats.tables inside.state.cut_away c.args.self.now after c.spend-want.result c.args.now c.moment-moment.result tried.result c.self.view_is c.moment-moment.ensures told.2.0 told.2.1 in
     subst (λ (w : Want). IsFor c.args.self.now.host w (moment_at c.args.self.now.log c.args.now) tried.result) c.spend-want.ensures (acquired_for c.args.is_last told.0 c.args.self.now after c.spend-want.result c.args.now tried.result does)
 
 pub returns-clause-settled : goal.returns-clause-settled

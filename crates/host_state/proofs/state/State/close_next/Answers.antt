@@ -48,5 +48,5 @@ returns-clause-some g c is_true =
     let len : length (open_connections state.log.entries) ≡ c.open_len-open_len.result = ap (λ log. length (open_connections log)) log_is ∙ sym c.open_len-open_len.ensures in
     let first = subst (λ n. PicksFirst closing c.args.moment n state.idle.items c.in-Some.place) (sym len) c.in-Some.ensures.found in
     let x = c.take_from-picked.result in
-    let new : HostState g.row.S.Denot = record { log = add c.args.moment (Closed x.number (cause_of closing)) state.log.entries; settings = record { limit = state.host_limit; first = state.first }; host = state.host; streams = streams_of (remove state.idle.items c.in-Some.place); booked = state.booked; has_limit_room = state.has_limit_room } in
-    rw (c.append.ensures.entries, c.take_from-picked.ensures.items, c.cause_of.ensures) (subst (λ (v : HostState g.row.S.Denot). ClosesNext closing c.args.moment v new) c.self.view_is (closes_next _ _ _ _ _ _ kept closing c.args.moment c.in-Some.place x state.host state.booked state.has_limit_room later first c.take_from-picked.ensures.value))
+    let new : HostState g.row.S.Denot = record { log = add c.args.moment (Closed x.number (cause_of closing)) state.log.entries; cut_away = state.log.cut_away; settings = record { limit = state.host_limit; first = state.first }; host = state.host; streams = streams_of (remove state.idle.items c.in-Some.place); booked = state.booked; has_limit_room = state.has_limit_room } in
+    rw (c.append.ensures.entries, c.append.ensures.cut_away, c.take_from-picked.ensures.items, c.cause_of.ensures) (subst (λ (v : HostState g.row.S.Denot). ClosesNext closing c.args.moment v new) c.self.view_is (closes_next _ _ _ _ _ _ kept closing c.args.moment c.in-Some.place x state.host state.booked state.log.cut_away state.has_limit_room later first c.take_from-picked.ensures.value))

@@ -42,5 +42,5 @@ returns g c =
     let some : 0 < length c.self.inside.idle.items = rw kept.idle_len (subst (λ log. 0 < length (idle_connections log)) (sym log_is) c.requires.some) in
     let x = c.take_from-oldest.result in
     let state = c.self.inside in
-    let new : HostState g.row.S.Denot = record { log = add c.args.moment (Closed x.number c.args.cause) state.log.entries; settings = record { limit = state.host_limit; first = state.first }; host = state.host; streams = streams_of (remove state.idle.items 0); booked = state.booked; has_limit_room = state.has_limit_room } in
-    rw (c.append.ensures.entries, c.take_from-oldest.ensures.items) (subst (λ (v : HostState g.row.S.Denot). ClosesFirst c.args.cause c.args.moment v new) c.self.view_is (closes_first _ _ _ _ _ _ kept c.args.cause c.args.moment x state.host state.booked state.has_limit_room some c.take_from-oldest.ensures.value))
+    let new : HostState g.row.S.Denot = record { log = add c.args.moment (Closed x.number c.args.cause) state.log.entries; cut_away = state.log.cut_away; settings = record { limit = state.host_limit; first = state.first }; host = state.host; streams = streams_of (remove state.idle.items 0); booked = state.booked; has_limit_room = state.has_limit_room } in
+    rw (c.append.ensures.entries, c.append.ensures.cut_away, c.take_from-oldest.ensures.items) (subst (λ (v : HostState g.row.S.Denot). ClosesFirst c.args.cause c.args.moment v new) c.self.view_is (closes_first _ _ _ _ _ _ kept c.args.cause c.args.moment x state.host state.booked state.log.cut_away state.has_limit_room some c.take_from-oldest.ensures.value))

@@ -61,7 +61,7 @@ returns-then-not-stays_open-clause-closed g c =
     let was = table_number kept c.args.transfer held c.in-Some.ensures.there in
     let now = ends_use_at_once _ _ _ _ _ _ kept c.args.transfer held c.in-Some.ensures.there c.args.moment later c.args.facts _ ends c.ending_cause.ensures in
     let ended = add c.args.moment (Closed n cause) (add c.args.moment (Returned n c.args.facts) state.log.entries) in
-    let new : HostState g.row.S.Denot = record { log = ended; settings = record { limit = state.host_limit; first = state.first }; host = state.host; streams = streams_of state.idle.items; booked = state.booked; has_limit_room = state.has_limit_room } in
+    let new : HostState g.row.S.Denot = record { log = ended; cut_away = state.log.cut_away; settings = record { limit = state.host_limit; first = state.first }; host = state.host; streams = streams_of state.idle.items; booked = state.booked; has_limit_room = state.has_limit_room } in
     let told : ComesBackToClose c.args.self.now new c.args.transfer n c.args.facts c.args.moment = record {
       was_held = ap (λ log. held_number log c.args.transfer) (sym log_is) ∙ was;
       ends = subst (λ log. EndsUse log ended n c.args.facts c.args.moment) log_is now;
@@ -72,9 +72,9 @@ returns-then-not-stays_open-clause-closed g c =
       as_many_idle = gone.as_many_idle ∙ ap (λ log. length (idle_connections log)) log_is;
       limit = gone.limit ∙ ap (λ (v : HostState g.row.S.Denot). limit_in_force v.settings v.log) c.self-2.view_is;
       booked = ap (λ (v : HostState g.row.S.Denot). v.booked) c.self-2.view_is;
-      same = record { settings = ap (λ (v : HostState g.row.S.Denot). v.settings) c.self-2.view_is; host = ap (λ (v : HostState g.row.S.Denot). v.host) c.self-2.view_is };
+      same = record { settings = ap (λ (v : HostState g.row.S.Denot). v.settings) c.self-2.view_is; host = ap (λ (v : HostState g.row.S.Denot). v.host) c.self-2.view_is; cut_away = ap (λ (v : HostState g.row.S.Denot). v.cut_away) c.self-2.view_is };
     } in
-    rw (c.append.ensures.entries, c.append_return.ensures.entries) (subst (λ (m : ℕ). ComesBackToClose c.args.self.now new c.args.transfer m c.args.facts c.args.moment) c.in-Some.ensures.number told)
+    rw (c.append.ensures.entries, c.append_return.ensures.entries, c.append.ensures.cut_away, c.append_return.ensures.cut_away) (subst (λ (m : ℕ). ComesBackToClose c.args.self.now new c.args.transfer m c.args.facts c.args.moment) c.in-Some.ensures.number told)
 
 pub invariant_of-self-2 : goal.invariant_of-self-2
 invariant_of-self-2 g c =
@@ -127,7 +127,7 @@ returns-clause-idle g c =
       more_idle = ap (λ log. length (idle_connections log)) c.append_return.ensures.entries ∙ more_idle_back _ _ _ _ _ _ kept c.args.transfer held there c.args.moment c.args.facts stays ∙ ap (λ log. length (idle_connections log) + 1) log_is;
       limit = ap (limit_in_force (record { limit = c.self-2.inside.host_limit; first = c.self-2.inside.first })) c.append_return.ensures.entries ∙ ap (λ (v : HostState g.row.S.Denot). limit_in_force v.settings v.log) c.self-2.view_is;
       booked = ap (λ (v : HostState g.row.S.Denot). v.booked) c.self-2.view_is;
-      same = record { settings = ap (λ (v : HostState g.row.S.Denot). v.settings) c.self-2.view_is; host = ap (λ (v : HostState g.row.S.Denot). v.host) c.self-2.view_is };
+      same = record { settings = ap (λ (v : HostState g.row.S.Denot). v.settings) c.self-2.view_is; host = ap (λ (v : HostState g.row.S.Denot). v.host) c.self-2.view_is; cut_away = c.append_return.ensures.cut_away ∙ ap (λ (v : HostState g.row.S.Denot). v.cut_away) c.self-2.view_is };
     }
 
 pub returns-then-would_stay-clause-known : goal.returns-then-would_stay-clause-known

@@ -44,7 +44,7 @@ returns g c =
     let there = table_from_log kept c.args.transfer stays.held (subst (λ log. held_facts log c.args.transfer ≡ Some (facts_of_held stays.held)) (sym log_is) stays.was_held) in
     let gone = has_gone _ _ _ _ _ _ kept c.args.transfer stays.held there _ (gone_ended c.args.moment n c.args.facts CacheFull state.log.entries) in
     let ended = add c.args.moment (Closed n CacheFull) (add c.args.moment (Returned n c.args.facts) state.log.entries) in
-    let new : HostState g.row.S.Denot = record { log = ended; settings = record { limit = state.host_limit; first = state.first }; host = state.host; streams = streams_of state.idle.items; booked = state.booked; has_limit_room = state.has_limit_room } in
+    let new : HostState g.row.S.Denot = record { log = ended; cut_away = state.log.cut_away; settings = record { limit = state.host_limit; first = state.first }; host = state.host; streams = streams_of state.idle.items; booked = state.booked; has_limit_room = state.has_limit_room } in
     let told : ComesBackUnkept c.args.self.now new c.args.transfer n c.args.facts c.args.moment = record {
       log = ap (λ log. add c.args.moment (Closed n CacheFull) (add c.args.moment (Returned n c.args.facts) log)) log_is;
       closed = gone.closed;
@@ -54,6 +54,6 @@ returns g c =
       as_many_idle = gone.as_many_idle ∙ ap (λ log. length (idle_connections log)) log_is;
       limit = gone.limit ∙ ap (λ (v : HostState g.row.S.Denot). limit_in_force v.settings v.log) c.self.view_is;
       booked = ap (λ (v : HostState g.row.S.Denot). v.booked) c.self.view_is;
-      same = record { settings = ap (λ (v : HostState g.row.S.Denot). v.settings) c.self.view_is; host = ap (λ (v : HostState g.row.S.Denot). v.host) c.self.view_is };
+      same = record { settings = ap (λ (v : HostState g.row.S.Denot). v.settings) c.self.view_is; host = ap (λ (v : HostState g.row.S.Denot). v.host) c.self.view_is; cut_away = ap (λ (v : HostState g.row.S.Denot). v.cut_away) c.self.view_is };
     } in
-    rw (c.append.ensures.entries, c.append_return.ensures.entries) (subst (λ (m : ℕ). ComesBackUnkept c.args.self.now (record new { log = add c.args.moment (Closed m CacheFull) (add c.args.moment (Returned m c.args.facts) state.log.entries) }) c.args.transfer m c.args.facts c.args.moment) stays.number told)
+    rw (c.append.ensures.entries, c.append_return.ensures.entries, c.append.ensures.cut_away, c.append_return.ensures.cut_away) (subst (λ (m : ℕ). ComesBackUnkept c.args.self.now (record new { log = add c.args.moment (Closed m CacheFull) (add c.args.moment (Returned m c.args.facts) state.log.entries) }) c.args.transfer m c.args.facts c.args.moment) stays.number told)

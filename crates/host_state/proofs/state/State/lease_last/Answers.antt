@@ -114,5 +114,5 @@ returns-clause-some g c =
       fewer_idle = ap (λ log. length (idle_connections log)) (sym log_is) ∙ fewer_idle_leased _ _ _ _ _ _ kept c.args.moment c.args.want.now place x last.in_range c.take_last-number.ensures.value next ∙ ap (λ log. length (idle_connections log) + 1) (sym (c.append.ensures.entries ∙ ap (λ log. add c.args.moment (Leased x.number c.args.want.now) log) c.reserve.ensures.entries));
       limit = ap (limit_in_force (record { limit = c.self.inside.host_limit; first = c.self.inside.first })) (c.append.ensures.entries ∙ ap (λ log. add c.args.moment (Leased x.number c.args.want.now) log) c.reserve.ensures.entries) ∙ ap (λ (v : HostState g.row.S.Denot). limit_in_force v.settings v.log) c.self.view_is;
       booked = booked ∙ none_less ∙ sym (ap (λ wants. booked_after_start wants c.args.self.now.booked) waiting_none);
-      same = record { settings = ap (λ (v : HostState g.row.S.Denot). v.settings) c.self.view_is; host = ap (λ (v : HostState g.row.S.Denot). v.host) c.self.view_is };
+      same = record { settings = ap (λ (v : HostState g.row.S.Denot). v.settings) c.self.view_is; host = ap (λ (v : HostState g.row.S.Denot). v.host) c.self.view_is; cut_away = c.append.ensures.cut_away ∙ c.reserve.ensures.cut_away ∙ ap (λ (v : HostState g.row.S.Denot). v.cut_away) c.self.view_is };
     }

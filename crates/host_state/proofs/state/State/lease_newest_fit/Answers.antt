@@ -99,5 +99,5 @@ returns-clause-some g c =
       fewer_idle = ap (λ log. length (idle_connections log)) (sym log_is) ∙ fewer_idle_leased _ _ _ _ _ _ kept c.args.moment c.args.want.now c.in_ok-place.place x last.in_range c.take_from-number.ensures.value next ∙ ap (λ log. length (idle_connections log) + 1) (sym c.append.ensures.entries);
       limit = ap (limit_in_force (record { limit = c.self.inside.host_limit; first = c.self.inside.first })) c.append.ensures.entries ∙ ap (λ (v : HostState g.row.S.Denot). limit_in_force v.settings v.log) c.self.view_is;
       booked = c.start_next.ensures.booked ∙ ap (λ wants. booked_after_start wants c.self.inside.booked) (c.self.invariant.queue ∙ ap waiting log_is) ∙ ap (λ (v : HostState g.row.S.Denot). booked_after_start (waiting c.args.self.now.log) v.booked) c.self.view_is;
-      same = record { settings = ap (λ (v : HostState g.row.S.Denot). v.settings) c.self.view_is; host = ap (λ (v : HostState g.row.S.Denot). v.host) c.self.view_is };
+      same = record { settings = ap (λ (v : HostState g.row.S.Denot). v.settings) c.self.view_is; host = ap (λ (v : HostState g.row.S.Denot). v.host) c.self.view_is; cut_away = c.append.ensures.cut_away ∙ ap (λ (v : HostState g.row.S.Denot). v.cut_away) c.self.view_is };
     }

@@ -19,7 +19,7 @@ append-requires-clause-moment g c =
     let above_is : above ≡ length (open_connections state.log.entries) - c.args.limit = c.saturating_sub-above.ensures ∙ ap (λ (n : ℕ). n - c.args.limit) (c.open_len-open_len.ensures ∙ ap (λ log. length (open_connections log)) (sym log_is)) in
     let few_held = subst (λ log. length (open_connections log) ≤ length (idle_connections log) + c.args.limit) (sym log_is) c.requires.held in
     let within : above ≤ length state.idle.items = omega (arith, above_is, few_held, kept.idle_len) in
-    let closed = has_closed _ _ _ _ _ _ kept c.args.moment above 0 0 true later within in
+    let closed = has_closed _ _ _ _ _ _ kept c.args.moment above 0 0 0 true later within in
     rw c.close_oldest_of.ensures.entries closed.closes.later
 
 pub invariant_of-self : goal.invariant_of-self
@@ -32,7 +32,7 @@ invariant_of-self g c =
     let above_is : above ≡ length (open_connections state.log.entries) - c.args.limit = c.saturating_sub-above.ensures ∙ ap (λ (n : ℕ). n - c.args.limit) (c.open_len-open_len.ensures ∙ ap (λ log. length (open_connections log)) (sym log_is)) in
     let few_held = subst (λ log. length (open_connections log) ≤ length (idle_connections log) + c.args.limit) (sym log_is) c.requires.held in
     let within : above ≤ length state.idle.items = omega (arith, above_is, few_held, kept.idle_len) in
-    let closed = has_closed _ _ _ _ _ _ kept c.args.moment above 0 0 true later within in
+    let closed = has_closed _ _ _ _ _ _ kept c.args.moment above 0 0 0 true later within in
     let room = c.self.invariant.room in
     let left : length c.close_oldest_of.new.idle.items ≡ length state.idle.items - above = ap length c.close_oldest_of.ensures.items ∙ length-drop above state.idle.items in
     let had = subst (λ (v : HostState g.row.S.Denot). v.has_limit_room ≡ true) (sym c.self.view_is) c.requires.room in
@@ -60,5 +60,5 @@ returns g c =
     let above_is : above ≡ length (open_connections state.log.entries) - c.args.limit = c.saturating_sub-above.ensures ∙ ap (λ (n : ℕ). n - c.args.limit) (c.open_len-open_len.ensures ∙ ap (λ log. length (open_connections log)) (sym log_is)) in
     let few_held = subst (λ log. length (open_connections log) ≤ length (idle_connections log) + c.args.limit) (sym log_is) c.requires.held in
     let within : above ≤ length state.idle.items = omega (arith, above_is, few_held, kept.idle_len) in
-    let new : HostState g.row.S.Denot = record { log = add c.args.moment (Limit c.args.limit) (close_each HostRoom c.args.moment (take above (numbers state.idle.items)) state.log.entries); settings = record { limit = state.host_limit; first = state.first }; host = state.host; streams = streams_of (drop above state.idle.items); booked = state.booked; has_limit_room = false } in
-    rw (c.append.ensures.entries, c.close_oldest_of.ensures.entries, c.close_oldest_of.ensures.items) (subst (λ (v : HostState g.row.S.Denot). SetsLimit c.args.limit c.args.moment above v new) c.self.view_is (sets_limit _ _ _ _ _ _ kept c.args.moment above state.host state.booked state.has_limit_room false later within c.args.limit above_is))
+    let new : HostState g.row.S.Denot = record { log = add c.args.moment (Limit c.args.limit) (close_each HostRoom c.args.moment (take above (numbers state.idle.items)) state.log.entries); cut_away = state.log.cut_away; settings = record { limit = state.host_limit; first = state.first }; host = state.host; streams = streams_of (drop above state.idle.items); booked = state.booked; has_limit_room = false } in
+    rw (c.append.ensures.entries, c.append.ensures.cut_away, c.close_oldest_of.ensures.entries, c.close_oldest_of.ensures.cut_away, c.close_oldest_of.ensures.items) (subst (λ (v : HostState g.row.S.Denot). SetsLimit c.args.limit c.args.moment above v new) c.self.view_is (sets_limit _ _ _ _ _ _ kept c.args.moment above state.host state.booked state.log.cut_away state.has_limit_room false later within c.args.limit above_is))
