@@ -55,7 +55,10 @@ fn a_host_goes_on_after_a_cut(rt: HostRuntime) -> Result<(), Fail> {
         closed: 0,
         waited: 0,
     };
-    assert_eq!(rt; (open_count(log), waiting_len(log), log.counts()), (1, 0, counts));
+    assert_eq!(rt;
+        (open_count(log), waiting_len(log), log.counts()),
+        (1, 0, counts)
+    );
     assert_eq!(rt; (holder(log, 1), idle_oldest(log, 7)), (Some(2), None));
     let leased = Entry {
         moment: 6,

@@ -64,8 +64,16 @@ fn check_all(rt: &impl Abort, pool: &mut Pool<()>, twin: &Pool<()>, parts: &[Par
         let all = before.and(&part);
         let (log, uncut) = (pool.log(site), twin.log(site));
         let (log, uncut) = (log.expect(rt, "a host"), uncut.expect(rt, "a host"));
-        assert_eq!(rt; (all.counts, all.entries), (log.counts(), uncut.len()), "host {site}");
-        assert_eq!(rt; (log.counts(), log.len()), (uncut.counts(), 0), "host {site}");
+        assert_eq!(rt;
+            (all.counts, all.entries),
+            (log.counts(), uncut.len()),
+            "host {site}"
+        );
+        assert_eq!(rt;
+            (log.counts(), log.len()),
+            (uncut.counts(), 0),
+            "host {site}"
+        );
     }
 }
 
@@ -99,5 +107,20 @@ fn a_cut_is_refused_where_there_is_no_host(rt: HostRuntime) -> Result<(), Fail> 
     let mut desk = Desk::new(rt.alloc(), (0, 0, 4), 2)?;
     assert!(rt; matches!(desk.pool.cut(2), Err(budget::Refusal::BadSite)));
     let _ = desk.close(&rt, 0);
+    Ok(())
+}
+
+#[test]
+fn what_happened_is_counted_and_let_go(rt: HostRuntime) -> Result<(), Fail> {
+    let mut desk = Desk::new(rt.alloc(), (0, 0, 4), 2).expect(&rt, "memory");
+    desk.get(&rt, 1, 0, 0);
+    desk.get(&rt, 2, 1, 1);
+    let mut pool = desk.close(&rt, 2);
+    let mut opened = 0_u64;
+    for site in 0..pool.hosts() {
+        let part = pool.cut(site)?;
+        opened = opened.saturating_add(Counts::of(&part).opened);
+    }
+    assert_eq!(rt; opened, 2);
     Ok(())
 }

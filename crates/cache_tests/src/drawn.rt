@@ -48,13 +48,7 @@ pub(crate) fn do_one(
 }
 
 // A transfer asks at a host, every other time at one of the first four.
-fn ask_somewhere(
-    rt: &impl Abort,
-    desk: &mut Desk,
-    draws: &mut Draws,
-    hosts: u32,
-    transfer: u64,
-) {
+fn ask_somewhere(rt: &impl Abort, desk: &mut Desk, draws: &mut Draws, hosts: u32, transfer: u64) {
     let most = if draws.below(2) == 0 {
         4
     } else {
