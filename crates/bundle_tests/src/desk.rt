@@ -136,6 +136,13 @@ impl<S: Drop> Desk<S> {
         })
     }
 
+    /// Cuts the host's log.
+    pub fn cut(&mut self) -> Result<Vec<Entry>, Refusal>
+        ensures same { self.new ≡ self.old }
+    {
+        self.bundle.cut()
+    }
+
     /// A host that may have so many open connections, under no other limit.
     pub fn of_host(alloc: Global, limit: u32, first: u32) -> Result<Self, Refusal> {
         Desk::new(alloc, (limit, 0, 65_535), first)

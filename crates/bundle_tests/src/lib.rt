@@ -10,6 +10,8 @@ mod calls;
 #[cfg(test)]
 mod contended;
 #[cfg(test)]
+mod cuts;
+#[cfg(test)]
 mod desk;
 #[cfg(test)]
 mod drops;

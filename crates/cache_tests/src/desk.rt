@@ -105,6 +105,11 @@ impl Desk {
         })
     }
 
+    /// Cuts the log of a host; what it hands out.
+    pub fn cut(&mut self, rt: &impl Abort, site: u32) -> Vec<Entry> {
+        self.pool.cut(site).expect(rt, "memory")
+    }
+
     /// Acquires a connection; the lease or the ticket stays at the desk.
     pub fn ask(&mut self, rt: &impl Abort, want: Want, site: u32, now: u64) -> Option<Refusal> {
         match self.acquire(want, site, now) {

@@ -15,13 +15,13 @@ const TOTAL: u32 = 3;
 
 /// Numbers that look drawn (Knuth's linear congruential generator of MMIX).
 #[derive(Drop)]
-struct Draws {
-    last: u64,
+pub(crate) struct Draws {
+    pub last: u64,
 }
 
 impl Draws {
-    // A number below the limit.
-    fn below(&mut self, limit: u64) -> u64 {
+    /// A number below the limit.
+    pub fn below(&mut self, limit: u64) -> u64 {
         self.last = self
             .last
             .wrapping_mul(6_364_136_223_846_793_005)
@@ -33,12 +33,26 @@ impl Draws {
     }
 }
 
+/// What a transfer does at one of so many hosts, and what becomes of those before it.
+pub(crate) fn do_one(
+    rt: &impl Abort,
+    desk: &mut Desk,
+    draws: &mut Draws,
+    hosts: u32,
+    transfer: u64,
+) {
+    ask_somewhere(rt, desk, draws, hosts, transfer);
+    claim_one(rt, desk, draws, transfer);
+    spend_one(rt, desk, draws, transfer);
+    claim_all(rt, desk);
+}
+
 // A transfer asks at a host, every other time at one of the first four.
-fn ask_somewhere(rt: &impl Abort, desk: &mut Desk, draws: &mut Draws, transfer: u64) {
+fn ask_somewhere(rt: &impl Abort, desk: &mut Desk, draws: &mut Draws, hosts: u32, transfer: u64) {
     let most = if draws.below(2) == 0 {
         4
     } else {
-        u64::from(HOSTS)
+        u64::from(hosts)
     };
     let site = u32::try_from(draws.below(most)).expect(rt, "a site");
     let want = Want {
@@ -127,10 +141,7 @@ fn every_account_is_balanced(rt: HostRuntime) -> Result<(), Fail> {
     let mut desk = Desk::new(rt.alloc(), (2, TOTAL, 2), HOSTS)?;
     let mut draws = Draws { last: 1 };
     for transfer in 0..TRANSFERS {
-        ask_somewhere(&rt, &mut desk, &mut draws, transfer);
-        claim_one(&rt, &mut desk, &mut draws, transfer);
-        spend_one(&rt, &mut desk, &mut draws, transfer);
-        claim_all(&rt, &mut desk);
+        do_one(&rt, &mut desk, &mut draws, HOSTS, transfer);
     }
     let pool = desk.close(&rt, TRANSFERS);
     let mut alive = 0_u32;

@@ -8,6 +8,8 @@ mod calls;
 #[cfg(test)]
 mod cost;
 #[cfg(test)]
+mod cuts;
+#[cfg(test)]
 mod desk;
 #[cfg(test)]
 mod drawn;

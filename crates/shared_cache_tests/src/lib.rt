@@ -4,6 +4,8 @@
 #[cfg(test)]
 mod abroad;
 #[cfg(test)]
+mod cuts;
+#[cfg(test)]
 mod desk;
 #[cfg(test)]
 mod example;

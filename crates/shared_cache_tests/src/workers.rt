@@ -164,6 +164,11 @@ impl<N: Names> Worker<N> {
         }
     }
 
+    /// It has another job to do.
+    pub fn begin(&mut self, job: Job) {
+        self.job = job;
+    }
+
     /// Does its job; no lease or ticket is left.
     pub fn work(&mut self, rt: &(impl Wait + Abort), cache: &SharedCache<Stream, N>) {
         match self.job {
