@@ -3,7 +3,8 @@
 //! it comes again.
 
 use budget::{
-    Held, Holders, Limits, Link, Lobby, Pass, PlainBudget, Refusal, Seen, Tally, WordBudget,
+    Held, Holders, Limits, Link, Lobby, Pass, Permits, PlainBudget, Refusal, Seen, Tally,
+    WordBudget,
 };
 use std::test::Fail;
 
@@ -54,7 +55,7 @@ fn want_of_memory_refuses_what_threads_share(rt: HostRuntime) -> Result<(), Fail
             Link::new(rt.alloc())?
         }
     };
-    let tally = match Tally::new(rt.alloc()) {
+    let mut tally = match Tally::new(rt.alloc()) {
         Ok(made) => made,
         Err(refusal) => {
             assert_eq!(rt; refusal, Refusal::Memory);
