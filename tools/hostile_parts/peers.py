@@ -28,6 +28,16 @@ def listening(*listed):
         yield [stack.enter_context(Server(behaviour)) for behaviour in listed]
 
 
+@contextlib.contextmanager
+def sites_of(behaviour, count):
+    """So many servers, of which each answers its own jobs alone: those whose number modulo the count is its place."""
+    def is_of(site):
+        return lambda number: number % count == site
+
+    with contextlib.ExitStack() as stack:
+        yield [stack.enter_context(Server(behaviour, is_asked_here=is_of(site))) for site in range(count)]
+
+
 def path_of(number):
     return f"/{number}"
 
@@ -127,7 +137,7 @@ def check_load(workers, total, jobs, hosts):
 def threads(behaviour, total, sites=2, workers=8, jobs=400, all_good=False):
     """Threads request paths of servers of that behaviour."""
     def do():
-        with listening(*[behaviour] * sites) as hosts:
+        with sites_of(behaviour, sites) as hosts:
             good, opened = check_load(workers, total, jobs, hosts)
         check(good == jobs or not all_good, f"{jobs - good} of {jobs} have no answer")
         return f"{good} of {jobs} were answered, each with its own bytes; {opened} connections"
@@ -138,7 +148,7 @@ def drawn_threads():
     """The same, each connection treated in a way that is drawn for it, under several totals."""
     good = opened = jobs = 0
     for seed in range(12):
-        with listening(*[behaviours.drawn(seed)] * (1 + seed % 3)) as hosts:
+        with sites_of(behaviours.drawn(seed), 1 + seed % 3) as hosts:
             found = check_load(1 + seed % 8, seed % 4, 300, hosts)
         good, opened, jobs = good + found[0], opened + found[1], jobs + 300
     return f"{good} of {jobs} were answered, each with its own bytes; {opened} connections"
@@ -166,8 +176,8 @@ def limits():
     return f"{2 * len(rows)} responses"
 
 
-def answers(number, *others):
-    return [f"200 {LENGTH} {one}" for one in (number, *others)]
+def answers(*ends):
+    return [f"200 {LENGTH} {end}" for end in ends]
 
 
 PARTS = [

@@ -10,10 +10,11 @@ use std::marker::Brand;
 use std::process::Abort;
 use std::sync::atomic::AtomicU64;
 
-const JOBS: u64 = 20;
+/// How many jobs there are.
+pub(crate) const JOBS: u64 = 20;
 
-// A gate that cancels each job when it is asked for the nth time, or up to so many times later.
-fn gate_of<R: Abort + AllocGlobal>(rt: &R, nth: u64, later: u64) -> StopsAt {
+/// A gate that cancels each job when it is asked for the nth time, or up to so many times later.
+pub(crate) fn gate_of<R: Abort + AllocGlobal>(rt: &R, nth: u64, later: u64) -> StopsAt {
     let mut asked = Vec::new(rt.alloc());
     for _ in 0..JOBS {
         push(rt, &mut asked, AtomicU64::new(0));
