@@ -22,7 +22,7 @@ from .programs import curlpool, run, tests_of, tool
 CRATES = ("budget_tests", "bundle_tests", "cache_report_tests", "cache_tests", "claim_tests", "cli_tests",
           "conn_key_tests", "conn_log_tests", "driver_tests", "exchange_tests", "load_tests", "persistence_tests", "shared_cache_tests")
 SECONDS = 20
-SECONDS_OF_ALL = 300
+SECONDS_OF_ALL = 600
 # how many allocations a load is refused at least; its threads ask for some more or fewer each time
 BEYOND = 40
 WORDS_OF_LOAD = ["load", "--sites", "2", "--jobs", "12", "--workers", "2", "--host-limit", "1", "--total", "1"]
