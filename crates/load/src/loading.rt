@@ -123,10 +123,7 @@ fn account_of<N: Names, R: Wait>(
 }
 
 // Cuts the log of every host. What is handed out is not kept.
-fn cut_logs<N: Names, R: Wait>(
-    rt: &R,
-    cache: &SharedCache<WaitingWire, N>,
-) -> Result<(), Refusal> {
+fn cut_logs<N: Names, R: Wait>(rt: &R, cache: &SharedCache<WaitingWire, N>) -> Result<(), Refusal> {
     for site in 0..cache.hosts() {
         let _part = cache.cut(rt, site)?;
     }
