@@ -12,9 +12,13 @@ PORTS, DESCRIPTORS = 40, 16
 REFUSED_LOADS = {"cannot listen", "cannot start thread", "poll failed", "out of memory"}
 
 
+# each run here takes a tenth of that
+SECONDS = 10
+
+
 def under(descriptors, words):
     """Runs the command with so many descriptors at most."""
-    return run(["sh", "-c", f'ulimit -n {descriptors}; exec "$@"', "sh", *words])
+    return run(["sh", "-c", f'ulimit -n {descriptors}; exec "$@"', "sh", *words], SECONDS)
 
 
 def get():

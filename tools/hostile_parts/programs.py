@@ -21,8 +21,8 @@ SECONDS_TO_END = 10
 
 
 class Run(NamedTuple):
-    """How a run ended, and what it wrote. Its status is a signal's where it is below 0; it has none where the run did not
-    end in time."""
+    """How a run ended, and what it wrote. Its status is a signal's where it is below 0; it has none where the run did
+    not end in time."""
 
     status: Optional[int]
     output: str

@@ -1,7 +1,9 @@
 """Standard input, output and error that are closed, full, or a pipe whose reader has left."""
 import contextlib
 import os
+import re
 import threading
+import time
 
 from real_servers import servers
 from real_servers.servers import nobody
@@ -46,16 +48,26 @@ def outputs(words, text=""):
 
 
 class Overheard:
-    """A behaviour that answers, and keeps what came that is no request."""
+    """A behaviour that answers each request, and keeps what came beside them."""
+
+    REQUEST = re.compile(rb"GET /(\d+) HTTP/1\.1\r\nHost: [\d.:]+\r\n\r\n")
 
     def __init__(self):
         self.other, self.lock = b"", threading.Lock()
 
     def __call__(self, connection):
-        for request in connection.requests():
-            connection.send(servers.counted(request.number))
+        came = b""
+        while piece := connection.stream.recv(65536):
+            came += piece
+            while found := self.REQUEST.search(came):
+                self.keep(came[:found.start()])
+                came = came[found.end():]
+                connection.send(servers.counted(int(found[1])))
+        self.keep(came)
+
+    def keep(self, other):
         with self.lock:
-            self.other += connection.came
+            self.other += other
 
 
 def script_output():
@@ -67,8 +79,11 @@ def script_output():
 def script_input():
     done = run(closing([0], [curlpool(), "script"]))
     check_same(done, (3, "", "line 0: cannot read\n"), "closed")
-    with open("/", "rb", opener=lambda path, _: os.open(path, os.O_RDONLY)) as folder:
+    folder = os.open("/", os.O_RDONLY)
+    try:
         check_same(run([curlpool(), "script"], stdin=folder), (3, "", "line 0: cannot read\n"), "a folder")
+    finally:
+        os.close(folder)
     return "status 3, `cannot read`"
 
 
@@ -91,7 +106,12 @@ def get_output():
         urls = [f"http://127.0.0.1:{server.port}/{number}" for number in (1, 2) for server in hosts]
         for name, done in outputs([curlpool(), "get", *urls]):
             check_same((done.status, done.errors), (4, "run: cannot write\n"), name)
-        check_same(heard.other, b"", "bytes on connections")
+        for closed in ([0, 1], [1, 2], [0, 1, 2]):
+            done = run(closing(closed, [curlpool(), "get", *urls]))
+            check_same((done.status, done.output), (4, ""), f"closed {closed}")
+        # what was sent last is read by now
+        time.sleep(0.2)
+        check_same(heard.other, b"", "bytes beside requests")
     return "status 4, `cannot write`"
 
 
@@ -104,9 +124,8 @@ def get_others():
         for closed in ([0], [2], [0, 2]):
             done = run(closing(closed, [curlpool(), "get", *urls]))
             check_same((done.status, done.output), (4, wanted), f"closed {closed}")
-        done = run(closing([0, 1, 2], [curlpool(), "get", *urls]))
-        check_same(done.status, 4, "all closed")
-        check_same(heard.other, b"", "bytes on connections")
+        time.sleep(0.2)
+        check_same(heard.other, b"", "bytes beside requests")
     return "lines and status stay"
 
 

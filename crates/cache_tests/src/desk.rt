@@ -102,10 +102,15 @@ impl Desk {
         };
         let pool = Pool::new(alloc, limits, hosts)?;
         // room for the few transfers of most tests, which is not asked for later
+        let leases = Vec::with_capacity(alloc, ROOM)?;
+        let Ok(tickets) = Vec::with_capacity(alloc, ROOM) else {
+            leases.destroy_empty();
+            return Err(Refusal::Memory);
+        };
         Ok(Desk {
             pool,
-            leases: Vec::with_capacity(alloc, ROOM)?,
-            tickets: Vec::with_capacity(alloc, ROOM)?,
+            leases,
+            tickets,
         })
     }
 

@@ -11,9 +11,14 @@ use driver::{RunReport, run};
 use exchange::{Done, Fault};
 use shared_cache::{Gathered, Names, Plan, SharedCache};
 use socket::{Addresses, SystemClock, WaitingDial, WaitingWire};
+use std::alloc::AllocGlobal;
 use std::marker::Brand;
 use std::net::{IpAddr, Ipv4Addr, SocketAddr, TcpListener};
+use std::process::Abort;
+use std::random::RandomSource;
+use std::sync::Wait;
 use std::test::Fail;
+use std::thread::Threads;
 
 // A dial whose one site listens at that address.
 fn dial_to(rt: &HostRuntime, site: SocketAddr) -> Result<WaitingDial<'_, HostRuntime>, Fail> {
@@ -23,8 +28,9 @@ fn dial_to(rt: &HostRuntime, site: SocketAddr) -> Result<WaitingDial<'_, HostRun
 }
 
 // How the jobs ended over a cache of that plan, by two workers, and its account.
-fn left_by<N: Names + Send + Sync>(
-    rt: &HostRuntime,
+fn left_by<N: Names + Send + Sync, R: Threads + Wait + Abort + RandomSource + AllocGlobal + Sync>(
+    rt: &R,
+    system: &HostRuntime,
     plan: Plan<WaitingWire>,
     site: SocketAddr,
     gate: &StopsAt,
@@ -40,10 +46,10 @@ fn left_by<N: Names + Send + Sync>(
     };
     let mut dials = Vec::new(rt.alloc());
     for _ in 0..2 {
-        push(rt, &mut dials, dial_to(rt, site)?);
+        push(rt, &mut dials, dial_to(system, site)?);
     }
     let jobs = jobs_of(rt, JOBS, 1, false);
-    let clock = SystemClock::new(rt)?;
+    let clock = SystemClock::new(system)?;
     match run(rt, rt.alloc(), &cache, &jobs, &mut dials, &clock, gate) {
         Ok(RunReport { results, passes }) => match cache.gather(rt.alloc(), passes) {
             Ok(gathered) => Ok((results, gathered)),
@@ -62,7 +68,7 @@ fn each_job_over_sockets_is_cancelled(rt: HostRuntime) -> Result<(), Fail> {
     for &(nth, later) in &[(1, 0), (2, 0), (1, 7)] {
         let plan: Plan<WaitingWire> = Plan::new(rt.alloc(), Limits::new(0, 1, 4)?, 1)?;
         let gate = gate_of(&rt, nth, later);
-        let (results, gathered) = left_by::<Brand>(&rt, plan, site, &gate)?;
+        let (results, gathered) = left_by::<Brand, HostRuntime>(&rt, &rt, plan, site, &gate)?;
         assert_eq!(rt; results.len() as u64, JOBS);
         let is_cancelled = |done: &Done| *done == Done::Bad(Fault::Cancelled);
         assert!(rt;

@@ -11,7 +11,7 @@ use cache::Pool;
 use conn_key::{CountedMemory, read_target};
 use conn_log::Want;
 use exchange::{Answer, Done, Exchange, Fault, Job, Prepared};
-use exchange_memory::{FakeCache, FixedClock, MemoryDial, MemoryWire};
+use exchange_memory::{FakeCache, FixedClock, Halt, MemoryDial, MemoryWire};
 use futures::task::{Doorbell, Solo};
 use leasing::Cache;
 use persistence::Method;
@@ -164,6 +164,43 @@ fn want_of_memory_for_good_ends_a_retry(rt: HostRuntime) {
         ) => assert_eq!(rt; (body_len, reused, retried), (2, false, true)),
         Done::Bad(fault) => assert_eq!(rt; fault, Fault::Refused(Refusal::Memory)),
     }
+}
+
+/// The same where it is cancelled while it waits for its answer.
+#[test]
+fn want_of_memory_for_good_ends_a_cancel(rt: HostRuntime) {
+    let Some(parts) = prepared_for(rt.alloc(), "http://example.com/") else {
+        return;
+    };
+    let Ok(mut wire) = MemoryWire::new(rt.alloc(), RESPONSE, 200) else {
+        return;
+    };
+    wire.halt_read(1, Halt::NotYet);
+    let mut dial = MemoryDial::new(rt.alloc());
+    let Ok(()) = dial.add(wire) else {
+        return;
+    };
+    let Ok(solo) = Solo::new(&rt, Doorbell::spinning()) else {
+        return;
+    };
+    let Some(pool) = pool_at(rt.alloc()) else {
+        return;
+    };
+    let mut cache = FakeCache::over(pool);
+    let clock = FixedClock { now: 7 };
+    let mut exchange = Exchange::new(parts, &mut cache, &mut dial, &clock);
+    let mut context = solo.begin();
+    let polled = exchange.poll(&mut context);
+    context.end(&polled);
+    if polled.is_ready() {
+        let (done, _, _, _) = exchange.finish();
+        assert_eq!(rt; done, Done::Bad(Fault::Refused(Refusal::Memory)));
+    } else {
+        let _ = exchange.cancel(7);
+    }
+    let out = (cache.leases(), cache.tickets());
+    let _ = cache.close();
+    assert_eq!(rt; out, (0, 0));
 }
 
 /// A URL whose request needs more room than that of a short one.

@@ -1,13 +1,14 @@
-//! What want of memory leaves. The test passes whichever allocation fails: the refusal says so and
-//! changes nothing, the call succeeds when it comes again, and spending takes none. How plans,
-//! caches, passes and accounts come again is in `making` and `gathering`.
+//! What want of memory leaves. The tests pass whichever allocation fails. In one of them the refusal
+//! says so and changes nothing, the call succeeds when it comes again, and spending takes none. How
+//! plans, caches, passes and accounts come again is in `making` and `gathering`. In the other all
+//! memory may be refused from some moment on.
 
 ghost use Rattle.std.specs.Prelude.{◌≡◌};
 
 use crate::desk::{Desk, KEEP, Said, Stream, look_said, want_of};
 use crate::gathering::{Account, Passes, check_account};
 use crate::making::{new_cache, new_plan};
-use budget::Refusal;
+use budget::{Limits, Refusal};
 use bundle::Bundle;
 use shared_cache::{Names, Plan, SharedCache};
 use std::alloc::Global;
@@ -120,4 +121,73 @@ fn whole_life<N: Names, R: Wait + Abort>(rt: &R, alloc: Global, plan: Plan<Strea
 fn want_of_memory_loses_nothing(rt: HostRuntime) {
     let plan = new_plan(&rt, rt.alloc(), (1, 0, 4), 2);
     whole_life::<Brand, HostRuntime>(&rt, rt.alloc(), plan);
+}
+
+/// How many transfers ask for a connection.
+const ASKING: u64 = 6;
+
+// Transfers ask until one is refused; how many were answered.
+fn ask_until_refused<N: Names>(
+    rt: &(impl Wait + Abort),
+    cache: &SharedCache<Stream, N>,
+    desk: &mut Desk<N>,
+) -> u64 {
+    for transfer in 0..ASKING {
+        let said = desk.acquire(rt, cache, 0, want_of(transfer), 0);
+        if said == Said::Refused(Refusal::Memory) {
+            return transfer;
+        }
+        let answer = if transfer == 0 {
+            Said::Opened(1, 0)
+        } else {
+            Said::Waits
+        };
+        assert_eq!(rt; said, answer);
+    }
+    ASKING
+}
+
+// A cache of that plan, whose host may have one open connection. From the refusal on there may be
+// no memory at all: each lease and each ticket ends as it does where there is plenty.
+fn end_all<N: Names, R: Wait + Abort>(rt: &R, alloc: Global, plan: Plan<Stream>)
+    requires { plan ≡ N.names }
+{
+    let made: Result<SharedCache<Stream, N>, (Plan<Stream>, Refusal)> = SharedCache::new(
+        alloc, plan,
+    );
+    let Ok(cache) = made else {
+        return;
+    };
+    let Ok(mut desk) = Desk::with_room(rt, alloc, &cache, ASKING as usize) else {
+        return;
+    };
+    let answered = ask_until_refused(rt, &cache, &mut desk);
+    if answered >= 1 {
+        desk.back(rt, &cache, 0, KEEP, 1);
+    }
+    if answered >= 2 {
+        assert_eq!(rt; desk.claim(rt, &cache, 1), Said::Reused(1, 1));
+        desk.abandon(rt, &cache, 1, 2);
+    }
+    // for each of the others one is opened in its place
+    for transfer in 2..answered {
+        let connection = transfer as u32;
+        assert_eq!(rt;
+            desk.leave(rt, &cache, transfer, 3),
+            Said::Withdrawn(connection)
+        );
+    }
+    let pruned = u32::from(answered == 1);
+    assert_eq!(rt; desk.prune(rt, &cache, 9, 0, 0), Said::Number(pruned));
+    assert_eq!(rt; look_said(rt, &cache, 0), Said::Look(0, 0, 0, 0, false));
+    desk.close(rt).discard();
+}
+
+#[test]
+fn want_of_memory_for_good_keeps_each_promise(rt: HostRuntime) {
+    let limits = Limits::new(1, 0, 4).expect(&rt, "limits");
+    let made: Result<Plan<Stream>, Refusal> = Plan::new(rt.alloc(), limits, 1);
+    if let Ok(plan) = made {
+        end_all::<Brand, HostRuntime>(&rt, rt.alloc(), plan);
+    }
 }
