@@ -19,10 +19,10 @@ class Request(NamedTuple):
 
 
 class Connection:
-    """A connection of a server, the first or a later one."""
+    """A connection of a server, the first or a later one. Requests of other numbers are none of this server."""
 
-    def __init__(self, stream, place):
-        self.stream, self.place, self.came = stream, place, b""
+    def __init__(self, stream, place, is_asked_here):
+        self.stream, self.place, self.came, self.is_asked_here = stream, place, b"", is_asked_here
         # each write goes out at once
         stream.setsockopt(socket.IPPROTO_TCP, socket.TCP_NODELAY, 1)
 
@@ -36,7 +36,7 @@ class Connection:
                 self.came += piece
             head, _, self.came = self.came.partition(b"\r\n\r\n")
             found = REQUEST.match(head)
-            if not found:
+            if not found or not self.is_asked_here(int(found[2])):
                 self.send(head_of("Content-Length: 0", "Connection: close", status="400 Bad Request"))
                 return
             yield Request(found[1] == b"HEAD", int(found[2]))
@@ -55,8 +55,8 @@ class Server(socketserver.ThreadingTCPServer):
     daemon_threads = True
     request_queue_size = 128
 
-    def __init__(self, behaviour, address="127.0.0.1", port=0):
-        self.behaviour, self.accepted = behaviour, 0
+    def __init__(self, behaviour, address="127.0.0.1", port=0, is_asked_here=lambda number: True):
+        self.behaviour, self.accepted, self.is_asked_here = behaviour, 0, is_asked_here
         self.address_family = socket.AF_INET6 if ":" in address else socket.AF_INET
         super().__init__((address, port), None)
         self.port = self.server_address[1]
@@ -65,7 +65,7 @@ class Server(socketserver.ThreadingTCPServer):
     def get_request(self):
         stream, address = super().get_request()
         self.accepted += 1
-        return Connection(stream, self.accepted), address
+        return Connection(stream, self.accepted, self.is_asked_here), address
 
     def finish_request(self, connection, _):
         with contextlib.suppress(OSError):

@@ -4,6 +4,8 @@
 #[cfg(test)]
 mod holders;
 #[cfg(test)]
+mod memory;
+#[cfg(test)]
 mod pass;
 #[cfg(test)]
 mod permits;

@@ -15,6 +15,9 @@ use std::alloc::Global;
 use std::marker::Model;
 use std::process::Abort;
 
+/// How many leases and tickets a desk keeps in the memory with which it was made.
+const ROOM: usize = 8;
+
 /// A response that lets its connection persist.
 pub(crate) const KEEP: Facts = Facts {
     version: Version::V11,
@@ -98,10 +101,11 @@ impl Desk {
             return Err(Refusal::BadLimit);
         };
         let pool = Pool::new(alloc, limits, hosts)?;
+        // room for the few transfers of most tests, which is not asked for later
         Ok(Desk {
             pool,
-            leases: Vec::new(alloc),
-            tickets: Vec::new(alloc),
+            leases: Vec::with_capacity(alloc, ROOM)?,
+            tickets: Vec::with_capacity(alloc, ROOM)?,
         })
     }
 

@@ -16,4 +16,6 @@ mod drawn;
 #[cfg(test)]
 mod example;
 #[cfg(test)]
+mod memory;
+#[cfg(test)]
 mod oldest_of_all;

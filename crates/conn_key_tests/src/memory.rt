@@ -3,7 +3,7 @@
 ghost use Rattle.std.specs.Prelude.{◌≡◌, ◌≤◌, true};
 ghost use Rattle.conn_key.specs.Wants.{Rises};
 
-use conn_key::{CountedMemory, KeyError, TargetMemory, read_target};
+use conn_key::{CountedMemory, KeyError, Sites, SitesFault, TargetMemory, read_target};
 use std::alloc::AllocError;
 use std::test::Fail;
 use url::{ParseError, Url};
@@ -95,5 +95,54 @@ fn each_want_of_memory_is_answered_as_one(rt: HostRuntime) -> Result<(), Fail> {
             }
         }
     }
+    Ok(())
+}
+
+/// URLs of one site each: the table of sites grows several times.
+const SITES: [&str; 10] = [
+    "http://a.test/",
+    "http://b.test/",
+    "http://c.test/",
+    "http://d.test/",
+    "http://e.test/",
+    "http://f.test/",
+    "http://g.test/",
+    "http://h.test/",
+    "http://i.test/",
+    "http://j.test/",
+];
+
+/// Passes whichever allocation fails: each refusal says so and changes nothing, and what is asked
+/// for comes when it is asked again.
+#[test]
+fn want_of_memory_refuses_a_site(rt: HostRuntime) -> Result<(), Fail> {
+    let mut sites = match Sites::new(rt.alloc()) {
+        Ok(sites) => sites,
+        Err(fault) => {
+            assert_eq!(rt; fault, SitesFault::Memory);
+            Sites::new(rt.alloc())?
+        }
+    };
+    for url in &SITES {
+        let mut memory = CountedMemory::new(rt.alloc());
+        let target = match read_target(&mut memory, url) {
+            Ok(target) => target,
+            Err(error) => {
+                assert_eq!(rt; error, KeyError::Memory);
+                read_target(&mut memory, url)?
+            }
+        };
+        let before = sites.len();
+        let site = match sites.add(&target) {
+            Ok(site) => site,
+            Err(fault) => {
+                assert_eq!(rt; fault, SitesFault::Memory);
+                assert_eq!(rt; (sites.len(), sites.find(&target)), (before, None));
+                sites.add(&target)?
+            }
+        };
+        assert_eq!(rt; (site as usize, sites.find(&target)), (before, Some(site)));
+    }
+    assert_eq!(rt; sites.len(), SITES.len());
     Ok(())
 }

@@ -10,40 +10,43 @@ use std::marker::Brand;
 use std::process::Abort;
 use std::sync::atomic::AtomicU64;
 
-const JOBS: u64 = 20;
+/// How many jobs there are.
+pub(crate) const JOBS: u64 = 20;
 
-// A gate that cancels each job when it is asked for the nth time.
-fn gate_of<R: Abort + AllocGlobal>(rt: &R, nth: u64) -> StopsAt {
+/// A gate that cancels each job when it is asked for the nth time, or up to so many times later.
+pub(crate) fn gate_of<R: Abort + AllocGlobal>(rt: &R, nth: u64, later: u64) -> StopsAt {
     let mut asked = Vec::new(rt.alloc());
     for _ in 0..JOBS {
         push(rt, &mut asked, AtomicU64::new(0));
     }
-    StopsAt { nth, asked }
+    StopsAt { nth, later, asked }
 }
 
 #[test]
 fn each_job_is_cancelled(rt: HostRuntime) {
-    // when it is cancelled, what its peer would do, and whether none is ever opened
-    for &(nth, peer, opens_none) in &[
-        (1, Peer::Answers, true),
-        (1, Peer::KeepsSilent, true),
-        (2, Peer::KeepsSilent, false),
-        (3, Peer::KeepsSilent, false),
+    // when it is cancelled, how much later at most, what its peer would do, and whether none is ever
+    // opened
+    for &(nth, later, peer, opens_none) in &[
+        (1, 0, Peer::Answers, true),
+        (1, 0, Peer::KeepsSilent, true),
+        (2, 0, Peer::KeepsSilent, false),
+        (3, 0, Peer::KeepsSilent, false),
+        (1, 7, Peer::KeepsSilent, false),
     ] {
         let plan = plan_of(&rt, 1, 2);
         let jobs = jobs_of(&rt, JOBS, 2, false);
         let mut dials = dials_of(&rt, 2, peer);
-        let gate = gate_of(&rt, nth);
+        let gate = gate_of(&rt, nth, later);
         let whole = whole_run::<Brand, StopsAt, HostRuntime>(&rt, plan, &jobs, &mut dials, &gate);
         let results = whole.results(&rt, 2, "cancelled");
         assert_eq!(rt; results.len() as u64, JOBS);
         let is_cancelled = |done: &Done| *done == Done::Bad(Fault::Cancelled);
         assert!(rt;
             results.iter().all(is_cancelled),
-            "{nth} {peer:?}: {results:?}"
+            "{nth} {later} {peer:?}: {results:?}"
         );
-        assert_eq!(rt; whole.all.reused, 0, "{nth} {peer:?}");
-        assert_eq!(rt; whole.all.opened == 0, opens_none, "{nth} {peer:?}");
+        assert_eq!(rt; whole.all.reused, 0, "{nth} {later} {peer:?}");
+        assert_eq!(rt; whole.all.opened == 0, opens_none, "{nth} {later} {peer:?}");
     }
 }
 

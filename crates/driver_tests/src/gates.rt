@@ -83,11 +83,14 @@ impl Gate for InOrder {
     }
 }
 
-/// A gate that cancels each job when it is asked for the nth time whether to.
+/// A gate that cancels each job when it is asked for the nth time whether to, or some times later:
+/// how many is drawn for each.
 #[derive(Drop)]
 pub(crate) struct StopsAt {
     /// Which time that is, counted from one.
     pub(crate) nth: u64,
+    /// How many times later it may be: 0, or one less than a power of two.
+    pub(crate) later: u64,
     /// How often it was asked, of each job.
     pub(crate) asked: Vec<AtomicU64>,
 }
@@ -104,8 +107,15 @@ impl Gate for StopsAt {
             return true;
         };
         let earlier = asked.fetch_add(1, Ordering::SeqCst);
-        earlier.saturating_add(1) >= self.nth
+        let drawn = drawn_of(job) & self.later;
+        earlier.saturating_add(1) >= self.nth.saturating_add(drawn)
     }
+}
+
+// A number for the job.
+fn drawn_of(job: u64) -> u64 {
+    let mixed = job.wrapping_mul(6_364_136_223_846_793_005);
+    mixed.wrapping_add(1_442_695_040_888_963_407) >> 33
 }
 
 /// A gate where job 1 waits for what job 0 holds, and is cancelled: before job 0 gives that up, or

@@ -17,6 +17,8 @@ mod peers;
 #[cfg(test)]
 mod runs;
 #[cfg(test)]
+mod sockets;
+#[cfg(test)]
 mod threads;
 #[cfg(test)]
 mod whole;

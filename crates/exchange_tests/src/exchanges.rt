@@ -404,6 +404,33 @@ fn a_response_that_is_bad(rt: HostRuntime) -> Result<(), Fail> {
     Ok(())
 }
 
+// Responses that are whole, and after which their connection is not used again: more bytes come
+// with the response, or it has both lengths.
+#[test]
+fn a_response_that_ends_its_connection(rt: HostRuntime) -> Result<(), Fail> {
+    let surplus = Facts {
+        surplus: true,
+        ..KEEP
+    };
+    let both_lengths = Facts {
+        both_lengths: true,
+        framing: Framing::Chunked,
+        ..KEEP
+    };
+    let more: &[u8] = b"HTTP/1.1 200 OK\r\nContent-Length: 2\r\n\r\nokHTTP/1.1 200 OK\r\n\r\n";
+    let both: &[u8] = b"HTTP/1.1 200 OK\r\nContent-Length: 2\r\nTransfer-Encoding: chunked\r\n\r\n\
+        2\r\nok\r\n0\r\n\r\n";
+    for &(response, facts) in &[(more, surplus), (both, both_lengths)] {
+        let mut dial = dial_of(&rt, wire_of(&rt, response));
+        let mut cache = cache_of(&rt);
+        let done = run_at_once(&rt, prepared(&rt), &mut cache, &mut dial);
+        assert_eq!(rt; done, Done::Good(Answer { facts, ..GOOD }));
+        check_last(&rt, &cache, closed(1, Cause::NotPersistent, NOW));
+        let _ = close(&rt, cache);
+    }
+    Ok(())
+}
+
 #[test]
 fn a_response_at_a_limit(rt: HostRuntime) -> Result<(), Fail> {
     let empty = b"HTTP/1.1 200 OK\r\nContent-Length: 0\r\n";

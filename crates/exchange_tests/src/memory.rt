@@ -1,14 +1,22 @@
-//! An exchange where memory is short.
+//! Exchanges where memory is short. The tests pass whichever allocation fails, and where all fail
+//! from one on.
 
+ghost use Rattle.std.specs.Prelude.{IfSome, ◌≡◌};
+ghost use Rattle.exchange.specs.Answers.{IsUnused};
+
+use crate::driving::KEEP;
 use budget::{Limits, Refusal};
+use bundle::Acquired;
 use cache::Pool;
 use conn_key::{CountedMemory, read_target};
 use conn_log::Want;
-use exchange::{Done, Exchange, Fault, Job, Prepared};
+use exchange::{Answer, Done, Exchange, Fault, Job, Prepared};
 use exchange_memory::{FakeCache, FixedClock, MemoryDial, MemoryWire};
 use futures::task::{Doorbell, Solo};
+use leasing::Cache;
 use persistence::Method;
-use std::alloc::AllocGlobal;
+use std::alloc::{AllocGlobal, Global};
+use std::process::Abort;
 use std::test::Fail;
 
 const RESPONSE: &[u8] = b"HTTP/1.1 200 OK\r\nContent-Length: 2\r\n\r\nok";
@@ -22,55 +30,164 @@ const WANT: Want = Want {
     forbid_reuse: false,
 };
 
-/// Nothing is lost: the exchange is not begun, or its cache refuses, or all goes well.
-#[test]
-fn want_of_memory_ends_an_exchange(rt: HostRuntime) -> Result<(), Fail> {
-    let mut memory = CountedMemory::new(rt.alloc());
-    let Ok(target) = read_target(&mut memory, "http://example.com/") else {
-        return Ok(());
-    };
-    let job = Job {
+// A request of that URL, if there is memory for it.
+fn job_of(alloc: Global, url: &str) -> Option<Job> {
+    let mut memory = CountedMemory::new(alloc);
+    let target = read_target(&mut memory, url).ok()?;
+    Some(Job {
         site: 0,
         want: WANT,
         method: Method::Get,
         target,
+    })
+}
+
+// The same, prepared.
+fn prepared_for(alloc: Global, url: &str) -> Option<Prepared>
+    ensures { IfSome result IsUnused }
+{
+    let job = job_of(alloc, url)?;
+    Prepared::new(alloc, &job).ok()
+}
+
+// A dial that gives one wire with that response.
+fn dial_to(alloc: Global, response: &[u8]) -> Option<MemoryDial> {
+    let wire = MemoryWire::new(alloc, response, 200).ok()?;
+    let mut dial = MemoryDial::new(alloc);
+    dial.add(wire).ok()?;
+    Some(dial)
+}
+
+// A pool of one host.
+fn pool_at(alloc: Global) -> Option<Pool<MemoryWire>> {
+    let limits = Limits::new(6, 20, 4).ok()?;
+    Pool::new(alloc, limits, 1).ok()
+}
+
+// A pool of one host, with an idle connection that its peer has ended.
+fn pool_with_ended<R: Abort + AllocGlobal>(rt: &R) -> Option<Pool<MemoryWire>> {
+    let mut pool = pool_at(rt.alloc())?;
+    let wire = MemoryWire::new(rt.alloc(), &[], 200).ok()?;
+    let want = Want {
+        transfer: 99,
+        ..WANT
     };
-    let Ok(parts) = Prepared::new(rt.alloc(), &job) else {
-        return Ok(());
-    };
-    let Ok(wire) = MemoryWire::new(rt.alloc(), RESPONSE, 200) else {
-        return Ok(());
-    };
-    let mut dial = MemoryDial::new(rt.alloc());
-    let Ok(()) = dial.add(wire) else {
-        return Ok(());
-    };
-    let Ok(task) = Solo::new(&rt, Doorbell::spinning()) else {
-        return Ok(());
-    };
-    let Ok(pool) = Pool::new(rt.alloc(), Limits::new(6, 20, 4)?, 1) else {
-        return Ok(());
-    };
+    match Cache::acquire(&mut pool, 0, want, 0) {
+        Ok(Acquired::Lease(lease)) => {
+            let mut lease = lease;
+            assert!(rt; !lease.has_stream());
+            lease.attach(wire);
+            pool.give_back(lease, KEEP, 0);
+            Some(pool)
+        }
+        Ok(Acquired::Wait(_ticket)) => panic!(rt; "it has to wait"),
+        Err(refusal) => {
+            assert_eq!(rt; refusal, Refusal::Memory);
+            None
+        }
+    }
+}
+
+// How the exchange ends over that pool. No lease and no ticket may be out then.
+fn ended_over<R: Abort>(
+    rt: &R,
+    solo: &Solo,
+    parts: Prepared,
+    pool: Pool<MemoryWire>,
+    dial: &mut MemoryDial,
+) -> Done
+    requires unused { IsUnused parts }
+{
     let mut cache = FakeCache::over(pool);
     let clock = FixedClock { now: 7 };
-    let mut exchange = Exchange::new(parts, &mut cache, &mut dial, &clock);
-    let mut context = task.begin();
+    let mut exchange = Exchange::new(parts, &mut cache, dial, &clock);
+    let mut context = solo.begin();
     let polled = exchange.poll(&mut context);
     context.end(&polled);
     if !polled.is_ready() {
         let _ = exchange.cancel(7);
         let _ = cache.close();
-        return Err(Fail::from("it is pending"));
+        panic!(rt; "it is pending");
     }
     let (done, _, _, _) = exchange.finish();
     let out = (cache.leases(), cache.tickets());
     let _ = cache.close();
     assert_eq!(rt; out, (0, 0));
-    match done {
-        Done::Good(_) => Ok(()),
-        Done::Bad(fault) => {
-            assert_eq!(rt; fault, Fault::Refused(Refusal::Memory));
-            Ok(())
-        }
+    done
+}
+
+/// Nothing is lost: the exchange is not begun, or its cache refuses, or all goes well.
+#[test]
+fn want_of_memory_for_good_ends_an_exchange(rt: HostRuntime) {
+    let Some(parts) = prepared_for(rt.alloc(), "http://example.com/") else {
+        return;
+    };
+    let Some(mut dial) = dial_to(rt.alloc(), RESPONSE) else {
+        return;
+    };
+    let Ok(solo) = Solo::new(&rt, Doorbell::spinning()) else {
+        return;
+    };
+    let Some(pool) = pool_at(rt.alloc()) else {
+        return;
+    };
+    match ended_over(&rt, &solo, parts, pool, &mut dial) {
+        Done::Good(answer) => assert_eq!(rt; (answer.status, answer.body_len), (200, 2)),
+        Done::Bad(fault) => assert_eq!(rt; fault, Fault::Refused(Refusal::Memory)),
     }
+}
+
+/// The same where the request is sent once more: its connection had ended, and is abandoned before
+/// a new one is asked for.
+#[test]
+fn want_of_memory_for_good_ends_a_retry(rt: HostRuntime) {
+    let Some(parts) = prepared_for(rt.alloc(), "http://example.com/") else {
+        return;
+    };
+    let Some(mut dial) = dial_to(rt.alloc(), RESPONSE) else {
+        return;
+    };
+    let Ok(solo) = Solo::new(&rt, Doorbell::spinning()) else {
+        return;
+    };
+    let Some(pool) = pool_with_ended(&rt) else {
+        return;
+    };
+    match ended_over(&rt, &solo, parts, pool, &mut dial) {
+        Done::Good(
+            Answer {
+                body_len,
+                reused,
+                retried,
+                ..
+            },
+        ) => assert_eq!(rt; (body_len, reused, retried), (2, false, true)),
+        Done::Bad(fault) => assert_eq!(rt; fault, Fault::Refused(Refusal::Memory)),
+    }
+}
+
+/// A URL whose request needs more room than that of a short one.
+const LONG: &str = "http://example.com/a/path/that/is/so/long/that/the/text/of/its/request/has/no/\
+    room/in/the/memory/of/a/short/one/and/so/asks/for/more/than/it/was/prepared/with";
+
+/// What was prepared comes back where there is no memory for another request, and serves it when
+/// that is asked again.
+#[test]
+fn want_of_memory_gives_back_what_was_prepared(rt: HostRuntime) -> Result<(), Fail> {
+    let Some(parts) = prepared_for(rt.alloc(), "http://example.com/") else {
+        return Ok(());
+    };
+    let Some(job) = job_of(rt.alloc(), LONG) else {
+        return Ok(());
+    };
+    let parts = match parts.again(&job) {
+        Ok(parts) => parts,
+        Err((parts, _)) => match parts.again(&job) {
+            Ok(parts) => parts,
+            Err(_) => panic!(rt; "no memory"),
+        },
+    };
+    assert!(rt; parts.text().starts_with("GET /a/path/that/is/so/long/"));
+    assert!(rt; parts.text().len() > LONG.len());
+    Ok(())
 }

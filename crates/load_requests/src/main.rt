@@ -1,5 +1,5 @@
-//! A program for measuring loads: threads request paths of servers that run elsewhere, over one
-//! shared cache, and it prints what came of them. It is not a part of the product.
+//! A program for trying and measuring loads: threads request paths of servers that run elsewhere,
+//! over one shared cache, and it prints what came of them. It is not a part of the product.
 #![tactic(auto)]
 
 mod requests;
@@ -18,7 +18,7 @@ const FAILED: u8 = 1;
 const BAD_WORDS: u8 = 2;
 
 /// The words that there are.
-const USAGE: &str = "load_requests: WORKERS TOTAL JOBS PORT..\n";
+const USAGE: &str = "load_requests: [each] WORKERS TOTAL JOBS PORT..\n";
 
 /// The words with which the program was started.
 fn given_words(rt: &HostRuntime) -> Option<Vec<String>> {

@@ -4,11 +4,12 @@ ghost use Rattle.std.specs.Prelude.{◌≡◌, length, IfSome};
 
 use crate::task::Task;
 use budget::Limits;
-use cli::load_jobs;
+use cli::{line_text, load_jobs};
 use exchange::Done;
 use load::load;
 use shared_cache::HostCount;
 use std::alloc::{AllocGlobal, Global};
+use std::io::Write;
 use std::net::{IpAddr, Ipv4Addr, SocketAddr};
 use std::random::RandomSource;
 use std::sync::Wait;
@@ -75,7 +76,8 @@ impl Totals {
     }
 }
 
-/// What came of the requests of the task; none where they can't be made.
+/// What came of the requests of the task, each of which has a line where the task says so; none
+/// where they can't be made.
 pub(crate) fn totals_of<R: Threads + Wait + RandomSource + AllocGlobal + Sync>(
     rt: &R,
     system: &HostRuntime,
@@ -89,6 +91,9 @@ pub(crate) fn totals_of<R: Threads + Wait + RandomSource + AllocGlobal + Sync>(
     }
     let jobs = load_jobs(alloc, task.jobs, &task.ports).ok()?;
     let loaded = load(rt, system, alloc, limits, &sites, &jobs, task.workers).ok()?;
+    if task.has_lines {
+        print_lines(system, &loaded.results)?;
+    }
     let mut totals = Totals::new();
     for done in &loaded.results {
         totals.add(done);
@@ -109,4 +114,15 @@ fn sites_at(alloc: Global, ports: &[u16]) -> Option<Vec<SocketAddr>>
         sites.push(site).ok()?;
     }
     Some(sites)
+}
+
+// Prints a line for each request, as `curlpool get` has one for a URL: what came of it, and its
+// path.
+fn print_lines(rt: &HostRuntime, results: &[Done]) -> Option<()> {
+    for (number, done) in results.iter().enumerate() {
+        let path = format!(in rt.alloc(); "/{number}").ok()?;
+        let line = line_text(rt.alloc(), path.as_str(), *done).ok()?;
+        print!(rt; "{line}").ok()?;
+    }
+    Some(())
 }

@@ -13,19 +13,29 @@ pub(crate) struct Task {
     pub(crate) jobs: u32,
     /// The ports of 127.0.0.1 at which the sites listen.
     pub(crate) ports: Vec<u16>,
+    /// Each request has a line.
+    pub(crate) has_lines: bool,
 }
 
-/// The task that the words ask for, if they ask for one: three numbers, and ports.
+/// The task that the words ask for, if they ask for one: three numbers, and ports; before them
+/// `each` where each request is to have a line.
 pub(crate) fn task_of(alloc: Global, words: &[String]) -> Option<Task> {
-    let workers = words.get(1)?.as_str().parse::<u32>().ok()?;
-    let total = words.get(2)?.as_str().parse::<u32>().ok()?;
-    let jobs = words.get(3)?.as_str().parse::<u32>().ok()?;
-    let ports = ports_of(alloc, words.get(4..)?)?;
+    let has_lines = words.get(1)?.as_str() == "each";
+    let numbers = if has_lines {
+        words.get(2..)?
+    } else {
+        words.get(1..)?
+    };
+    let workers = numbers.get(0)?.as_str().parse::<u32>().ok()?;
+    let total = numbers.get(1)?.as_str().parse::<u32>().ok()?;
+    let jobs = numbers.get(2)?.as_str().parse::<u32>().ok()?;
+    let ports = ports_of(alloc, numbers.get(3..)?)?;
     Some(Task {
         workers,
         total,
         jobs,
         ports,
+        has_lines,
     })
 }
 

@@ -65,6 +65,23 @@ fn limited_at_last<N: Names>(
     desk.limit(rt, cache, 1, limit, 0)
 }
 
+// The same of a cut of host 1's log: how many entries it hands out.
+fn cut_at_last<N: Names>(
+    rt: &(impl Wait + Abort),
+    cache: &SharedCache<Stream, N>,
+    desk: &Desk<N>,
+) -> usize {
+    let before = shown(rt, cache, desk, 1);
+    match cache.cut(rt, 1) {
+        Ok(part) => part.len(),
+        Err(refusal) => {
+            assert_eq!(rt; refusal, Refusal::Memory);
+            assert_eq!(rt; shown(rt, cache, desk, 1), before);
+            cache.cut(rt, 1).expect(rt, "memory").len()
+        }
+    }
+}
+
 // One transfer has the connection, and hands it to another one that waits.
 fn use_often<N: Names>(
     rt: &(impl Wait + Abort),
@@ -80,6 +97,7 @@ fn use_often<N: Names>(
         desk.back(rt, cache, second, KEEP, 0);
         let limit = round as u32 + 2;
         assert_eq!(rt; limited_at_last(rt, cache, desk, limit), Said::Done);
+        assert_eq!(rt; cut_at_last(rt, cache, desk), 1);
     }
 }
 

@@ -1,0 +1,143 @@
+"""Memory that is refused: each request for it in turn, alone and from it on.
+
+The scripts are tried by tools/failing-allocations and calls by tools/failing-allocations-in-tests. Here curlpool get and
+curlpool load are tried the same way.
+"""
+import collections
+import contextlib
+import functools
+import itertools
+import os
+import re
+import tempfile
+
+from failing_malloc import Runner, in_turn
+from real_servers import servers
+from real_servers.servers import Server
+
+from .parts import Part, check
+from .programs import curlpool, run, tests_of, tool
+
+# the crates whose tests of want of memory try the public calls that may be refused memory
+CRATES = ("budget_tests", "bundle_tests", "cache_report_tests", "cache_tests", "cli_tests", "conn_key_tests",
+          "conn_log_tests", "driver_tests", "exchange_tests", "load_tests", "persistence_tests", "shared_cache_tests")
+SECONDS = 20
+SECONDS_OF_ALL = 300
+# how many allocations a load is refused at least; its threads ask for some more or fewer each time
+BEYOND = 40
+WORDS_OF_LOAD = ["load", "--sites", "2", "--jobs", "12", "--workers", "2", "--host-limit", "1", "--total", "1"]
+FAULT = re.compile(r"(?:Memory|Refused|Dial) (\S+)\n")
+ALLOCATIONS = re.compile(r"\b(\d+) allocations", re.MULTILINE)
+
+
+def last_of(text):
+    lines = text.strip().splitlines()
+    return lines[-1] if lines else ""
+
+
+def by_tool(name, *words, **variables):
+    """Runs one of the tools, which say `0 wrong` at the end; what it said."""
+    done = run([tool(name), *words], SECONDS_OF_ALL, env={**os.environ, **variables})
+    wrong = [line.strip() for line in done.output.splitlines() if "WRONG" in line]
+    check(done.status == 0 and last_of(done.output) == "0 wrong",
+          f"{'; '.join(wrong[:3]) or last_of(done.errors)}; status {done.status}")
+    return done.output
+
+
+def scripts():
+    said = by_tool("failing-allocations", PROGRAM=curlpool())
+    count = sum(map(int, ALLOCATIONS.findall(said)))
+    return f"{len(ALLOCATIONS.findall(said))} scripts, {count} allocations, each alone and all from it on"
+
+
+def calls_of(crate):
+    said = by_tool("failing-allocations-in-tests", "--only", "want_of_memory", crate, **tests_of(crate))
+    tests = [line for line in said.splitlines() if not line.startswith(" ") and line.endswith(" allocations")]
+    return f"{len(tests)} tests, {sum(map(int, ALLOCATIONS.findall(chr(10).join(tests))))} allocations"
+
+
+def wrong_front(run, lines, urls):
+    """What is wrong with what get wrote, or nothing: each URL has its line, or a fault for want of memory, or the run
+    ended before it."""
+    found = run.output.decode().splitlines(keepends=True)
+    if len(found) > len(lines):
+        return f"{len(found)} lines"
+    for line, ample, url in zip(found, lines, urls, strict=False):
+        fault = FAULT.fullmatch(line)
+        is_answer = line.split(" ")[:2] == ample.split(" ")[:2] and line.endswith(f" {url}\n")
+        if not is_answer and not (fault and fault[1] == url):
+            return f"`{line.strip()}` in place of `{ample.strip()}`"
+    return None
+
+
+def wrong_get(run, ample, urls):
+    """What is wrong with a run of get, or nothing."""
+    lines = ample.output.decode().splitlines(keepends=True)
+    if run.status == 0:
+        is_whole = run.output.count(b"\n") == len(lines)
+        return wrong_front(run, lines, urls) if is_whole and not run.errors else f"status 0, {run.errors!r}"
+    found = run.output.decode().splitlines()
+    failed = sum(1 for line in found if not line[0].isdigit())
+    said = run.errors.decode()
+    is_said = said == f"run: {failed} of {len(urls)} failed\n" if len(found) == len(urls) and failed else (
+        said == "run: out of memory\n")
+    if run.status != 4 or not is_said:
+        return f"status {run.status}, {run.output!r}, {said!r}"
+    return wrong_front(run, lines, urls)
+
+
+def wrong_load(run, ample, _):
+    """What is wrong with a run of load, or nothing."""
+    if run.status == 0:
+        lines = run.output.decode().splitlines()
+        is_report = [line.split()[0] for line in lines] == ["host", "host", "all", "jobs"] and not run.errors
+        return None if is_report and adds_up(lines) else f"status 0, {run.output!r}, {run.errors!r}"
+    is_told = run.status == 4 and not run.output and run.errors in REFUSED_LOADS
+    return None if is_told else f"status {run.status}, {run.output!r}, {run.errors!r}"
+
+
+REFUSED_LOADS = (b"run: out of memory\n", b"run: cannot listen\n", b"run: cannot start thread\n")
+
+
+def adds_up(lines):
+    """Whether the report's sums are those of its hosts, and each job was answered or failed."""
+    hosts = [list(map(int, line.split()[2:])) for line in lines[:2]]
+    sums = list(map(int, lines[2].split()[2:]))
+    jobs, bad, *_, size = map(int, lines[3].split()[1:])
+    is_closed = all(opened - closed == alive for opened, _, closed, _, alive in hosts)
+    return sums == [sum(one) for one in zip(*hosts, strict=True)] and is_closed and size == 2 * (jobs - bad)
+
+
+def fail_each(words, wrong_with, urls=(), beyond=0):
+    """Fails each allocation of a run in turn, alone and all from it on; what there is to say of it."""
+    with tempfile.TemporaryDirectory() as room:
+        runner = Runner(room, SECONDS)
+        ample = runner.run(words)
+        check(ample.status == 0 and ample.asked > 0, f"in ample memory: status {ample.status}, {ample.errors!r}")
+        ends = collections.Counter()
+        for how, run_at in (("alone", runner.alone), ("from it on", runner.from_it_on)):
+            numbers = range(1, ample.asked + beyond + 1)
+            for number, one in in_turn(functools.partial(run_at, words, b""), numbers):
+                found = one.killed() or wrong_with(one, ample, urls)
+                check(not found, f"allocation {number} {how}: {found}")
+                ends[one.status] += 1
+    return f"{ample.asked} allocations; {ends[0]} runs whole, {ends[4]} that say so"
+
+
+def get():
+    with contextlib.ExitStack() as stack:
+        ports = [stack.enter_context(Server(servers.lasts)).port for _ in range(2)]
+        urls = [f"http://127.0.0.1:{port}/{number}" for number, port in zip((1, 2, 3), itertools.cycle(ports))]
+        return fail_each([curlpool(), "get", *urls], wrong_get, urls)
+
+
+def load():
+    return fail_each([curlpool(), *WORDS_OF_LOAD], wrong_load, beyond=BEYOND)
+
+
+PARTS = [
+    Part("memory: scripts", scripts),
+    *(Part(f"memory: calls, in {crate}", functools.partial(calls_of, crate)) for crate in CRATES),
+    Part("memory: curlpool get", get),
+    Part("memory: curlpool load", load),
+]

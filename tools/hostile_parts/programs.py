@@ -1,0 +1,92 @@
+"""The programs and tests that hostile tries: where they are, and what a run of them gave.
+
+BUILT names a folder that has them already: pool_cli, load_requests, and the tests CRATE_tests of each crate. Otherwise
+those in `out` are taken, and rt builds them first where they are missing or older than their sources.
+"""
+import contextlib
+import os
+import signal
+import subprocess
+from subprocess import DEVNULL, PIPE
+from typing import NamedTuple, Optional
+
+from program import BUILT as BUILT_CURLPOOL
+from program import TOP, build_unless_current, built
+
+# one request, to where nobody listens
+FEWEST_WORDS = ["1", "0", "1", "1"]
+# no run takes a tenth of that
+SECONDS = 60
+SECONDS_TO_END = 10
+
+
+class Run(NamedTuple):
+    """How a run ended, and what it wrote. Its status is a signal's where it is below 0; it has none where the run did not
+    end in time."""
+
+    status: Optional[int]
+    output: str
+    errors: str
+
+    def told(self):
+        """Its end, in a few words."""
+        if self.status is None:
+            return self.errors
+        return f"status {self.status}, {self.output[-200:]!r}, {self.errors[-200:]!r}"
+
+
+def given(name):
+    """A file of the folder that BUILT names, or nothing where it names none."""
+    folder = os.environ.get("BUILT")
+    return os.path.join(folder, name) if folder else None
+
+
+def curlpool():
+    """The program curlpool, built. PROGRAM names another one."""
+    found = os.environ.get("PROGRAM") or given("pool_cli")
+    if not found:
+        build_unless_current()
+    return found or BUILT_CURLPOOL
+
+
+def load_requests():
+    """The program load_requests, built. LOAD_REQUESTS names another one."""
+    return (os.environ.get("LOAD_REQUESTS") or given("load_requests")
+            or built("load_requests", "run", "load_requests", FEWEST_WORDS))
+
+
+def tests_of(crate):
+    """The built tests of a crate, by environment for tools/failing-allocations-in-tests; nothing where that builds
+    them."""
+    found = given(f"{crate}_tests")
+    return {"TESTS": found} if found else {}
+
+
+def tool(name):
+    return os.path.join(TOP, "tools", name)
+
+
+def started(words, **streams):
+    """Starts a command in a process group of its own."""
+    return subprocess.Popen(words, start_new_session=True, **streams)
+
+
+def end(run):
+    """Ends a process that was started so, and what is left of its group."""
+    if run.poll() is None:
+        with contextlib.suppress(ProcessLookupError):
+            os.killpg(run.pid, signal.SIGKILL)
+        run.wait()
+
+
+def run(words, seconds=SECONDS, text="", **how):
+    """Runs a command on that standard input, for so long at most."""
+    streams = {"stdin": PIPE if text else DEVNULL, "stdout": PIPE, "stderr": PIPE, **how}
+    one = started(words, encoding="utf8", errors="replace", **streams)
+    try:
+        output, errors = one.communicate(text or None, timeout=seconds)
+        return Run(one.returncode, output or "", errors or "")
+    except subprocess.TimeoutExpired:
+        return Run(None, "", f"it did not end within {seconds} seconds")
+    finally:
+        end(one)

@@ -1,0 +1,73 @@
+"""A signal in the middle of a run: it ends at once, by that signal, and what was written stays."""
+import contextlib
+import os
+import signal
+import subprocess
+import time
+from subprocess import PIPE
+
+from real_servers import servers
+
+from . import behaviours
+from .parts import Part, check_same
+from .peers import listening
+from .programs import curlpool, end, started
+
+SIGNALS = (signal.SIGINT, signal.SIGTERM, signal.SIGHUP)
+SECONDS = 10
+
+
+@contextlib.contextmanager
+def running(words, **streams):
+    run = started(words, stdout=PIPE, stderr=PIPE, **streams)
+    try:
+        yield run
+    finally:
+        end(run)
+
+
+def end_by(run, number):
+    """Ends it by the signal: its status, and the rest of what it wrote."""
+    run.send_signal(number)
+    output, errors = run.communicate(timeout=SECONDS)
+    return run.returncode, output.decode(), errors.decode()
+
+
+def get():
+    """The line of each URL that was carried out stands already."""
+    with listening(servers.lasts, behaviours.never_answers) as hosts:
+        urls = [f"http://127.0.0.1:{server.port}/3" for server in hosts]
+        for number in SIGNALS:
+            with running([curlpool(), "get", *urls], stdin=subprocess.DEVNULL) as run:
+                first = os.read(run.stdout.fileno(), 1_000).decode()
+                check_same(first, f"200 3 new {urls[0]}\n", "the first line")
+                check_same(end_by(run, number), (-number, "", ""), number.name)
+    return "the lines before it stand"
+
+
+def script():
+    """A script is read whole before it runs, so nothing was written."""
+    for number in SIGNALS:
+        with running([curlpool(), "script"], stdin=PIPE) as run:
+            run.stdin.write(b"limits 0 0 4\nsite http://a.test/\nget 1 0 0 at 0\n")
+            run.stdin.flush()
+            time.sleep(0.2)
+            check_same(end_by(run, number), (-number, "", ""), number.name)
+    return "nothing was written"
+
+
+def load():
+    """A report is written at the end, so nothing was written."""
+    words = [curlpool(), "load", "--jobs", "10000", "--sites", "1", "--total", "1", "--workers", "64"]
+    for number in SIGNALS:
+        with running(words, stdin=subprocess.DEVNULL) as run:
+            time.sleep(0.05)
+            check_same(end_by(run, number), (-number, "", ""), number.name)
+    return "nothing was written"
+
+
+PARTS = [
+    Part("signals: curlpool get", get),
+    Part("signals: curlpool script", script),
+    Part("signals: curlpool load", load),
+]

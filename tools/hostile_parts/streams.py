@@ -1,0 +1,137 @@
+"""Standard input, output and error that are closed, full, or a pipe whose reader has left."""
+import contextlib
+import os
+import threading
+
+from real_servers import servers
+from real_servers.servers import nobody
+
+from .parts import Part, check, check_same
+from .peers import listening
+from .programs import curlpool, run
+
+SCRIPT = "limits 0 0 4\nsite http://a.test/\nget 1 0 0 at 0\n"
+TRANSCRIPT = "opened 0.1 for 1 at 0\n"
+SIGN = {0: "<", 1: ">", 2: ">"}
+
+
+def closing(closed, words):
+    """The command, started with these of its standard streams closed."""
+    return ["sh", "-c", f'exec "$@" {" ".join(f"{one}{SIGN[one]}&-" for one in closed)}', "sh", *words]
+
+
+@contextlib.contextmanager
+def left_pipe():
+    """A pipe whose reader has left."""
+    reader, writer = os.pipe()
+    os.close(reader)
+    try:
+        yield writer
+    finally:
+        os.close(writer)
+
+
+@contextlib.contextmanager
+def full():
+    with open("/dev/full", "wb") as file:
+        yield file
+
+
+def outputs(words, text=""):
+    """Runs the command with each output that takes nothing: a name, and the run."""
+    yield "closed", run(closing([1], words), text=text)
+    for name, opened in (("full", full), ("left", left_pipe)):
+        with opened() as output:
+            yield name, run(words, text=text, stdout=output)
+
+
+class Overheard:
+    """A behaviour that answers, and keeps what came that is no request."""
+
+    def __init__(self):
+        self.other, self.lock = b"", threading.Lock()
+
+    def __call__(self, connection):
+        for request in connection.requests():
+            connection.send(servers.counted(request.number))
+        with self.lock:
+            self.other += connection.came
+
+
+def script_output():
+    for name, done in outputs([curlpool(), "script"], SCRIPT):
+        check_same((done.status, done.errors), (3, "line 3: cannot write\n"), name)
+    return "status 3, `cannot write`"
+
+
+def script_input():
+    done = run(closing([0], [curlpool(), "script"]))
+    check_same(done, (3, "", "line 0: cannot read\n"), "closed")
+    with open("/", "rb", opener=lambda path, _: os.open(path, os.O_RDONLY)) as folder:
+        check_same(run([curlpool(), "script"], stdin=folder), (3, "", "line 0: cannot read\n"), "a folder")
+    return "status 3, `cannot read`"
+
+
+def script_errors():
+    """Where standard error takes nothing, output and status are as ever."""
+    for text, wanted in ((SCRIPT, (0, TRANSCRIPT)), (f"{SCRIPT}get x\n", (3, TRANSCRIPT))):
+        done = run(closing([2], [curlpool(), "script"]), text=text)
+        check_same((done.status, done.output), wanted, "closed")
+        for name, opened in (("full", full), ("left", left_pipe)):
+            with opened() as errors:
+                done = run([curlpool(), "script"], text=text, stderr=errors)
+            check_same((done.status, done.output), wanted, name)
+    return "output and status stay"
+
+
+def get_output():
+    """The lines go to no connection in its place."""
+    heard = Overheard()
+    with listening(heard, heard) as hosts:
+        urls = [f"http://127.0.0.1:{server.port}/{number}" for number in (1, 2) for server in hosts]
+        for name, done in outputs([curlpool(), "get", *urls]):
+            check_same((done.status, done.errors), (4, "run: cannot write\n"), name)
+        check_same(heard.other, b"", "bytes on connections")
+    return "status 4, `cannot write`"
+
+
+def get_others():
+    """Where standard input or error is closed, lines and status are as ever, and no connection gets what is told."""
+    heard = Overheard()
+    with listening(heard) as (server,), nobody() as port:
+        urls = [f"http://127.0.0.1:{server.port}/5", f"http://127.0.0.1:{port}/6", f"http://127.0.0.1:{server.port}/7"]
+        wanted = f"200 5 new {urls[0]}\nDial {urls[1]}\n200 7 reused {urls[2]}\n"
+        for closed in ([0], [2], [0, 2]):
+            done = run(closing(closed, [curlpool(), "get", *urls]))
+            check_same((done.status, done.output), (4, wanted), f"closed {closed}")
+        done = run(closing([0, 1, 2], [curlpool(), "get", *urls]))
+        check_same(done.status, 4, "all closed")
+        check_same(heard.other, b"", "bytes on connections")
+    return "lines and status stay"
+
+
+def load_output():
+    for name, done in outputs([curlpool(), "load", "--sites", "1", "--jobs", "3", "--workers", "1"]):
+        check_same((done.status, done.errors), (4, "run: cannot write\n"), name)
+    return "status 4, `cannot write`"
+
+
+def load_others():
+    words = [curlpool(), "load", "--sites", "1", "--jobs", "3", "--workers", "1"]
+    ample = run(words)
+    check(ample.status == 0 and ample.output, ample.told())
+    for closed in ([0], [2], [0, 2]):
+        done = run(closing(closed, words))
+        check_same((done.status, done.output), (0, ample.output), f"closed {closed}")
+    return "report and status stay"
+
+
+PARTS = [
+    Part("streams: script, no output", script_output),
+    Part("streams: script, no input", script_input),
+    Part("streams: script, no errors", script_errors),
+    Part("streams: curlpool get, no output", get_output),
+    Part("streams: curlpool get, no input or errors", get_others),
+    Part("streams: curlpool load, no output", load_output),
+    Part("streams: curlpool load, no input or errors", load_others),
+]
