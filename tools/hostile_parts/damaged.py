@@ -1,11 +1,11 @@
 """Damaged responses, read at once and in pieces by the program damaged_responses: both are to tell the same."""
-import os
 import subprocess
 
 from program import built
 
 from . import corpus
 from .parts import Part, Wrong, check
+from .programs import given
 
 CRATE = "damaged_responses"
 SEED, COUNT = 40, 1_000_000
@@ -16,12 +16,8 @@ ENDS = {"whole", "surplus", "until-end", "more", "BadHead", "BadLength", "BadChu
 
 
 def program():
-    """The program, which is built first where it is missing or older than its sources. BUILT names a folder that has it
-    already."""
-    folder = os.environ.get("BUILT")
-    if folder and os.access(os.path.join(folder, CRATE), os.X_OK):
-        return os.path.join(folder, CRATE)
-    return built(CRATE, "run", CRATE, ["1", "0"])
+    """The program, built. BUILT names a folder that has it already."""
+    return given(CRATE) or built(CRATE, "run", CRATE, ["1", "0"])
 
 
 def run_program(*words):
