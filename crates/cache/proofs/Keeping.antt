@@ -18,10 +18,11 @@ module _ {S : Type 0} where
     settings = next.settings ∙ first.settings;
     host = next.host ∙ first.host;
     tables = next.tables ∙ first.tables;
+    cut_away = next.cut_away ∙ first.cut_away;
   }
 
   pub stays_host : (host : HostShown S) → StaysHost host host
-  stays_host host = record { same = record { settings = refl; host = refl; tables = refl }; booked = refl; grew = ([], refl) }
+  stays_host host = record { same = record { settings = refl; host = refl; tables = refl; cut_away = refl }; booked = refl; grew = ([], refl) }
 
   pub stays_host_on : (x y z : HostShown S) → StaysHost x y → StaysHost y z → StaysHost x z
   stays_host_on x y z first next = record {

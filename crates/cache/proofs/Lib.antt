@@ -15,6 +15,7 @@ pub mod NewHosts
 pub mod Limiting
 pub mod HostSums
 pub mod SameLog
+pub mod CutHosts
 pub mod Returning
 pub mod TwoTries
 pub mod LastTries

@@ -99,7 +99,7 @@ module _ {S : Type 0} (limits : Bounds) where
         each : (index : ℕ) → index < count → IsKeptHost limits index (host_in hosts index) [] pass (stamp_at noted index)
         each index inside =
             let host = host_in hosts index in
-            let bare : HostShown S = record { log = []; settings = terms limits; host = index; streams = []; unclaimed = []; booked = []; tables = host.tables } in
+            let bare : HostShown S = record { log = []; cut_away = 0; settings = terms limits; host = index; streams = []; unclaimed = []; booked = []; tables = host.tables } in
             let seat = new.enrolled index inside in
             let kept : IsKeptHost limits index bare [] pass (stamp_at noted index) = record {
               place = refl;

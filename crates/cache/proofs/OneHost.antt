@@ -52,7 +52,7 @@ module _ {S : Type 0} where
   -- a host that is as it was keeps all
   pub keeps_from_start : (host : HostShown S) → KeepsHost host host
   keeps_from_start host = record {
-    stays = record { same = record { settings = refl; host = refl; tables = refl }; booked = refl; grew = ([], refl) };
+    stays = record { same = record { settings = refl; host = refl; tables = refl; cut_away = refl }; booked = refl; grew = ([], refl) };
     keeps = record { leases = λ t. refl; tickets = λ t. refl };
     streams = λ c was is. refl;
   }

@@ -1,5 +1,5 @@
 -- What a pool shows to those who use it, and what it keeps true.
-use Rattle.std.specs.Prelude.{◌≡◌, ◌≢◌, ℕ, ◌<◌, ◌≤◌, ◌==◌, true, false, List, [], length, map, slice_index_or, Option, Result, Ok, Err}
+use Rattle.std.specs.Prelude.{◌≡◌, ◌≢◌, ℕ, ◌<◌, ◌≤◌, ◌==◌, true, false, List, [], length, map, slice_index_or, slice_set, Option, Result, Ok, Err}
 use Rattle.atomic_table.specs.Seated.{TableId}
 use Rattle.budget.specs.Limits.{Bounds}
 use Rattle.budget.specs.Lobby.{Queue, is_listed}
@@ -32,7 +32,7 @@ abbrev pub no_table : TableId
 no_table = record { words = 0; slots = 0; views_name = 0; atom = 0; block = 0; offset = 0; slot_names = [] }
 
 abbrev pub no_host : {S : Type 0} → HostShown S
-no_host = record { log = []; settings = record { limit = 0; first = 0 }; host = 0; streams = []; unclaimed = []; booked = []; tables = record { starts = no_table; pairs = no_table } }
+no_host = record { log = []; cut_away = 0; settings = record { limit = 0; first = 0 }; host = 0; streams = []; unclaimed = []; booked = []; tables = record { starts = no_table; pairs = no_table } }
 
 -- the host of that index
 abbrev pub host_in : {S : Type 0} → List (HostShown S) → ℕ → HostShown S
@@ -64,7 +64,7 @@ pub record IsInPlace {S : Type 0} (limits : Bounds) (index : ℕ) (host : HostSh
 abbrev pub AreInPlace : {S : Type 0} → PoolShown S → Type 0
 AreInPlace pool = (host : ℕ) → host < length pool.hosts → IsInPlace pool.limits host (host_at pool host)
 
--- the host stays what it is, and its log only grew
+-- the host stays what it is, and its log only grew, of which nothing is cut away
 pub record StaysHost {S : Type 0} (old new : HostShown S) : Type 0 where
   pub same : StaysThere old new
   pub booked : new.booked ≡ old.booked
@@ -98,6 +98,13 @@ KeepsHosts old new = (host : ℕ) → host < length old.hosts → KeepsHost (hos
 
 abbrev pub KeepsOtherHosts : {S : Type 0} → ℕ → PoolShown S → PoolShown S → Type 0
 KeepsOtherHosts one old new = (host : ℕ) → host < length old.hosts → host ≢ one → KeepsHost (host_at old host) (host_at new host)
+
+-- a host once its log is cut, and a pool once that of one of its hosts is: nothing else changes
+abbrev pub cut_host : {S : Type 0} → HostShown S → HostShown S
+cut_host host = record host { cut_away = length host.log }
+
+abbrev pub cut_at : {S : Type 0} → ℕ → PoolShown S → PoolShown S
+cut_at site pool = record pool { hosts = slice_set pool.hosts site (cut_host (host_at pool site)) }
 
 -- what an acquire gives, as its reply says: a lease of its start, or the ticket of its wait
 abbrev pub IsAcquired : {S : Type 0} → ℕ → Reply → Acquired S → Type 0

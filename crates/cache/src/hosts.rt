@@ -91,6 +91,8 @@ impl<S: Drop> Hosts<S> {
         ensures places { AreInPlace self.now }
         ensures there { IfSome result (λ log. (site < length self.now.hosts)
             × (log.now.entries ≡ (host_at self.now site).log)) }
+        ensures cut_away { IfSome result (λ log.
+            log.now.cut_away ≡ (host_at self.now site).cut_away) }
         ensures streams { IfSome result (λ log. HasItsStreams (host_at self.now site)) }
         ensures unclaimed { IfSome result (λ log. UnclaimedAreStarts (host_at self.now site)) }
         ensures not_there { IfNone result (length self.now.hosts ≤ site) }

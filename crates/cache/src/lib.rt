@@ -3,6 +3,7 @@
 
 mod acquiring;
 mod as_cache;
+mod cutting;
 mod hosts;
 mod limits;
 mod notes;

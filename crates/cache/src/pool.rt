@@ -1,8 +1,9 @@
 //! The cache of one thread.
 
 ghost use Rattle.std.specs.Prelude.{◌≡◌, ◌<◌, ◌≤◌, ◌⊎◌, length, is_some, IsSome, Some, []};
-ghost use Rattle.std.specs.Prelude.{true, false, nat_lt, if◌then◌else◌};
+ghost use Rattle.std.specs.Prelude.{true, false, nat_lt, drop, reverse, if◌then◌else◌};
 ghost use Rattle.std.specs.Prelude.{IfOk, IfErr, IfSome, IfNone, OnOk, OnErr};
+ghost use Rattle.host_state.specs.Steps.{is_too_long_to_cut};
 ghost use Rattle.host_rules.specs.Calls.{refusal, limit_refusal, is_queued};
 ghost use Rattle.bundle.specs.Lease.{is_valid_ticket, is_unclaimed, WasGranted, HasItsStream};
 ghost use Rattle.bundle.specs.Lease.{GetsLease, GetsTicket, Spends, is_held_lease, KeepsItsStream};
@@ -17,13 +18,13 @@ ghost use Rattle.pool_rules.specs.Calls.{after_limit_of};
 ghost use Rattle.bundle.specs.Lease.{HasItsStreams, UnclaimedAreStarts};
 ghost use Rattle.cache.specs.Pools.{AreInPlace, GivesLease, GivesTicket, StaysHost, StaysPool};
 ghost use Rattle.cache.specs.Pools.{IsNewPool, host_at, all_hosts, IsAcquired, IfAcquired};
-ghost use Rattle.cache.specs.Pools.{KeepsHosts, KeepsOtherHosts, IsMadeHere};
+ghost use Rattle.cache.specs.Pools.{KeepsHosts, KeepsOtherHosts, IsMadeHere, cut_at};
 ghost use Rattle.cache.specs.Pools.{StreamsStay, OtherStreamsStay};
 
 use crate::hosts::Hosts;
 use budget::{Limits, Refusal};
 use bundle::{Acquired, Bundle, Claimed, Lease, MOST_HOSTS, Snapshot, Stray, Ticket};
-use conn_log::{Log, Want};
+use conn_log::{Entry, Log, Want};
 use persistence::Facts;
 use std::alloc::Global;
 use std::marker::Model;
@@ -100,6 +101,8 @@ impl<S: Drop> Pool<S> {
         ensures places { AreInPlace self.now }
         ensures there { IfSome result (λ log. (site < length self.now.hosts)
             × (log.now.entries ≡ (host_at self.now site).log)) }
+        ensures cut_away { IfSome result (λ log.
+            log.now.cut_away ≡ (host_at self.now site).cut_away) }
         ensures streams { IfSome result (λ log. HasItsStreams (host_at self.now site)) }
         ensures unclaimed { IfSome result (λ log. UnclaimedAreStarts (host_at self.now site)) }
         ensures not_there { IfNone result (length self.now.hosts ≤ site) }
@@ -387,6 +390,33 @@ impl<S: Drop> Pool<S> {
         self.hosts.set_host_limit(site, limit, now)?;
         self.hosts.serve(now);
         Ok(())
+    }
+
+    /// Cuts a host's log: hands out the entries since its last cut, oldest first, and keeps of them
+    /// what later ones depend on. What all cuts of a host hand out, one after the other, is its
+    /// whole log, which contracts speak of. Nothing else changes: no event is logged.
+    ///
+    /// Refused, in this order, with [`Refusal::BadSite`] where there is no such site, with
+    /// [`Refusal::Exhausted`] where more than 9,223,372,036,854,775,807 entries of the host would
+    /// be cut away, and with [`Refusal::Memory`] where memory runs out; then nothing changes.
+    pub fn cut(&mut self, site: u32) -> Result<Vec<Entry>, Refusal>
+        ensures part { let host = host_at self.old site in
+            IfOk result (λ part. part.items ≡ drop host.cut_away (reverse host.log)) }
+        ensures ok { OnOk result (self.new ≡ cut_at site self.old) }
+        ensures there { OnOk result (site < length self.old.hosts) }
+        ensures not_exhausted { let log = (host_at self.old site).log in
+            OnOk result (is_too_long_to_cut log ≡ false) }
+        ensures bad_site { length self.old.hosts ≤ site → result ≡ Err Refusal.BadSite }
+        ensures refused { let is_exhausted = is_too_long_to_cut (host_at self.old site).log in
+            site < length self.old.hosts → IfErr result (λ reason.
+            reason ≡ (if is_exhausted then Refusal.Exhausted else Refusal.Memory)) }
+        ensures err { OnErr result (self.new ≡ self.old) }
+        ensures all { all_hosts self.new ≡ all_hosts self.old }
+    {
+        if site as usize >= self.hosts.len() {
+            return Err(Refusal::BadSite);
+        }
+        self.hosts.cut(site)
     }
 
     /// The bundles of the hosts, by index; the pool's pass is given up.

@@ -7,6 +7,7 @@ use driver::DriverFault;
 pub enum LoadError {
     /// The jobs could not be carried out.
     Run(DriverFault),
-    /// The cache could not be gathered. It never comes after a run whose jobs were carried out.
+    /// The cache could not be gathered. After a run whose jobs were carried out it is not expected,
+    /// but that it doesn't come then is not proved.
     Gather,
 }

@@ -31,15 +31,16 @@ pub struct Loaded {
     pub gathered: Gathered<WaitingWire>,
 }
 
-/// Carries out the jobs by so many threads, which share one cache under these limits, and gathers
-/// the cache. Connections to a site, at most 1,024 of them, are opened to its address; a read or
+/// Carries out the jobs by so many threads, which share one cache under these limits, cuts the log
+/// of every host, and gathers the cache: its account is of all that happened, though no log has
+/// entries left. Connections to a site, at most 1,024 of them, are opened to its address; a read or
 /// a write waits ten milliseconds at most.
 ///
 /// # Errors
 ///
 /// What [`run`] refuses; also [`DriverFault::Poll`] where the system gives no poller or no time,
 /// and [`DriverFault::Memory`] for want of memory before and after the run. [`LoadError::Gather`]
-/// is not met.
+/// is not expected, though no clause rules it out.
 pub fn load<R: Threads + Wait + RandomSource + AllocGlobal + Sync>(
     rt: &R,
     system: &HostRuntime,
@@ -87,7 +88,7 @@ fn load_by<N: Names + Send + Sync, R: Threads + Wait + RandomSource + AllocGloba
         return Err(LoadError::Run(DriverFault::Poll));
     };
     match run(rt, alloc, &cache, jobs, &mut dials, &clock, &NoGate) {
-        Ok(report) => account_of(alloc, cache, report),
+        Ok(report) => account_of(rt, alloc, cache, report),
         Err((fault, passes)) => {
             discard_all(passes);
             Err(LoadError::Run(fault))
@@ -95,8 +96,9 @@ fn load_by<N: Names + Send + Sync, R: Threads + Wait + RandomSource + AllocGloba
     }
 }
 
-// The results of a run, with the account of its cache.
-fn account_of<N: Names>(
+// The results of a run, with the account of its cache, whose logs are cut before.
+fn account_of<N: Names, R: Wait>(
+    rt: &R,
     alloc: Global,
     cache: SharedCache<WaitingWire, N>,
     report: RunReport,
@@ -107,15 +109,32 @@ fn account_of<N: Names>(
         IsGathered N.names report.passes.items loaded.gathered) }
 {
     let RunReport { results, passes } = report;
+    if let Err(refusal) = cut_logs(rt, &cache) {
+        discard_all(passes);
+        return Err(error_of(refusal));
+    }
     match cache.gather(alloc, passes) {
         Ok(gathered) => Ok(Loaded { results, gathered }),
         Err((_cache, passes, refusal)) => {
             discard_all(passes);
-            match refusal {
-                Refusal::Memory => Err(LoadError::Run(DriverFault::Memory)),
-                _ => Err(LoadError::Gather),
-            }
+            Err(error_of(refusal))
         }
+    }
+}
+
+// Cuts the log of every host. What is handed out is not kept.
+fn cut_logs<N: Names, R: Wait>(rt: &R, cache: &SharedCache<WaitingWire, N>) -> Result<(), Refusal> {
+    for site in 0..cache.hosts() {
+        let _part = cache.cut(rt, site)?;
+    }
+    Ok(())
+}
+
+// Why there is no account, where a cut or the gathering was refused so.
+fn error_of(refusal: Refusal) -> LoadError {
+    match refusal {
+        Refusal::Memory => LoadError::Run(DriverFault::Memory),
+        _ => LoadError::Gather,
     }
 }
 

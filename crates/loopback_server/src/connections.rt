@@ -7,7 +7,7 @@ use mio::net::{TcpListener, TcpStream};
 use mio::{Interest, Registry, Token};
 use slab::Slab;
 use std::alloc::{AllocError, Global};
-use std::io;
+use std::io::{self, ErrorKind};
 
 /// How many connections are taken from one listener in a row.
 const MOST_TAKEN: u32 = 64;
@@ -42,7 +42,8 @@ impl Connections {
     ///
     /// # Errors
     ///
-    /// The registry refuses to.
+    /// The system gives no connection though one may wait, as where descriptors run out; or the
+    /// registry refuses to tell.
     pub(crate) fn take_from(
         &mut self,
         listener: &mut TcpListener,
@@ -50,10 +51,17 @@ impl Connections {
         token: Token,
     ) -> io::Result<()> {
         for _ in 0..MOST_TAKEN {
-            let Ok((stream, _)) = listener.accept() else {
-                break;
-            };
-            let _ = self.add(stream, registry);
+            match listener.accept() {
+                Ok((stream, _)) => {
+                    let _ = self.add(stream, registry);
+                }
+                Err(error) => match error.kind() {
+                    ErrorKind::WouldBlock => break,
+                    // Its peer gave it up, or a signal came: others may wait.
+                    ErrorKind::ConnectionAborted | ErrorKind::Interrupted => {}
+                    _ => return Err(error),
+                },
+            }
         }
         registry.reregister(listener, token, Interest::READABLE)
     }

@@ -84,7 +84,8 @@ impl Server {
     ///
     /// # Errors
     ///
-    /// The system refuses to tell which sockets are ready. All is closed then as well.
+    /// The system refuses to tell which sockets are ready, or gives no connection though one waits,
+    /// as where descriptors run out. All is closed then as well.
     pub fn serve<R: Wait>(mut self, rt: &R, ended: &AtomicBool) -> io::Result<()> {
         for _ in rt.forever() {
             if ended.load(Ordering::SeqCst) {

@@ -6,7 +6,8 @@ use cli::{
     CountedWordsMemory, SystemFiles, SystemNetwork, Watched, Words, load_on_system, run_program,
 };
 use std::env;
-use std::io::{ErrorKind, IsTerminal};
+use std::fs::{self, File};
+use std::io::{self, ErrorKind, IsTerminal};
 use std::process::ExitCode;
 
 /// The words with which the program was started.
@@ -26,7 +27,18 @@ fn given_words(rt: &HostRuntime) -> Words {
     }
 }
 
+/// Takes a descriptor, which can be neither read nor written. One of a standard stream that was
+/// closed would else be the next socket's, and a server would get what is told.
+fn taken_descriptor(rt: &HostRuntime) -> io::Result<File> {
+    fs::open(rt, "/")
+}
+
 fn main(rt: HostRuntime) -> ExitCode {
+    let _taken = [
+        taken_descriptor(&rt),
+        taken_descriptor(&rt),
+        taken_descriptor(&rt),
+    ];
     let words = given_words(&rt);
     let mut memory = CountedWordsMemory::new(rt.alloc());
     let mut files = SystemFiles::new(&rt);

@@ -230,6 +230,7 @@ module _ (old new final : PoolShown (Unit {0})) (site transfer : ℕ) (lease : L
         (subst (λ s. (t : ℕ) → ticket_want (host_at final s) t ≡ ticket_want (host_at new s) t) got.here same);
     holders = ordered;
     waiters = due.waiters;
+    uncut = (lease-stays old new site transfer lease got final still).same.cut_away ∙ due.uncut;
   }
 
   pub claimed-due : (others : BTreeMap ℕ Ticketed) → ((q : ℕ) → get nat_cmp others q ≡ cond (is_at (nat_cmp transfer) q) None (get nat_cmp kept.tickets q)) → IsOrdered nat_cmp others
@@ -241,6 +242,7 @@ module _ (old new final : PoolShown (Unit {0})) (site transfer : ℕ) (lease : L
         (subst (λ s. (t : ℕ) → ticket_want (host_at final s) t ≡ ticket_want (host_at new s) t) got.here same);
     holders = ordered;
     waiters = waiters;
+    uncut = (lease-stays old new site transfer lease got final still).same.cut_away ∙ due.uncut;
   }
 
 -- and of a ticket
@@ -254,6 +256,7 @@ waited-due old final kept tickets stays due same after ordered = record {
   };
   holders = due.holders;
   waiters = ordered;
+  uncut = stays.same.cut_away ∙ due.uncut;
 }
 
 pub ticketed-due : (old new final : PoolShown (Unit {0})) (site : ℕ) (want : Want) (ticket : Ticketed) → GotTicket old new site want ticket → StaysHost (host_at new ticket.site) (host_at final ticket.site)

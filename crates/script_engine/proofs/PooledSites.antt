@@ -1,5 +1,5 @@
 -- What becomes of all that is kept at the sites where a call changes the pool, and what is kept at one of them.
-use Rattle.std.proofs.Common.{◌≡◌, ◌≢◌, ℕ, zero, suc, ◌<◌, List, [], ◌∷◌, ◌++◌, length, map, replicate, slice_set, slice_index_or, refl, sym, ap, subst, ◌∙◌, inl, inr, Some, Result, Ok, Err}
+use Rattle.std.proofs.Common.{◌≡◌, ◌≢◌, ℕ, zero, suc, ◌<◌, List, [], ◌∷◌, ◌++◌, length, map, replicate, slice_set, slice_index_or, refl, sym, ap, subst, ◌∙◌, inl, inr, Some, Result, Ok, Err, arith}
 use Rattle.std.specs.Prelude.{slice_get}
 use Rattle.std.specs.BTreeMap.{keys, is_at, IsEmpty}
 use Rattle.std.specs.List.Sorted.{IsStrictlySortedBy}
@@ -8,7 +8,7 @@ use Rattle.std.specs.Option.{option_map}
 use Rattle.std.specs.Ordering.{nat_cmp}
 use Rattle.std.proofs.lemmas.Bool.Decides.{eqb_tells}
 use Rattle.std.proofs.lemmas.List.{get_or-set_same, get_or-set_other, get_or_default, map-set, set-get_or, length-set, length-map}
-use Rattle.std.proofs.lemmas.Option.{slice_get_read, slice_get_within, get_or_from_slice_get}
+use Rattle.std.proofs.lemmas.Option.{slice_get_read, slice_get_within, slice_get_cases, get_or_from_slice_get}
 use Rattle.std.proofs.Math.ListN.{get_or-map}
 use Rattle.budget.specs.Limits.{Bounds}
 use Rattle.conn_log.specs.declared.entry.Entry.{Entry}
@@ -23,7 +23,7 @@ use Rattle.script_engine.specs.declared.asked.Asked.TheVariants as asks
 use Rattle.script_engine.specs.declared.kept.Kept.{Kept}
 use Rattle.script_rules.specs.Meaning.{new_hosts, at_site, act_at, grown, replied, lines_of_growth, prune_all, upkeep_all}
 use Rattle.script_rules.specs.Telling.{AllGrowAfter, WereTold, lines_told}
-use Rattle.script_engine.specs.Hosted.{Hosted, Gives, GivesAt, GivesAll, asked_answer, KeepsDue, KeepsAllDue, AreHosted, NothingIsKept, kept_at, tickets_kept, lease_facts, leases_of, tickets_of, wanted}
+use Rattle.script_engine.specs.Hosted.{Hosted, Gives, GivesAt, GivesAll, asked_answer, KeepsDue, KeepsAllDue, NoneIsCut, AreHosted, NothingIsKept, kept_at, tickets_kept, lease_facts, leases_of, tickets_of, wanted}
 use Rattle.script_engine.proofs.Answering.{gives-answer, gives-grown}
 use Rattle.script_engine.proofs.GrowthOfAll.{lines-of-growth, were-told, pruned-grow}
 use Rattle.script_engine.proofs.Spending.{due-stays}
@@ -48,6 +48,13 @@ all-due pool new kept due keeps stays = record {
   count = due.count ∙ sym stays.count;
   each = λ site here is. due-stays (host_at pool site) (host_at new site) here (keeps site (subst (λ (n : ℕ). site < n) due.count (slice_get_within kept site here is))) (due.each site here is);
 }
+
+-- so nothing was cut away from their logs
+pub none-cut : (pool : PoolShown (Unit {0})) (kept : List Kept) → KeepsAllDue pool kept → NoneIsCut pool
+none-cut pool kept due site there = elim (slice_get_cases kept site).1 [
+  | inl found ↦ (due.each site found.0 found.2).uncut
+  | inr past ↦ absurd (omega (arith, there, due.count, past.0))
+]
 
 module _ (pool : PoolShown (Unit {0})) (kept : List Kept) (due : KeepsAllDue pool kept) (site : ℕ) where
   -- the site is there
@@ -126,6 +133,10 @@ module _ (pool : PoolShown (Unit {0})) (kept : List Kept) (told : List ℕ) (are
     due_kept = due-after pool kept are.due_kept site new here (seen-kept site there) others stays keeps;
     all_told = all_told;
   }
+
+  -- and before they are told
+  pub seen-uncut : (site : ℕ) (new : PoolShown (Unit {0})) (here : Kept) → site < length now.hosts.all.logs → KeepsOtherHosts site pool new → StaysPool pool new → KeepsDue (host_at new site) here → NoneIsCut new
+  seen-uncut site new here there others stays keeps = none-cut new (slice_set kept site here) (due-after pool kept are.due_kept site new here (seen-kept site there) others stays keeps)
 
   pub seen-gives : {T : Type 0} (bytes : T → List ℕ) (site : ℕ) (action : Action) (result : Result T FaultKind) (new : PoolShown (Unit {0})) (was here : Kept)
       → site < length now.hosts.all.logs → was ≡ slice_index_or kept site was → StaysPool pool new
@@ -214,6 +225,7 @@ new-due limit index first host here new no_lease no_ticket = record {
   };
   holders = subst (λ (entries : List (ℕ × Leasing (Unit {0}))). IsStrictlySortedBy nat_cmp (keys_of entries)) (sym no_lease) none-ordered;
   waiters = subst (λ (entries : List (ℕ × Ticketed)). IsStrictlySortedBy nat_cmp (keys_of entries)) (sym no_ticket) none-ordered;
+  uncut = ap (λ (h : HostShown (Unit {0})). h.cut_away) new;
 }
 
 none-logged : (hosts : List (HostShown (Unit {0}))) → ((host : ℕ) → (host_in hosts host).log ≡ []) → logs_of hosts ≡ replicate (length hosts) []

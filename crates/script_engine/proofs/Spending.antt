@@ -183,4 +183,5 @@ due-stays old new kept stays due = record {
   keeps = keeps-same old new (same-whereabouts old new stays.stays.same) (get nat_cmp kept.leases) (get nat_cmp kept.tickets) due.keeps stays.keeps;
   holders = due.holders;
   waiters = due.waiters;
+  uncut = stays.stays.same.cut_away ∙ due.uncut;
 }

@@ -21,7 +21,7 @@ use Rattle.script_text.specs.declared.command.Ending.{Ending}
 use Rattle.script_text.specs.declared.fault.FaultKind.{FaultKind}
 use Rattle.script_text.specs.Printing.{GivesText, refused}
 use Rattle.script_engine.specs.declared.kept.Kept.{Kept}
-use Rattle.script_engine.specs.Hosted.{KeepsDue, KeepsAllDue, AreHosted, GivesAt, kept_at, lease_facts}
+use Rattle.script_engine.specs.Hosted.{KeepsDue, KeepsAllDue, NoneIsCut, AreHosted, GivesAt, kept_at, lease_facts}
 use Rattle.script_rules.specs.Telling.{AllGrowAfter, WereTold, lines_told}
 use Rattle.script_rules.specs.Meaning.{AtSite, act_at, claimed_number, back_at, drop_at, leave_at, grown, stranger, facts_of_ending, without_ticket}
 use Rattle.script_engine.proofs.Tickets.{among-keys, keys-removed}
@@ -29,7 +29,7 @@ use Rattle.script_engine.proofs.Leases.{leased-held, same-whereabouts, kept-vali
 use Rattle.script_engine.proofs.GrowthOfAll.{given-back-grow, abandoned-grow, withdrawn-grow}
 use Rattle.script_engine.proofs.Spending.{IsKeptFor, IsTicketFor, kept-lease, kept-none, kept-ticket, ticketed, leased-by-keys, lease-spent, ticket-spent}
 use Rattle.script_engine.proofs.Answering.{gives-answer, gives-grown, back-taken, back-stranger, drop-taken, drop-stranger, leave-taken, leave-stranger}
-use Rattle.script_engine.proofs.PooledSites.{shown, kept-there, due-after, gives-at, told-before, text-of-growth}
+use Rattle.script_engine.proofs.PooledSites.{none-cut, shown, kept-there, due-after, gives-at, told-before, text-of-growth}
 
 -- the log of a host that is there is sound, where the pool is at rest
 module _ {S : Type 0} (pool : PoolShown S) (rest : IsAtRest pool.limits (all_hosts pool)) (places : AreInPlace pool) (site : ℕ) (there : site < length pool.hosts) where
@@ -110,6 +110,7 @@ module _ (pool : PoolShown (Unit {0})) (rest : IsAtRest pool.limits (all_hosts p
                 (get nat_cmp kept.leases) (get nat_cmp left) (get nat_cmp kept.tickets) lease.start.number keeps.keeps lease-kept.leased taken spends_here;
             holders = ordered;
             waiters = keeps.waiters;
+            uncut = stays_here.same.cut_away ∙ keeps.uncut;
           }
 
       pub back-spent : (ending : Ending) (moment : ℕ) → all_hosts new ≡ after_giving_back pool.limits lease.site lease.start.number (facts_of_ending ending) moment (all_hosts pool)
@@ -157,6 +158,7 @@ module _ (pool : PoolShown (Unit {0})) (rest : IsAtRest pool.limits (all_hosts p
                 (get nat_cmp kept.leases) (get nat_cmp kept.tickets) (get nat_cmp left) ticket.wait.want keeps.keeps ticket-kept.wants taken spends_here;
             holders = keeps.holders;
             waiters = ordered;
+            uncut = stays_here.same.cut_away ∙ keeps.uncut;
           }
 
       pub leave-spent : (moment : ℕ) → left.entries ≡ remove_entry (is_at (nat_cmp transfer)) kept.tickets.entries
@@ -192,6 +194,9 @@ module _ (pool new : PoolShown (Unit {0})) (kept : List Kept) (told : List ℕ) 
 
   pub lines-due : WereTold told (logs_of new.hosts)
   lines-due = told-before transfer (all_hosts pool) (all_hosts new) told hosted.all_told grow
+
+  pub lines-uncut : NoneIsCut new
+  lines-uncut = none-cut new (slice_set kept site here) due
 
   -- what is answered
   module _ {T : Type 0} (bytes : T → List ℕ) (action : Action) (did : Bool) (answer : act_at pool.limits site (kept_at pool was) action ≡ (if did then grown (kept_at pool was) (kept_at new here) else stranger (kept_at new here))) (r : Result T FaultKind) where

@@ -1,5 +1,5 @@
 -- The hosts of a script with their limits, as their callers see them, and the leases and tickets that are kept of each.
-use Rattle.std.specs.Prelude.{◌≡◌, ℕ, Bool, true, false, ◌==◌, nat_lt, if◌then◌else◌, List, [], ◌∷◌, length, map, slice_get, Option, Some, None, is_some, Result, Ok, Err, ◌⊎◌}
+use Rattle.std.specs.Prelude.{◌≡◌, ℕ, ◌<◌, Bool, true, false, ◌==◌, nat_lt, if◌then◌else◌, List, [], ◌∷◌, length, map, slice_get, Option, Some, None, is_some, Result, Ok, Err, ◌⊎◌}
 use Rattle.std.specs.Option.{option_map}
 use Rattle.std.specs.Ordering.{nat_cmp}
 use Rattle.std.specs.BTreeMap.{get, keys, IsOrdered, IsEmpty}
@@ -108,16 +108,21 @@ pub record Keeps {S : Type 0} (host : HostShown S) (lease_of : ℕ → Option (L
   pub leases : KeepsLeases (leases_of host) lease_of
   pub tickets : KeepsTickets (tickets_of host) ticket_of
 
--- a host's leases and tickets are kept, each by its transfer, in ascending order
+-- a host's leases and tickets are kept, each by its transfer, in ascending order; and nothing was cut away from its log
 pub record KeepsDue (host : HostShown (Unit {0})) (kept : Kept) : Type 0 where
   pub keeps : Keeps host (get nat_cmp kept.leases) (get nat_cmp kept.tickets)
   pub holders : IsOrdered nat_cmp kept.leases
   pub waiters : IsOrdered nat_cmp kept.tickets
+  pub uncut : host.cut_away ≡ 0
 
 -- of each host of the pool its leases and tickets are kept
 pub record KeepsAllDue (pool : PoolShown (Unit {0})) (kept : List Kept) : Type 0 where
   pub count : length kept ≡ length pool.hosts
   pub each : (site : ℕ) (here : Kept) → slice_get kept site ≡ Some here → KeepsDue (host_at pool site) here
+
+-- nothing was cut away from the log of any host, so that what is left of each is the whole
+abbrev pub NoneIsCut : {S : Type 0} → PoolShown S → Type 0
+NoneIsCut pool = (site : ℕ) → site < length pool.hosts → (host_at pool site).cut_away ≡ 0
 
 -- so they are of a script's hosts, and all entries were told
 pub record AreHosted (pool : PoolShown (Unit {0})) (kept : List Kept) (told : List ℕ) : Type 0 where

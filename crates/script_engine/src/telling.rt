@@ -5,6 +5,7 @@ ghost use Rattle.std.specs.Prelude.{string_bytes};
 ghost use Rattle.script_text.specs.Printing.{GivesText, entry_line};
 ghost use Rattle.script_rules.specs.Telling.{WereTold, lines_told, AddsText};
 ghost use Rattle.cache.specs.Pools.{logs_of, host_at};
+ghost use Rattle.script_engine.specs.Hosted.{NoneIsCut};
 
 use cache::Pool;
 use script_text::{FaultKind, lines_since};
@@ -19,7 +20,8 @@ pub fn lines(
     told: &mut Vec<usize>,
     by: u64,
 ) -> Result<String, FaultKind>
-    requires { WereTold told.old.items (logs_of pool.now.hosts) }
+    requires told { WereTold told.old.items (logs_of pool.now.hosts) }
+    requires uncut { NoneIsCut pool.now }
     ensures text { GivesText string_bytes
         (lines_told by 0 told.old.items (logs_of pool.now.hosts)) result }
     ensures told { told.new.items ≡ map length (logs_of pool.now.hosts) }
@@ -42,6 +44,7 @@ fn with_lines(
 ) -> Result<String, FaultKind>
     requires there { site < length pool.now.hosts }
     requires before { told.old ≤ length (host_at pool.now site).log }
+    requires uncut { (host_at pool.now site).cut_away ≡ 0 }
     ensures text { AddsText string_bytes text (flat_map (entry_line site by)
         (drop told.old (reverse (host_at pool.now site).log))) result }
     ensures told { told.new ≡ length (host_at pool.now site).log }

@@ -1,6 +1,6 @@
 //! The replies of a transcript, and its lines of events, as texts.
 
-ghost use Rattle.std.specs.Prelude.{◌≤◌, flat_map, string_bytes, length, reverse, drop};
+ghost use Rattle.std.specs.Prelude.{◌+◌, ◌≤◌, flat_map, string_bytes, length, reverse, drop};
 ghost use Rattle.script_text.specs.Printing.{entry_line, refused, claimed_line, still_line};
 ghost use Rattle.script_text.specs.Printing.{GivesText, upkeep_line, too_many_leased_line};
 
@@ -59,7 +59,8 @@ pub fn too_many_leased(alloc: Global, held: u64) -> Result<String, FaultKind>
     }
 }
 
-/// The lines of a log's entries from that place on. Connections come back from that transfer.
+/// The lines of a log's entries from that place of its rest on. Connections come back from that
+/// transfer.
 pub fn lines_since(
     alloc: Global,
     host: u32,
@@ -67,9 +68,9 @@ pub fn lines_since(
     place: usize,
     by: u64,
 ) -> Result<String, FaultKind>
-    requires { place ≤ length log.now.entries }
+    requires { log.now.cut_away + place ≤ length log.now.entries }
     ensures { GivesText string_bytes (flat_map (entry_line host by)
-        (drop place (reverse log.now.entries))) result }
+        (drop (log.now.cut_away + place) (reverse log.now.entries))) result }
 {
     let mut text = String::new(alloc);
     for entry in log.since(place) {

@@ -4,5 +4,6 @@ pub mod Planning
 pub mod Passes
 pub mod Calls
 pub mod Inspecting
+pub mod Cutting
 pub mod Counting
 pub mod Gathering

@@ -37,7 +37,7 @@ impl<S: Drop> Gathered<S> {
     pub fn log(&self, site: u32) -> Option<&Log>
         ensures there { IfSome result (λ log. (host : HostShown S)
             × (slice_get self.now.bundles.items site ≡ Some host)
-            × (log.now.entries ≡ host.log)) }
+            × (log.now.entries ≡ host.log) × (log.now.cut_away ≡ host.cut_away)) }
         ensures not_there { IfNone result (length self.now.bundles.items ≤ site) }
     {
         match self.bundles.get(site as usize) {

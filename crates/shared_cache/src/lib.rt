@@ -4,6 +4,7 @@
 
 mod acquiring;
 mod cache;
+mod cutting;
 mod gathered;
 mod gathering;
 mod hints;

@@ -71,7 +71,7 @@ loop-site-preserved c =
     let log : (host_at pool site).log ≡ slice_index_or logs site [] = sym (log_is pool site) in
     let place : c.index_mut.result.now ≡ slice_index_or now site 0 = c.index_mut.ensures.value ∙ get_or_default now site c.index_mut.result.now 0 (omega (arith, there, c.loop-site.invariant.count)) in
     let adds = subst (λ (n : ℕ). AddsText string_bytes c.loop-site.text (flat_map (entry_line site c.args.by) (drop n (reverse (host_at pool site).log))) c.with_lines-text.result) place c.with_lines-text.ensures.text in
-    tells-more string_bytes c.args.by tolds logs c.requires site now c.loop-site.text c.with_lines-text.result c.with_lines-text.new.told c.loop-site.invariant there
+    tells-more string_bytes c.args.by tolds logs c.requires.told site now c.loop-site.text c.with_lines-text.result c.with_lines-text.new.told c.loop-site.invariant there
     (c.with_lines-text.ensures.told ∙ ap length log)
     (subst (λ (l : List Entry). AddsText string_bytes c.loop-site.text (flat_map (entry_line site c.args.by) (drop (slice_index_or now site 0) (reverse l))) c.with_lines-text.result) log adds)
 
@@ -80,4 +80,4 @@ returns-clause-told c =
     let pool = c.args.pool.now in
     let logs = logs_of pool.hosts in
     let all : length logs ≤ c.loop-site.site = omega (arith, length-map pool.hosts (λ (h : HostShown (Unit {0})). h.log), c.loop-site-test.false, c.hosts-site-end.ensures) in
-    tells-all string_bytes c.args.by c.args.told.now.items logs c.requires c.loop-site.told.items c.loop-site.site c.loop-site.text c.loop-site.invariant all
+    tells-all string_bytes c.args.by c.args.told.now.items logs c.requires.told c.loop-site.told.items c.loop-site.site c.loop-site.text c.loop-site.invariant all

@@ -7,7 +7,7 @@ use Rattle.script_rules.specs.Meaning.{AtSite, AnswerAt, claim_at, claim_of, str
 use Rattle.script_engine.specs.Hosted.{Hosted, GivesAt, kept_at}
 use Rattle.script_rules.specs.Telling.{WereTold}
 use Rattle.script_engine.proofs.GrowthOfAll.{were-told-host}
-use Rattle.script_engine.proofs.PooledSites.{seen-due, hosted-after, seen-gives}
+use Rattle.script_engine.proofs.PooledSites.{seen-due, hosted-after, seen-uncut, seen-gives}
 use Rattle.script_engine.proofs.hosts.PooledHosts.claim.Goals as goal
 use Rattle.script_engine.proofs.hosts.PooledHosts.claim.Goals.{in-Ok-1, in-Err-1}
 
@@ -25,12 +25,17 @@ pub claim-requires-clause-keeps : goal.claim-requires-clause-keeps
 claim-requires-clause-keeps c =
     seen-due c.self.inside.pool c.self.inside.kept.items c.self.inside.told.items c.self.invariant c.args.self.now c.self.view_is c.args.site c.index_mut.result.now c.requires.there c.index_mut.ensures.value
 
-pub lines-untold-requires : goal.lines-untold-requires
-lines-untold-requires c =
+pub lines-untold-requires-clause-told : goal.lines-untold-requires-clause-told
+lines-untold-requires-clause-told c =
     let pool = c.self.inside.pool in
     let new = c.claim.new.pool in
     subst (λ (tolds : List ℕ). WereTold tolds (all_hosts new).logs) (sym c.self.invariant.all_told)
     (were-told-host c.args.site pool new c.claim.ensures.stays.count c.claim.ensures.site c.claim.ensures.others)
+
+pub lines-untold-requires-clause-uncut : goal.lines-untold-requires-clause-uncut
+lines-untold-requires-clause-uncut c =
+    seen-uncut c.self.inside.pool c.self.inside.kept.items c.self.inside.told.items c.self.invariant c.args.self.now c.self.view_is c.args.site c.claim.new.pool c.claim.new.self
+    c.requires.there c.claim.ensures.others c.claim.ensures.stays c.claim.ensures.keeps
 
 pub invariant_of-self : goal.invariant_of-self
 invariant_of-self c =

@@ -13,7 +13,7 @@ use Rattle.script_text.specs.declared.command.Action.TheVariants as actions
 use Rattle.script_rules.specs.Meaning.{AtSite, replied, refusal_word, get_at}
 use Rattle.script_engine.specs.Hosted.{kept_at}
 use Rattle.script_engine.proofs.Answering.{get-refused}
-use Rattle.script_engine.proofs.PooledSites.{seen-due, told-before, hosted-after, seen-gives, seen-grown, seen-replied}
+use Rattle.script_engine.proofs.PooledSites.{seen-due, told-before, hosted-after, seen-uncut, seen-gives, seen-grown, seen-replied}
 use Rattle.script_engine.proofs.hosts.PooledHosts.get.Goals as goal
 
 -- a refusal for a reason that is not memory
@@ -33,9 +33,14 @@ pub acquire-begun-requires-clause-keeps : goal.acquire-begun-requires-clause-kee
 acquire-begun-requires-clause-keeps c =
     seen-due c.self.inside.pool c.self.inside.kept.items c.self.inside.told.items c.self.invariant c.args.self.now c.self.view_is c.args.site c.index_mut.result.now c.requires.there c.index_mut.ensures.value
 
-pub lines-text-requires : goal.lines-text-requires
-lines-text-requires c =
+pub lines-text-requires-clause-told : goal.lines-text-requires-clause-told
+lines-text-requires-clause-told c =
     told-before c.args.want.transfer (Rattle.cache.specs.Pools.all_hosts c.self.inside.pool) (Rattle.cache.specs.Pools.all_hosts c.acquire-begun.new.pool) c.self.inside.told.items c.self.invariant.all_told c.acquire-begun.ensures.grow
+
+pub lines-text-requires-clause-uncut : goal.lines-text-requires-clause-uncut
+lines-text-requires-clause-uncut c =
+    seen-uncut c.self.inside.pool c.self.inside.kept.items c.self.inside.told.items c.self.invariant c.args.self.now c.self.view_is c.args.site c.acquire-begun.new.pool c.acquire-begun.new.self
+    c.requires.there c.acquire-begun.ensures.others c.acquire-begun.ensures.stays c.acquire-begun.ensures.keeps
 
 pub invariant_of-self : goal.invariant_of-self
 invariant_of-self c =

@@ -2,7 +2,7 @@ use Rattle.std.proofs.Common.{◌<◌, sym, subst, length, slice_set, string_byt
 use Rattle.script_text.specs.declared.command.Action.TheVariants as actions
 use Rattle.script_engine.specs.Hosted.{Hosted, GivesAt}
 use Rattle.script_engine.proofs.PooledSites.{shown, due-at, kept-there}
-use Rattle.script_engine.proofs.SpentAtSite.{hosted-told, hosted-same, lines-due, gives-spent, gives-stranger}
+use Rattle.script_engine.proofs.SpentAtSite.{hosted-told, hosted-same, lines-due, lines-uncut, gives-spent, gives-stranger}
 use Rattle.script_engine.proofs.hosts.PooledHosts.leave.Goals as goal
 
 pub withdraw-requires-clause-keeps : goal.withdraw-requires-clause-keeps
@@ -10,10 +10,16 @@ withdraw-requires-clause-keeps c =
     let there = subst (λ (h : Hosted). c.args.site < length h.hosts.all.logs) (sym c.self.view_is) c.requires.there in
     due-at c.self.inside.pool c.self.inside.kept.items c.self.invariant.due_kept c.args.site c.index_mut.result.now (kept-there c.self.inside.pool c.self.inside.kept.items c.self.invariant.due_kept c.args.site there) c.index_mut.ensures.value
 
-pub lines-requires : goal.lines-requires
-lines-requires c =
+pub lines-requires-clause-told : goal.lines-requires-clause-told
+lines-requires-clause-told c =
     let there = subst (λ (h : Hosted). c.args.site < length h.hosts.all.logs) (sym c.self.view_is) c.requires.there in
     lines-due c.self.inside.pool c.withdraw.new.pool c.self.inside.kept.items c.self.inside.told.items c.self.invariant c.args.site there c.index_mut.result.now c.withdraw.new.self c.index_mut.ensures.value c.args.transfer
+    c.withdraw.ensures.grow c.withdraw.ensures.keeps c.withdraw.ensures.others c.withdraw.ensures.stays
+
+pub lines-requires-clause-uncut : goal.lines-requires-clause-uncut
+lines-requires-clause-uncut c =
+    let there = subst (λ (h : Hosted). c.args.site < length h.hosts.all.logs) (sym c.self.view_is) c.requires.there in
+    lines-uncut c.self.inside.pool c.withdraw.new.pool c.self.inside.kept.items c.self.inside.told.items c.self.invariant c.args.site there c.index_mut.result.now c.withdraw.new.self c.index_mut.ensures.value c.args.transfer
     c.withdraw.ensures.grow c.withdraw.ensures.keeps c.withdraw.ensures.others c.withdraw.ensures.stays
 
 pub invariant_of-self : goal.invariant_of-self

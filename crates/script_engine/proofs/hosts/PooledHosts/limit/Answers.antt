@@ -10,7 +10,7 @@ use Rattle.script_rules.specs.Meaning.{AtSite, at_site, grown, replied, limit_at
 use Rattle.script_rules.specs.Telling.{AllGrowAfter}
 use Rattle.script_engine.proofs.Answering.{accepted, gives-answer, gives-grown, limit-refused, limit-changed}
 use Rattle.script_engine.proofs.GrowthOfAll.{limited-grow}
-use Rattle.script_engine.proofs.PooledSites.{shown, all-due, told-before, text-of-growth, seen-host, seen-beside}
+use Rattle.script_engine.proofs.PooledSites.{shown, all-due, none-cut, told-before, text-of-growth, seen-host, seen-beside}
 use Rattle.script_engine.proofs.hosts.PooledHosts.limit.Goals as goal
 
 -- a refusal for a reason that is not memory
@@ -22,12 +22,16 @@ refused-for pool new site n moment here why apart all same (inl due) =
     ∙ ap (λ (a : AllHosts). replied (record here { all = a }) (limit_word why)) (all ∙ ap (λ (p : PoolShown (Unit {0})). all_hosts p) (sym same))
 refused-for pool new site n moment here why apart all same (inr memory) = absurd (apart memory)
 
-pub lines-requires : goal.lines-requires
-lines-requires c =
+pub lines-requires-clause-told : goal.lines-requires-clause-told
+lines-requires-clause-told c =
     let old = all_hosts c.self.inside.pool in
     let new = all_hosts c.set_host_limit.new.self in
     let grow : AllGrowAfter 0 old new = subst (AllGrowAfter 0 old) (sym c.in-Ok.ensures.all) (limited-grow 0 c.self.inside.pool.limits c.args.site c.args.limit c.args.moment old) in
     told-before 0 old new c.self.inside.told.items c.self.invariant.all_told grow
+
+pub lines-requires-clause-uncut : goal.lines-requires-clause-uncut
+lines-requires-clause-uncut c =
+    none-cut c.set_host_limit.new.self c.self.inside.kept.items (all-due c.self.inside.pool c.set_host_limit.new.self c.self.inside.kept.items c.self.invariant.due_kept c.set_host_limit.ensures.keeps c.set_host_limit.ensures.stays)
 
 pub invariant_of-self : goal.invariant_of-self
 invariant_of-self c = record {

@@ -68,6 +68,7 @@ returns-in_ok-transfer-clause-keeps c =
           c.requires.keeps.keeps kept.wants c.in_ok-transfer.ensures.updates.0 (subst (Spends host new) kept.own spends);
       holders = c.requires.keeps.holders;
       waiters = c.in_ok-transfer.ensures.ordered;
+      uncut = stays.same.cut_away ∙ c.requires.keeps.uncut;
     }
 
 pub returns-in_err-transfer-2-clause-none : goal.returns-in_err-transfer-2-clause-none
@@ -131,6 +132,7 @@ returns-in_ok-transfer-2-clause-keeps c =
           c.requires.keeps.keeps kept.leased c.in_ok-transfer-2.ensures.updates.0 (subst (Spends host new) kept.own spends);
       holders = c.in_ok-transfer-2.ensures.ordered;
       waiters = c.requires.keeps.waiters;
+      uncut = stays.same.cut_away ∙ c.requires.keeps.uncut;
     }
 
 pub returns-in_ok-transfer-2-clause-others : goal.returns-in_ok-transfer-2-clause-others
