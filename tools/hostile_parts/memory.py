@@ -51,7 +51,7 @@ def scripts():
 
 
 def calls_of(crate):
-    said = by_tool("failing-allocations-in-tests", "--only", "want_of_memory", crate, **tests_of(crate))
+    said = by_tool("failing-allocations-in-tests", "--only", "want_of_memory", crate, TESTS=tests_of(crate))
     tests = [line for line in said.splitlines() if not line.startswith(" ") and line.endswith(" allocations")]
     return f"{len(tests)} tests, {sum(map(int, ALLOCATIONS.findall(chr(10).join(tests))))} allocations"
 

@@ -56,10 +56,8 @@ def load_requests():
 
 
 def tests_of(crate):
-    """The built tests of a crate, by environment for tools/failing-allocations-in-tests; nothing where that builds
-    them."""
-    found = given(f"{crate}_tests")
-    return {"TESTS": found} if found else {}
+    """The built tests of a crate."""
+    return given(f"{crate}_tests") or built(crate, "test", f"{crate}_tests")
 
 
 def tool(name):
