@@ -1,7 +1,8 @@
 //! What carries out one request after another.
 
-ghost use Rattle.std.specs.Prelude.{◌<◌, length};
+ghost use Rattle.std.specs.Prelude.{◌<◌, length, IfSome};
 ghost use Rattle.std.specs.Option.{ForSome};
+ghost use Rattle.exchange.specs.Answers.{IsUnused};
 
 use crate::course::Course;
 use conn_key::Target;
@@ -84,7 +85,9 @@ impl<'n> Carrier<'n> {
     }
 
     // The request of that number with the memory for it, that of the last one where there was one.
-    fn prepared(&mut self, course: &Course<'_>, number: u64) -> Option<Prepared> {
+    fn prepared(&mut self, course: &Course<'_>, number: u64) -> Option<Prepared>
+        ensures { IfSome result IsUnused }
+    {
         self.name(course, number).ok()?;
         match self.spare.take() {
             None => Prepared::new(self.alloc, &self.job).ok(),

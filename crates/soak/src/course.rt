@@ -34,10 +34,8 @@ impl<'n> Course<'n> {
     /// The host of that number, counted round, and its port.
     pub(crate) fn host(&self, number: u64) -> (u32, u16) {
         let hosts = self.ports.len().max(1) as u64;
-        let site = number % hosts;
-        match self.ports.get(site as usize) {
-            Some(port) => (site as u32, *port),
-            None => (0, 0),
-        }
+        let site = u32::try_from(number % hosts).unwrap_or(0);
+        let port = self.ports.get(site as usize).copied();
+        (site, port.unwrap_or(0))
     }
 }

@@ -46,7 +46,7 @@ fn asked(rt: &HostRuntime) -> Option<Task> {
 /// Does the task, and prints its account; whether that balances.
 fn done<R: Threads + Wait + Sync>(rt: &R, system: &HostRuntime, task: &Task) -> Option<bool> {
     let limits = Limits::new(0, task.total, KEPT).ok()?;
-    let hosts = task.ports.len() as u32;
+    let hosts = u32::try_from(task.ports.len()).ok()?;
     let plan: Plan<WaitingWire> = Plan::new(system.alloc(), limits, hosts).ok()?;
     let course = Course {
         system,
