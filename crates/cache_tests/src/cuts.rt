@@ -88,7 +88,7 @@ fn parts_add_up_beside_a_pool_that_is_not_cut(rt: HostRuntime) {
     for transfer in 0..TRANSFERS {
         do_one(&rt, &mut desk, &mut draws, HOSTS, transfer);
         do_one(&rt, &mut twin, &mut same, HOSTS, transfer);
-        let site = cuts.below(8) as u32;
+        let site = u32::try_from(cuts.below(8)).expect(&rt, "a site");
         if cuts.below(50) == 0 {
             let part = desk.cut(&rt, site);
             let place = site as usize;

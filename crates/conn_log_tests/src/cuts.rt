@@ -56,10 +56,8 @@ fn busy_host() -> [Entry; 12] {
 #[test]
 fn answers_stay_wherever_a_log_is_cut(rt: HostRuntime) -> Result<(), Fail> {
     let entries = busy_host();
-    let mut count = 0;
-    while count <= entries.len() {
+    for count in 0..=entries.len() {
         check_cuts(&rt, rt.alloc(), &entries[..count])?;
-        count += 1;
     }
     Ok(())
 }
@@ -68,8 +66,7 @@ fn answers_stay_wherever_a_log_is_cut(rt: HostRuntime) -> Result<(), Fail> {
 /// what the whole log does, and the parts are its entries.
 fn check_cuts(rt: &impl Abort, alloc: Global, entries: &[Entry]) -> Result<(), Fail> {
     let whole = log_of(rt, alloc, entries)?;
-    let mut place = 0;
-    while place <= entries.len() {
+    for place in 0..=entries.len() {
         let mut log = log_of(rt, alloc, &entries[..place])?;
         let room = log.room();
         let first = log.cut()?;
@@ -94,7 +91,6 @@ fn check_cuts(rt: &impl Abort, alloc: Global, entries: &[Entry]) -> Result<(), F
             "cut at {place}, and at the end"
         );
         assert!(rt; log.cut()?.is_empty());
-        place += 1;
     }
     Ok(())
 }

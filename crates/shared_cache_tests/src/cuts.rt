@@ -107,7 +107,8 @@ fn history<N: Names>(
         worker.begin(drawn(turn));
         worker.work(rt, &cache);
         if is_cut {
-            cut(rt, &cache, &mut parts, (turn % 4) as u32);
+            let site = u32::try_from(turn % 4).expect(rt, "a site");
+            cut(rt, &cache, &mut parts, site);
         }
     }
     cut_all(rt, &cache, &mut parts);
@@ -144,12 +145,16 @@ fn check_hosts(rt: &impl Abort, hosts: &[HostCount], parts: &[Parts]) {
     }
 }
 
+// The same of a new cache.
+fn drawn_history(rt: &HostRuntime, is_cut: bool) -> Vec<Parts> {
+    let plan = new_plan(rt, rt.alloc(), (2, 5, 3), HOSTS);
+    history::<Brand>(rt, rt.alloc(), plan, is_cut)
+}
+
 #[test]
 fn parts_add_up_beside_a_cache_that_is_not_cut(rt: HostRuntime) {
-    let plan = new_plan(&rt, rt.alloc(), (2, 5, 3), HOSTS);
-    let cut = history::<Brand>(&rt, rt.alloc(), plan, true);
-    let plan = new_plan(&rt, rt.alloc(), (2, 5, 3), HOSTS);
-    let uncut = history::<Brand>(&rt, rt.alloc(), plan, false);
+    let cut = drawn_history(&rt, true);
+    let uncut = drawn_history(&rt, false);
     for (parts, whole) in cut.iter().zip(&uncut) {
         assert_eq!(rt; parts.entries.len(), whole.entries.len());
         assert!(rt; parts.entries == whole.entries);

@@ -171,7 +171,7 @@ fn end_all<N: Names, R: Wait + Abort>(rt: &R, alloc: Global, plan: Plan<Stream>)
     }
     // for each of the others one is opened in its place
     for transfer in 2..answered {
-        let connection = transfer as u32;
+        let connection = u32::try_from(transfer).expect(rt, "a number");
         assert_eq!(rt;
             desk.leave(rt, &cache, transfer, 3),
             Said::Withdrawn(connection)
