@@ -146,15 +146,15 @@ fn check_hosts(rt: &impl Abort, hosts: &[HostCount], parts: &[Parts]) {
 }
 
 // The same of a new cache.
-fn drawn_history(rt: &HostRuntime, is_cut: bool) -> Vec<Parts> {
-    let plan = new_plan(rt, rt.alloc(), (2, 5, 3), HOSTS);
-    history::<Brand>(rt, rt.alloc(), plan, is_cut)
+fn drawn_history(rt: &(impl Wait + Abort), alloc: Global, is_cut: bool) -> Vec<Parts> {
+    let plan = new_plan(rt, alloc, (2, 5, 3), HOSTS);
+    history::<Brand>(rt, alloc, plan, is_cut)
 }
 
 #[test]
 fn parts_add_up_beside_a_cache_that_is_not_cut(rt: HostRuntime) {
-    let cut = drawn_history(&rt, true);
-    let uncut = drawn_history(&rt, false);
+    let cut = drawn_history(&rt, rt.alloc(), true);
+    let uncut = drawn_history(&rt, rt.alloc(), false);
     for (parts, whole) in cut.iter().zip(&uncut) {
         assert_eq!(rt; parts.entries.len(), whole.entries.len());
         assert!(rt; parts.entries == whole.entries);
