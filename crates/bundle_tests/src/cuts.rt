@@ -8,8 +8,8 @@ use conn_log::{Counts, Entry, Event, Want, holder, idle_oldest, open_count, wait
 use std::process::Abort;
 use std::test::Fail;
 
-// What is handed out; where memory runs out nothing changes, and it comes the second time.
-fn cut_at_last(rt: &impl Abort, desk: &mut Desk<Stream>) -> Vec<Entry>
+/// What is handed out; where memory runs out nothing changes, and it comes the second time.
+pub(crate) fn cut_at_last(rt: &impl Abort, desk: &mut Desk<Stream>) -> Vec<Entry>
     ensures same { desk.new ≡ desk.old }
 {
     let entries = desk.bundle.log().len();
@@ -27,7 +27,7 @@ fn cut_at_last(rt: &impl Abort, desk: &mut Desk<Stream>) -> Vec<Entry>
 
 // A connection is used, its host's log is cut, and it is used again.
 #[test]
-fn want_of_memory_leaves_a_host_uncut(rt: HostRuntime) -> Result<(), Fail> {
+fn a_host_goes_on_after_a_cut(rt: HostRuntime) -> Result<(), Fail> {
     let mut desk = Desk::of_host(rt.alloc(), 4, 1)?;
     let first = leased(&rt, &mut desk, 1, 0);
     give_back(&rt, &mut desk, first, 5);

@@ -5,6 +5,7 @@ ghost use Rattle.std.specs.Prelude.{◌≡◌};
 ghost use Rattle.bundle.specs.Lease.{IsMadeAt};
 ghost use Rattle.bundle.specs.Replies.{GivesLease};
 
+use crate::cuts::cut_at_last;
 use crate::desk::{
     Desk, Stream, attach_new, booking_of, claimed, drop_lease, give_back, lease_of, leave,
     ticket_of, told, want_of,
@@ -138,6 +139,16 @@ fn want_of_memory_leaves_no_booking(rt: HostRuntime) -> Result<(), Fail> {
     }
     drop_lease(&rt, &mut desk, lease, 0);
     assert_eq!(rt; desk.bundle.log().len(), 78);
+    Ok(())
+}
+
+#[test]
+fn want_of_memory_refuses_a_cut(rt: HostRuntime) -> Result<(), Fail> {
+    let mut desk = new_at_last(&rt, rt.alloc(), (4, 0, 4))?;
+    let lease = leased_at_last(&rt, &mut desk, 1);
+    assert_eq!(rt; cut_at_last(&rt, &mut desk).len(), 1);
+    drop_lease(&rt, &mut desk, lease, 0);
+    assert_eq!(rt; cut_at_last(&rt, &mut desk).len(), 1);
     Ok(())
 }
 
