@@ -81,7 +81,6 @@ fn check_cuts(rt: &impl Abort, alloc: Global, entries: &[Entry]) -> Result<(), F
             "cut at {place} of {}",
             entries.len()
         );
-        assert_eq!(rt; log.since(0), &entries[place..]);
         assert_eq!(rt; log.total_len(), entries.len() as u64);
         let second = log.cut()?;
         assert_eq!(rt; second.as_slice(), &entries[place..]);
