@@ -1,13 +1,16 @@
 -- A lease, a ticket, and what a host shows to those who use its bundle.
-use Rattle.std.specs.Prelude.{◌≡◌, ℕ, ◌-◌, Bool, true, false, ◌==◌, ◌&&◌, ◌||◌, if◌then◌else◌, List, [], ◌∷◌, length, map, drop, Option, Some, None, is_some}
+use Rattle.std.specs.Prelude.{◌≡◌, ℕ, ◌-◌, Bool, true, false, ◌==◌, ◌&&◌, ◌||◌, if◌then◌else◌, List, [], ◌∷◌, length, map, drop, reverse, Option, Some, None, is_some}
 use Rattle.std.specs.List.{list_any}
 use Rattle.std.specs.Option.{option_map_or}
 use Rattle.std.specs.Bool.{beq}
 use Rattle.bundle.specs.Seats.{Tables}
+use Rattle.budget.specs.declared.refusal.Refusal.{Refusal}
+use Rattle.budget.specs.declared.refusal.Refusal.TheVariants.{Memory, Exhausted}
 use Rattle.conn_log.specs.declared.entry.Want.{Want}
 use Rattle.conn_log.specs.declared.entry.Entry.{Entry}
 use Rattle.conn_log.specs.Connections.{is_among, is_open, is_idle, is_held_by, held_number}
 use Rattle.conn_log.specs.Waiting.{waiting}
+use Rattle.conn_log.specs.Bases.{is_too_long_to_cut}
 use Rattle.conn_log.specs.Legal.{LimitAndFirst}
 use Rattle.host_state.specs.Queue.{waiting_want}
 use Rattle.host_rules.specs.Calls.{Start, Wait, last_start}
@@ -66,6 +69,14 @@ pub record HostShown (S : Type 0) : Type 0 where
 -- those of its log's entries that were cut away
 abbrev pub cut_entries : {S : Type 0} → HostShown S → List Entry
 cut_entries host = drop (length host.log - host.cut_away) host.log
+
+-- what a cut hands out: the others, oldest first, where the log may be cut; and why it hands out none
+pub record IsPartOf {S : Type 0} (host : HostShown S) (part : List Entry) : Type 0 where
+  pub entries : part ≡ drop host.cut_away (reverse host.log)
+  pub not_exhausted : is_too_long_to_cut host.log ≡ false
+
+abbrev pub cut_refusal : {S : Type 0} → HostShown S → Refusal
+cut_refusal host = if is_too_long_to_cut host.log then Exhausted else Memory
 
 -- who starts
 abbrev pub starters : List Start → List ℕ

@@ -64,7 +64,7 @@ pub record IsInPlace {S : Type 0} (limits : Bounds) (index : ℕ) (host : HostSh
 abbrev pub AreInPlace : {S : Type 0} → PoolShown S → Type 0
 AreInPlace pool = (host : ℕ) → host < length pool.hosts → IsInPlace pool.limits host (host_at pool host)
 
--- the host stays what it is, and its log only grew, of which nothing is cut away
+-- the host stays what it is; its log only grows, and nothing of it is cut away
 pub record StaysHost {S : Type 0} (old new : HostShown S) : Type 0 where
   pub same : StaysThere old new
   pub booked : new.booked ≡ old.booked

@@ -1,9 +1,8 @@
 //! The cache of one thread.
 
 ghost use Rattle.std.specs.Prelude.{◌≡◌, ◌<◌, ◌≤◌, ◌⊎◌, length, is_some, IsSome, Some, []};
-ghost use Rattle.std.specs.Prelude.{true, false, nat_lt, drop, reverse, if◌then◌else◌};
+ghost use Rattle.std.specs.Prelude.{true, false, nat_lt, if◌then◌else◌};
 ghost use Rattle.std.specs.Prelude.{IfOk, IfErr, IfSome, IfNone, OnOk, OnErr};
-ghost use Rattle.host_state.specs.Steps.{is_too_long_to_cut};
 ghost use Rattle.host_rules.specs.Calls.{refusal, limit_refusal, is_queued};
 ghost use Rattle.bundle.specs.Lease.{is_valid_ticket, is_unclaimed, WasGranted, HasItsStream};
 ghost use Rattle.bundle.specs.Lease.{GetsLease, GetsTicket, Spends, is_held_lease, KeepsItsStream};
@@ -15,7 +14,7 @@ ghost use Rattle.pool_rules.specs.Calls.{after_acquire, reply_of, after_giving_b
 ghost use Rattle.pool_rules.specs.Calls.{after_abandoning};
 ghost use Rattle.pool_rules.specs.Calls.{after_withdrawing, after_prune, prune_count};
 ghost use Rattle.pool_rules.specs.Calls.{after_limit_of};
-ghost use Rattle.bundle.specs.Lease.{HasItsStreams, UnclaimedAreStarts};
+ghost use Rattle.bundle.specs.Lease.{HasItsStreams, UnclaimedAreStarts, IsPartOf, cut_refusal};
 ghost use Rattle.cache.specs.Pools.{AreInPlace, GivesLease, GivesTicket, StaysHost, StaysPool};
 ghost use Rattle.cache.specs.Pools.{IsNewPool, host_at, all_hosts, IsAcquired, IfAcquired};
 ghost use Rattle.cache.specs.Pools.{KeepsHosts, KeepsOtherHosts, IsMadeHere, cut_at};
@@ -396,20 +395,16 @@ impl<S: Drop> Pool<S> {
     /// what later ones depend on. What all cuts of a host hand out, one after the other, is its
     /// whole log, which contracts speak of. Nothing else changes: no event is logged.
     ///
-    /// Refused, in this order, with [`Refusal::BadSite`] where there is no such site, with
-    /// [`Refusal::Exhausted`] where more than 9,223,372,036,854,775,807 entries of the host would
-    /// be cut away, and with [`Refusal::Memory`] where memory runs out; then nothing changes.
+    /// Refused, in this order, with [`Refusal::BadSite`] if there is no such site, with
+    /// [`Refusal::Exhausted`] if more than 9,223,372,036,854,775,807 entries of the host would be
+    /// cut away, and with [`Refusal::Memory`] if memory runs out; then nothing changes.
     pub fn cut(&mut self, site: u32) -> Result<Vec<Entry>, Refusal>
-        ensures part { let host = host_at self.old site in
-            IfOk result (λ part. part.items ≡ drop host.cut_away (reverse host.log)) }
+        ensures part { IfOk result (λ part. IsPartOf (host_at self.old site) part.items) }
         ensures ok { OnOk result (self.new ≡ cut_at site self.old) }
         ensures there { OnOk result (site < length self.old.hosts) }
-        ensures not_exhausted { let log = (host_at self.old site).log in
-            OnOk result (is_too_long_to_cut log ≡ false) }
         ensures bad_site { length self.old.hosts ≤ site → result ≡ Err Refusal.BadSite }
-        ensures refused { let is_exhausted = is_too_long_to_cut (host_at self.old site).log in
-            site < length self.old.hosts → IfErr result (λ reason.
-            reason ≡ (if is_exhausted then Refusal.Exhausted else Refusal.Memory)) }
+        ensures refused { let host = host_at self.old site in
+            site < length self.old.hosts → IfErr result (λ reason. reason ≡ cut_refusal host) }
         ensures err { OnErr result (self.new ≡ self.old) }
         ensures all { all_hosts self.new ≡ all_hosts self.old }
     {

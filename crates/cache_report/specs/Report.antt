@@ -17,7 +17,8 @@ in_places number = replicate (8 - length (decimal number)) space ++ decimal numb
 abbrev pub line_text : List ℕ → List ℕ → List ℕ
 line_text label numbers = label ++ (flat_map in_places numbers ++ codes "\n")
 
--- what happened at a host, as its line has it: how many connections were opened, leased again and closed, how many transfers began to wait, and how many connections are open
+-- what happened at a host, as its line has it: how many connections were opened, leased again and closed, how many
+-- transfers began to wait, and how many connections are open
 abbrev pub numbers_of : HostCount → List ℕ
 numbers_of count = count.opened ∷ count.reused ∷ count.closed ∷ count.waited ∷ count.alive ∷ []
 
@@ -48,7 +49,7 @@ totals hosts = record {
 abbrev pub total_line : List HostCount → List ℕ
 total_line hosts = line_text (codes "all ") (length hosts ∷ numbers_of (totals hosts))
 
--- a transfer has no whole response
+-- a transfer failed: it has no whole response
 abbrev pub is_bad : Done → Bool
 is_bad (Good answer) = false
 is_bad (Bad fault) = true
@@ -68,7 +69,8 @@ abbrev pub body_len : Done → ℕ
 body_len (Good answer) = answer.body_len
 body_len (Bad fault) = 0
 
--- the line of the transfers: how many ended; how many of them without a whole response, with one over a connection that was used before, and with one after the request was sent once more; and how many bytes came as bodies
+-- the line of the transfers: how many ended; how many of them failed, had their response over a connection that was used
+-- before, and had it after the request was sent once more; and how many bytes came as bodies
 abbrev pub result_line : List Done → List ℕ
 result_line results = line_text (codes "jobs") (length results ∷ count_by is_bad results ∷ count_by is_reused results ∷ count_by is_retried results ∷ shown_sum (sum_by body_len results) ∷ [])
 

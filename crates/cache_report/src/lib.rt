@@ -11,4 +11,5 @@ mod worked;
 pub use conn_log::Counts;
 pub use counting::count_part;
 pub use reporting::{report, report_of};
+pub use sums::totals;
 pub use worked::worked_reports;

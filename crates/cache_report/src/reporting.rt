@@ -14,10 +14,10 @@ use std::alloc::Global;
 /// It has a line `host` for each host, in order, with its index and how many connections were
 /// opened, leased again and closed there, how many transfers began to wait, and how many
 /// connections are open; a line `all ` with the number of hosts and the sums of these numbers; and
-/// a line `jobs` with the number of transfers, of those without a whole response, of those with one
-/// over a connection used before, of those with one whose request was sent once more, and how many
-/// bytes the bodies of all whole responses have. Each number is right-aligned in eight places, and
-/// a longer one takes the places that it needs. A sum past the greatest u64 is given as that
+/// a line `jobs` with the number of transfers, of those that failed, of those whose response came
+/// over a connection used before, of those whose request was sent once more, and how many bytes the
+/// bodies of all whole responses have. Each number is right-aligned in eight places, and a longer
+/// one takes the places that it needs. A sum above 18,446,744,073,709,551,615 is given as that
 /// number.
 ///
 /// The only refusal is [`Refusal::Memory`].

@@ -7,8 +7,9 @@ ghost use Rattle.cache_report.specs.Report.{body_len};
 use exchange::Done;
 use shared_cache::HostCount;
 
-/// The sums of what happened at all hosts.
-pub(crate) fn totals(hosts: &[HostCount]) -> HostCount
+/// The sums of what happened at all hosts. Each is at most 18,446,744,073,709,551,615, which stands
+/// for a greater one too.
+pub fn totals(hosts: &[HostCount]) -> HostCount
     ensures { result ≡ totals hosts.now }
 {
     let mut total = HostCount {
@@ -49,7 +50,7 @@ fn body_len(done: &Done) -> u64
     }
 }
 
-/// How many transfers have no whole response.
+/// How many transfers failed.
 pub(crate) fn bad_count(results: &[Done]) -> u64
     ensures { result ≡ count_by is_bad results.now }
 {
@@ -59,7 +60,7 @@ pub(crate) fn bad_count(results: &[Done]) -> u64
         .count() as u64
 }
 
-/// How many have one over a connection that was used before.
+/// How many have a whole response over a connection that was used before.
 pub(crate) fn reused_count(results: &[Done]) -> u64
     ensures { result ≡ count_by is_reused results.now }
 {

@@ -9,7 +9,7 @@ use Rattle.conn_log.specs.declared.entry.Event.{Event}
 use Rattle.conn_log.specs.declared.entry.Event.TheVariants.{Opened, Leased, Returned, Closed, Waited, Left, Limit}
 use Rattle.conn_log.specs.declared.entry.Entry.{Entry}
 use Rattle.conn_log.specs.Waiting.{without, waiting, waiting_after, waiting_since}
-use Rattle.conn_log.specs.Scan.{ends_wait, is_wait_ended, left_waiting, is_left_waiting, begins_wait, is_anyone_waited}
+use Rattle.conn_log.specs.Scan.{ends_wait, is_wait_ended, left_waiting, is_left_waiting, is_wait_begun, is_any_wait_begun}
 
 -- none of the entries takes the want's transfer
 abbrev pub is_untaken : List Entry → Want → Bool
@@ -163,20 +163,20 @@ waiting_split start (e ∷ before) =
     by_event (Limit n) = refl
     by_event (Waited want) = append_assoc old new (want ∷ [])
 
-anyone_append : (xs ys : List Entry) → is_anyone_waited (xs ++ ys) ≡ (is_anyone_waited xs || is_anyone_waited ys)
-anyone_append [] ys = refl
-anyone_append (e ∷ xs) ys = grind (arith, anyone_append xs ys)
+begun_append : (xs ys : List Entry) → is_any_wait_begun (xs ++ ys) ≡ (is_any_wait_begun xs || is_any_wait_begun ys)
+begun_append [] ys = refl
+begun_append (e ∷ xs) ys = grind (arith, begun_append xs ys)
 
-anyone_reverse : (xs : List Entry) → is_anyone_waited (reverse xs) ≡ is_anyone_waited xs
-anyone_reverse [] = refl
-anyone_reverse (e ∷ xs) = ap is_anyone_waited (reverse-append (e ∷ []) xs) ∙ anyone_append (reverse xs) (e ∷ []) ∙ grind (arith, anyone_reverse xs)
+begun_reverse : (xs : List Entry) → is_any_wait_begun (reverse xs) ≡ is_any_wait_begun xs
+begun_reverse [] = refl
+begun_reverse (e ∷ xs) = ap is_any_wait_begun (reverse-append (e ∷ []) xs) ∙ begun_append (reverse xs) (e ∷ []) ∙ grind (arith, begun_reverse xs)
 
 -- where nobody began to wait, nobody waits
-nobody_waits : (log : List Entry) → is_anyone_waited log ≡ false → waiting_since [] log ≡ []
+nobody_waits : (log : List Entry) → is_any_wait_begun log ≡ false → waiting_since [] log ≡ []
 nobody_waits [] none = refl
 nobody_waits (e ∷ before) none = ap (waiting_after e.event) (nobody_waits before (grind (arith, none))) ∙ by_event e.event (grind (arith, none))
   where
-    by_event : (event : Event) → begins_wait event ≡ false → waiting_after event [] ≡ []
+    by_event : (event : Event) → is_wait_begun event ≡ false → waiting_after event [] ≡ []
     by_event (Opened c want) begins = refl
     by_event (Leased c want) begins = refl
     by_event (Left transfer) begins = refl
@@ -185,8 +185,8 @@ nobody_waits (e ∷ before) none = ap (waiting_after e.event) (nobody_waits befo
     by_event (Limit n) begins = refl
     by_event (Waited want) begins = absurd (cc begins)
 
-pub nobody_waits_after : (xs : List Entry) → is_anyone_waited xs ≡ false → waiting_since [] (reverse xs) ≡ []
-nobody_waits_after xs none = nobody_waits (reverse xs) (anyone_reverse xs ∙ none)
+pub nobody_waits_after : (xs : List Entry) → is_any_wait_begun xs ≡ false → waiting_since [] (reverse xs) ≡ []
+nobody_waits_after xs none = nobody_waits (reverse xs) (begun_reverse xs ∙ none)
 
 -- of those that waited before what the entries leave, once one more is looked at
 pub looked_at : (rest : List Entry) (items late : List Want) (i : ℕ) (d : Want) (wants wants' : List Want) (stays : Bool) → i < length items → reverse wants ≡ left_waiting (reverse rest) (reverse (take i items)) ++ late → stays ≡ not (is_wait_ended rest (get_or items i d).transfer) → reverse wants' ≡ (if stays then get_or items i d ∷ reverse wants else reverse wants) → reverse wants' ≡ left_waiting (reverse rest) (reverse (take (i + 1) items)) ++ late

@@ -64,9 +64,9 @@ pub record Summary : Type 0 where
   pub limit : Option ℕ
   pub counts : Counts
 
--- before any entry
-abbrev pub nothing : Summary
-nothing = record { connections = []; waiting = []; greatest = 0; last_moment = 0; limit = None; counts = counts [] }
+-- the base of a log of which nothing was cut away
+abbrev pub nothing_cut : Summary
+nothing_cut = record { connections = []; waiting = []; greatest = 0; last_moment = 0; limit = None; counts = counts [] }
 
 -- after one more entry
 abbrev pub base_after : Entry → Summary → Summary
@@ -86,7 +86,7 @@ lead base (e ∷ before) = base_after e (lead base before)
 
 -- the base of a log whose entries were all cut away
 abbrev pub summary : List Entry → Summary
-summary log = lead nothing log
+summary log = lead nothing_cut log
 
 -- of a log's entries those that were not cut away, and those that were
 abbrev pub rest_of : Recorded → List Entry
@@ -95,9 +95,9 @@ rest_of log = take (length log.entries - log.cut_away) log.entries
 abbrev pub past_of : Recorded → List Entry
 past_of log = drop (length log.entries - log.cut_away) log.entries
 
--- a cut would pass the most entries that a log may have cut away
+-- the most entries that a log may have cut away; a cut of a longer log would pass it
 abbrev pub most_cut : ℕ
 most_cut = 9223372036854775807
 
-abbrev pub is_past_cutting : Recorded → Bool
-is_past_cutting log = nat_lt most_cut (length log.entries)
+abbrev pub is_too_long_to_cut : List Entry → Bool
+is_too_long_to_cut log = nat_lt most_cut (length log)

@@ -1,5 +1,5 @@
 -- What happened to connections and to those who wait for one, counted by kind.
-use Rattle.std.specs.Prelude.{ℕ, ◌+◌, ◌≤◌, List, [], ◌∷◌}
+use Rattle.std.specs.Prelude.{ℕ, ◌+◌, ◌-◌, ◌^◌, ◌≤◌, List, [], ◌∷◌}
 use Rattle.conn_log.specs.declared.entry.Event.{Event}
 use Rattle.conn_log.specs.declared.entry.Event.TheVariants.{Opened, Leased, Closed, Waited}
 use Rattle.conn_log.specs.declared.entry.Entry.{Entry}
@@ -28,3 +28,7 @@ pub record CountsWithin (most : ℕ) (counts : Counts) : Type 0 where
   pub reused : counts.reused ≤ most
   pub closed : counts.closed ≤ most
   pub waited : counts.waited ≤ most
+
+-- they can be added: none of the one is above some number, and none of the other above what that leaves of 64 bits
+abbrev pub SumsFit : Counts → Counts → Type 0
+SumsFit x y = (few : ℕ) × CountsWithin few x × CountsWithin (2 ^ 64 - 1 - few) y

@@ -34,11 +34,11 @@ abbrev pub is_left_open : Event → List Entry → Bool
 is_left_open (Opened c want) log = not (is_closed log c)
 is_left_open _ log = false
 
--- a transfer began to wait in one of these entries
-abbrev pub begins_wait : Event → Bool
-begins_wait (Waited want) = true
-begins_wait _ = false
+-- the event begins a wait; some event of these entries does
+abbrev pub is_wait_begun : Event → Bool
+is_wait_begun (Waited want) = true
+is_wait_begun _ = false
 
-abbrev pub is_anyone_waited : List Entry → Bool
-is_anyone_waited [] = false
-is_anyone_waited (e ∷ others) = begins_wait e.event || is_anyone_waited others
+abbrev pub is_any_wait_begun : List Entry → Bool
+is_any_wait_begun [] = false
+is_any_wait_begun (e ∷ others) = is_wait_begun e.event || is_any_wait_begun others

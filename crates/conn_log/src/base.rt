@@ -1,7 +1,7 @@
 //! What a log still knows of the entries that were cut away.
 
 ghost use Rattle.std.specs.Prelude.{◌≡◌, ℕ, ◌+◌, ◌-◌, ◌<◌, ◌^◌, length, reverse, IfOk, OnOk};
-ghost use Rattle.conn_log.specs.Bases.{Summary, base_after, lead, nothing};
+ghost use Rattle.conn_log.specs.Bases.{Summary, base_after, lead, nothing_cut};
 ghost use Rattle.conn_log.specs.Counts.{CountsWithin};
 
 use crate::counts::Counts;
@@ -59,7 +59,7 @@ impl Model for Base {
 impl Base {
     /// Nothing was cut away.
     pub(crate) fn new(alloc: Global) -> Base
-        ensures { result ≡ nothing }
+        ensures { result ≡ nothing_cut }
     {
         Base {
             connections: BTreeMap::new(alloc),

@@ -1,5 +1,5 @@
-ghost use Rattle.std.specs.Prelude.{◌≡◌, ℕ, ◌-◌, ◌^◌, length, reverse};
-ghost use Rattle.conn_log.specs.Counts.{counts as counts_of, both_counts, CountsWithin};
+ghost use Rattle.std.specs.Prelude.{◌≡◌, length, reverse};
+ghost use Rattle.conn_log.specs.Counts.{counts as counts_of, both_counts, CountsWithin, SumsFit};
 
 use crate::entry::{Entry, Event};
 
@@ -40,9 +40,9 @@ impl Counts {
         counts
     }
 
-    /// What happened in both.
+    /// What happened in both parts of a log.
     pub(crate) fn with(&self, others: &Counts) -> Counts
-        requires { (few : ℕ) × CountsWithin few self.now × CountsWithin (2 ^ 64 - 1 - few) others.now }
+        requires { SumsFit self.now others.now }
         ensures { result ≡ both_counts self.now others.now }
     {
         Counts {

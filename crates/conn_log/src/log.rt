@@ -4,7 +4,7 @@ ghost use Rattle.conn_log.specs.declared.entry.Entry.{Entry};
 ghost use Rattle.conn_log.specs.declared.log.LogFault.TheVariants.{Memory, Exhausted};
 ghost use Rattle.conn_log.specs.Connections.{last_moment};
 ghost use Rattle.conn_log.specs.Counts.{counts as counts_of};
-ghost use Rattle.conn_log.specs.Bases.{summary, past_of, rest_of, is_past_cutting};
+ghost use Rattle.conn_log.specs.Bases.{summary, past_of, rest_of, is_too_long_to_cut};
 
 use crate::base::Base;
 use crate::counts::Counts;
@@ -131,9 +131,9 @@ impl Log {
         ensures entries { self.new.entries ≡ self.old.entries }
         ensures cut_away { OnOk result (self.new.cut_away ≡ length self.old.entries) }
         ensures room { OnOk result (self.old.room ≤ self.new.room) }
-        ensures not_exhausted { OnOk result (is_past_cutting self.old ≡ false) }
+        ensures not_exhausted { OnOk result (is_too_long_to_cut self.old.entries ≡ false) }
         ensures fault { IfErr result (λ fault.
-            fault ≡ (if is_past_cutting self.old then Exhausted else Memory)) }
+            fault ≡ (if is_too_long_to_cut self.old.entries then Exhausted else Memory)) }
         ensures err { OnErr result (self.new ≡ self.old) }
     {
         let cut_away = self.total_len();

@@ -3,7 +3,7 @@
 ghost use Rattle.std.specs.Prelude.{◌≡◌, ℕ, [], nat_eq, reverse, IfOk};
 ghost use Rattle.std.specs.HashSet.{contains};
 ghost use Rattle.conn_log.specs.Waiting.{waiting_since};
-ghost use Rattle.conn_log.specs.Scan.{is_anyone_waited, is_wait_ended};
+ghost use Rattle.conn_log.specs.Scan.{is_any_wait_begun, is_wait_ended};
 
 use crate::entry::{Entry, Event, Want};
 use std::alloc::{AllocError, Global};
@@ -16,7 +16,7 @@ pub(crate) fn waiting_since(waiting: &Vec<Want>, rest: &[Entry]) -> Result<Vec<W
         reverse wants.items ≡ waiting_since (reverse waiting.now.items) (reverse rest.now)) }
 {
     let alloc = *waiting.allocator();
-    if waiting.is_empty() && !has_anyone_waited(rest) {
+    if waiting.is_empty() && !begins_any_wait(rest) {
         return Ok(Vec::new(alloc));
     }
     let (mut wants, gone) = late_waits(alloc, rest)?;
@@ -29,14 +29,14 @@ pub(crate) fn waiting_since(waiting: &Vec<Want>, rest: &[Entry]) -> Result<Vec<W
 }
 
 // Whether a transfer began to wait in one of these entries.
-fn has_anyone_waited(rest: &[Entry]) -> bool
-    ensures { result ≡ is_anyone_waited rest.now }
+fn begins_any_wait(rest: &[Entry]) -> bool
+    ensures { result ≡ is_any_wait_begun rest.now }
 {
-    let mut anyone = false;
+    let mut begun = false;
     for entry in rest {
-        anyone = anyone || matches!(entry.event, Event::Waited { .. });
+        begun = begun || matches!(entry.event, Event::Waited { .. });
     }
-    anyone
+    begun
 }
 
 // The wants that began to wait in these entries and still wait after them, the last one first; and

@@ -30,6 +30,7 @@ impl<S: Drop, N: Names, R: Wait> Cache<S> for Desk<'_, S, N, R> {
         self.cache.claim(self.rt, ticket, &mut self.pass)
     }
 
+    // The trait's clauses are said again: they don't reach an answer with a stray lease.
     #[inline(always)]
     fn give_back(&mut self, lease: Lease<S>, facts: Facts, now: u64) -> Result<(), Stray<Lease<S>>>
         requires here { IsMadeBy N.names.hosts lease.site lease.tables }

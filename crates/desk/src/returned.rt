@@ -22,7 +22,7 @@ impl<S> Model for LastReturned<S> {
 }
 
 impl<S> LastReturned<S> {
-    // Nothing went back yet.
+    // As long as no lease went back.
     pub(crate) fn none() -> Self
         ensures { result ≡ None }
     {
@@ -34,7 +34,7 @@ impl<S> LastReturned<S> {
         }
     }
 
-    // That lease goes back, which the code has again at once.
+    // Once that lease goes back; the caller has it again at once.
     #[inline(always)]
     pub(crate) fn of(lease: Lease<S>) -> (Self, Lease<S>)
         ensures wire { result.0 ≡ lease.stream }

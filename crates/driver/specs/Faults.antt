@@ -3,7 +3,7 @@ use Rattle.std.specs.Prelude.{ℕ, Bool, ◌||◌, ◌==◌, nat_lt}
 use Rattle.driver.specs.declared.fault.DriverFault.{DriverFault}
 use Rattle.driver.specs.declared.fault.DriverFault.TheVariants.{Memory, Poll}
 
--- what a worker may meet: want of memory, or a turn that failed
+-- the faults that a worker may give up with; that memory ran out, or that a turn failed, is not said
 abbrev pub IsWorkerFault : DriverFault → Type 0
 IsWorkerFault Memory = Unit {0}
 IsWorkerFault Poll = Unit {0}

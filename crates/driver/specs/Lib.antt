@@ -1,4 +1,3 @@
-pub mod Gates
 pub mod Faults
 pub mod Results
 pub mod Workers

@@ -11,8 +11,8 @@ use Rattle.exchange.specs.Standing.{Ends}
 use Rattle.exchange.specs.Carrying.{IsForJob, CarriesOut}
 
 -- A transfer of that job ended so, by what was done for it. A good one sent the job's request whole on one wire; its
--- status, its facts and its body's length are those of exactly the bytes that this wire received (RFC 9112, section 6.3),
--- and its lease went back with these facts.
+-- status, its facts and its body's length are those of exactly the bytes that this wire received since its lease was given
+-- (RFC 9112, section 6.3), and its lease went back with these facts.
 pub record IsEndOf {W : Type 0} (world : World W) (job : Job) (done : Done) : Type 0 where
   pub parts : Prepared
   pub its : IsForJob job parts

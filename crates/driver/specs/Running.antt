@@ -28,8 +28,8 @@ results_of work = work.results
 abbrev pub pass_of : Work → Accounts
 pass_of work = work.pass
 
--- with a new pass it carried out the jobs of these results, one after another, and did nothing else; then the pass was as
--- it is
+-- with a new pass the worker carried out the jobs of these results, one after another, and did nothing else, and left the
+-- pass so
 pub record IsWork {W : Type 0} (world : World W) (names : CacheNames) (jobs : List Job) (work : Work) : Type 0 where
   pub before : DeskShown W
   pub after : DeskShown W

@@ -19,7 +19,7 @@ pub record WorkerShown : Type 0 where
   pub results : List (ℕ × Done)
   pub fault : Option DriverFault
 
--- a worker that leaves that
+-- a worker that leaves its seat, its pass, its results and its fault so
 abbrev pub left_with : Drawn → Accounts → List (ℕ × Done) → Option DriverFault → WorkerShown
 left_with seat pass results fault = record { seat = seat; pass = Some pass; results = results; fault = fault }
 

@@ -1,13 +1,13 @@
 //! What is told of each job while threads carry out jobs, and may end it.
 
-ghost use Rattle.driver.specs.Gates.{OnTrue};
+ghost use Rattle.std.specs.Bool.{OnTrue};
 
 /// What hears of each job, and may end it. All workers call it, each for the jobs that it drew.
 ///
 /// The ghost member tells contracts which jobs it may end.
 pub trait Gate {
     ghost use Rattle.std.specs.Prelude.{ℕ};
-    ghost use Rattle.driver.specs.Gates.{OnTrue};
+    ghost use Rattle.std.specs.Bool.{OnTrue};
 
     /// It may end the job of that number.
     ghost may_stop: { Self → ℕ → Type 0 };

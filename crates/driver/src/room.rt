@@ -88,7 +88,7 @@ fn tasks_for<R: RandomSource + AllocGlobal>(
     Ok(tasks)
 }
 
-/// So many passes; those made so far where there is no memory for one.
+/// So many passes; if memory runs out, those made before.
 pub(crate) fn passes_for<S: Drop, N: Names, R: Wait>(
     rt: &R,
     alloc: Global,

@@ -76,7 +76,7 @@ impl<'d, W: Wire, D: Dial<W>> Worker<'d, W, D> {
         }
     }
 
-    /// Lends its pass. Asked of the caller: it has it.
+    /// Lends its pass, which it has.
     pub(crate) fn take_pass(&mut self) -> Pass<Did>
         requires { IsSome self.old.pass }
         ensures pass { self.old.pass ≡ Some result }
@@ -88,7 +88,7 @@ impl<'d, W: Wire, D: Dial<W>> Worker<'d, W, D> {
         pass
     }
 
-    /// Takes its pass back. Asked of the caller: it was lent.
+    /// Takes its pass back, which was lent.
     pub(crate) fn put_pass(&mut self, pass: Pass<Did>)
         requires { self.old.pass ≡ None }
         ensures { self.new ≡ record self.old { pass = Some pass } }
@@ -99,7 +99,7 @@ impl<'d, W: Wire, D: Dial<W>> Worker<'d, W, D> {
         }
     }
 
-    /// Ends it. Asked of the caller: it has its pass.
+    /// Ends it, once it has its pass again.
     pub(crate) fn leave(self) -> Left
         requires { IsSome self.pass }
         ensures { self.entry ≡ left_with result.seat result.pass result.results.items result.fault }

@@ -1,5 +1,5 @@
 -- What the steps of a host add to its log. Steps take the log last, so that they read in their order.
-use Rattle.std.specs.Prelude.{ℕ, ◌+◌, ◌-◌, max, Bool, ◌==◌, nat_le, nat_lt, List, [], ◌∷◌, length, filter, take}
+use Rattle.std.specs.Prelude.{ℕ, ◌+◌, ◌-◌, max, Bool, ◌==◌, nat_le, List, [], ◌∷◌, length, filter, take}
 use Rattle.conn_log.specs.declared.entry.Cause.{Cause}
 use Rattle.conn_log.specs.declared.entry.Cause.TheVariants.{HostRoom, TooOld as ForAge, Pruned as ForPrune}
 use Rattle.conn_log.specs.declared.entry.Event.{Event}
@@ -7,7 +7,6 @@ use Rattle.conn_log.specs.declared.entry.Event.TheVariants.{Closed}
 use Rattle.conn_log.specs.declared.entry.Entry.{Entry}
 use Rattle.conn_log.specs.Connections.{last_moment, opened, greatest, open_connections, born, since}
 use Rattle.conn_log.specs.Waiting.{waiting}
-use Rattle.conn_log.specs.Bases.{most_cut}
 use Rattle.conn_log.specs.Fit.{is_older, is_too_old_in_lane, idle_in_order}
 use Rattle.conn_log.specs.Legal.{LimitAndFirst, limit_in_force}
 use Rattle.host_state.specs.declared.closing.Closing.{Closing}
@@ -58,7 +57,3 @@ last_number = 4294967295
 -- exhausted: the numbers left are those that the waiting transfers and the acquires halfway may need
 abbrev pub is_exhausted : LimitAndFirst → List Entry → ℕ → Bool
 is_exhausted settings log booked = nat_le last_number (greatest settings.first (opened log) + (length (waiting log) + booked))
-
--- a cut would pass the most entries that a log may have cut away
-abbrev pub is_too_long_to_cut : List Entry → Bool
-is_too_long_to_cut log = nat_lt most_cut (length log)

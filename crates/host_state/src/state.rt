@@ -15,7 +15,7 @@ ghost use Rattle.conn_log.specs.Fit.{newest_fit, oldest_too_old, oldest_stamp};
 ghost use Rattle.conn_log.specs.Sound.{IsSound, IsNext, is_of_holder, is_of_idle};
 ghost use Rattle.host_state.specs.Steps.{add, next_number, picked};
 ghost use Rattle.host_state.specs.Steps.{is_full, is_exhausted, moment_at, close_each};
-ghost use Rattle.host_state.specs.Steps.{is_too_long_to_cut};
+ghost use Rattle.conn_log.specs.Bases.{is_too_long_to_cut};
 ghost use Rattle.host_state.specs.Idle.{stream_of, numbers};
 ghost use Rattle.host_state.specs.Queue.{waiting_want};
 ghost use Rattle.host_state.specs.State.{HostState, IsSameHost, ClosesNext, SetsLimit};
@@ -427,7 +427,7 @@ impl<S: Drop> State<S> {
             fault ≡ (if is_too_long_to_cut self.old.log then Exhausted else Memory)) }
         ensures err { OnErr result (self.new ≡ self.old) }
     {
-        Ok(self.log.cut()?)
+        self.log.cut()
     }
 
     /// Makes room for the entry of a changed limit. Where memory runs out nothing has changed.

@@ -6,7 +6,9 @@ use Rattle.exchange.specs.Worlds.{World}
 use Rattle.shared_cache.specs.Names.{CacheNames, IsPlanFor}
 use Rattle.shared_cache.specs.Gathering.{IsGathered}
 use Rattle.driver.specs.declared.running.RunReport.{RunReport}
-use Rattle.driver.specs.Running.{IsRun}
+use Rattle.driver.specs.Running.{IsRun, IsRefusedFor}
+use Rattle.load.specs.declared.error.LoadError.{LoadError}
+use Rattle.load.specs.declared.error.LoadError.TheVariants.{Run, Gather}
 use Rattle.load.specs.declared.loading.Loaded.{Loaded}
 
 -- The results are those of a run over the cache of those names, which no gate stopped; the account is that of this cache
@@ -22,3 +24,8 @@ pub record IsLoaded {W : Type 0} (world : World W) (limits : Bounds) (hosts : �
   pub names : CacheNames
   pub planned : IsPlanFor limits hosts names
   pub by_them : IsLoadedBy world names jobs workers loaded
+
+-- why there is no account: as the run of so many workers may be refused, or since the cache could not be gathered
+abbrev pub IsLoadRefusedFor : ℕ → LoadError → Type 0
+IsLoadRefusedFor workers (Run fault) = IsRefusedFor workers fault
+IsLoadRefusedFor workers Gather = Unit {0}

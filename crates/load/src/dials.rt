@@ -1,6 +1,7 @@
 //! What the threads of a load open connections with.
 
-ghost use Rattle.std.specs.Prelude.{◌≡◌, IfOk, vec_len};
+ghost use Rattle.std.specs.Prelude.{◌≡◌, ℕ, IfOk, IfErr, vec_len};
+ghost use Rattle.load.specs.Loading.{IsLoadRefusedFor};
 
 use crate::error::LoadError;
 use driver::DriverFault;
@@ -16,7 +17,8 @@ pub(crate) fn dials_for<'n>(
     sites: &[SocketAddr],
     workers: u32,
 ) -> Result<Vec<WaitingDial<'n, HostRuntime>>, LoadError>
-    ensures { IfOk result (λ dials. vec_len dials ≡ workers) }
+    ensures number { IfOk result (λ dials. vec_len dials ≡ workers) }
+    ensures refused { IfErr result (IsLoadRefusedFor workers) }
 {
     let Ok(dials) = Vec::with_capacity(alloc, workers as usize) else {
         return Err(LoadError::Run(DriverFault::Memory));
@@ -34,7 +36,9 @@ fn dial_for<'n>(
     system: &'n HostRuntime,
     alloc: Global,
     sites: &[SocketAddr],
-) -> Result<WaitingDial<'n, HostRuntime>, LoadError> {
+) -> Result<WaitingDial<'n, HostRuntime>, LoadError>
+    ensures { (workers : ℕ) → IfErr result (IsLoadRefusedFor workers) }
+{
     let Ok(addresses) = addresses_of(alloc, sites) else {
         return Err(LoadError::Run(DriverFault::Memory));
     };

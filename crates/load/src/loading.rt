@@ -1,11 +1,12 @@
 //! A load: its plan, its cache, its run, and its account.
 
-ghost use Rattle.std.specs.Prelude.{◌≡◌, ◌≤◌, IfOk, length, ⊤};
+ghost use Rattle.std.specs.Prelude.{◌≡◌, ℕ, ◌≤◌, IfOk, IfErr, OnOk, length, false, ⊤};
 ghost use Rattle.std.specs.List.{All};
 ghost use Rattle.shared_cache.specs.Passes.{IsPassOf};
 ghost use Rattle.shared_cache.specs.Gathering.{IsGathered};
 ghost use Rattle.exchange.specs.Worlds.{world_of};
-ghost use Rattle.load.specs.Loading.{IsLoaded, IsLoadedBy};
+ghost use Rattle.driver.specs.Faults.{are_bad_workers};
+ghost use Rattle.load.specs.Loading.{IsLoaded, IsLoadedBy, IsLoadRefusedFor};
 
 use crate::dials::dials_for;
 use crate::error::LoadError;
@@ -33,14 +34,15 @@ pub struct Loaded {
 
 /// Carries out the jobs by so many threads, which share one cache under these limits, cuts the log
 /// of every host, and gathers the cache: its account is of all that happened, though no log has
-/// entries left. Connections to a site, at most 1,024 of them, are opened to its address; a read or
-/// a write waits ten milliseconds at most.
+/// entries left. There are at most 1,024 sites, and connections to each are opened to its address;
+/// a read or a write waits ten milliseconds at most.
 ///
 /// # Errors
 ///
-/// What [`run`] refuses; also [`DriverFault::Poll`] where the system gives no poller or no time,
-/// and [`DriverFault::Memory`] for want of memory before and after the run. [`LoadError::Gather`]
-/// is not expected, though no clause rules it out.
+/// What [`run`] refuses; also [`DriverFault::Poll`] if the system gives no poller or no time, and
+/// [`DriverFault::Memory`] if memory runs out before or after the run. With bad workers these may
+/// come first, since dials are made before the run. [`LoadError::Gather`] is not expected, though
+/// no clause rules it out.
 pub fn load<R: Threads + Wait + RandomSource + AllocGlobal + Sync>(
     rt: &R,
     system: &HostRuntime,
@@ -51,9 +53,11 @@ pub fn load<R: Threads + Wait + RandomSource + AllocGlobal + Sync>(
     workers: u32,
 ) -> Result<Loaded, LoadError>
     requires { length sites.now ≤ 1024 }
-    ensures { IfOk result (IsLoaded (world_of ⟦<WaitingWire as Wire>⟧.untouched
+    ensures ok { IfOk result (IsLoaded (world_of ⟦<WaitingWire as Wire>⟧.untouched
         ⟦<WaitingWire as Wire>⟧.happened (λ moment. ⊤)) limits (length sites.now) jobs.now
         workers) }
+    ensures workers { OnOk result (are_bad_workers workers ≡ false) }
+    ensures refused { IfErr result (IsLoadRefusedFor workers) }
 {
     let hosts = sites.len() as u32;
     let planned: Result<Plan<WaitingWire>, Refusal> = Plan::new(alloc, limits, hosts);
@@ -74,8 +78,10 @@ fn load_by<N: Names + Send + Sync, R: Threads + Wait + RandomSource + AllocGloba
     workers: u32,
 ) -> Result<Loaded, LoadError>
     requires { plan ≡ N.names }
-    ensures { IfOk result (IsLoadedBy (world_of ⟦<WaitingWire as Wire>⟧.untouched
+    ensures ok { IfOk result (IsLoadedBy (world_of ⟦<WaitingWire as Wire>⟧.untouched
         ⟦<WaitingWire as Wire>⟧.happened (λ moment. ⊤)) N.names jobs.now workers) }
+    ensures workers { OnOk result (are_bad_workers workers ≡ false) }
+    ensures refused { IfErr result (IsLoadRefusedFor workers) }
 {
     let made: Result<SharedCache<WaitingWire, N>, (Plan<WaitingWire>, Refusal)> = SharedCache::new(
         alloc, plan,
@@ -107,6 +113,7 @@ fn account_of<N: Names, R: Wait>(
     ensures results { IfOk result (λ loaded. loaded.results ≡ report.results) }
     ensures gathered { IfOk result (λ loaded.
         IsGathered N.names report.passes.items loaded.gathered) }
+    ensures refused { (workers : ℕ) → IfErr result (IsLoadRefusedFor workers) }
 {
     let RunReport { results, passes } = report;
     if let Err(refusal) = cut_logs(rt, &cache) {
@@ -130,8 +137,10 @@ fn cut_logs<N: Names, R: Wait>(rt: &R, cache: &SharedCache<WaitingWire, N>) -> R
     Ok(())
 }
 
-// Why there is no account, where a cut or the gathering was refused so.
-fn error_of(refusal: Refusal) -> LoadError {
+// Why there is no account, if a cut or the gathering was refused so.
+fn error_of(refusal: Refusal) -> LoadError
+    ensures { (workers : ℕ) → IsLoadRefusedFor workers result }
+{
     match refusal {
         Refusal::Memory => LoadError::Run(DriverFault::Memory),
         _ => LoadError::Gather,

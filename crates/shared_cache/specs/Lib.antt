@@ -4,6 +4,5 @@ pub mod Planning
 pub mod Passes
 pub mod Calls
 pub mod Inspecting
-pub mod Cutting
 pub mod Counting
 pub mod Gathering

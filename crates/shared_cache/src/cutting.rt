@@ -1,9 +1,8 @@
 //! How a host's log is cut while others work.
 
 ghost use Rattle.std.specs.Prelude.{◌≡◌, ◌<◌, ◌≤◌, length, Err, IfOk, IfErr, OnOk};
-ghost use Rattle.bundle.specs.Lease.{HostShown};
+ghost use Rattle.bundle.specs.Lease.{HostShown, IsPartOf, cut_refusal};
 ghost use Rattle.shared_cache.specs.Inspecting.{IsInspected};
-ghost use Rattle.shared_cache.specs.Cutting.{IsPartOf, cut_refusal};
 
 use crate::cache::SharedCache;
 use crate::locked::LockedHost;
@@ -18,9 +17,9 @@ impl<S: Drop, N: Names> SharedCache<S, N> {
     /// one after the other, is its whole log, of which contracts speak and from which the cache is
     /// gathered. No event is logged, and no pass is told. This call takes no other lock.
     ///
-    /// Refused, in this order, with [`Refusal::BadSite`] where there is no such site, with
-    /// [`Refusal::Exhausted`] where more than 9,223,372,036,854,775,807 entries of the host would
-    /// be cut away, and with [`Refusal::Memory`] where memory runs out; then nothing changes.
+    /// Refused, in this order, with [`Refusal::BadSite`] if there is no such site, with
+    /// [`Refusal::Exhausted`] if more than 9,223,372,036,854,775,807 entries of the host would be
+    /// cut away, and with [`Refusal::Memory`] if memory runs out; then nothing changes.
     pub fn cut<R: Wait>(&self, rt: &R, site: u32) -> Result<Vec<Entry>, Refusal>
         ensures cut { site < length N.names.hosts → (host : HostShown S)
             × IsInspected N.names site host

@@ -9,11 +9,11 @@ use Rattle.conn_log.proofs.Waits.{nobody_waits_after, waiting_split, looked_at}
 use Rattle.conn_log.proofs.still_waiting.waiting_since.Goals as goal
 use Rattle.conn_log.proofs.still_waiting.waiting_since.Goals.{then-not-contains+in_ok-push, else-not-contains}
 
-pub returns-then-not-has_anyone_waited : goal.returns-then-not-has_anyone_waited
-returns-then-not-has_anyone_waited c =
+pub returns-then-not-begins_any_wait : goal.returns-then-not-begins_any_wait
+returns-then-not-begins_any_wait c =
     let waiting = c.args.waiting.now in
     let none : waiting.items ≡ [] = empty waiting.items (grind (arith, nat_tests, waiting.ok, c.if-is_empty.ensures)) in
-    rw (c.new.ensures.items, none) (sym (nobody_waits_after c.args.rest.now (sym c.if-not-has_anyone_waited.ensures)))
+    rw (c.new.ensures.items, none) (sym (nobody_waits_after c.args.rest.now (sym c.if-not-begins_any_wait.ensures)))
 
 pub loop-want-preserved : goal.loop-want-preserved
 loop-want-preserved c =
