@@ -34,6 +34,11 @@ fn answers(log: &Log) -> Answers {
     )
 }
 
+/// The log answers so.
+fn check_answers(rt: &impl Abort, log: &Log, expected: &Answers, place: usize) {
+    assert_eq!(rt; &answers(log), expected, "cut at {place}");
+}
+
 /// Two connections, of which one is leased again; and two transfers that wait, of which one leaves
 /// and one is granted what comes back.
 fn busy_host() -> [Entry; 12] {
@@ -65,7 +70,7 @@ fn answers_stay_wherever_a_log_is_cut(rt: HostRuntime) -> Result<(), Fail> {
 /// Cuts a log of its first entries at each place, and once more at its end: each time it answers
 /// what the whole log does, and the parts are its entries.
 fn check_cuts(rt: &impl Abort, alloc: Global, entries: &[Entry]) -> Result<(), Fail> {
-    let whole = log_of(rt, alloc, entries)?;
+    let whole = answers(&log_of(rt, alloc, entries)?);
     for place in 0..=entries.len() {
         let mut log = log_of(rt, alloc, &entries[..place])?;
         let room = log.room();
@@ -75,20 +80,11 @@ fn check_cuts(rt: &impl Abort, alloc: Global, entries: &[Entry]) -> Result<(), F
         for entry in &entries[place..] {
             add(rt, &mut log, *entry)?;
         }
-        assert_eq!(rt;
-            answers(&log),
-            answers(&whole),
-            "cut at {place} of {}",
-            entries.len()
-        );
+        check_answers(rt, &log, &whole, place);
         assert_eq!(rt; log.total_len(), entries.len() as u64);
         let second = log.cut()?;
         assert_eq!(rt; second.as_slice(), &entries[place..]);
-        assert_eq!(rt;
-            answers(&log),
-            answers(&whole),
-            "cut at {place}, and at the end"
-        );
+        check_answers(rt, &log, &whole, place);
         assert!(rt; log.cut()?.is_empty());
     }
     Ok(())
@@ -165,12 +161,13 @@ fn want_of_memory_leaves_a_log_uncut(rt: HostRuntime) {
     let Ok(mut log) = log_of(&rt, rt.alloc(), &entries) else {
         return;
     };
-    let before = (answers(&log), log.len(), log.room());
+    let (before, room) = (answers(&log), log.room());
     let part = match log.cut() {
         Ok(part) => part,
         Err(fault) => {
             assert_eq!(rt; fault, LogFault::Memory);
-            assert_eq!(rt; (answers(&log), log.len(), log.room()), before);
+            check_answers(&rt, &log, &before, 0);
+            assert_eq!(rt; (log.len(), log.room()), (entries.len(), room));
             let Ok(part) = log.cut() else {
                 return;
             };
@@ -178,5 +175,5 @@ fn want_of_memory_leaves_a_log_uncut(rt: HostRuntime) {
         }
     };
     assert_eq!(rt; part.as_slice(), entries.as_slice());
-    assert_eq!(rt; answers(&log), before.0);
+    check_answers(&rt, &log, &before, entries.len());
 }
