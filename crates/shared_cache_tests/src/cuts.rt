@@ -23,70 +23,41 @@ const TRANSFERS: u64 = 100;
 
 const TURNS: u64 = 50;
 
-/// A host's log: the parts that were handed out, one after the other, and what they count.
-#[derive(Drop)]
-struct Parts {
-    entries: Vec<Entry>,
-    counts: Counts,
-}
-
-impl Parts {
-    fn new(alloc: Global) -> Parts {
-        Parts {
-            entries: Vec::new(alloc),
-            counts: Counts::of(&[]),
-        }
-    }
-
-    // Adds a part, which came next.
-    fn add(&mut self, rt: &impl Abort, part: &[Entry]) {
-        let more = Counts::of(part);
-        self.counts = Counts {
-            opened: self.counts.opened.saturating_add(more.opened),
-            reused: self.counts.reused.saturating_add(more.reused),
-            closed: self.counts.closed.saturating_add(more.closed),
-            waited: self.counts.waited.saturating_add(more.waited),
-        };
-        for entry in part {
-            push(rt, &mut self.entries, *entry);
-        }
-    }
-}
-
-// Nothing was handed out yet, of each host.
-fn none_yet(rt: &impl Abort, alloc: Global) -> Vec<Parts> {
+// No entry was handed out yet, of each host.
+fn none_yet(rt: &impl Abort, alloc: Global) -> Vec<Vec<Entry>> {
     let mut parts = Vec::new(alloc);
     for _ in 0..HOSTS {
-        push(rt, &mut parts, Parts::new(alloc));
+        push(rt, &mut parts, Vec::new(alloc));
     }
     parts
 }
 
-// Cuts the log of one host.
+// Cuts the log of one host, and adds what is handed out to the entries of its other parts.
 fn cut<N: Names>(
     rt: &(impl Wait + Abort),
     cache: &SharedCache<Stream, N>,
-    parts: &mut [Parts],
+    parts: &mut [Vec<Entry>],
     site: u32,
 ) {
     let part = cache.cut(rt, site).expect(rt, "memory");
     let place = site as usize;
     assert!(rt; place < parts.len());
-    parts[place].add(rt, &part);
+    parts[place].extend_from_slice(&part).expect(rt, "memory");
 }
 
 // Cuts the log of each host, and looks at what it counts.
 fn cut_all<N: Names>(
     rt: &(impl Wait + Abort),
     cache: &SharedCache<Stream, N>,
-    parts: &mut [Parts],
+    parts: &mut [Vec<Entry>],
 ) {
     for site in 0..HOSTS {
         cut(rt, cache, parts, site);
         let counted = cache.inspect(rt, site, |bundle: &Bundle<Stream>| bundle.log().counts());
         let place = site as usize;
         assert!(rt; place < parts.len());
-        assert_eq!(rt; counted, Ok(parts[place].counts), "host {site}");
+        let counts = Counts::of(&parts[place]);
+        assert_eq!(rt; counted, Ok(counts), "host {site}");
     }
 }
 
@@ -97,7 +68,7 @@ fn history<N: Names>(
     alloc: Global,
     plan: Plan<Stream>,
     is_cut: bool,
-) -> Vec<Parts>
+) -> Vec<Vec<Entry>>
     requires { plan ≡ N.names }
 {
     let cache: SharedCache<Stream, N> = new_cache(rt, alloc, plan);
@@ -131,7 +102,7 @@ fn drawn(turn: u64) -> Job {
 }
 
 // The account of each host is what the parts of its log count.
-fn check_hosts(rt: &impl Abort, hosts: &[HostCount], parts: &[Parts]) {
+fn check_hosts(rt: &impl Abort, hosts: &[HostCount], parts: &[Vec<Entry>]) {
     assert_eq!(rt; hosts.len(), parts.len());
     for (host, parts) in hosts.iter().zip(parts) {
         let Counts {
@@ -139,14 +110,14 @@ fn check_hosts(rt: &impl Abort, hosts: &[HostCount], parts: &[Parts]) {
             reused,
             closed,
             waited,
-        } = parts.counts;
+        } = Counts::of(parts);
         let counted = (host.opened, host.reused, host.closed, host.waited);
         assert_eq!(rt; counted, (opened, reused, closed, waited));
     }
 }
 
 // The same of a new cache.
-fn drawn_history(rt: &(impl Wait + Abort), alloc: Global, is_cut: bool) -> Vec<Parts> {
+fn drawn_history(rt: &(impl Wait + Abort), alloc: Global, is_cut: bool) -> Vec<Vec<Entry>> {
     let plan = new_plan(rt, alloc, (2, 5, 3), HOSTS);
     history::<Brand>(rt, alloc, plan, is_cut)
 }
@@ -156,8 +127,9 @@ fn parts_add_up_beside_a_cache_that_is_not_cut(rt: HostRuntime) {
     let cut = drawn_history(&rt, rt.alloc(), true);
     let uncut = drawn_history(&rt, rt.alloc(), false);
     for (parts, whole) in cut.iter().zip(&uncut) {
-        assert_eq!(rt; parts.entries.len(), whole.entries.len());
-        assert!(rt; parts.entries == whole.entries);
+        assert!(rt; !whole.is_empty());
+        assert_eq!(rt; parts.len(), whole.len());
+        assert!(rt; parts == whole);
     }
 }
 
