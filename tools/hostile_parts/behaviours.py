@@ -65,7 +65,7 @@ def sends_single_bytes(connection):
 
 
 def cuts_at_each_byte(connection):
-    """Cuts the first response of the first connection before its first byte, and that of each later one a byte later."""
+    """Sends no byte of the first response on the first connection, and on each later one a byte more; ends it then."""
     for request in itertools.islice(connection.requests(), 1):
         connection.send(counted(request.number)[:connection.place - 1])
 
