@@ -36,8 +36,8 @@ def socket_requests():
 
 
 def end(started):
-    """Ends a process that was started in a group of its own, with its group, where it has not ended. First they are asked
-    to end."""
+    """Ends a process that was started in a group of its own, with its group, where it has not ended. First they are
+    asked to."""
     if started.poll() is not None:
         return
     os.killpg(started.pid, signal.SIGTERM)
