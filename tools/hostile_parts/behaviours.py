@@ -11,10 +11,6 @@ from real_servers import servers
 from real_servers.servers import REQUEST, counted, head_of
 
 
-def answer_of(number):
-    return counted(number)
-
-
 def half_closes_after(count):
     """Ends its own side after so many responses, and goes on reading until the client ends its side."""
     def behave(connection):
@@ -41,20 +37,23 @@ def never_answers(connection):
         pass
 
 
+def read_to(end, connection, came=b""):
+    """What has come, with bytes that are read one by one until it ends so; nothing where the client ends before."""
+    while not came.endswith(end):
+        piece = connection.stream.recv(1)
+        if not piece:
+            return b""
+        came += piece
+    return came
+
+
 def answers_after_the_first_line(connection):
     """Answers as soon as the first line of a request has come, byte by byte, and reads the rest of it afterwards."""
-    came = b""
-    while True:
-        while b"\r\n" not in came:
-            piece = connection.stream.recv(1)
-            if not piece:
-                return
-            came += piece
+    while came := read_to(b"\r\n", connection):
         number = REQUEST.match(came + b"Host: a\r\n")[2]
         connection.send(counted(int(number)))
-        while b"\r\n\r\n" not in came:
-            came += connection.stream.recv(1)
-        came = b""
+        if not read_to(b"\r\n\r\n", connection, came):
+            return
 
 
 def sends_single_bytes(connection):
@@ -65,12 +64,10 @@ def sends_single_bytes(connection):
             connection.send(whole[place:place + 1])
 
 
-def cuts_at_each_byte():
-    """Connection by connection the first response is cut after one byte more, from none to all of them."""
-    def behave(connection):
-        for request in itertools.islice(connection.requests(), 1):
-            connection.send(counted(request.number)[:connection.place - 1])
-    return behave
+def cuts_at_each_byte(connection):
+    """Sends no byte of the first response on the first connection, and on each later one a byte more; ends it then."""
+    for request in itertools.islice(connection.requests(), 1):
+        connection.send(counted(request.number)[:connection.place - 1])
 
 
 def cuts_the_second_at_each_byte():

@@ -5,7 +5,7 @@ from real_servers import servers
 from real_servers.servers import nobody
 
 from .parts import Part, check, check_same
-from .peers import BAD, GOOD, TOTALS, listening, path_of
+from .peers import GOOD, TOTALS, listening, path_of
 from .programs import curlpool, load_requests, run
 
 PORTS, DESCRIPTORS = 40, 16
@@ -33,11 +33,11 @@ def get():
     return f"{good} of {PORTS} were answered under {DESCRIPTORS} descriptors, {PORTS - good} Dial"
 
 
-def job_line(number, line):
-    """Whether the job got its own answer, or could not dial, or its connection was lost to another one's."""
-    good, bad = GOOD.fullmatch(line), BAD.fullmatch(line)
-    check((good and good[2] == str(number)) or (bad and bad[2] == path_of(number)), f"job {number}: `{line}`")
-    check(not bad or bad[1] == "Dial", f"job {number}: `{line}`")
+def is_answered(number, line):
+    """Whether the job got its own answer; one that did not could not dial."""
+    good = GOOD.fullmatch(line)
+    is_own = good and (good[2], good[5]) == (str(number), path_of(number))
+    check(is_own or line == f"Dial {path_of(number)}", f"job {number}: `{line}`")
     return bool(good)
 
 
@@ -52,7 +52,7 @@ def threads():
         *lines, totals = done.output.splitlines() or [""]
         found = TOTALS.fullmatch(totals)
         check(done.status == 0 and found and len(lines) == 200, f"under {descriptors}: {done.told()}")
-        good += sum(job_line(number, line) for number, line in enumerate(lines))
+        good += sum(is_answered(number, line) for number, line in enumerate(lines))
         jobs += len(lines)
         check(int(found[5]) == int(found[6]) + int(found[7]), f"under {descriptors}: {totals}")
     check(0 < good < jobs, f"{good} of {jobs} were answered")

@@ -1,7 +1,7 @@
 """Memory that is refused: each request for it in turn, alone and from it on.
 
 The scripts are tried by tools/failing-allocations, and calls by tools/failing-allocations-in-tests. Here curlpool get
-and curlpool load are tried the same way.
+and curlpool load are tried the same way, but whether they give all memory back is not looked at.
 """
 import collections
 import contextlib

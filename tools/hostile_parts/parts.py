@@ -12,12 +12,15 @@ class Part(NamedTuple):
     do: Callable[[], str]
 
     def run(self):
-        """Whether it passed, and its line."""
+        """Whether it passed, and its line. Whatever it raises fails it, but for what asks this process to end."""
         began = time.monotonic()
         try:
             said, has_passed = self.do(), True
         except Wrong as wrong:
             said, has_passed = str(wrong), False
+        except (Exception, SystemExit) as fault:
+            # such as what could not be built
+            said, has_passed = f"{type(fault).__name__}: {fault}", False
         end = "passed" if has_passed else "failed"
         return has_passed, f"{end}  {self.name}: {said}; {time.monotonic() - began:.1f} seconds"
 

@@ -75,7 +75,7 @@ def each(behaviour, wanted, *options):
 def cut_at_each_byte():
     """A response on a new connection, cut after each number of its bytes."""
     length = len(counted(LENGTH))
-    return each(behaviours.cuts_at_each_byte(), ["Cut"] * length + [f"200 {LENGTH} new"])()
+    return each(behaviours.cuts_at_each_byte, ["Cut"] * length + [f"200 {LENGTH} new"])()
 
 
 def second_cut_at_each_byte():

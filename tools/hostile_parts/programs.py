@@ -1,7 +1,7 @@
 """The programs and tests that hostile tries: where they are, and what a run of them gave.
 
-BUILT names a folder that has them already: pool_cli, load_requests, and the tests CRATE_tests of each crate. Otherwise
-those in `out` are taken, and rt builds them first where they are missing or older than their sources.
+BUILT names a folder that has them already: tools/hostile says which. Otherwise those in `out` are taken, which are
+built first where they are missing or older than their sources.
 """
 import contextlib
 import os
@@ -17,7 +17,6 @@ from program import TOP, build_unless_current, built
 FEWEST_WORDS = ["1", "0", "1", "1"]
 # no run takes a tenth of that
 SECONDS = 60
-SECONDS_TO_END = 10
 
 
 class Run(NamedTuple):
@@ -70,7 +69,7 @@ def started(words, **streams):
 
 
 def end(run):
-    """Ends a process that was started so, and what is left of its group."""
+    """Ends a process that was started so, with its group, where it has not ended."""
     if run.poll() is None:
         with contextlib.suppress(ProcessLookupError):
             os.killpg(run.pid, signal.SIGKILL)

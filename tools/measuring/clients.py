@@ -8,13 +8,12 @@ import re
 import shutil
 import statistics
 import subprocess
-import sys
 import tempfile
 import time
 from subprocess import DEVNULL, PIPE
 from typing import Callable, NamedTuple
 
-from .commands import compiled, need, run, show
+from .commands import compiled, need, run, show, stop
 
 BODY_BYTES = 2
 # how many requests two runs make: what the second takes more is without the start of the program
@@ -73,7 +72,7 @@ def connections(words, said, count):
     """How many connections a run opened; ends all if not every request was good."""
     told = TOLD.search(said)
     if not told or (int(told[1]), int(told[3])) != (count, BODY_BYTES * count):
-        sys.exit(f"tools/measure: {' '.join(words)} said {said}")
+        stop(f"{' '.join(words)} said {said}")
     return int(told[2])
 
 

@@ -1,4 +1,4 @@
-"""The commands that tools/measure runs, and how it shows what it found."""
+"""The commands that tools/measure and others run, and how they show what they found."""
 import os
 import shutil
 import subprocess
@@ -10,17 +10,22 @@ from program import TOP
 PLAIN_CLEARS = {"GLIBC_TUNABLES": "glibc.cpu.x86_rep_stosb_threshold=1000000000"}
 
 
+def stop(text):
+    """Ends the tool that runs, and says why."""
+    sys.exit(f"tools/{os.path.basename(sys.argv[0])}: {text}")
+
+
 def need(command):
     """Ends the run where a command is not there."""
     if shutil.which(command) is None:
-        sys.exit(f"tools/measure: {command} is not on the path")
+        stop(f"{command} is not on the path")
 
 
 def run(words, **options):
     """What a command printed, on both streams; it has to end well."""
     done = subprocess.run(words, stdout=subprocess.PIPE, stderr=subprocess.STDOUT, text=True, **options)
     if done.returncode != 0:
-        sys.exit(f"tools/measure: {' '.join(words)} ended with {done.returncode}:\n{done.stdout[-2000:]}")
+        stop(f"{' '.join(words)} ended with {done.returncode}:\n{done.stdout[-2000:]}")
     return done.stdout
 
 

@@ -1,4 +1,4 @@
-// What server.c and raw_load.c have in common.
+// What serving.h and raw_load.c have in common.
 #pragma once
 #include <arpa/inet.h>
 #include <netinet/tcp.h>

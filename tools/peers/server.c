@@ -1,46 +1,10 @@
 // server SITES: listens at so many ports of 127.0.0.1, prints them in one line, and answers each request with "ok", on
 // one thread with one epoll, until its standard input ends.
 #define _GNU_SOURCE
-#include "loopback.h"
-#include <sys/epoll.h>
-#include <unistd.h>
+#include "serving.h"
 
-enum { MOST_EVENTS = 256, MOST_WAITING = 1024, MOST_READ = 65536 };
 static const char ANSWER[] = "HTTP/1.1 200 OK\r\nContent-Length: 2\r\n\r\nok";
 static const ssize_t ANSWER_LENGTH = sizeof ANSWER - 1;
-
-// What a descriptor is.
-enum kind { INPUT, LISTENER, CONNECTION };
-
-// Has the epoll tell whenever that descriptor can be read.
-static void watch(int epoll, int descriptor, enum kind kind) {
-    struct epoll_event event = {
-        .events = EPOLLIN,
-        .data.u64 = (uint64_t)kind << 32 | (uint32_t)descriptor,
-    };
-    need(epoll_ctl(epoll, EPOLL_CTL_ADD, descriptor, &event) == 0, "epoll_ctl");
-}
-
-// Listens at a free port, and gives its number.
-static uint16_t listen_at_a_port(int epoll) {
-    struct sockaddr_in place = place_of(0);
-    socklen_t length = sizeof place;
-    int listener = socket(AF_INET, SOCK_STREAM | SOCK_NONBLOCK | SOCK_CLOEXEC, 0);
-    need(bind(listener, (struct sockaddr *)&place, length) == 0, "bind");
-    need(listen(listener, MOST_WAITING) == 0, "listen");
-    need(getsockname(listener, (struct sockaddr *)&place, &length) == 0, "getsockname");
-    watch(epoll, listener, LISTENER);
-    return ntohs(place.sin_port);
-}
-
-// Accepts all connections that wait.
-static void accept_all(int epoll, int listener) {
-    int connection;
-    while ((connection = accept4(listener, NULL, NULL, SOCK_NONBLOCK | SOCK_CLOEXEC)) >= 0) {
-        send_at_once(connection);
-        watch(epoll, connection, CONNECTION);
-    }
-}
 
 // Answers what has come, which is one request: on loopback it comes whole, and its client sends the next one after the
 // answer. Closes the connection when its client has.
@@ -51,36 +15,7 @@ static void answer(int connection) {
     }
 }
 
-// Serves until the input ends.
-static void serve(int epoll) {
-    struct epoll_event events[MOST_EVENTS];
-    for (;;) {
-        int count = epoll_wait(epoll, events, MOST_EVENTS, -1);
-        for (int place = 0; place < count; place++) {
-            int descriptor = (int)(uint32_t)events[place].data.u64;
-            enum kind kind = (enum kind)(events[place].data.u64 >> 32);
-            if (kind == INPUT) {
-                return;
-            }
-            if (kind == LISTENER) {
-                accept_all(epoll, descriptor);
-            } else {
-                answer(descriptor);
-            }
-        }
-    }
-}
-
 int main(int count, char **words) {
-    int sites = count > 1 ? atoi(words[1]) : 1;
-    int epoll = epoll_create1(EPOLL_CLOEXEC);
-    need(epoll >= 0, "epoll_create1");
-    watch(epoll, STDIN_FILENO, INPUT);
-    for (int site = 0; site < sites; site++) {
-        printf("%s%d", site > 0 ? " " : "", listen_at_a_port(epoll));
-    }
-    puts("");
-    fflush(stdout);
-    serve(epoll);
+    serve(count, words, answer);
     return 0;
 }

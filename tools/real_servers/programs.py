@@ -36,10 +36,11 @@ def socket_requests():
 
 
 def end(started):
-    """Ends a process that was started in a group of its own, and what is left of the group."""
+    """Ends a process that was started in a group of its own, with its group, where it has not ended. First they are
+    asked to."""
     if started.poll() is not None:
         return
-    started.terminate()
+    os.killpg(started.pid, signal.SIGTERM)
     try:
         started.wait(SECONDS_TO_END)
     except subprocess.TimeoutExpired:

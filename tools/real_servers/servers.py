@@ -19,7 +19,7 @@ class Request(NamedTuple):
 
 
 class Connection:
-    """A connection of a server, the first or a later one. Requests of other numbers are none of this server."""
+    """A connection of a server, whose place is 1 for the first that it accepted, 2 for the next one, and so on."""
 
     def __init__(self, stream, place, is_asked_here):
         self.stream, self.place, self.came, self.is_asked_here = stream, place, b"", is_asked_here
@@ -27,7 +27,8 @@ class Connection:
         stream.setsockopt(socket.IPPROTO_TCP, socket.TCP_NODELAY, 1)
 
     def requests(self):
-        """The requests, each once it has come whole, until the client ends the connection."""
+        """The requests, each once it has come whole, until the client ends the connection. What is no request, or has a
+        number that this server is not asked for, is answered with 400 and ends them."""
         while True:
             while b"\r\n\r\n" not in self.came:
                 piece = self.stream.recv(65536)
