@@ -10,11 +10,10 @@ ghost use Rattle.load.specs.Loading.{IsLoaded, IsLoadedBy, IsLoadRefusedFor};
 
 use crate::dials::dials_for;
 use crate::error::LoadError;
-use budget::{Limits, Pass, Refusal};
-use bundle::Did;
+use budget::{Limits, Refusal};
 use driver::{DriverFault, NoGate, RunReport, run};
 use exchange::{Done, Job, Wire};
-use shared_cache::{Gathered, Names, Plan, SharedCache};
+use shared_cache::{Gathered, Names, Plan, SharedCache, discard_all};
 use socket::{SystemClock, WaitingWire};
 use std::alloc::{AllocGlobal, Global};
 use std::marker::Brand;
@@ -145,13 +144,4 @@ fn error_of(refusal: Refusal) -> LoadError
         Refusal::Memory => LoadError::Run(DriverFault::Memory),
         _ => LoadError::Gather,
     }
-}
-
-// Gives the passes up.
-fn discard_all(passes: Vec<Pass<Did>>) {
-    let mut passes = passes;
-    while let Some(pass) = passes.pop() {
-        pass.discard();
-    }
-    passes.destroy_empty();
 }

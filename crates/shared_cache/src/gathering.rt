@@ -299,8 +299,8 @@ fn count<S: Drop>(bundle: &Bundle<S>) -> HostCount
     }
 }
 
-// Gives the passes up.
-fn discard_all(passes: Vec<Pass<Did>>) {
+/// Gives passes up, where no account is made of what they spent.
+pub fn discard_all(passes: Vec<Pass<Did>>) {
     let mut passes = passes;
     while let Some(pass) = passes.pop() {
         pass.discard();

@@ -21,5 +21,6 @@ mod spending;
 
 pub use cache::SharedCache;
 pub use gathered::{Gathered, HostCount};
+pub use gathering::discard_all;
 pub use names::Names;
 pub use plan::Plan;
