@@ -51,7 +51,7 @@ pub use program::{answer_request, run_program};
 pub use request::{Manner, Request, asked_by};
 pub use script::{run_bytes, run_file, run_script};
 pub use streams::{SCRIPT_LIMIT, Sink, Source, read_script};
-pub use system_load::load_on_system;
+pub use system_load::{load_on_system, sites_at};
 pub use system_network::{SystemFetcher, SystemNetwork};
 pub use watched::{ReadFailed, Watched, WriteFailed};
 pub use worked::{worked_command_lines, worked_lines};
