@@ -16,14 +16,14 @@ use clap::{Arg, ArgAction, ArgMatches, Command, Error};
 use std::alloc::{AllocError, Global};
 
 /// What `--help` says of the file.
-const FILE_HELP: &str = "The script's file; standard input, where it is - or left out";
+const FILE_HELP: &str = "The script's file; standard input if it is - or left out";
 
 /// What `--help` says of the options and URLs of `get`.
 const HEAD_HELP: &str = "Sends HEAD in place of GET";
 
-const MAX_AGE_HELP: &str = "Most seconds idle for reuse; 118 where it is left out";
+const MAX_AGE_HELP: &str = "Most seconds idle for reuse; 118 if left out";
 
-const TIMEOUT_HELP: &str = "Seconds after which a transfer is cancelled, 1 to 3600; else 30";
+const TIMEOUT_HELP: &str = "Seconds after which a transfer is cancelled, 1 to 3600; 30 if left out";
 
 const URL_HELP: &str = "An http URL of localhost or an address; at most 1024";
 
@@ -56,7 +56,7 @@ fn command<'a>(alloc: Global) -> Result<Command<'a>, AllocError>
     let program = Command::new(alloc, "curlpool")
         .bin_name("curlpool")?
         .version("0.1.0")
-        .about("libcurl's connection cache: fetches URLs, runs scripts of connection events")
+        .about("libcurl's connection cache: fetches URLs, runs scripts, and carries out loads")
         .subcommand_required(true)
         .disable_help_subcommand(true);
     let program = with_script(alloc, program)?;

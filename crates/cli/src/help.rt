@@ -153,15 +153,14 @@ Status              0: all have responses; 2: the words are refused, and
 /// What `load` does and writes, and how it ends.
 pub const REPORT: &str = "\
 A server in this process listens on 127.0.0.1, on a port for each site, and
-answers each request with the body ok. Threads draw the jobs 0, 1, 2 ..; job K
-asks for /K of site K modulo the sites, over a connection that the threads
-share. A number is decimal digits, without a sign.
+answers each request with the body ok. Threads that share one cache of
+connections draw the jobs 0, 1, 2 ..; job K asks for /K of site K modulo the
+number of sites. A number is decimal digits, without a sign.
 
 Line of report      Its numbers in order
-host                Of each site: its index; connections opened; requests on
-                    one that had been used before; connections closed;
-                    requests that waited for one; and connections open at the
-                    end
+host                Of each site: its index; connections opened; how often one
+                    was leased again; connections closed; how often a request
+                    began to wait for one; and connections open at the end
 all                 The number of sites, and the sums of the others
 jobs                Requests; those without a good response; good ones on a
                     connection that had been used before; good ones that were
@@ -185,5 +184,5 @@ cannot gather       What the threads did could not be brought together
 cannot write        The report could not be written
 
 Status              0: the report is written, whatever became of the requests;
-                    2: the words are refused, and nothing was done; 4: a line
-                    run: .. tells why there is no report";
+                    2: the words are refused, and nothing was done; 4: there is
+                    no report, or not the whole of it, and run: .. tells why";

@@ -28,6 +28,7 @@ mod script;
 mod streams;
 mod system_load;
 mod system_network;
+mod system_words;
 mod watched;
 mod worked;
 
@@ -51,7 +52,8 @@ pub use program::{answer_request, run_program};
 pub use request::{Manner, Request, asked_by};
 pub use script::{run_bytes, run_file, run_script};
 pub use streams::{SCRIPT_LIMIT, Sink, Source, read_script};
-pub use system_load::load_on_system;
+pub use system_load::{load_on_system, sites_at};
 pub use system_network::{SystemFetcher, SystemNetwork};
+pub use system_words::given_words;
 pub use watched::{ReadFailed, Watched, WriteFailed};
 pub use worked::{worked_command_lines, worked_lines};

@@ -10,17 +10,18 @@ use clap::{Arg, Command};
 use std::alloc::{AllocError, Global};
 
 /// What `--help` says of the options.
-const SITES_HELP: &str = "Ports that the server has, 1 to 8; else 2";
+const SITES_HELP: &str = "Ports that the server has, 1 to 8; 2 if left out";
 
-const JOBS_HELP: &str = "Requests that are sent, 1 to 10000; else 20";
+const JOBS_HELP: &str = "Requests that are sent, 1 to 10000; 20 if left out";
 
-const WORKERS_HELP: &str = "Threads that send them, 1 to 64; else 4";
+const WORKERS_HELP: &str = "Threads that send them, 1 to 64; 4 if left out";
 
-const HOST_LIMIT_HELP: &str = "Most connections open to a site, 0 to 65535; else 0, no limit";
+const HOST_LIMIT_HELP: &str =
+    "Most connections open to a site, 0 (no limit) to 65535; 0 if left out";
 
-const TOTAL_HELP: &str = "Most connections open in all, 0 to 65535; else 0, no limit";
+const TOTAL_HELP: &str = "Most connections open in all, 0 (no limit) to 65535; 0 if left out";
 
-const CONNECTS_HELP: &str = "Most connections kept idle, 1 to 65535; else 4 times the jobs";
+const CONNECTS_HELP: &str = "Most connections kept idle, 1 to 65535; 4 times the jobs if left out";
 
 /// The subcommand `load`: six options, each with one value.
 ///
@@ -39,7 +40,7 @@ pub fn load_subcommand<'a>(alloc: Global) -> Result<Command<'a>, AllocError>
     let with_total = with_number(alloc, with_host_limit, "total", TOTAL_HELP)?;
     let with_connects = with_number(alloc, with_total, "connects", CONNECTS_HELP)?;
     let load = with_connects
-        .about("Sends requests by threads to a server of its own, and reports")
+        .about("Sends requests by threads to a server of its own, and reports what came of them")
         .after_help(REPORT);
     Ok(load)
 }

@@ -24,7 +24,7 @@ use script_text::ScriptFault;
 use std::alloc::Global;
 use std::io::Write;
 
-/// A script was run to its end, or help was asked for.
+/// A script was run to its end, or help or the version was asked for.
 const DONE: u8 = 0;
 
 /// The words are refused.
@@ -33,20 +33,24 @@ const BAD_WORDS: u8 = 2;
 /// The script has a fault.
 const BAD_SCRIPT: u8 = 3;
 
-/// Memory ran out while reading words.
+/// Memory ran out while the words were read.
 const NO_MEMORY: u8 = 4;
 
 /// How a script on a terminal ends, for the person who writes it.
 const HOW_TO_END: &str = "Write a script, and end it with Ctrl-D on an empty line.\n";
 
-/// Does what the words ask for, and answers the status with which the program ends: 0 where it did
-/// so, 2 where the words are refused, 3 where the script has a fault, and 4 where memory ran out
-/// while reading words, not every URL was fetched and told, or a load has no report. The script is
-/// read from the file among `files` that the words name, or else from `input`; URLs are fetched
-/// over `network`, and `load` carries out loads. What goes wrong is told on `errors`, and there
-/// too how to end a script that `is_typed` on a terminal, since it is read whole; on `output`
-/// stands the transcript, the lines of transfers, the report or the help that was asked for, and
-/// nothing else.
+/// Does what the words ask for, and answers the status with which the program ends:
+///
+/// - 0: it was done;
+/// - 2: the words are refused;
+/// - 3: the script has a fault;
+/// - 4: memory ran out while the words were read, a URL has no good response or no line, or a
+///   load's report was not written whole.
+///
+/// The script is read from the file among `files` that the words name, or else from `input`. URLs
+/// are fetched over `network`, and `load` carries out loads. `output` gets the transcript, the
+/// lines of transfers, the report, the help or the version, and nothing else. `errors` gets what
+/// goes wrong, and first how to end a script from `input` if that `is_typed` on a terminal.
 pub fn run_program<
     M: WordsMemory,
     F: ScriptFiles,

@@ -51,8 +51,12 @@ pub fn load_on_system<T: Threads + Wait + RandomSource + AllocGlobal + Sync>(
     }
 }
 
-// The address of each site, which has that port.
-fn sites_at(alloc: Global, ports: &[u16]) -> Result<Vec<SocketAddr>, AllocError>
+/// The address of each site, which listens at that port of 127.0.0.1.
+///
+/// # Errors
+///
+/// There is no memory for them.
+pub fn sites_at(alloc: Global, ports: &[u16]) -> Result<Vec<SocketAddr>, AllocError>
     ensures { IfOk result (λ sites. length sites.items ≡ length ports.now) }
 {
     let mut sites = Vec::new(alloc);

@@ -1,7 +1,7 @@
 //! What is printed of a response.
 
 use crate::reading::{Asked, Told};
-use persistence::{Fed, Method, ReadFault};
+use persistence::Fed;
 use std::alloc::{AllocError, Global};
 use std::fmt::Write as _;
 use std::io::Write;
@@ -10,12 +10,12 @@ use std::io::Write;
 /// number of its body's bytes, and how it ends. None where it can't.
 pub(crate) fn list(rt: &HostRuntime, asked: Asked, text: &[u8], told: &Told) -> Option<()> {
     let bytes = hex_of(rt.alloc(), text).ok()?;
-    let method = word_of(asked.method);
+    let method = asked.method;
     let status = told.status.unwrap_or(0);
     let framing = told.facts.framing;
     let body_len = told.body_len;
-    let end = end_of(told);
-    println!(rt; "x{bytes} {method} {status} {framing:?} {body_len} {end}").ok()
+    let end = end_of(rt.alloc(), told).ok()?;
+    println!(rt; "x{bytes} {method:?} {status} {framing:?} {body_len} {end}").ok()
 }
 
 /// Prints a response of which two readers told what can't both be told. None where it can't.
@@ -43,34 +43,14 @@ fn hex_of(alloc: Global, text: &[u8]) -> Result<String, AllocError> {
     Ok(digits)
 }
 
-// The word of a method.
-fn word_of(method: Method) -> &'static str {
-    match method {
-        Method::Get => "Get",
-        Method::Head => "Head",
-    }
-}
-
 // How it ends: whole, whole once the connection ends, before its end, or with a fault.
-fn end_of(told: &Told) -> &'static str {
-    match told.fed {
-        Err(fault) => fault_word(fault),
+fn end_of(alloc: Global, told: &Told) -> Result<String, AllocError> {
+    let word = match told.fed {
+        Err(fault) => return format!(in alloc; "{fault:?}"),
         Ok(Fed::Whole) if told.facts.surplus => "surplus",
         Ok(Fed::Whole) => "whole",
         Ok(Fed::More) if told.at_end.whole => "until-end",
         Ok(Fed::More) => "more",
-    }
-}
-
-// The word of a fault.
-fn fault_word(fault: ReadFault) -> &'static str {
-    match fault {
-        ReadFault::Memory => "Memory",
-        ReadFault::BadHead => "BadHead",
-        ReadFault::BadLength => "BadLength",
-        ReadFault::BadChunk => "BadChunk",
-        ReadFault::HeadTooLong => "HeadTooLong",
-        ReadFault::TooManyInterims => "TooManyInterims",
-        ReadFault::TrailerTooLong => "TrailerTooLong",
-    }
+    };
+    String::from_str(alloc, word)
 }

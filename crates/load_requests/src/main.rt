@@ -7,7 +7,7 @@ mod task;
 
 use crate::requests::{Totals, totals_of};
 use crate::task::task_of;
-use std::env;
+use cli::{Words, given_words};
 use std::io::Write;
 use std::process::ExitCode;
 
@@ -20,13 +20,8 @@ const BAD_WORDS: u8 = 2;
 /// The words that there are.
 const USAGE: &str = "load_requests: [each] WORKERS TOTAL JOBS PORT..\n";
 
-/// The words with which the program was started.
-fn given_words(rt: &HostRuntime) -> Option<Vec<String>> {
-    env::args(rt).ok()?.collect(rt.alloc()).ok()
-}
-
 fn main(rt: HostRuntime) -> ExitCode {
-    let Some(words) = given_words(&rt) else {
+    let Words::Given(words) = given_words(&rt) else {
         return ExitCode::from(FAILED);
     };
     let Some(task) = task_of(rt.alloc(), words.as_slice()) else {

@@ -1,16 +1,13 @@
 //! How the requests are made, and what came of them.
 
-ghost use Rattle.std.specs.Prelude.{◌≡◌, length, IfSome};
-
 use crate::task::Task;
 use budget::Limits;
-use cli::{line_text, load_jobs};
+use cli::{line_text, load_jobs, sites_at};
 use exchange::Done;
 use load::load;
 use shared_cache::HostCount;
 use std::alloc::{AllocGlobal, Global};
 use std::io::Write;
-use std::net::{IpAddr, Ipv4Addr, SocketAddr};
 use std::random::RandomSource;
 use std::sync::Wait;
 use std::thread::Threads;
@@ -85,7 +82,7 @@ pub(crate) fn totals_of<R: Threads + Wait + RandomSource + AllocGlobal + Sync>(
     task: &Task,
 ) -> Option<Totals> {
     let limits = Limits::new(0, task.total, KEPT).ok()?;
-    let sites = sites_at(alloc, &task.ports)?;
+    let sites = sites_at(alloc, &task.ports).ok()?;
     if sites.is_empty() || sites.len() > MOST_SITES {
         return None;
     }
@@ -102,18 +99,6 @@ pub(crate) fn totals_of<R: Threads + Wait + RandomSource + AllocGlobal + Sync>(
         totals.add_host(host);
     }
     Some(totals)
-}
-
-// The address of each site, which listens at that port of 127.0.0.1.
-fn sites_at(alloc: Global, ports: &[u16]) -> Option<Vec<SocketAddr>>
-    ensures { IfSome result (λ sites. length sites.items ≡ length ports.now) }
-{
-    let mut sites = Vec::new(alloc);
-    for port in ports {
-        let site = SocketAddr::new(IpAddr::V4(Ipv4Addr::LOCALHOST), *port);
-        sites.push(site).ok()?;
-    }
-    Some(sites)
 }
 
 // Prints a line for each request, as `curlpool get` has one for a URL: what came of it, and its

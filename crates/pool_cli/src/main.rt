@@ -3,29 +3,12 @@
 #![tactic(auto)]
 
 use cli::{
-    CountedWordsMemory, SystemFiles, SystemNetwork, Watched, Words, load_on_system, run_program,
+    CountedWordsMemory, SystemFiles, SystemNetwork, Watched, given_words, load_on_system,
+    run_program,
 };
-use std::env;
 use std::fs::{self, File};
-use std::io::{self, ErrorKind, IsTerminal};
+use std::io::{self, IsTerminal};
 use std::process::ExitCode;
-
-/// The words with which the program was started.
-fn given_words(rt: &HostRuntime) -> Words {
-    match env::args(rt) {
-        Ok(words) => match words.collect(rt.alloc()) {
-            Ok(words) => Words::Given(words),
-            Err(_) => Words::NoMemory,
-        },
-        Err(error) => {
-            if error.kind() == ErrorKind::OutOfMemory {
-                Words::NoMemory
-            } else {
-                Words::NotText
-            }
-        }
-    }
-}
 
 /// Takes a descriptor, which can be neither read nor written. One of a standard stream that was
 /// closed would else be the next socket's, and a server would get what is told.

@@ -21,8 +21,8 @@ use std::time::Duration;
 /// A request that takes so many seconds is cancelled.
 const MOST_SECONDS: u64 = 60;
 
-/// A body has fewer bytes than that: the number of its request, modulo that number.
-const BODIES: u64 = 1_000;
+/// How many lengths bodies have: 0, 1 and so on, in turn.
+const BODY_LENGTHS: u64 = 1_000;
 
 /// What carries out one request after another, over a dial of its own: the memory of one serves the
 /// next.
@@ -88,7 +88,7 @@ impl<'n> Carrier<'n> {
     fn prepared(&mut self, course: &Course<'_>, number: u64) -> Option<Prepared>
         ensures { IfSome result IsUnused }
     {
-        self.name(course, number).ok()?;
+        self.set_job(course, number).ok()?;
         match self.spare.take() {
             None => Prepared::new(self.alloc, &self.job).ok(),
             Some(used) => match used.again(&self.job) {
@@ -103,7 +103,7 @@ impl<'n> Carrier<'n> {
 
     // The job is now the request of that number: its path is the number. One in sixteen wants a new
     // connection, and one in sixteen a connection that is closed after it.
-    fn name(&mut self, course: &Course<'_>, number: u64) -> Result<(), AllocError> {
+    fn set_job(&mut self, course: &Course<'_>, number: u64) -> Result<(), AllocError> {
         let (site, port) = course.host(number / 3);
         self.job.site = site;
         self.job.target.port = port;
@@ -117,10 +117,10 @@ impl<'n> Carrier<'n> {
 
 /// How many bytes the answer to the request of that number has.
 pub(crate) fn bytes_of(number: u64) -> u64 {
-    number % BODIES
+    number % BODY_LENGTHS
 }
 
-// A job, before it is named.
+// The job before it is that of a request.
 fn first_job(alloc: Global) -> Result<Job, AllocError> {
     Ok(Job {
         site: 0,

@@ -101,7 +101,7 @@ impl Counts {
         }
     }
 
-    /// Counts a request, whose answer has so many bytes.
+    /// Counts how a request ended, whose answer is to have so many bytes.
     pub(crate) fn note(&self, done: Done, bytes: u64) {
         match done {
             Done::Good(answer) => self.note_answer(answer, bytes),

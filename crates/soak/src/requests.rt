@@ -10,8 +10,8 @@ use std::sync::Wait;
 /// How many numbers of requests each thread has.
 const NUMBERS: u64 = 0x1_0000_0000;
 
-/// After so many requests a thread cuts a log.
-const UNTIL_CUT: u64 = 100;
+/// A thread cuts a log after its first request, and then after each so many more.
+const REQUESTS_FOR_A_CUT: u64 = 100;
 
 /// Makes one request after the other, one at least, until the course is over: the thread of that
 /// index, over what is lent of the cache.
@@ -28,8 +28,8 @@ pub(crate) fn request_all<N: Names, C: Cache<WaitingWire>, R: Wait>(
         let number = index.saturating_mul(NUMBERS).saturating_add(turn);
         let done = carrier.carry_out(rt, course, lent, number);
         course.counts.note(done, bytes_of(number));
-        if turn % UNTIL_CUT == 0 {
-            let (site, _port) = course.host(turn / UNTIL_CUT);
+        if turn % REQUESTS_FOR_A_CUT == 0 {
+            let (site, _port) = course.host(turn / REQUESTS_FOR_A_CUT);
             cut(rt, cache, course, site);
         }
         if index == 0 && course.minutes() > told {

@@ -7,7 +7,7 @@ mod task;
 
 use crate::requests::{polled, waiting};
 use crate::task::{Kind, Task, task_of};
-use std::env;
+use cli::{Words, given_words};
 use std::process::ExitCode;
 
 /// It could not be run.
@@ -19,13 +19,8 @@ const BAD_WORDS: u8 = 2;
 /// The words that there are.
 const USAGE: &str = "socket_requests: waiting|polled PAUSE LIMIT ROUNDS URL..\n";
 
-/// The words with which the program was started.
-fn given_words(rt: &HostRuntime) -> Option<Vec<String>> {
-    env::args(rt).ok()?.collect(rt.alloc()).ok()
-}
-
 fn main(rt: HostRuntime) -> ExitCode {
-    let Some(words) = given_words(&rt) else {
+    let Words::Given(words) = given_words(&rt) else {
         return ExitCode::from(FAILED);
     };
     let Some(task) = task_of(rt.alloc(), words.as_slice()) else {
