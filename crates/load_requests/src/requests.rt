@@ -2,6 +2,7 @@
 
 use crate::task::Task;
 use budget::Limits;
+use cache_report::totals;
 use cli::{line_text, load_jobs, sites_at};
 use exchange::Done;
 use load::load;
@@ -40,16 +41,22 @@ pub(crate) struct Totals {
 }
 
 impl Totals {
-    // Of no request.
-    fn new() -> Self {
+    // Of the connections of these hosts, and of no request.
+    fn of_hosts(hosts: &[HostCount]) -> Self {
+        let HostCount {
+            opened,
+            closed,
+            alive,
+            ..
+        } = totals(hosts);
         Totals {
             good: 0,
             jobs: 0,
             reused: 0,
             retried: 0,
-            opened: 0,
-            closed: 0,
-            alive: 0,
+            opened,
+            closed,
+            alive,
             bytes: 0,
         }
     }
@@ -63,13 +70,6 @@ impl Totals {
             self.retried = self.retried.saturating_add(answer.retried as u64);
             self.bytes = self.bytes.saturating_add(answer.body_len);
         }
-    }
-
-    // Counts the connections of a host.
-    fn add_host(&mut self, host: &HostCount) {
-        self.opened = self.opened.saturating_add(host.opened);
-        self.closed = self.closed.saturating_add(host.closed);
-        self.alive = self.alive.saturating_add(host.alive);
     }
 }
 
@@ -91,14 +91,11 @@ pub(crate) fn totals_of<R: Threads + Wait + RandomSource + AllocGlobal + Sync>(
     if task.has_lines {
         print_lines(system, &loaded.results)?;
     }
-    let mut totals = Totals::new();
+    let mut all = Totals::of_hosts(&loaded.gathered.hosts);
     for done in &loaded.results {
-        totals.add(done);
+        all.add(done);
     }
-    for host in &loaded.gathered.hosts {
-        totals.add_host(host);
-    }
-    Some(totals)
+    Some(all)
 }
 
 // Prints a line for each request, as `curlpool get` has one for a URL: what came of it, and its

@@ -16,6 +16,7 @@ use crate::course::Course;
 use crate::soaking::soaked;
 use crate::task::{Task, task_of};
 use budget::Limits;
+use cache_report::totals;
 use shared_cache::{Gathered, HostCount, Plan};
 use socket::{SystemClock, WaitingWire};
 use std::env;
@@ -64,27 +65,13 @@ fn done<R: Threads + Wait + Sync>(rt: &R, system: &HostRuntime, task: &Task) -> 
 
 /// Prints the account; whether it balances.
 fn print_account(rt: &HostRuntime, gathered: &Gathered<WaitingWire>) -> Option<bool> {
-    let mut sums = HostCount {
-        opened: 0,
-        reused: 0,
-        closed: 0,
-        waited: 0,
-        alive: 0,
-    };
-    for host in &gathered.hosts {
-        sums.opened = sums.opened.saturating_add(host.opened);
-        sums.reused = sums.reused.saturating_add(host.reused);
-        sums.closed = sums.closed.saturating_add(host.closed);
-        sums.waited = sums.waited.saturating_add(host.waited);
-        sums.alive = sums.alive.saturating_add(host.alive);
-    }
     let HostCount {
         opened,
         reused,
         closed,
         waited,
         alive,
-    } = sums;
+    } = totals(&gathered.hosts);
     let total = gathered.total;
     println!(rt;
         "total {total} opened {opened} leased again {reused} closed {closed} waited {waited} \

@@ -9,7 +9,7 @@ use crate::course::Course;
 use crate::worker::Worker;
 use budget::Pass;
 use bundle::Did;
-use shared_cache::{Gathered, Names, Plan, SharedCache};
+use shared_cache::{Gathered, Names, Plan, SharedCache, discard_all};
 use socket::{Addresses, WaitingWire};
 use std::alloc::Global;
 use std::net::{IpAddr, Ipv4Addr, SocketAddr};
@@ -112,13 +112,4 @@ fn add_pass<N: Names>(passes: &mut Vec<Pass<Did>>, worker: Worker<'_, N>)
     if let Some(pass) = worker.leave() {
         passes.push_reserved(pass);
     }
-}
-
-// Gives the passes up.
-fn discard_all(passes: Vec<Pass<Did>>) {
-    let mut passes = passes;
-    while let Some(pass) = passes.pop() {
-        pass.discard();
-    }
-    passes.destroy_empty();
 }
