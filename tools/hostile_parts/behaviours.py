@@ -50,8 +50,11 @@ def read_to(end, connection, came=b""):
 def answers_after_the_first_line(connection):
     """Answers as soon as the first line of a request has come, byte by byte, and reads the rest of it afterwards."""
     while came := read_to(b"\r\n", connection):
-        number = REQUEST.match(came + b"Host: a\r\n")[2]
-        connection.send(counted(int(number)))
+        number = int(REQUEST.match(came + b"Host: a\r\n")[2])
+        if not connection.is_asked_here(number):
+            connection.refuse()
+            return
+        connection.send(counted(number))
         if not read_to(b"\r\n\r\n", connection, came):
             return
 

@@ -38,9 +38,12 @@ class Connection:
             head, _, self.came = self.came.partition(b"\r\n\r\n")
             found = REQUEST.match(head)
             if not found or not self.is_asked_here(int(found[2])):
-                self.send(head_of("Content-Length: 0", "Connection: close", status="400 Bad Request"))
+                self.refuse()
                 return
             yield Request(found[1] == b"HEAD", int(found[2]))
+
+    def refuse(self):
+        self.send(head_of("Content-Length: 0", "Connection: close", status="400 Bad Request"))
 
     def send(self, text):
         self.stream.sendall(text)
