@@ -9,7 +9,7 @@ use Rattle.exchange.specs.declared.done.Done.{Done}
 use Rattle.script_text.specs.declared.fault.FaultKind.{FaultKind}
 use Rattle.cli.specs.Fetching.{AreFetched, Carrying, Fetches, LineFails, WritesLines, lines_of}
 use Rattle.cli.specs.GetLines.{is_bad, line_of}
-use Rattle.cli.specs.Streams.{Stream, SameFailures}
+use Rattle.script_run.specs.Streams.{Stream, SameFailures}
 use Rattle.cli.specs.declared.get_plan.UrlJob.{UrlJob}
 
 -- so many of the jobs are carried out and told, and so many of these failed

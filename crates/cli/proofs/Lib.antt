@@ -1,6 +1,4 @@
 pub mod CommandLines
-pub mod Streaming
-pub mod Running
 pub mod Fetches
 pub mod Plans
 pub mod GetRows

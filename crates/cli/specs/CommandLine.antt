@@ -22,9 +22,9 @@ use Rattle.cli.specs.declared.request.Manner.{Manner}
 use Rattle.cli.specs.declared.request.Manner.TheVariants as manners
 use Rattle.cli.specs.declared.request.Request.{Request}
 use Rattle.cli.specs.declared.request.Request.TheVariants as requests
-use Rattle.cli.specs.Streams.{Stream, Puts}
-use Rattle.cli.specs.Running.{RunsScript}
-use Rattle.cli.specs.Files.{RunsFile}
+use Rattle.script_run.specs.Streams.{Stream, Puts}
+use Rattle.script_run.specs.Running.{RunsScript}
+use Rattle.script_run.specs.Files.{RunsFile}
 use Rattle.cli.specs.GetPlan.{IsPlanOf}
 use Rattle.cli.specs.GetWords.{GetSaid, IsRefused, get_said_by, get_said_in}
 use Rattle.cli.specs.LoadWords.{IsLoadOf, IsLoadRefused, LoadSaid, load_said_by, load_said_in}

@@ -8,7 +8,7 @@ use Rattle.script_text.specs.declared.fault.FaultKind.{FaultKind}
 use Rattle.script_text.specs.declared.fault.FaultKind.TheVariants.{Memory, Write}
 use Rattle.socket.specs.declared.addresses.Addresses.{Addresses}
 use Rattle.cli.specs.GetLines.{is_bad, line_of}
-use Rattle.cli.specs.Streams.{Stream, PutsFront, SameFailures, OneMoreFailed}
+use Rattle.script_run.specs.Streams.{Stream, PutsFront, SameFailures, OneMoreFailed}
 use Rattle.cli.specs.declared.fetching.NetworkFault.{NetworkFault}
 use Rattle.cli.specs.declared.get_plan.GetPlan.{GetPlan}
 use Rattle.cli.specs.declared.get_plan.UrlJob.{UrlJob}

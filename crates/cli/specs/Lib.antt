@@ -1,7 +1,3 @@
-pub mod Streams
-pub mod Watching
-pub mod Running
-pub mod Files
 pub mod GetWords
 pub mod GetPlan
 pub mod GetLines

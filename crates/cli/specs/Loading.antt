@@ -3,7 +3,7 @@ use Rattle.std.specs.Prelude.{◌≡◌, ℕ, codes, String, string_bytes, Resul
 use Rattle.std.specs.Global.{Global}
 use Rattle.clap.specs.Words.{Text}
 use Rattle.script_text.specs.declared.fault.FaultKind.{FaultKind}
-use Rattle.cli.specs.Streams.{Stream, Puts}
+use Rattle.script_run.specs.Streams.{Stream, Puts}
 use Rattle.cli.specs.declared.options.LoadOptions.{LoadOptions}
 use Rattle.cli.specs.declared.loading.LoadFault.{LoadFault}
 use Rattle.cli.specs.declared.loading.LoadFault.TheVariants.{Memory, BadWorkers, Poll, Doubled, Missing, Spawn, Listen, Gather, Write}

@@ -3,13 +3,13 @@
 ghost use Rattle.std.specs.Prelude.{◌≡◌};
 ghost use Rattle.cli.specs.Fetching.{Fetches, PutsLine, RunsPlan, fetched_status};
 ghost use Rattle.cli.specs.GetLines.{is_bad, line_of};
-ghost use Rattle.cli.specs.Streams.{CanCount};
+ghost use Rattle.script_run.specs.Streams.{CanCount};
 
 use crate::fetching::{Fetcher, Network};
 use crate::get_line::line_text;
 use crate::get_plan::{GetPlan, UrlJob};
-use crate::streams::Sink;
 use exchange::Done;
+use script_run::Sink;
 use script_text::FaultKind;
 use std::alloc::Global;
 use std::io::Write;

@@ -1,10 +1,9 @@
-//! The parts of the program curlpool: what its words ask for, the streams that it reads and writes,
-//! how a script is run through a pool, how URLs are fetched, and what a load is given and tells.
+//! The parts of the program curlpool: what its words ask for, how URLs are fetched, and what a load
+//! is given and tells.
 #![tactic(auto)]
 
 mod command_line;
 mod fetching;
-mod files;
 mod get;
 mod get_line;
 mod get_plan;
@@ -24,17 +23,13 @@ mod options;
 mod planning;
 mod program;
 mod request;
-mod script;
-mod streams;
 mod system_load;
 mod system_network;
 mod system_words;
-mod watched;
 mod worked;
 
 pub use command_line::{Subcommand, Words};
 pub use fetching::{Fetcher, Network, NetworkFault};
-pub use files::{ScriptFiles, SystemFiles};
 pub use get::run_plan;
 pub use get_line::line_text;
 pub use get_plan::{GetPlan, GetRefusal, UrlJob};
@@ -50,10 +45,7 @@ pub use memory::{CountedWordsMemory, WordsMemory};
 pub use options::LoadOptions;
 pub use program::{answer_request, run_program};
 pub use request::{Manner, Request, asked_by};
-pub use script::{run_bytes, run_file, run_script};
-pub use streams::{SCRIPT_LIMIT, Sink, Source, read_script};
 pub use system_load::{load_on_system, sites_at};
 pub use system_network::{SystemFetcher, SystemNetwork};
 pub use system_words::given_words;
-pub use watched::{ReadFailed, Watched, WriteFailed};
 pub use worked::{worked_command_lines, worked_lines};

@@ -2,11 +2,11 @@
 
 ghost use Rattle.std.specs.Prelude.{◌≡◌};
 ghost use Rattle.cli.specs.Loading.{RunsLoad};
-ghost use Rattle.cli.specs.Streams.{CanCount};
+ghost use Rattle.script_run.specs.Streams.{CanCount};
 
 use crate::loading::LoadFault;
 use crate::options::LoadOptions;
-use crate::streams::Sink;
+use script_run::Sink;
 use script_text::FaultKind;
 use std::alloc::Global;
 use std::io::Write;

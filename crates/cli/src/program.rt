@@ -6,11 +6,10 @@ ghost use Rattle.cli.specs.CommandLine.{file_said, name_of, request_file, said, 
 ghost use Rattle.cli.specs.CommandLine.{word_faults};
 ghost use Rattle.cli.specs.Fetching.{RunsPlan};
 ghost use Rattle.cli.specs.Loading.{RunsLoad};
-ghost use Rattle.cli.specs.Streams.{CanCount};
+ghost use Rattle.script_run.specs.Streams.{CanCount};
 
 use crate::command_line::Words;
 use crate::fetching::Network;
-use crate::files::ScriptFiles;
 use crate::get::run_plan;
 use crate::input::ScriptInput;
 use crate::load_report::run_load;
@@ -18,8 +17,7 @@ use crate::loading::LoadFault;
 use crate::memory::WordsMemory;
 use crate::options::LoadOptions;
 use crate::request::{Request, asked_by};
-use crate::script::{run_file, run_script};
-use crate::streams::{Sink, Source};
+use script_run::{ScriptFiles, Sink, Source, run_file, run_script};
 use script_text::ScriptFault;
 use std::alloc::Global;
 use std::io::Write;

@@ -3,7 +3,8 @@
 use crate::networks::{FAULTS, FakeNetwork};
 use crate::streams::Expecting;
 use crate::words::{run_on, words};
-use cli::{NetworkFault, Watched, Words};
+use cli::{NetworkFault, Words};
+use script_run::Watched;
 use std::alloc::{AllocError, Global};
 use std::test::Fail;
 

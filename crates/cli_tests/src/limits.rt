@@ -1,6 +1,6 @@
 //! The longest script, the most sites, and how faults are printed.
 
-use cli::run_bytes;
+use script_run::run_bytes;
 use script_text::{FaultKind, ScriptFault};
 use std::alloc::{AllocError, Global};
 use std::test::Fail;

@@ -4,8 +4,9 @@ use crate::loads::FakeLoader;
 use crate::networks::FakeNetwork;
 use crate::streams::Expecting;
 use crate::words::{run_over, words};
-use cli::{LoadFault, Watched, Words, load_jobs};
+use cli::{LoadFault, Words, load_jobs};
 use persistence::Method;
+use script_run::Watched;
 use std::alloc::Global;
 use std::test::Fail;
 

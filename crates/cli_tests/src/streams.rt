@@ -1,6 +1,6 @@
 //! What readers and writers leave that fail, and want of memory.
 
-use cli::{Watched, run_script};
+use script_run::{Watched, run_script};
 use script_text::{FaultKind, ScriptFault};
 use std::io;
 use std::io::{Read, Write};

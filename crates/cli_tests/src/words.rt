@@ -1,12 +1,13 @@
 //! What words ask for, and what the program then writes.
 
 ghost use Rattle.std.specs.Prelude.{⊤};
-ghost use Rattle.cli.specs.Streams.{CanCount};
+ghost use Rattle.script_run.specs.Streams.{CanCount};
 
 use crate::loads::FakeLoader;
 use crate::networks::FakeNetwork;
 use crate::streams::REUSE_THEN_DROP;
-use cli::{CountedWordsMemory, ScriptFiles, Sink, Words, run_program};
+use cli::{CountedWordsMemory, Words, run_program};
+use script_run::{ScriptFiles, Sink};
 use std::alloc::{AllocError, Global};
 use std::test::Fail;
 

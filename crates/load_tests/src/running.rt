@@ -1,8 +1,7 @@
 //! The program, with its streams in memory.
 
-use cli::{
-    CountedWordsMemory, LoadFault, LoadOptions, SystemFiles, SystemNetwork, Words, run_program,
-};
+use cli::{CountedWordsMemory, LoadFault, LoadOptions, SystemNetwork, Words, run_program};
+use script_run::SystemFiles;
 use std::alloc::{AllocError, AllocGlobal, Global};
 
 /// The status with which the program ended, and what it wrote on output and on standard error.

@@ -2,10 +2,8 @@
 //! through a pool, and puts a shared cache under load.
 #![tactic(auto)]
 
-use cli::{
-    CountedWordsMemory, SystemFiles, SystemNetwork, Watched, given_words, load_on_system,
-    run_program,
-};
+use cli::{CountedWordsMemory, SystemNetwork, given_words, load_on_system, run_program};
+use script_run::{SystemFiles, Watched};
 use std::fs::{self, File};
 use std::io::{self, IsTerminal};
 use std::process::ExitCode;

@@ -2,7 +2,7 @@
 //! each with its transcript and its fault.
 #![tactic(auto)]
 
-use cli::run_bytes;
+use script_run::run_bytes;
 use std::fs;
 use std::io::Write;
 

@@ -1,0 +1,17 @@
+use Rattle.std.proofs.Common.{◌≤◌, ◌+◌, length}
+use Rattle.script_text.specs.Lines.{lines}
+use Rattle.script_rules.specs.Transcript.{told}
+use Rattle.script_run.proofs.Running.{RunSoFar}
+use Rattle.script_run.proofs.script.run_lines.Given as goal
+
+abbrev pub invariant-loop-rest : goal.invariant-loop-rest
+invariant-loop-rest g l =
+    let run = g.M.Machine.run in
+    let sink = g.W.Sink.sink in
+    record {
+      count : l.line + length l.rest ≤ 1048576;
+      so_far : RunSoFar (sink l.fn.writer) (sink l.writer) (told (run l.fn.machine) 1 (lines l.script)) (told (run l.machine) (l.line + 1) (lines l.rest)) l.line;
+    }
+
+abbrev pub decreases-loop-rest : goal.decreases-loop-rest
+decreases-loop-rest g l = length l.rest

@@ -1,0 +1,4 @@
+pub mod Streams
+pub mod Watching
+pub mod Running
+pub mod Files

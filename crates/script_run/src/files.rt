@@ -1,0 +1,52 @@
+//! The files that a script can be read from.
+
+ghost use Rattle.std.specs.Prelude.{⊤};
+
+use crate::streams::Source;
+use crate::watched::Watched;
+use std::fs;
+use std::fs::File;
+
+/// What opens the files that words name.
+pub trait ScriptFiles {
+    ghost use Rattle.std.specs.Prelude.{ℕ, List, Option, IfSome, option_map};
+    ghost use Rattle.script_run.specs.Streams.{CanCount, Stream};
+
+    /// A file that is open.
+    type File: Source + Drop;
+
+    /// Whether opening the file of that name gives that stream, or none if it can't be opened, and
+    /// leaves the files so.
+    ghost opens: { Self → Self → List ℕ → Option Stream → Type 0 };
+
+    /// Opens the file of that name; none, if it can't be opened.
+    fn open(&mut self, name: &str) -> Option<Self::File>
+        ensures opened { opens self.old self.new name.now (option_map Self.File.source result) }
+        ensures counts { IfSome result (λ file. CanCount (Self.File.source file)) };
+}
+
+/// The files of the system. Which bytes they give nobody knows.
+#[derive(Drop)]
+pub struct SystemFiles<'a> {
+    rt: &'a HostRuntime,
+}
+
+impl<'a> SystemFiles<'a> {
+    /// The files of that system.
+    pub fn new(rt: &'a HostRuntime) -> SystemFiles<'a> {
+        SystemFiles { rt }
+    }
+}
+
+impl ScriptFiles for SystemFiles<'_> {
+    type File = Watched<File>;
+
+    ghost opens = { λ _ _ _ _. ⊤ };
+
+    fn open(&mut self, name: &str) -> Option<Watched<File>> {
+        match fs::open(self.rt, name) {
+            Ok(file) => Some(Watched::new(file)),
+            Err(_) => None,
+        }
+    }
+}

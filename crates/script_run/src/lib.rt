@@ -1,0 +1,13 @@
+//! How a script is run through a pool: from the stream that it is read from to the stream that its
+//! transcript is written to.
+#![tactic(auto)]
+
+mod files;
+mod script;
+mod streams;
+mod watched;
+
+pub use files::{ScriptFiles, SystemFiles};
+pub use script::{run_bytes, run_file, run_script};
+pub use streams::{SCRIPT_LIMIT, Sink, Source, read_script};
+pub use watched::{ReadFailed, Watched, WriteFailed};

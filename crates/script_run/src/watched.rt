@@ -1,0 +1,94 @@
+//! A reader or writer of the system's, with a count of its reads or writes that failed. Only the
+//! methods that stand here can count.
+
+ghost use Rattle.std.specs.Prelude.{◌≡◌, ◌<◌, IfOk, length};
+ghost use Rattle.std.specs.Io.KnownBytes.{ReadConsumes, WriteAppends};
+ghost use Rattle.std.specs.Io.{ReadsAtMost, WritesAtMost};
+ghost use Rattle.script_run.specs.Streams.{CanCount, CountsFailure};
+ghost use Rattle.script_run.specs.Watching.{watched};
+
+use std::io::{Read, Write};
+use std::marker::Model;
+
+/// A read failed.
+#[derive(Clone, Copy, Debug, PartialEq, Eq)]
+pub struct ReadFailed;
+
+/// A write failed, or took no byte.
+#[derive(Clone, Copy, Debug, PartialEq, Eq)]
+pub struct WriteFailed;
+
+/// A reader or writer of the system's, with how many of its reads or writes failed. Contracts see
+/// the two.
+#[derive(Drop)]
+pub struct Watched<S> {
+    stream: S,
+    failures: u64,
+}
+
+impl<S> Model for Watched<S> {
+    ghost use Rattle.script_run.specs.Watching.{Watching};
+
+    ghost Value = { Watching S };
+
+    ghost view = { λ w. record { stream = w.stream; failures = w.failures } };
+}
+
+impl<S> Watched<S> {
+    /// That stream, of which nothing failed yet.
+    pub fn new(stream: S) -> Watched<S>
+        ensures { result ≡ record { stream = stream; failures = 0 } }
+    {
+        Watched {
+            stream,
+            failures: 0,
+        }
+    }
+}
+
+impl<R: Read> Watched<R> {
+    /// Reads some bytes into the front of `buf`, and tells how many.
+    pub fn read(&mut self, buf: &mut [u8]) -> Result<usize, ReadFailed>
+        requires { CanCount (watched R.remaining self.old) }
+        ensures bound { ReadsAtMost result buf.new }
+        ensures bytes { ReadConsumes (R.remaining self.old.stream)
+            (R.remaining self.new.stream) result buf.new }
+        ensures failures { CountsFailure (watched R.remaining self.old)
+            (watched R.remaining self.new) result }
+    {
+        match self.stream.read(buf) {
+            Ok(count) => Ok(count),
+            Err(_) => {
+                self.failures += 1;
+                Err(ReadFailed)
+            }
+        }
+    }
+}
+
+impl<W: Write> Watched<W> {
+    /// Writes some of the bytes, and tells how many. There is one to write: to write none of none
+    /// is no failure.
+    pub fn write(&mut self, bytes: &[u8]) -> Result<usize, WriteFailed>
+        requires room { CanCount (watched W.contents self.old) }
+        requires bytes { 0 < length bytes.now }
+        ensures bound { WritesAtMost result bytes.now }
+        ensures some { IfOk result (λ count. 0 < count) }
+        ensures bytes { WriteAppends (W.contents self.old.stream)
+            (W.contents self.new.stream) result bytes.now }
+        ensures failures { CountsFailure (watched W.contents self.old)
+            (watched W.contents self.new) result }
+    {
+        match self.stream.write(bytes) {
+            Ok(0) => {
+                self.failures += 1;
+                Err(WriteFailed)
+            }
+            Ok(count) => Ok(count),
+            Err(_) => {
+                self.failures += 1;
+                Err(WriteFailed)
+            }
+        }
+    }
+}
