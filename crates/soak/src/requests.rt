@@ -11,7 +11,7 @@ use std::sync::Wait;
 const NUMBERS: u64 = 0x1_0000_0000;
 
 /// A thread cuts a log after its first request, and then after each so many more.
-const REQUESTS_FOR_A_CUT: u64 = 100;
+const REQUESTS_FOR_A_CUT: u64 = 10;
 
 /// Makes one request after the other, one at least, until the course is over: the thread of that
 /// index, over what is lent of the cache.
