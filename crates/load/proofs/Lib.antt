@@ -1,1 +1,2 @@
 pub mod WhatIsLoaded
+pub mod Refusals
