@@ -1,7 +1,7 @@
 """Memory that is refused: each request for it in turn, alone and from it on.
 
 The scripts are tried by tools/failing-allocations, and calls by tools/failing-allocations-in-tests. Here curlpool get
-and curlpool load are tried the same way, but whether they give all memory back is not looked at.
+and curlpool load are tried the same way. Each run has to give all memory back.
 """
 import collections
 import contextlib
@@ -108,6 +108,11 @@ def adds_up(lines):
     return sums == [sum(one) for one in zip(*hosts, strict=True)] and is_closed and size == 2 * (jobs - bad)
 
 
+def unreturned(run):
+    """What is said of a run that did not give all memory back, or nothing."""
+    return f"{run.kept} blocks were not given back" if run.kept else None
+
+
 def fail_each(words, wrong_with, urls=(), beyond=0):
     """Fails each allocation of a run in turn, alone and all from it on; what there is to say of it."""
     with tempfile.TemporaryDirectory() as room:
@@ -118,7 +123,7 @@ def fail_each(words, wrong_with, urls=(), beyond=0):
         for how, run_at in (("alone", runner.alone), ("from it on", runner.from_it_on)):
             numbers = range(1, ample.asked + beyond + 1)
             for number, one in in_turn(functools.partial(run_at, words, b""), numbers):
-                found = one.killed() or wrong_with(one, ample, urls)
+                found = one.killed() or wrong_with(one, ample, urls) or unreturned(one)
                 check(not found, f"allocation {number} {how}: {found}")
                 ends[one.status] += 1
     return f"{ample.asked} allocations; {ends[0]} runs whole, {ends[4]} that say so"
