@@ -4,7 +4,8 @@
 ghost use Rattle.std.specs.Prelude.{◌≡◌, ◌+◌, ◌<◌, [], None, false, length};
 ghost use Rattle.std.specs.Thread.{IsSync};
 
-use crate::counts::{Counts, MeasureError, next_number};
+use crate::counts::{Counts, MeasureError};
+use crate::words::{next_choice, next_number};
 use budget::{
     BudgetSeat, Holders, Limits, Link, LobbySeat, MarkSeat, PassSeat, Permits, PlainBudget, Tally,
     Try, WordBudget,
@@ -12,6 +13,33 @@ use budget::{
 use std::alloc::Global;
 use std::env::Args;
 use std::thread::{Threads, join};
+
+/// What a round does.
+#[derive(Clone, Copy)]
+enum Form {
+    OpenByOne,
+    OpenByTwo,
+    OpenByFour,
+    OpenAlone,
+    Keep,
+    Plain,
+    Tally,
+    Link,
+    Holders,
+}
+
+/// Each form's word.
+static FORMS: [(&str, Form); 9] = [
+    ("open-1", Form::OpenByOne),
+    ("open-2", Form::OpenByTwo),
+    ("open-4", Form::OpenByFour),
+    ("open-alone", Form::OpenAlone),
+    ("keep-1", Form::Keep),
+    ("plain", Form::Plain),
+    ("tally", Form::Tally),
+    ("link", Form::Link),
+    ("holders", Form::Holders),
+];
 
 // Asks for one more open connection and gives it back.
 fn open_pairs(budget: &WordBudget, mut seat: BudgetSeat, rounds: u64) -> u64
@@ -195,16 +223,15 @@ fn of_plain(alloc: Global, rounds: u32) -> Option<u64> {
     Some(reuses(&mut budget, u64::from(rounds)))
 }
 
-// At a new budget that threads share: pairs of a kept connection, opens alone, or pairs of an open
-// one by 4, 2 or 1 threads.
-fn of_words<R: Threads + Sync>(rt: &R, alloc: Global, what: &str, rounds: u64) -> Option<u64> {
+// At a new budget that threads share.
+fn of_words<R: Threads + Sync>(rt: &R, alloc: Global, form: Form, rounds: u64) -> Option<u64> {
     let limits = Limits::new(0, 0, 65_535).ok()?;
     let (budget, mut seat) = WordBudget::new(alloc, limits).ok()?;
-    Some(match what {
-        "keep-1" => keep_pairs(&budget, seat, rounds),
-        "open-alone" => opens(&budget, seat, rounds),
-        "open-4" => by_four(rt, &budget, seat, rounds),
-        "open-2" => {
+    Some(match form {
+        Form::Keep => keep_pairs(&budget, seat, rounds),
+        Form::OpenAlone => opens(&budget, seat, rounds),
+        Form::OpenByFour => by_four(rt, &budget, seat, rounds),
+        Form::OpenByTwo => {
             let other = budget.split(&mut seat);
             both(rt, &budget, seat, other, rounds)
         }
@@ -218,17 +245,17 @@ pub(crate) fn counted<R: Threads + Sync>(
     alloc: Global,
     words: &mut Args,
 ) -> Result<Counts, MeasureError> {
-    let what = words.next().ok_or(MeasureError::Words)?;
+    let form = next_choice(words, &FORMS)?;
     let rounds = next_number(words)?;
-    let count = match what.as_str() {
-        "tally" => of_tally(alloc, rounds),
-        "link" => of_link(alloc, rounds),
-        "holders" => of_holders(alloc, rounds),
-        "plain" => of_plain(alloc, rounds),
-        "open-1" | "open-2" | "open-4" | "keep-1" | "open-alone" => {
-            of_words(rt, alloc, what.as_str(), u64::from(rounds))
-        }
-        _ => return Err(MeasureError::Words),
+    let count = match form {
+        Form::Tally => of_tally(alloc, rounds),
+        Form::Link => of_link(alloc, rounds),
+        Form::Holders => of_holders(alloc, rounds),
+        Form::Plain => of_plain(alloc, rounds),
+        _ => of_words(rt, alloc, form, u64::from(rounds)),
     };
-    count.map(Counts::Rounds).ok_or(MeasureError::Memory)
+    match count {
+        Some(count) => Ok(Counts::Rounds(count)),
+        None => Err(MeasureError::Memory),
+    }
 }

@@ -7,8 +7,10 @@ mod endless;
 mod limits;
 mod shared;
 mod transfers;
+mod words;
 
 use crate::counts::{Counts, MeasureError};
+use crate::words::next_choice;
 use std::env;
 use std::env::Args;
 use std::process::ExitCode;
@@ -23,38 +25,48 @@ const BAD_WORDS: u8 = 2;
 
 /// The words that there are.
 const USAGE: &str = "one or more of:\n\
-    limits open-1|open-2|open-4|keep-1|open-alone|plain|tally|link|holders ROUNDS\n\
-    shared pair HOSTS ROUNDS\n\
-    shared close HOSTS ROUNDS\n\
+    limits open-1|open-2|open-4|open-alone|keep-1|plain|tally|link|holders ROUNDS\n\
+    shared pair|close HOSTS ROUNDS\n\
     shared threads THREADS own|one ROUNDS\n\
     exchange transfers COUNT\n\
     exchange waiting OTHERS ENDS";
 
-/// Measures what the subject's words ask for; threads and locks are those of `rt`.
+/// What is measured.
+#[derive(Clone, Copy)]
+enum Subject {
+    Limits,
+    Shared,
+    Exchange,
+}
+
+/// Each subject's word.
+static SUBJECTS: [(&str, Subject); 3] = [
+    ("limits", Subject::Limits),
+    ("shared", Subject::Shared),
+    ("exchange", Subject::Exchange),
+];
+
+/// Measures what the next words ask for; threads and locks are those of `rt`.
 fn counted<R: Threads + Wait + Sync>(
     rt: &R,
     system: &HostRuntime,
-    subject: &str,
     words: &mut Args,
 ) -> Result<Counts, MeasureError> {
-    match subject {
-        "limits" => limits::counted(rt, system.alloc(), words),
-        "shared" => shared::counted(rt, system.alloc(), words),
-        "exchange" => transfers::counted(system, system.alloc(), words),
-        _ => Err(MeasureError::Words),
+    match next_choice(words, &SUBJECTS)? {
+        Subject::Limits => limits::counted(rt, system.alloc(), words),
+        Subject::Shared => shared::counted(rt, system.alloc(), words),
+        Subject::Exchange => transfers::counted(system, system.alloc(), words),
     }
 }
 
-/// Measures what the words ask for, subject by subject, and prints what was counted of each.
+/// Measures what the words ask for, one subject after another, and prints what was counted of each.
 fn measure_all<R: Threads + Wait + Sync>(
     rt: &R,
     system: &HostRuntime,
     words: &mut Args,
 ) -> Result<(), MeasureError> {
     for _ in 0..u64::MAX {
-        let subject = words.next().ok_or(MeasureError::Words)?;
-        let counts = counted(rt, system, subject.as_str(), words)?;
-        counts.print(system)?;
+        counted(rt, system, words)?.print(system)?;
         if words.len() == 0 {
             break;
         }
@@ -62,21 +74,29 @@ fn measure_all<R: Threads + Wait + Sync>(
     Ok(())
 }
 
+/// Measures what the words ask for with which the program was started.
+fn measure<R: Threads + Wait + Sync>(rt: &R, system: &HostRuntime) -> Result<(), MeasureError> {
+    let Ok(mut words) = env::args(system) else {
+        return Err(MeasureError::Words);
+    };
+    let _program = words.next();
+    measure_all(rt, system, &mut words)
+}
+
 /// Tells why nothing more is counted; if that fails there is nobody left to tell.
-fn tell(rt: &HostRuntime, why: &str, status: u8) -> ExitCode {
+fn tell(rt: &HostRuntime, error: MeasureError) -> ExitCode {
+    let (why, status) = match error {
+        MeasureError::Words => (USAGE, BAD_WORDS),
+        MeasureError::Memory => ("out of memory", FAILED),
+        MeasureError::Output => ("the output cannot be written", FAILED),
+    };
     let _ = eprintln!(rt; "measures: {why}");
     ExitCode::from(status)
 }
 
 fn main(rt: HostRuntime) -> ExitCode {
-    let Ok(mut words) = env::args(&rt) else {
-        return tell(&rt, USAGE, BAD_WORDS);
-    };
-    let _program = words.next();
-    match measure_all(&rt, &rt, &mut words) {
+    match measure(&rt, &rt) {
         Ok(()) => ExitCode::SUCCESS,
-        Err(MeasureError::Words) => tell(&rt, USAGE, BAD_WORDS),
-        Err(MeasureError::Memory) => tell(&rt, "out of memory", FAILED),
-        Err(MeasureError::Output) => ExitCode::from(FAILED),
+        Err(error) => tell(&rt, error),
     }
 }

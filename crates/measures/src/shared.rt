@@ -3,7 +3,8 @@
 ghost use Rattle.std.specs.Prelude.{◌≡◌, ◌≤◌, IsSome};
 ghost use Rattle.shared_cache.specs.Passes.{IsPassOf};
 
-use crate::counts::{Counts, MeasureError, next_number};
+use crate::counts::{Counts, MeasureError};
+use crate::words::{next_choice, next_number};
 use budget::{GREATEST_LIMIT, Limits, Pass, Refusal};
 use bundle::{Acquired, Did, Lease, MOST_HOSTS, Ticket};
 use conn_log::Want;
@@ -37,6 +38,27 @@ const KEEP: Facts = Facts {
 
 /// How far apart the transfers of two threads begin: no thread does so many rounds.
 const TRANSFERS: u64 = 4_294_967_296;
+
+/// What a round does.
+#[derive(Clone, Copy)]
+enum Form {
+    /// It reuses the connection of one host.
+    Pair,
+    /// It opens one at the next host, where the oldest of all is closed for it.
+    Close,
+    /// As the first, by several threads at once.
+    Threads,
+}
+
+/// Each form's word.
+static FORMS: [(&str, Form); 3] = [
+    ("pair", Form::Pair),
+    ("close", Form::Close),
+    ("threads", Form::Threads),
+];
+
+/// The word for threads with hosts of their own, or all at one.
+static PLACES: [(&str, bool); 2] = [("own", true), ("one", false)];
 
 /// What is measured: threads that go round hosts, and acquire a connection at each and give it
 /// back.
@@ -129,31 +151,25 @@ fn number(words: &mut Args, most: u32) -> Result<u32, MeasureError> {
     Ok(number)
 }
 
-/// What the words ask for of threads.
-fn task_of_threads(words: &mut Args) -> Result<Task, MeasureError> {
-    let threads = number(words, MOST_THREADS)?;
-    let place = words.next().ok_or(MeasureError::Words)?;
-    let rounds = number(words, u32::MAX)?;
-    match place.as_str() {
-        "own" => Ok(Task::own(threads, rounds)),
-        "one" => Ok(Task::one(threads, rounds)),
-        _ => Err(MeasureError::Words),
-    }
-}
-
 /// What the words ask for.
 fn task_of(words: &mut Args) -> Result<Task, MeasureError> {
-    let what = words.next().ok_or(MeasureError::Words)?;
-    if what.as_str() == "threads" {
-        return task_of_threads(words);
-    }
-    let hosts = number(words, MOST_HOSTS)?;
+    let form = next_choice(words, &FORMS)?;
+    let most = match form {
+        Form::Threads => MOST_THREADS,
+        Form::Pair | Form::Close => MOST_HOSTS,
+    };
+    let count = number(words, most)?;
+    let is_own = match form {
+        Form::Threads => next_choice(words, &PLACES)?,
+        Form::Pair | Form::Close => false,
+    };
     let rounds = number(words, u32::MAX)?;
-    match what.as_str() {
-        "pair" => Ok(Task::pair(hosts, rounds)),
-        "close" => Ok(Task::close(hosts, rounds)),
-        _ => Err(MeasureError::Words),
-    }
+    Ok(match form {
+        Form::Pair => Task::pair(count, rounds),
+        Form::Close => Task::close(count, rounds),
+        Form::Threads if is_own => Task::own(count, rounds),
+        Form::Threads => Task::one(count, rounds),
+    })
 }
 
 /// What was counted of leases.
@@ -516,7 +532,11 @@ pub(crate) fn counted<R: Threads + Wait + Sync>(
 ) -> Result<Counts, MeasureError> {
     let task = task_of(words)?;
     match leases_of(rt, alloc, task) {
-        Ok(Leases { reused, opened }) => Ok(Counts::Leases { reused, opened }),
+        Ok(Leases { reused, opened }) => Ok(Counts::Connections {
+            rounds: reused,
+            kind: "reused",
+            opened,
+        }),
         Err(_) => Err(MeasureError::Memory),
     }
 }

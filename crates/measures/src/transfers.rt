@@ -6,8 +6,9 @@ ghost use Rattle.exchange.specs.Answers.{IsUnused};
 ghost use Rattle.exchange.specs.Slabs.{AreKept};
 ghost use Rattle.measures.specs.Told.{all_told};
 
-use crate::counts::{Counts, MeasureError, next_number};
+use crate::counts::{Counts, MeasureError};
 use crate::endless::{EndlessDial, EndlessWire};
+use crate::words::{next_choice, next_number};
 use budget::Limits;
 use cache::Pool;
 use conn_key::{CountedMemory, read_target};
@@ -18,6 +19,9 @@ use persistence::Method;
 use std::alloc::{AllocGlobal, Global};
 use std::env::Args;
 use std::random::RandomSource;
+
+/// The word for transfers alone, one after the other, or while others wait.
+static FORMS: [(&str, bool); 2] = [("transfers", false), ("waiting", true)];
 
 /// The moment of all that is done.
 const NOW: u64 = 7;
@@ -178,17 +182,19 @@ pub(crate) fn counted<R: RandomSource + AllocGlobal>(
     alloc: Global,
     words: &mut Args,
 ) -> Result<Counts, MeasureError> {
-    let what = words.next().ok_or(MeasureError::Words)?;
-    let first = next_number(words)?;
+    let has_waiters = next_choice(words, &FORMS)?;
+    let others = if has_waiters { next_number(words)? } else { 0 };
+    let count = next_number(words)?;
     let mut dial = EndlessDial::new();
-    let good = match what.as_str() {
-        "transfers" => in_turn(rt, alloc, &mut dial, first),
-        "waiting" => waiting(rt, alloc, &mut dial, first, next_number(words)?),
-        _ => return Err(MeasureError::Words),
+    let good = if has_waiters {
+        waiting(rt, alloc, &mut dial, others, count)
+    } else {
+        in_turn(rt, alloc, &mut dial, count)
     };
     match good {
-        Some(good) => Ok(Counts::Transfers {
-            good,
+        Some(good) => Ok(Counts::Connections {
+            rounds: u64::from(good),
+            kind: "good",
             opened: dial.opened(),
         }),
         None => Err(MeasureError::Memory),
