@@ -1,6 +1,0 @@
-use Rattle.std.proofs.Common.{◌<◌, length}
-use Rattle.budget.specs.Plain.{IsWithin}
-use Rattle.budget_measure.proofs.reuses.Given as goal
-
-abbrev pub invariant-loop : goal.invariant-loop
-invariant-loop l = (l.part.host < length l.part.budget.now.hosts) × IsWithin l.part.budget.now

@@ -1,5 +1,0 @@
-use Rattle.std.proofs.Common.{◌≡◌}
-use Rattle.budget_measure.proofs.spends.Given as goal
-
-abbrev pub invariant-loop-round : goal.invariant-loop-round
-invariant-loop-round l = (l.pass.table ≡ l.tally.table) × (l.tally.counted ≡ l._round)

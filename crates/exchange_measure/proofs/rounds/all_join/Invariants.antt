@@ -1,7 +1,0 @@
-use Rattle.cache.specs.Deeds.{home_of}
-use Rattle.exchange.specs.Slabs.{AreKept}
-use Rattle.exchange_measure.specs.Told.{all_told}
-use Rattle.exchange_measure.proofs.rounds.all_join.Given as goal
-
-abbrev pub invariant-loop-transfer : goal.invariant-loop-transfer
-invariant-loop-transfer l = AreKept all_told (home_of l.pool) l.slab.slots.items

@@ -1,7 +1,0 @@
-use Rattle.cache.specs.Deeds.{home_of}
-use Rattle.exchange.specs.Slabs.{AreKept}
-use Rattle.exchange_measure.specs.Told.{all_told}
-use Rattle.exchange_measure.proofs.rounds.waiting.Given as goal
-
-abbrev pub invariant-loop : goal.invariant-loop
-invariant-loop g l = AreKept all_told (home_of l.pool) l.slab.slots.items
