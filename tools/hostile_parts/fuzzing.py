@@ -1,13 +1,12 @@
-"""Damaged responses, read at once and in pieces by the program damaged_responses: both are to tell the same."""
+"""Fuzzing: responses of a corpus, damaged, are read at once and in pieces by the program requests, and both ways are to
+tell the same."""
 import subprocess
 
-from program import built
+from program import built_requests
 
 from . import corpus
 from .parts import Part, Wrong, check
-from .programs import given
 
-CRATE = "damaged_responses"
 SEED, COUNT = 40, 1_000_000
 SECONDS = 600
 # from which it is known that a corpus is read, and that all its kinds of ends are met
@@ -15,20 +14,15 @@ LISTED = 20_000
 ENDS = {"whole", "surplus", "until-end", "more", "BadHead", "BadLength", "BadChunk", "HeadTooLong", "TooManyInterims", "TrailerTooLong"}
 
 
-def program():
-    """The program, built. BUILT names a folder that has it already."""
-    return given(CRATE) or built(CRATE, "run", CRATE, ["1", "0"])
-
-
-def run_program(*words):
+def fuzz(*words):
     """What the program writes, and its status."""
-    done = subprocess.run([program(), *map(str, words)], input=corpus.text(), stdout=subprocess.PIPE, timeout=SECONDS)
+    done = subprocess.run([built_requests(), "fuzz", *map(str, words)], input=corpus.text(), stdout=subprocess.PIPE, timeout=SECONDS)
     return done.returncode, done.stdout.decode()
 
 
 def listed(seed, count):
     """The lines of so many responses: the bytes, the method, the status, the framing, the body's length, and the end."""
-    status, text = run_program(seed, count, "LIST")
+    status, text = fuzz(seed, count, "LIST")
     if status != 0:
         raise Wrong(f"status {status}: {text[-2000:]}")
     for line in text.splitlines()[:-1]:
@@ -37,7 +31,7 @@ def listed(seed, count):
 
 
 def both_ways():
-    status, text = run_program(SEED, COUNT)
+    status, text = fuzz(SEED, COUNT)
     check(status == 0 and text == f"{COUNT} responses, 0 differ\n", f"status {status}: {text[:2000]}")
     return f"{COUNT:,} from a corpus of {len(corpus.responses())}, at once and in drawn pieces: none differs"
 
@@ -48,4 +42,4 @@ def ends():
     return f"{LISTED:,} of them end in each of {len(ENDS)} ways"
 
 
-PARTS = [Part("damaged responses at once and in pieces", both_ways), Part("damaged responses end in each way", ends)]
+PARTS = [Part("fuzzing: responses at once and in pieces", both_ways), Part("fuzzing: responses end in each way", ends)]
