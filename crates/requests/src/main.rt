@@ -36,10 +36,11 @@ const USAGE: &str = "\
 const THEN: &str = "then";
 
 fn main(rt: HostRuntime) -> ExitCode {
-    let Words::Given(words) = given_words(&rt) else {
-        return ExitCode::from(FAILED);
+    let status = match given_words(&rt) {
+        Words::Given(words) => run_all(&rt, &rt, words.get(1..).unwrap_or(&[])),
+        Words::NotText => BAD_WORDS,
+        Words::NoMemory => FAILED,
     };
-    let status = run_all(&rt, &rt, words.get(1..).unwrap_or(&[]));
     if status == BAD_WORDS {
         let _ = eprint!(rt; "{USAGE}");
     }

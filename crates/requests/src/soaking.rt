@@ -41,9 +41,7 @@ pub(crate) fn soak<R: Threads + Wait + Sync>(
 
 // Does the task, and prints its account; whether that balances. None if it can't.
 fn done<R: Threads + Wait + Sync>(rt: &R, system: &HostRuntime, task: &Task) -> Option<bool> {
-    let limits = Limits::new(0, task.total, KEPT).ok()?;
-    let hosts = u32::try_from(task.ports.len()).ok()?;
-    let clock = SystemClock::new(system).ok()?;
+    let (plan, clock) = plan_of(system, task)?;
     let course = Course {
         system,
         clock,
@@ -51,16 +49,26 @@ fn done<R: Threads + Wait + Sync>(rt: &R, system: &HostRuntime, task: &Task) -> 
         ports: task.ports.as_slice(),
         counts: Counts::new(),
     };
-    let plan: Plan<WaitingWire> = Plan::new(system.alloc(), limits, hosts).ok()?;
-    let gathered = soaked::<Brand, R>(rt, &course, plan, task.threads)?;
-    if !course.counts.print(system, course.minutes()) {
-        return None;
-    }
-    print_account(system, &gathered)
+    let gathered = soaked::<Brand, R>(rt, &course, plan, task.threads);
+    print_account(&course, gathered)
 }
 
-// Prints the account; whether it balances. None if it can't.
-fn print_account(rt: &HostRuntime, gathered: &Gathered<WaitingWire>) -> Option<bool> {
+// The plan of the task's cache, and the system's clock.
+fn plan_of<'n>(
+    system: &'n HostRuntime,
+    task: &Task,
+) -> Option<(Plan<WaitingWire>, SystemClock<'n, HostRuntime>)> {
+    let limits = Limits::new(0, task.total, KEPT).ok()?;
+    let hosts = u32::try_from(task.ports.len()).ok()?;
+    let clock = SystemClock::new(system).ok()?;
+    let plan: Plan<WaitingWire> = Plan::new(system.alloc(), limits, hosts).ok()?;
+    Some((plan, clock))
+}
+
+// Prints what came of the requests, and the account; whether that balances. None if it can't.
+fn print_account(course: &Course<'_>, gathered: Option<Gathered<WaitingWire>>) -> Option<bool> {
+    let gathered = gathered?;
+    course.counts.print(course.system, course.minutes())?;
     let HostCount {
         opened,
         reused,
@@ -69,7 +77,7 @@ fn print_account(rt: &HostRuntime, gathered: &Gathered<WaitingWire>) -> Option<b
         alive,
     } = totals(&gathered.hosts);
     let total = gathered.total;
-    println!(rt;
+    println!(course.system;
         "total {total} opened {opened} leased again {reused} closed {closed} waited {waited} \
             alive {alive}"
     )

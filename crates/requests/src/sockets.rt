@@ -33,20 +33,20 @@ pub(crate) fn request_urls(rt: &HostRuntime, words: &[String]) -> u8 {
 
 // Makes the requests over waiting sockets, and prints what came of them. None if it can't.
 fn over_waiting(rt: &HostRuntime, task: &Task) -> Option<bool> {
-    let dial = WaitingDial::new(rt, rt.alloc(), task.addresses(rt.alloc())?).ok()?;
+    let addresses = task.addresses(rt.alloc())?;
+    let dial = WaitingDial::new(rt, rt.alloc(), addresses).ok()?;
     let mut client = client_of(rt, task, dial)?;
-    let mut tally = Tally::new();
-    request_all(rt, task, &mut client, &mut tally)?;
-    print_tally(rt, &tally, client.dial().opened())
+    let tally = request_all(rt, task, &mut client);
+    print_tally(rt, tally, client.dial().opened())
 }
 
 // The same over polled sockets.
 fn over_polled(rt: &HostRuntime, task: &Task) -> Option<bool> {
-    let dial = PolledDial::new(rt, rt.alloc(), task.addresses(rt.alloc())?).ok()?;
+    let addresses = task.addresses(rt.alloc())?;
+    let dial = PolledDial::new(rt, rt.alloc(), addresses).ok()?;
     let mut client = client_of(rt, task, dial)?;
-    let mut tally = Tally::new();
-    request_all(rt, task, &mut client, &mut tally)?;
-    print_tally(rt, &tally, client.dial().opened())
+    let tally = request_all(rt, task, &mut client);
+    print_tally(rt, tally, client.dial().opened())
 }
 
 // A client of the task's hosts.
@@ -55,11 +55,19 @@ fn client_of<'c, W: Wire, D: Dial<W> + Drop>(
     task: &Task,
     dial: D,
 ) -> Option<Client<'c, W, D, HostRuntime>> {
-    let limits = Limits::new(0, 0, KEPT).ok()?;
-    let hosts = task.sites.len() as u32;
-    let pool = Pool::new(rt.alloc(), limits, hosts).ok()?;
-    let clock = SystemClock::new(rt).ok()?;
+    let (pool, clock) = pool_of(rt, task)?;
     Client::new(rt, rt.alloc(), pool, dial, clock).ok()
+}
+
+// A pool of the task's hosts, and the system's clock.
+fn pool_of<'c, W: Wire>(
+    rt: &'c HostRuntime,
+    task: &Task,
+) -> Option<(Pool<W>, SystemClock<'c, HostRuntime>)> {
+    let limits = Limits::new(0, 0, KEPT).ok()?;
+    let clock = SystemClock::new(rt).ok()?;
+    let pool = Pool::new(rt.alloc(), limits, task.sites.len() as u32).ok()?;
+    Some((pool, clock))
 }
 
 // Makes the requests, as often as the task says. If that is once, each has a line.
@@ -67,12 +75,12 @@ fn request_all<W: Wire, D: Dial<W> + Drop>(
     rt: &HostRuntime,
     task: &Task,
     client: &mut Client<'_, W, D, HostRuntime>,
-    tally: &mut Tally,
-) -> Option<()> {
+) -> Option<Tally> {
+    let mut tally = Tally::new();
     for _ in 0..task.rounds {
-        request_each(rt, task, client, tally)?;
+        request_each(rt, task, client, &mut tally)?;
     }
-    Some(())
+    Some(tally)
 }
 
 // Makes each request once.
@@ -96,15 +104,15 @@ fn request_each<W: Wire, D: Dial<W> + Drop>(
     Some(())
 }
 
-// Prints what came of all requests. None if it can't.
-fn print_tally(rt: &HostRuntime, tally: &Tally, opened: u64) -> Option<bool> {
+// Prints what came of all requests. None if it can't, or they could not be told of.
+fn print_tally(rt: &HostRuntime, tally: Option<Tally>, opened: u64) -> Option<bool> {
     let Tally {
         good,
         failed,
         reused,
         retried,
         bytes,
-    } = *tally;
+    } = tally?;
     println!(rt;
         "good {good} failed {failed} opened {opened} reused {reused} \
             retried {retried} bytes {bytes}"

@@ -27,10 +27,9 @@ pub(crate) fn tell(
     in_pieces: &Told,
 ) -> Option<()> {
     let bytes = hex_of(rt.alloc(), text).ok()?;
-    println!(rt; "asked {asked:?}").ok()?;
-    println!(rt; "bytes {bytes}").ok()?;
-    println!(rt; "at once {at_once:?}").ok()?;
-    println!(rt; "in pieces {in_pieces:?}").ok()
+    println!(rt;
+        "asked {asked:?}\nbytes {bytes}\nat once {at_once:?}\nin pieces {in_pieces:?}"
+    ).ok()
 }
 
 // The bytes as hexadecimal digits.

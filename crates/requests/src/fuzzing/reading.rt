@@ -128,6 +128,14 @@ fn may_both_fail(one: Result<Fed, ReadFault>, other: Result<Fed, ReadFault>, tex
 
 // Whether a section of the text may be too long.
 fn may_be_too_long(text: &[u8]) -> bool {
-    let lines = text.iter().filter(|byte| **byte == b'\n').count();
-    lines > MOST_FIELDS || text.len() >= FEWEST_AT_LIMIT
+    lines_of(text) > MOST_FIELDS || text.len() >= FEWEST_AT_LIMIT
+}
+
+// How many lines end in the text.
+fn lines_of(text: &[u8]) -> usize {
+    let mut lines = 0usize;
+    for byte in text {
+        lines = lines.saturating_add(usize::from(*byte == b'\n'));
+    }
+    lines
 }

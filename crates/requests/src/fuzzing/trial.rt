@@ -21,11 +21,13 @@ pub(crate) struct Trial {
 impl Trial {
     // One that has tried nothing; none where memory is short.
     fn new(alloc: Global, seed: u64) -> Option<Trial> {
+        let at_once = ResponseReader::new(alloc, Method::Get, false).ok()?;
+        let in_pieces = ResponseReader::new(alloc, Method::Get, false).ok()?;
         Some(Trial {
             draws: Draws::new(seed),
             damaged: Damaged::new(alloc),
-            at_once: ResponseReader::new(alloc, Method::Get, false).ok()?,
-            in_pieces: ResponseReader::new(alloc, Method::Get, false).ok()?,
+            at_once,
+            in_pieces,
             differ: 0,
         })
     }

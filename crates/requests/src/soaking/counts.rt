@@ -119,30 +119,31 @@ impl Counts {
         }
     }
 
-    /// Prints what came of the requests in so many minutes; whether it could.
-    pub(crate) fn print(&self, rt: &HostRuntime, minute: u64) -> bool {
+    /// Prints what came of the requests in so many minutes. None if it can't.
+    pub(crate) fn print(&self, rt: &HostRuntime, minute: u64) -> Option<()> {
         let (answered, reused) = (self.answered.get(), self.reused.get());
         let (retried, wrong) = (self.retried.get(), self.wrong.get());
         let (cuts, entries, uncut) = (self.cuts.get(), self.entries.get(), self.uncut.get());
-        let requests = print!(rt;
+        print!(rt;
             "minute {minute} answered {answered} reused {reused} retried {retried} wrong {wrong} \
                 cuts {cuts} entries {entries} uncut {uncut}"
-        );
-        requests.is_ok() && self.faults.print(rt)
+        )
+        .ok()?;
+        self.faults.print(rt)
     }
 }
 
 impl Faults {
-    // Prints the rest of that line; whether it could.
-    fn print(&self, rt: &HostRuntime) -> bool {
+    // Prints the rest of that line. None if it can't.
+    fn print(&self, rt: &HostRuntime) -> Option<()> {
         let (memory, dial) = (self.memory.get(), self.dial.get());
         let (read, write) = (self.read.get(), self.write.get());
         let (bad, cut) = (self.bad.get(), self.cut.get());
         let (refused, cancelled) = (self.refused.get(), self.cancelled.get());
-        let faults = println!(rt;
+        println!(rt;
             " Memory {memory} Dial {dial} Read {read} Write {write} BadResponse {bad} Cut {cut} \
                 Refused {refused} Cancelled {cancelled}"
-        );
-        faults.is_ok()
+        )
+        .ok()
     }
 }

@@ -31,9 +31,9 @@ pub(crate) fn soaked<N: Names + Send + Sync, R: Threads + Wait + Sync>(
     let Ok(cache) = SharedCache::<WaitingWire, N>::new(alloc, plan) else {
         return None;
     };
-    let mut workers = hired(rt, alloc, &cache, course, threads)?;
-    work_at_once(rt, &cache, course, &mut workers);
-    let passes = passes_of(alloc, workers)?;
+    let Some(passes) = worked(rt, alloc, &cache, course, threads) else {
+        return None;
+    };
     match cache.gather(alloc, passes) {
         Ok(gathered) => Some(gathered),
         Err((_cache, passes, _refusal)) => {
@@ -41,6 +41,21 @@ pub(crate) fn soaked<N: Names + Send + Sync, R: Threads + Wait + Sync>(
             None
         }
     }
+}
+
+// Has so many threads make requests: their passes.
+fn worked<N: Names + Send + Sync, R: Threads + Wait + Sync>(
+    rt: &R,
+    alloc: Global,
+    cache: &SharedCache<WaitingWire, N>,
+    course: &Course<'_>,
+    threads: u32,
+) -> Option<Vec<Pass<Did>>>
+    ensures { IfSome result (λ passes. All (IsPassOf N.names) passes.items) }
+{
+    let mut workers = hired(rt, alloc, cache, course, threads)?;
+    work_at_once(rt, cache, course, &mut workers);
+    passes_of(alloc, workers)
 }
 
 // So many threads.
@@ -53,11 +68,24 @@ fn hired<'n, N: Names, R: Wait>(
 ) -> Option<Vec<Worker<'n, N>>> {
     let mut workers = Vec::with_capacity(alloc, threads as usize).ok()?;
     for index in 0..threads {
-        let carrier = Carrier::new(course.system, addresses_of(alloc, course.ports)?)?;
-        let pass = cache.pass(rt, alloc).ok()?;
-        workers.push_reserved(Worker::new(u64::from(index), pass, carrier));
+        let worker = worker_of(rt, alloc, cache, course, index)?;
+        workers.push_reserved(worker);
     }
     Some(workers)
+}
+
+// The thread of that index.
+fn worker_of<'n, N: Names, R: Wait>(
+    rt: &R,
+    alloc: Global,
+    cache: &SharedCache<WaitingWire, N>,
+    course: &Course<'n>,
+    index: u32,
+) -> Option<Worker<'n, N>> {
+    let addresses = addresses_of(alloc, course.ports)?;
+    let carrier = Carrier::new(course.system, addresses)?;
+    let pass = cache.pass(rt, alloc).ok()?;
+    Some(Worker::new(u64::from(index), pass, carrier))
 }
 
 // The addresses of the hosts at these ports.
