@@ -1,4 +1,5 @@
-"""The program curlpool for the tools that build or run it: what it is built from, and whether it is built of that."""
+"""The programs for the tools that build or run them: what each is built from, and whether it is built of that."""
+import functools
 import os
 import shutil
 import signal
@@ -10,6 +11,10 @@ TOP = os.path.dirname(os.path.dirname(os.path.abspath(__file__)))
 NAME = "pool_cli"
 FOLDER = os.path.join(TOP, "crates", NAME)
 BUILT = os.path.join(FOLDER, "out", NAME)
+# the program that sends requests to servers, for the tools that try and measure
+REQUESTS = "requests"
+# one request, to where nobody listens
+FEWEST_REQUESTS = ["load", "1", "0", "1", "1"]
 
 
 def needed(crate=NAME):
@@ -75,6 +80,20 @@ def built(crate, command, product, words=()):
         # rt leaves a file as it is where that stays the same
         os.utime(path, ns=(began, began))
     return path
+
+
+def given(name):
+    """A file of the folder that BUILT names, or nothing if it names none."""
+    folder = os.environ.get("BUILT")
+    return os.path.join(folder, name) if folder else None
+
+
+@functools.cache
+def built_requests():
+    """The program requests, which is built first if it is missing or older than its sources. REQUESTS names another one
+    that is built already, or BUILT a folder that has it."""
+    found = os.environ.get("REQUESTS") or given(REQUESTS)
+    return found or built(REQUESTS, "run", REQUESTS, FEWEST_REQUESTS)
 
 
 def say(text):

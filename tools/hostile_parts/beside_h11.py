@@ -142,13 +142,13 @@ def way_to_differ(ours, theirs):
 
 
 def compare(count, seed):
-    from hostile_parts import damaged
+    from hostile_parts import fuzzing
     found = other_reader()
     if not found:
         print("skipped: neither h11 nor node is there")
         return
     name, read = found
-    lines = list(damaged.listed(seed, count))
+    lines = list(fuzzing.listed(seed, count))
     said = read([(text, method) for text, method, *_ in lines])
     differing = collections.defaultdict(list)
     for (text, method, status, _framing, length, end), theirs in zip(lines, said, strict=True):

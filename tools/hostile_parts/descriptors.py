@@ -1,12 +1,13 @@
 """Too few descriptors: connections that cannot be opened fail, and nothing else does."""
 import re
 
+from program import built_requests
 from real_servers import servers
 from real_servers.servers import nobody
 
 from .parts import Part, check, check_same
 from .peers import GOOD, TOTALS, listening, path_of
-from .programs import curlpool, load_requests, run
+from .programs import curlpool, run
 
 PORTS, DESCRIPTORS = 40, 16
 REFUSED_LOADS = {"cannot listen", "cannot start thread", "poll failed", "out of memory"}
@@ -46,7 +47,8 @@ def threads():
     good = jobs = 0
     for descriptors in range(6, 30, 4):
         with listening(*[servers.takes(0.002)] * 2) as hosts:
-            done = under(descriptors, [load_requests(), "each", "16", "0", "200", *(str(one.port) for one in hosts)])
+            ports = (str(one.port) for one in hosts)
+            done = under(descriptors, [built_requests(), "load", "each", "16", "0", "200", *ports])
         if done.status == 1 and not done.output:
             continue
         *lines, totals = done.output.splitlines() or [""]

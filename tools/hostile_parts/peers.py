@@ -6,12 +6,13 @@ import contextlib
 import re
 import time
 
+from program import built_requests
 from real_servers import servers
 from real_servers.servers import Server, counted, nobody
 
 from . import behaviours
 from .parts import Part, check, check_same
-from .programs import curlpool, load_requests, run
+from .programs import curlpool, run
 
 GOOD = re.compile(r"(\d+) (\d+) (new|reused)( retried)? (\S+)")
 BAD = re.compile(r"([A-Z]\w+) (\S+)")
@@ -100,7 +101,7 @@ def never_answered():
 
 def lines_of_load(workers, total, jobs, ports):
     """What came of each job, and the totals, where they are those of the jobs."""
-    done = run([load_requests(), "each", str(workers), str(total), str(jobs), *map(str, ports)])
+    done = run([built_requests(), "load", "each", str(workers), str(total), str(jobs), *map(str, ports)])
     *lines, totals = done.output.splitlines() or [""]
     found = TOTALS.fullmatch(totals)
     check(done.status == 0 and found and len(lines) == jobs, f"{len(lines)} lines of {jobs} jobs: {done.told()}")

@@ -11,10 +11,8 @@ from subprocess import DEVNULL, PIPE
 from typing import NamedTuple, Optional
 
 from program import BUILT as BUILT_CURLPOOL
-from program import TOP, build_unless_current, built
+from program import TOP, build_unless_current, built, given
 
-# one request, to where nobody listens
-FEWEST_WORDS = ["1", "0", "1", "1"]
 # no run takes a tenth of that
 SECONDS = 60
 
@@ -34,24 +32,12 @@ class Run(NamedTuple):
         return f"status {self.status}, {self.output[-200:]!r}, {self.errors[-200:]!r}"
 
 
-def given(name):
-    """A file of the folder that BUILT names, or nothing where it names none."""
-    folder = os.environ.get("BUILT")
-    return os.path.join(folder, name) if folder else None
-
-
 def curlpool():
     """The program curlpool, built. PROGRAM names another one."""
     found = os.environ.get("PROGRAM") or given("pool_cli")
     if not found:
         build_unless_current()
     return found or BUILT_CURLPOOL
-
-
-def load_requests():
-    """The program load_requests, built. LOAD_REQUESTS names another one."""
-    return (os.environ.get("LOAD_REQUESTS") or given("load_requests")
-            or built("load_requests", "run", "load_requests", FEWEST_WORDS))
 
 
 def tests_of(crate):

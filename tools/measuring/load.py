@@ -1,31 +1,21 @@
 """The tables of tools/measure of a load: what a request takes of threads that share one cache, with libcurl and with raw
 epoll, and where they share one connection."""
 import functools
-import os
 import statistics
 import tempfile
 
-from program import built
+from program import built_requests
 
 from .clients import Client, cost_of_request, make_peers, serving, show_calls, show_costs
 from .commands import compiled, show
 
-CRATE = "load_requests"
-# one request, to where nobody listens
-FEWEST_WORDS = ["1", "0", "1", "1"]
 SITES, WORKERS = 2, 4
 ROUNDS = 21
 ROUNDS_OF_ONE = 5
 
 
-def load_requests():
-    """The program load_requests, which is built first where it is missing or older than its sources. LOAD_REQUESTS names
-    another one that is built already."""
-    return os.environ.get("LOAD_REQUESTS") or built(CRATE, "run", CRATE, FEWEST_WORDS)
-
-
 def words_of_load(program, total, count, ports):
-    return [program, str(WORKERS), str(total), str(count), *ports]
+    return [program, "load", str(WORKERS), str(total), str(count), *ports]
 
 
 def show_one_connection(program, server):
@@ -43,7 +33,7 @@ def show_one_connection(program, server):
 
 
 def load():
-    program = load_requests()
+    program = built_requests()
     with tempfile.TemporaryDirectory() as room:
         server = compiled("peers/server.c", room)
         client = Client("curlpool, one shared cache", functools.partial(words_of_load, program, 0))

@@ -2,7 +2,7 @@
 import functools
 import tempfile
 
-from real_servers.programs import socket_requests
+from program import built_requests
 
 from .clients import Client, make_peers, serving, show_calls, show_costs
 from .commands import compiled
@@ -14,12 +14,12 @@ PAUSE, LIMIT = "0", "30"
 
 def words_of_sockets(program, kind, count, ports):
     urls = [f"http://127.0.0.1:{port}/{number}" for number, port in enumerate(ports, 1)]
-    return [program, kind, PAUSE, LIMIT, str(count // SITES), *urls]
+    return [program, "sockets", kind, PAUSE, LIMIT, str(count // SITES), *urls]
 
 
 def make_clients():
     """Those over sockets here."""
-    program = socket_requests()
+    program = built_requests()
     return [Client(f"curlpool, {kind} sockets", functools.partial(words_of_sockets, program, kind))
             for kind in ("waiting", "polled")]
 

@@ -85,7 +85,7 @@ def is_good(answer):
     return answer.startswith(("new", "reused"))
 
 
-# by the program socket_requests, with both kinds of sockets
+# by the program requests, with both kinds of sockets
 CASES = [
     # nginx closes with the thousandth response where nothing is set
     Case("nginx, nothing set", ("nginx",), "new, 999 reused", 1_200, opened=2, reused=1_198),

@@ -5,11 +5,8 @@ import subprocess
 from subprocess import DEVNULL, PIPE
 from typing import NamedTuple, Optional
 
-from program import TOP, built
+from program import TOP
 
-CRATE = "socket_requests"
-# one request, to where nobody listens
-FEWEST_WORDS = ["waiting", "0", "1", "1", "http://127.0.0.1:1/1"]
 # no case takes a tenth of that; but ./curlpool takes a minute or more before it runs the program unproved
 SECONDS = 60
 SECONDS_UNPROVED = 300
@@ -27,12 +24,6 @@ class Run(NamedTuple):
 def curlpool():
     """The program curlpool, proved or unproved. PROGRAM names another one that is built already."""
     return os.environ.get("PROGRAM") or os.path.join(TOP, "curlpool")
-
-
-def socket_requests():
-    """The program socket_requests, which is built first where it is missing or older than its sources. REQUESTS names
-    another one that is built already."""
-    return os.environ.get("REQUESTS") or built(CRATE, "run", CRATE, FEWEST_WORDS)
 
 
 def end(started):

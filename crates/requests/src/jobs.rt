@@ -1,0 +1,34 @@
+//! Jobs, and the line that tells how one ended.
+
+use cli::line_text;
+use conn_key::Target;
+use conn_log::Want;
+use exchange::{Done, Job};
+use persistence::Method;
+use std::io::Write;
+
+/// The most seconds that a connection is idle for reuse.
+const MAX_AGE: u64 = 118;
+
+/// A GET of that target, at the site with that index, which takes any idle connection.
+pub(crate) fn job_of(site: u32, transfer: u64, target: Target) -> Job {
+    Job {
+        site,
+        want: Want {
+            transfer,
+            lane: 0,
+            max_age: MAX_AGE,
+            max_life: 0,
+            fresh: false,
+            forbid_reuse: false,
+        },
+        method: Method::Get,
+        target,
+    }
+}
+
+/// Prints how a job ended, as `curlpool get` does for a URL. None if it can't.
+pub(crate) fn print_line(rt: &HostRuntime, name: &str, done: Done) -> Option<()> {
+    let line = line_text(rt.alloc(), name, done).ok()?;
+    print!(rt; "{line}").ok()
+}

@@ -1,0 +1,101 @@
+//! The command `load`: threads request paths over one shared cache.
+
+mod task;
+
+use crate::jobs::print_line;
+use crate::loading::task::{Task, task_of};
+use crate::statuses::{BAD_WORDS, status_of};
+use crate::tally::Tally;
+use budget::Limits;
+use cache_report::totals;
+use cli::{load_jobs, sites_at};
+use exchange::Done;
+use load::{Loaded, load};
+use shared_cache::HostCount;
+use std::alloc::AllocGlobal;
+use std::io::Write;
+use std::random::RandomSource;
+use std::sync::Wait;
+use std::thread::Threads;
+
+/// The most sites that there may be; there is one at least.
+const MOST_SITES: usize = 1_024;
+
+/// The most connections that are kept while they are idle.
+const KEPT: u32 = 65_535;
+
+/// Does what the words ask for, and prints what came of it: the status.
+pub(crate) fn load_sites<R: Threads + Wait + RandomSource + AllocGlobal + Sync>(
+    threads: &R,
+    rt: &HostRuntime,
+    words: &[String],
+) -> u8 {
+    let Some(task) = task_of(rt.alloc(), words) else {
+        return BAD_WORDS;
+    };
+    let Some(loaded) = loaded_by(threads, rt, &task) else {
+        return status_of(None);
+    };
+    status_of(print_loaded(rt, &loaded, task.has_lines))
+}
+
+// Carries out the jobs of the task. None if it can't.
+fn loaded_by<R: Threads + Wait + RandomSource + AllocGlobal + Sync>(
+    threads: &R,
+    rt: &HostRuntime,
+    task: &Task,
+) -> Option<Loaded> {
+    let alloc = rt.alloc();
+    let limits = Limits::new(0, task.total, KEPT).ok()?;
+    let sites = sites_at(alloc, &task.ports).ok()?;
+    if sites.is_empty() || sites.len() > MOST_SITES {
+        return None;
+    }
+    let jobs = load_jobs(alloc, task.jobs, &task.ports).ok()?;
+    load(threads, rt, alloc, limits, &sites, &jobs, task.workers).ok()
+}
+
+// Prints what came of the jobs, each of which has a line if that is asked for. None if it can't.
+fn print_loaded(rt: &HostRuntime, loaded: &Loaded, has_lines: bool) -> Option<bool> {
+    if has_lines {
+        print_lines(rt, &loaded.results)?;
+    }
+    let mut tally = Tally::new();
+    for done in &loaded.results {
+        tally.add(done);
+    }
+    print_tally(rt, &tally, totals(&loaded.gathered.hosts))
+}
+
+// Prints a line for each job, with its path.
+fn print_lines(rt: &HostRuntime, results: &[Done]) -> Option<()> {
+    for (number, done) in results.iter().enumerate() {
+        let path = format!(in rt.alloc(); "/{number}").ok()?;
+        print_line(rt, path.as_str(), *done)?;
+    }
+    Some(())
+}
+
+// Prints what came of all jobs, and of the connections of all hosts. None if it can't.
+fn print_tally(rt: &HostRuntime, tally: &Tally, hosts: HostCount) -> Option<bool> {
+    let Tally {
+        good,
+        failed,
+        reused,
+        retried,
+        bytes,
+    } = *tally;
+    let HostCount {
+        opened,
+        closed,
+        alive,
+        ..
+    } = hosts;
+    let jobs = good.saturating_add(failed);
+    println!(rt;
+        "good {good} of {jobs} reused {reused} retried {retried} opened {opened} closed {closed} \
+            alive {alive} bytes {bytes}"
+    )
+    .ok()?;
+    Some(true)
+}

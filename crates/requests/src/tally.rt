@@ -1,0 +1,44 @@
+//! What came of requests.
+
+use exchange::Done;
+
+/// What came of requests.
+#[derive(Drop)]
+pub(crate) struct Tally {
+    /// How many were answered.
+    pub(crate) good: u64,
+    /// How many were not.
+    pub(crate) failed: u64,
+    /// How many went over a connection that was used before.
+    pub(crate) reused: u64,
+    /// How many were sent again over a new connection.
+    pub(crate) retried: u64,
+    /// How many bytes all bodies have.
+    pub(crate) bytes: u64,
+}
+
+impl Tally {
+    /// Of no request.
+    pub(crate) fn new() -> Tally {
+        Tally {
+            good: 0,
+            failed: 0,
+            reused: 0,
+            retried: 0,
+            bytes: 0,
+        }
+    }
+
+    /// Counts what came of a request.
+    pub(crate) fn add(&mut self, done: &Done) {
+        match done {
+            Done::Good(answer) => {
+                self.good = self.good.saturating_add(1);
+                self.reused = self.reused.saturating_add(answer.reused as u64);
+                self.retried = self.retried.saturating_add(answer.retried as u64);
+                self.bytes = self.bytes.saturating_add(answer.body_len);
+            }
+            Done::Bad(_) => self.failed = self.failed.saturating_add(1),
+        }
+    }
+}
