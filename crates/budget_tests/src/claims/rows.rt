@@ -2,6 +2,7 @@
 //! the next one, whichever seat draws.
 
 ghost use Rattle.std.specs.Prelude.{◌≡◌, ◌+◌, ◌^◌, ◌<◌, ◌++◌, ◌∷◌, []};
+ghost use Rattle.budget.specs.Words.{whole};
 ghost use Rattle.claim.specs.Draws.{first_seat};
 
 use claim::{Claim, ClaimSeat};
@@ -43,11 +44,20 @@ fn draw_nothing(rt: &impl Abort, claim: &Claim, seat: &mut ClaimSeat)
     }
 }
 
+// So many jobs have to have been drawn.
+fn check_drawn(rt: &impl Abort, claim: &Claim, seat: &mut ClaimSeat, jobs: u64)
+    requires claim { seat.old.claim ≡ claim.now }
+    requires whole { seat.old.share ≡ whole }
+    ensures { seat.new ≡ seat.old }
+{
+    assert_eq!(rt; claim.load(seat), jobs);
+}
+
 #[test]
 fn no_job_is_drawn_where_there_is_none(rt: HostRuntime) {
     let (claim, mut seat) = new_claim(&rt, rt.alloc(), 0);
     draw_nothing(&rt, &claim, &mut seat);
-    assert_eq!(rt; claim.load(&mut seat), 0);
+    check_drawn(&rt, &claim, &mut seat, 0);
 }
 
 // Whichever allocation fails: a claim that is refused comes when it is asked for again, and to draw
@@ -58,7 +68,7 @@ fn want_of_memory_refuses_a_claim(rt: HostRuntime) {
     draw_job(&rt, &claim, &mut seat, 0);
     draw_job(&rt, &claim, &mut seat, 1);
     draw_nothing(&rt, &claim, &mut seat);
-    assert_eq!(rt; claim.load(&mut seat), 2);
+    check_drawn(&rt, &claim, &mut seat, 2);
 }
 
 #[test]
@@ -66,7 +76,7 @@ fn one_job_is_drawn_once(rt: HostRuntime) {
     let (claim, mut seat) = new_claim(&rt, rt.alloc(), 1);
     draw_job(&rt, &claim, &mut seat, 0);
     draw_nothing(&rt, &claim, &mut seat);
-    assert_eq!(rt; claim.load(&mut seat), 1);
+    check_drawn(&rt, &claim, &mut seat, 1);
 }
 
 #[test]
@@ -79,18 +89,18 @@ fn two_seats_draw_three_jobs(rt: HostRuntime) {
     draw_nothing(&rt, &claim, &mut b);
     draw_nothing(&rt, &claim, &mut a);
     claim.join(&mut a, b);
-    assert_eq!(rt; claim.load(&mut a), 3);
+    check_drawn(&rt, &claim, &mut a, 3);
 }
 
 #[test]
 fn jobs_that_were_not_drawn_are_not_counted(rt: HostRuntime) {
     let (claim, mut a) = new_claim(&rt, rt.alloc(), 3);
     let mut b = claim.split(&mut a);
-    assert_eq!(rt; claim.draw(&mut b), Some(0));
+    draw_job(&rt, &claim, &mut b, 0);
     claim.join(&mut a, b);
-    assert_eq!(rt; claim.load(&mut a), 1);
+    check_drawn(&rt, &claim, &mut a, 1);
     draw_job(&rt, &claim, &mut a, 1);
     draw_job(&rt, &claim, &mut a, 2);
     draw_nothing(&rt, &claim, &mut a);
-    assert_eq!(rt; claim.load(&mut a), 3);
+    check_drawn(&rt, &claim, &mut a, 3);
 }

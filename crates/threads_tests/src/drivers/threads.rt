@@ -23,9 +23,8 @@ fn there_are_one_to_sixty_four_workers(rt: HostRuntime) {
         let plan = plan_of(&rt, 0, setup.total, setup.hosts);
         let whole = whole_run::<Brand, NoGate, HostRuntime>(&rt, plan, &setup, &NoGate);
         if is_refused {
-            let fault = whole.ended.as_ref().err();
-            assert_eq!(rt; fault, Some(&DriverFault::BadWorkers), "{workers}");
-            assert_eq!(rt; whole.passes, 0, "{workers}");
+            let refusal = (Some(DriverFault::BadWorkers), 0);
+            assert_eq!(rt; whole.refusal(), refusal, "{workers}");
         } else {
             check_good(&rt, whole.results(&rt, workers, "workers"), 130);
         }
@@ -45,8 +44,8 @@ fn a_failed_turn_ends_all(rt: HostRuntime) {
         };
         let plan = plan_of(&rt, 0, setup.total, setup.hosts);
         let whole = whole_run::<Brand, NoGate, HostRuntime>(&rt, plan, &setup, &NoGate);
-        assert_eq!(rt; whole.ended, Err(DriverFault::Poll), "{workers}");
-        let counts = (whole.passes, whole.all.reused);
-        assert_eq!(rt; counts, (workers as usize, 0), "{workers}");
+        let refusal = (Some(DriverFault::Poll), workers as usize);
+        assert_eq!(rt; whole.refusal(), refusal, "{workers}");
+        assert_eq!(rt; whole.all.reused, 0);
     }
 }

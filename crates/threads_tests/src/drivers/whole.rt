@@ -9,6 +9,7 @@ use crate::drivers::peers::PeerWire;
 use crate::making::{cache_of, gathered_with, pass_of, push};
 use budget::{Pass, Refusal};
 use bundle::Did;
+use cache_report::totals;
 use driver::{DriverFault, Gate, RunReport, run};
 use exchange::Done;
 use exchange_memory::FixedClock;
@@ -43,6 +44,14 @@ impl Whole {
             Err(fault) => panic!(rt; "{name}: {fault:?}"),
         }
     }
+
+    /// Why there are no results, and how many passes came back.
+    pub(crate) fn refusal(&self) -> (Option<DriverFault>, usize) {
+        match &self.ended {
+            Ok(_) => (None, self.passes),
+            Err(fault) => (Some(*fault), self.passes),
+        }
+    }
 }
 
 /// All of so many jobs have to have gone well.
@@ -67,7 +76,7 @@ pub(crate) fn whole_run<
     let _closed = cache.prune(rt, 1, 0, 0, &mut pass);
     put_by::<N>(rt, &mut passes, pass);
     let gathered = gathered_of(rt, cache, passes);
-    let all = sum_of(&gathered.hosts);
+    let all = totals(&gathered.hosts);
     assert_eq!(rt; (gathered.total, gathered.kept, all.alive), (0, 0, 0));
     assert_eq!(rt; all.opened, all.closed);
     Whole {
@@ -163,25 +172,4 @@ fn has_spent(pass: &Pass<Did>) -> bool {
         }
     }
     false
-}
-
-// What happened at all hosts.
-fn sum_of(hosts: &[HostCount]) -> HostCount {
-    let mut all = HostCount {
-        opened: 0,
-        reused: 0,
-        closed: 0,
-        waited: 0,
-        alive: 0,
-    };
-    for host in hosts {
-        all = HostCount {
-            opened: all.opened.saturating_add(host.opened),
-            reused: all.reused.saturating_add(host.reused),
-            closed: all.closed.saturating_add(host.closed),
-            waited: all.waited.saturating_add(host.waited),
-            alive: all.alive.saturating_add(host.alive),
-        };
-    }
-    all
 }

@@ -7,7 +7,7 @@ use std::process::Abort;
 const MOST_SITES: usize = 8;
 
 /// What happened at one site, or at all.
-#[derive(Clone, Copy, Debug, PartialEq, Eq)]
+#[derive(Clone, Copy, PartialEq, Eq)]
 struct Connections {
     /// Which site it is, or how many there are.
     site: u64,
@@ -19,7 +19,7 @@ struct Connections {
 }
 
 /// How the jobs ended.
-#[derive(Clone, Copy, Debug)]
+#[derive(Clone, Copy)]
 struct Jobs {
     number: u64,
     bad: u64,
@@ -28,9 +28,10 @@ struct Jobs {
     bytes: u64,
 }
 
-/// The numbers of a report.
-#[derive(Clone, Copy, Debug)]
-pub(crate) struct Account {
+/// A report, and its numbers.
+#[derive(Clone, Copy)]
+pub(crate) struct Account<'r> {
+    report: &'r str,
     // Nothing happened at those past the sites of the load.
     sites: [Connections; MOST_SITES],
     all: Connections,
@@ -101,8 +102,8 @@ fn numbers_after(line: Option<&str>, label: &str, count: usize) -> Option<[u64; 
     Some(numbers)
 }
 
-/// The numbers of a report of so many sites, if that is one.
-pub(crate) fn account_of(report: &str, sites: u32) -> Option<Account> {
+/// A report of so many sites with its numbers, if that is one.
+pub(crate) fn account_of(report: &str, sites: u32) -> Option<Account<'_>> {
     let mut lines = report.lines();
     let mut account = [NOTHING; MOST_SITES];
     for connections in account.iter_mut().take(sites as usize) {
@@ -114,6 +115,7 @@ pub(crate) fn account_of(report: &str, sites: u32) -> Option<Account> {
         return None;
     }
     Some(Account {
+        report,
         sites: account,
         all,
         jobs: Jobs {
@@ -133,10 +135,10 @@ fn jobs_at(options: &LoadOptions, site: u32) -> u64 {
         .count() as u64
 }
 
-impl Account {
+impl Account<'_> {
     // That has to be so of a load with these numbers.
     fn expect<R: Abort>(&self, rt: &R, options: &LoadOptions, is_so: bool, what: &str) {
-        assert!(rt; is_so, "{what}: {options:?}: {self:?}");
+        assert!(rt; is_so, "{what}: {options:?}: {}", self.report);
     }
 
     // What happened at all sites, each of which has to be in its place and within its limit.

@@ -5,7 +5,6 @@ use cli::{LoadOptions, load_on_system};
 use rand_core::utils::NextWord;
 use rand_pcg::Pcg32;
 use std::alloc::AllocGlobal;
-use std::test::Fail;
 
 /// How many loads there are.
 const LOADS: u32 = 60;
@@ -23,7 +22,7 @@ fn drawn_options(random: &mut Pcg32) -> LoadOptions {
 }
 
 #[test]
-fn reports_of_drawn_loads_add_up(rt: HostRuntime) -> Result<(), Fail> {
+fn reports_of_drawn_loads_add_up(rt: HostRuntime) {
     let mut random = Pcg32::new(38, 0);
     for _ in 0..LOADS {
         let options = drawn_options(&mut random);
@@ -35,5 +34,4 @@ fn reports_of_drawn_loads_add_up(rt: HostRuntime) -> Result<(), Fail> {
         account.check(&rt, &options);
         account.check_answered(&rt, &options);
     }
-    Ok(())
 }

@@ -1,7 +1,6 @@
 //! Loads of one thread, whose reports are known byte for byte.
 
 use crate::loads::running::run_words;
-use std::test::Fail;
 
 /// Words, the status with which the program ends, and what it prints.
 static ROWS: [(&str, u8, &str); 3] = [
@@ -26,10 +25,10 @@ static ROWS: [(&str, u8, &str); 3] = [
 ];
 
 #[test]
-fn reports_of_one_thread(rt: HostRuntime) -> Result<(), Fail> {
+fn reports_of_one_thread(rt: HostRuntime) {
     for row in &ROWS {
         let (text, status, printed) = *row;
-        let ran = run_words(&rt, &rt, text)?;
+        let ran = run_words(&rt, &rt, text).expect(&rt, "memory");
         let told = (ran.status, ran.errors.is_empty());
         assert_eq!(rt; told, (status, status == 0), "in ample memory, {text}");
         assert_eq!(rt;
@@ -38,5 +37,4 @@ fn reports_of_one_thread(rt: HostRuntime) -> Result<(), Fail> {
             "in ample memory, {text}"
         );
     }
-    Ok(())
 }

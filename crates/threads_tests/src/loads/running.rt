@@ -15,12 +15,17 @@ pub(crate) struct Ran {
     pub(crate) errors: Vec<u8>,
 }
 
+fn add_word(alloc: Global, words: &mut Vec<String>, word: &str) -> Result<(), AllocError> {
+    words.push(String::from_str(alloc, word)?)?;
+    Ok(())
+}
+
 // The words after the program's name, of a text with spaces between them.
 fn words(alloc: Global, text: &str) -> Result<Words, AllocError> {
     let mut words = Vec::new(alloc);
-    words.push(String::from_str(alloc, "curlpool")?)?;
+    add_word(alloc, &mut words, "curlpool")?;
     for word in text.split_whitespace() {
-        words.push(String::from_str(alloc, word)?)?;
+        add_word(alloc, &mut words, word)?;
     }
     Ok(Words::Given(words))
 }

@@ -3,9 +3,9 @@
 ghost use Rattle.std.specs.Prelude.{◌≡◌};
 ghost use Rattle.shared_cache.specs.Passes.{IsPassOf};
 
-use crate::making::{KEEP, cache_of, gathered_with, pass_of, want_of};
+use crate::making::{KEEP, cache_of, gathered_with, pass_of, plan_of, want_of};
 use crate::reports::rows::{NEW, REUSED};
-use budget::{Limits, Pass};
+use budget::Pass;
 use bundle::{Acquired, Did};
 use cache_report::report;
 use shared_cache::{Gathered, Names, Plan, SharedCache};
@@ -13,7 +13,6 @@ use std::alloc::AllocGlobal;
 use std::marker::Brand;
 use std::process::Abort;
 use std::sync::Wait;
-use std::test::Fail;
 
 /// What a connection's stream would be.
 #[derive(Drop)]
@@ -59,10 +58,10 @@ fn gathered_after_two<N: Names, R: Wait + Abort + AllocGlobal>(
 }
 
 #[test]
-fn the_report_of_a_gathered_cache(rt: HostRuntime) -> Result<(), Fail> {
-    let plan = Plan::new(rt.alloc(), Limits::new(6, 20, 4)?, 2)?;
+fn the_report_of_a_gathered_cache(rt: HostRuntime) {
+    let plan = plan_of(&rt, 6, 20, 2);
     let gathered = gathered_after_two::<Brand, HostRuntime>(&rt, plan);
-    let text = report(rt.alloc(), &gathered, &[NEW, REUSED])?;
+    let text = report(rt.alloc(), &gathered, &[NEW, REUSED]).expect(&rt, "memory");
     assert_eq!(rt;
         text.as_str(),
         "host       0       1       1       0       0       1\n\
@@ -70,5 +69,4 @@ fn the_report_of_a_gathered_cache(rt: HostRuntime) -> Result<(), Fail> {
         all        2       1       1       0       0       1\n\
         jobs       2       0       1       0       4\n"
     );
-    Ok(())
 }

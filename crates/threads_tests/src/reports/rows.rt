@@ -6,7 +6,6 @@ use budget::Refusal;
 use cache_report::report_of;
 use exchange::{Answer, Done, Fault};
 use shared_cache::HostCount;
-use std::test::Fail;
 
 /// What a report is of, and its text.
 pub(crate) type Row = (&'static [HostCount], &'static [Done], &'static str);
@@ -151,11 +150,10 @@ const EXACT: Row = (
 static ROWS: [Row; 5] = [EMPTY, FIVE, LONG, GREATEST, EXACT];
 
 #[test]
-fn reports_have_these_bytes(rt: HostRuntime) -> Result<(), Fail> {
+fn reports_have_these_bytes(rt: HostRuntime) {
     for row in &ROWS {
         let (hosts, results, expected) = *row;
-        let text = report_of(rt.alloc(), hosts, results)?;
+        let text = report_of(rt.alloc(), hosts, results).expect(&rt, "memory");
         assert_eq!(rt; text.as_str(), expected);
     }
-    Ok(())
 }
