@@ -1,6 +1,9 @@
-//! Tests of `budget`: what no clause says, worked rows, and threads that come and go.
+//! Tests of `budget` and `claim`: what no clause says, worked rows, and threads that come and go, or
+//! draw jobs.
 #![tactic(auto)]
 
+#[cfg(test)]
+mod claims;
 #[cfg(test)]
 mod holders;
 #[cfg(test)]

@@ -6,76 +6,114 @@ use budget::{
     Held, Holders, Limits, Link, Lobby, Pass, Permits, PlainBudget, Refusal, Seen, Tally,
     WordBudget,
 };
-use std::test::Fail;
+use std::alloc::AllocGlobal;
+use std::process::Abort;
 
-#[test]
-fn want_of_memory_refuses_what_one_thread_counts(rt: HostRuntime) -> Result<(), Fail> {
-    let limits = Limits::new(1, 2, 3).expect(&rt, "limits");
+// What is refused, is refused for want of memory.
+fn check_memory(rt: &impl Abort, refusal: Refusal) {
+    assert_eq!(rt; refusal, Refusal::Memory);
+}
+
+// The limits of the budgets here.
+fn limits_of(rt: &impl Abort) -> Limits {
+    Limits::new(1, 2, 3).expect(rt, "limits")
+}
+
+fn check_plain_budget<R: Abort + AllocGlobal>(rt: &R) {
+    let limits = limits_of(rt);
     let mut budget = match PlainBudget::new(rt.alloc(), limits, 9) {
         Ok(made) => made,
         Err(refusal) => {
-            assert_eq!(rt; refusal, Refusal::Memory);
-            PlainBudget::new(rt.alloc(), limits, 9)?
-        }
-    };
-    let lobby = match Lobby::new(rt.alloc(), 9) {
-        Ok(made) => made,
-        Err(refusal) => {
-            assert_eq!(rt; refusal, Refusal::Memory);
-            Lobby::new(rt.alloc(), 9)?
-        }
-    };
-    let pass = match Pass::<u32>::new(rt.alloc(), 9) {
-        Ok(made) => made,
-        Err(refusal) => {
-            assert_eq!(rt; refusal, Refusal::Memory);
-            Pass::<u32>::new(rt.alloc(), 9)?
+            check_memory(rt, refusal);
+            PlainBudget::new(rt.alloc(), limits, 9).expect(rt, "memory")
         }
     };
     assert_eq!(rt; budget.at(8).held(), Held { alive: 0, kept: 0 });
-    assert_eq!(rt; (lobby.first(), pass.hosts()), (None, 9));
+}
+
+fn check_lobby<R: Abort + AllocGlobal>(rt: &R) {
+    let lobby = match Lobby::new(rt.alloc(), 9) {
+        Ok(made) => made,
+        Err(refusal) => {
+            check_memory(rt, refusal);
+            Lobby::new(rt.alloc(), 9).expect(rt, "memory")
+        }
+    };
+    assert_eq!(rt; lobby.first(), None);
+}
+
+fn check_pass<R: Abort + AllocGlobal>(rt: &R) {
+    let pass = match Pass::<u32>::new(rt.alloc(), 9) {
+        Ok(made) => made,
+        Err(refusal) => {
+            check_memory(rt, refusal);
+            Pass::<u32>::new(rt.alloc(), 9).expect(rt, "memory")
+        }
+    };
+    assert_eq!(rt; pass.hosts(), 9);
     pass.discard();
-    Ok(())
 }
 
 #[test]
-fn want_of_memory_refuses_what_threads_share(rt: HostRuntime) -> Result<(), Fail> {
-    let limits = Limits::new(1, 2, 3).expect(&rt, "limits");
+fn want_of_memory_refuses_what_one_thread_counts(rt: HostRuntime) {
+    check_plain_budget(&rt);
+    check_lobby(&rt);
+    check_pass(&rt);
+}
+
+fn check_words<R: Abort + AllocGlobal>(rt: &R) {
+    let limits = limits_of(rt);
     let (budget, seat) = match WordBudget::new(rt.alloc(), limits) {
         Ok(made) => made,
         Err(refusal) => {
-            assert_eq!(rt; refusal, Refusal::Memory);
-            WordBudget::new(rt.alloc(), limits)?
-        }
-    };
-    let (_link, _seat) = match Link::new(rt.alloc()) {
-        Ok(made) => made,
-        Err(refusal) => {
-            assert_eq!(rt; refusal, Refusal::Memory);
-            Link::new(rt.alloc())?
-        }
-    };
-    let mut tally = match Tally::new(rt.alloc()) {
-        Ok(made) => made,
-        Err(refusal) => {
-            assert_eq!(rt; refusal, Refusal::Memory);
-            Tally::new(rt.alloc())?
-        }
-    };
-    let mut holders = match Holders::new(rt.alloc()) {
-        Ok(made) => made,
-        Err(refusal) => {
-            assert_eq!(rt; refusal, Refusal::Memory);
-            Holders::new(rt.alloc())?
+            check_memory(rt, refusal);
+            WordBudget::new(rt.alloc(), limits).expect(rt, "memory")
         }
     };
     assert_eq!(rt; budget.seen(&seat), Seen { total: 0, kept: 0 });
+}
+
+fn check_link<R: Abort + AllocGlobal>(rt: &R) {
+    match Link::new(rt.alloc()) {
+        Ok(_made) => {}
+        Err(refusal) => {
+            check_memory(rt, refusal);
+            let _made = Link::new(rt.alloc()).expect(rt, "memory");
+        }
+    }
+}
+
+fn check_tally<R: Abort + AllocGlobal>(rt: &R) {
+    let mut tally = match Tally::new(rt.alloc()) {
+        Ok(made) => made,
+        Err(refusal) => {
+            check_memory(rt, refusal);
+            Tally::new(rt.alloc()).expect(rt, "memory")
+        }
+    };
     assert_eq!(rt; tally.load(), 0);
-    // a lease that is marked, and cleared, takes no memory
+}
+
+// A lease that is marked, and cleared, takes no memory.
+fn check_holders<R: Abort + AllocGlobal>(rt: &R) {
+    let mut holders = match Holders::new(rt.alloc()) {
+        Ok(made) => made,
+        Err(refusal) => {
+            check_memory(rt, refusal);
+            Holders::new(rt.alloc()).expect(rt, "memory")
+        }
+    };
     holders.mark(1, 10);
     let lease = holders.split(1, 10);
     holders.join(lease);
     holders.clear();
     assert_eq!(rt; holders.load(), 0);
-    Ok(())
+}
+
+#[test]
+fn want_of_memory_refuses_what_threads_share(rt: HostRuntime) {
+    check_words(&rt);
+    check_link(&rt);
+    check_tally(&rt);
+    check_holders(&rt);
 }

@@ -5,7 +5,6 @@ ghost use Rattle.budget.specs.Marks.{mark_at};
 use budget::{HolderSeat, Holders, Link, Lobby, LobbySeat, MarkSeat, PassSeat, Tally};
 use std::marker::{Brand, Model, PhantomData};
 use std::sync::{Mutex, Wait};
-use std::test::Fail;
 use std::thread::{Threads, join};
 
 // How often each thread comes.
@@ -101,7 +100,7 @@ fn spend_by_two<B: Room + Send + Sync, R: Threads + Wait + Sync>(
 }
 
 #[test]
-fn two_threads_spend_what_a_tally_counted(rt: HostRuntime) -> Result<(), Fail> {
+fn two_threads_spend_what_a_tally_counted(rt: HostRuntime) {
     let Ok(mut tally) = Tally::new(rt.alloc()) else {
         panic!(rt; "no memory");
     };
@@ -109,7 +108,6 @@ fn two_threads_spend_what_a_tally_counted(rt: HostRuntime) -> Result<(), Fail> {
     let two = tally.seat_pass();
     let counts = spend_by_two::<Brand, _>(&rt, tally, one, two);
     assert_eq!(rt; counts, (2_000, 1_000, 1_000));
-    Ok(())
 }
 
 #[derive(Drop)]
@@ -229,7 +227,7 @@ fn bring_back_by_two<B: Room + Send + Sync, R: Threads + Wait + Sync>(
 }
 
 #[test]
-fn two_threads_bring_two_leases_back(rt: HostRuntime) -> Result<(), Fail> {
+fn two_threads_bring_two_leases_back(rt: HostRuntime) {
     let Ok(mut holders) = Holders::new(rt.alloc()) else {
         panic!(rt; "no memory");
     };
@@ -240,7 +238,6 @@ fn two_threads_bring_two_leases_back(rt: HostRuntime) -> Result<(), Fail> {
     let held = holders.load();
     let left = bring_back_by_two::<Brand, _>(&rt, holders, one, two);
     assert_eq!(rt; (held, left), (2, 0));
-    Ok(())
 }
 
 // The Lobby's list with its seat, as they lie under one lock.
@@ -355,7 +352,7 @@ fn come_and_go_by_two<B: Room + Send + Sync, R: Threads + Wait + Sync>(
 }
 
 #[test]
-fn two_hosts_are_listed_where_they_are_marked(rt: HostRuntime) -> Result<(), Fail> {
+fn two_hosts_are_listed_where_they_are_marked(rt: HostRuntime) {
     let Ok(lobby) = Lobby::new(rt.alloc(), 2) else {
         panic!(rt; "no memory");
     };
@@ -367,5 +364,4 @@ fn two_hosts_are_listed_where_they_are_marked(rt: HostRuntime) -> Result<(), Fai
     link.load(&mut seat, &mut one);
     let agreed = come_and_go_by_two::<Brand, _>(&rt, &link, lobby, seat, one, two);
     assert_eq!(rt; agreed, (true, true));
-    Ok(())
 }

@@ -1,4 +1,0 @@
-use Rattle.driver_tests.proofs.cancels.each_job_is_cancelled.Given as goal
-
-abbrev pub ghosts-whole_run : goal.ghosts-whole_run
-ghosts-whole_run g a = record { names = a.plan }

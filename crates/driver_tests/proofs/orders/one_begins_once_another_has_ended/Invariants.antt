@@ -1,4 +1,0 @@
-use Rattle.driver_tests.proofs.orders.one_begins_once_another_has_ended.Given as goal
-
-abbrev pub ghosts-whole_run : goal.ghosts-whole_run
-ghosts-whole_run g a = record { names = a.plan }

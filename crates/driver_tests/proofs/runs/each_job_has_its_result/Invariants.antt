@@ -1,4 +1,0 @@
-use Rattle.driver_tests.proofs.runs.each_job_has_its_result.Given as goal
-
-abbrev pub ghosts-whole_run : goal.ghosts-whole_run
-ghosts-whole_run g a = record { names = a.plan }

@@ -1,4 +1,0 @@
-use Rattle.driver_tests.proofs.sockets.each_job_over_sockets_is_cancelled.Given as goal
-
-abbrev pub ghosts-left_by : goal.ghosts-left_by
-ghosts-left_by g a = record { names = a.plan }

@@ -1,4 +1,0 @@
-use Rattle.driver_tests.proofs.threads.a_failed_turn_ends_all.Given as goal
-
-abbrev pub ghosts-whole_run : goal.ghosts-whole_run
-ghosts-whole_run g a = record { names = a.plan }

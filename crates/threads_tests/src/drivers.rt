@@ -1,0 +1,13 @@
+//! Tests of `driver`: threads that carry out jobs over a shared cache, whose account has to balance
+//! in the end.
+
+mod cancels;
+mod gates;
+mod jobs;
+mod memory;
+mod orders;
+mod peers;
+mod runs;
+mod sockets;
+mod threads;
+mod whole;

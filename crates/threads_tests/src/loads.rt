@@ -1,0 +1,8 @@
+//! Tests of `load` over this machine's threads and sockets, from the words to the report: its bytes
+//! are what was worked out by hand, and its numbers add up.
+
+mod account;
+mod grid;
+mod memory;
+mod rows;
+mod running;

@@ -1,0 +1,68 @@
+//! The program, with its streams in memory.
+
+use cli::{CountedWordsMemory, SystemNetwork, Words, load_on_system, run_program};
+use script_run::SystemFiles;
+use std::alloc::{AllocError, AllocGlobal, Global};
+use std::random::RandomSource;
+use std::sync::Wait;
+use std::thread::Threads;
+
+/// The status with which the program ended, and what it wrote on output and on standard error.
+#[derive(Drop)]
+pub(crate) struct Ran {
+    pub(crate) status: u8,
+    pub(crate) output: Vec<u8>,
+    pub(crate) errors: Vec<u8>,
+}
+
+fn add_word(alloc: Global, words: &mut Vec<String>, word: &str) -> Result<(), AllocError> {
+    words.push(String::from_str(alloc, word)?)?;
+    Ok(())
+}
+
+// The words after the program's name, of a text with spaces between them.
+fn words(alloc: Global, text: &str) -> Result<Words, AllocError> {
+    let mut words = Vec::new(alloc);
+    add_word(alloc, &mut words, "curlpool")?;
+    for word in text.split_whitespace() {
+        add_word(alloc, &mut words, word)?;
+    }
+    Ok(Words::Given(words))
+}
+
+/// What the program does with the words of that text. Loads are carried out on this system, by
+/// `threads`, which is the system once more.
+///
+/// # Errors
+///
+/// There is no memory for the words.
+pub(crate) fn run_words<T: Threads + Wait + RandomSource + AllocGlobal + Sync>(
+    threads: &T,
+    rt: &HostRuntime,
+    text: &str,
+) -> Result<Ran, AllocError> {
+    let given = words(rt.alloc(), text)?;
+    let mut memory = CountedWordsMemory::new(rt.alloc());
+    let mut files = SystemFiles::new(rt);
+    let mut network = SystemNetwork::new(rt);
+    let mut input = b"".as_slice();
+    let mut output = Vec::new(rt.alloc());
+    let mut errors = Vec::new(rt.alloc());
+    let status = run_program(
+        rt.alloc(),
+        &mut memory,
+        given,
+        false,
+        &mut files,
+        &mut network,
+        |alloc, options| load_on_system(threads, rt, alloc, options),
+        &mut input,
+        &mut output,
+        &mut errors,
+    );
+    Ok(Ran {
+        status,
+        output,
+        errors,
+    })
+}
