@@ -1,17 +1,15 @@
-//! What a cancel does, by where its exchange stands; and how an exchange waits for a connection.
+//! What a cancel does, by where its exchange stands.
 
 use crate::driving::{
-    BEFORE, KEEP, NOW, OK, cache_of, cache_with_other, cancel_polled, cancel_unpolled, check_log,
-    close, closed, dial_of, leased, left, opened, prepared, returned, run, waited, want_of,
-    wire_of,
+    BEFORE, KEEP, NOW, OK, cache_of, cache_with_other, cancel_after, check_log, close, closed,
+    dial_of, leased, left, opened, prepared, returned, run_keeping, waited, want_of, wire_of,
 };
 use conn_log::Cause;
-use exchange::{Answer, Done, Stage};
+use exchange::{Done, Fault, Stage};
 use exchange_memory::{Halt, MemoryDial};
-use std::test::Fail;
 
 #[test]
-fn a_cancel_abandons_a_lease(rt: HostRuntime) -> Result<(), Fail> {
+fn a_cancel_abandons_a_lease(rt: HostRuntime) {
     for &stage in &[Stage::Dialling, Stage::Sending, Stage::Reading, Stage::Turn] {
         let mut wire = wire_of(&rt, OK);
         match stage {
@@ -27,7 +25,7 @@ fn a_cancel_abandons_a_lease(rt: HostRuntime) -> Result<(), Fail> {
             dial.halt_dial(1, Halt::NotYet);
         }
         let mut cache = cache_of(&rt);
-        let waits_on = cancel_polled(&rt, &mut cache, &mut dial);
+        let waits_on = cancel_after(&rt, 1, &mut cache, &mut dial);
         assert_eq!(rt; waits_on, stage);
         // its dial gives up what it has begun
         let given_up = if stage == Stage::Dialling {
@@ -43,20 +41,19 @@ fn a_cancel_abandons_a_lease(rt: HostRuntime) -> Result<(), Fail> {
         );
         let _ = close(&rt, cache);
     }
-    Ok(())
 }
 
 #[test]
-fn a_cancel_changes_nothing_where_nothing_is_out(rt: HostRuntime) -> Result<(), Fail> {
+fn a_cancel_changes_nothing_where_nothing_is_out(rt: HostRuntime) {
     let mut dial = dial_of(&rt, wire_of(&rt, OK));
     let mut cache = cache_of(&rt);
-    cancel_unpolled(&rt, &mut cache, &mut dial);
+    let _ = cancel_after(&rt, 0, &mut cache, &mut dial);
     check_log(&rt, &cache, &[]);
     assert_eq!(rt; dial.left(), 1);
     let _ = close(&rt, cache);
     // and where the first poll was ready
     let mut cache = cache_of(&rt);
-    let _ = cancel_polled(&rt, &mut cache, &mut dial);
+    let _ = cancel_after(&rt, 1, &mut cache, &mut dial);
     assert_eq!(rt; dial.last_given_up(), None);
     check_log(
         &rt,
@@ -64,14 +61,13 @@ fn a_cancel_changes_nothing_where_nothing_is_out(rt: HostRuntime) -> Result<(), 
         &[opened(1, want_of(1), NOW), returned(1, KEEP, NOW)],
     );
     let _ = close(&rt, cache);
-    Ok(())
 }
 
 #[test]
-fn a_cancel_ends_a_wait(rt: HostRuntime) -> Result<(), Fail> {
+fn a_cancel_ends_a_wait(rt: HostRuntime) {
     let mut dial = MemoryDial::new(rt.alloc());
     let mut cache = cache_with_other(&rt, 1, wire_of(&rt, OK));
-    let waits_on = cancel_polled(&rt, &mut cache, &mut dial);
+    let waits_on = cancel_after(&rt, 1, &mut cache, &mut dial);
     assert_eq!(rt; waits_on, Stage::Grant);
     assert_eq!(rt; dial.last_given_up(), None);
     check_log(
@@ -84,15 +80,14 @@ fn a_cancel_ends_a_wait(rt: HostRuntime) -> Result<(), Fail> {
         ],
     );
     let _ = close(&rt, cache);
-    Ok(())
 }
 
 #[test]
-fn a_cancel_closes_what_was_granted(rt: HostRuntime) -> Result<(), Fail> {
+fn a_cancel_closes_what_was_granted(rt: HostRuntime) {
     let mut dial = MemoryDial::new(rt.alloc());
     let mut cache = cache_with_other(&rt, 1, wire_of(&rt, OK));
     cache.release_after(1);
-    let waits_on = cancel_polled(&rt, &mut cache, &mut dial);
+    let waits_on = cancel_after(&rt, 1, &mut cache, &mut dial);
     assert_eq!(rt; waits_on, Stage::Grant);
     check_log(
         &rt,
@@ -106,23 +101,16 @@ fn a_cancel_closes_what_was_granted(rt: HostRuntime) -> Result<(), Fail> {
         ],
     );
     let _ = close(&rt, cache);
-    Ok(())
 }
 
 #[test]
-fn an_exchange_waits_for_a_connection(rt: HostRuntime) -> Result<(), Fail> {
-    let mut dial = MemoryDial::new(rt.alloc());
-    let mut cache = cache_with_other(&rt, 1, wire_of(&rt, OK));
-    cache.release_after(1);
-    let ended = run(&rt, prepared(&rt), &mut cache, &mut dial, Stage::Grant);
-    let answer = Answer {
-        status: 200,
-        body_len: 2,
-        facts: KEEP,
-        reused: true,
-        retried: false,
-    };
-    assert_eq!(rt; ended, (Done::Good(answer), 1));
+fn a_close_before_the_first_poll_cancels(rt: HostRuntime) {
+    let mut dial = dial_of(&rt, wire_of(&rt, OK));
+    let mut cache = cache_of(&rt);
+    let parts = prepared(&rt);
+    let (done, _, _) = run_keeping(&rt, parts, &mut cache, &mut dial, Stage::Turn, 0);
+    assert_eq!(rt; done, Done::Bad(Fault::Cancelled));
+    assert_eq!(rt; dial.left(), 1);
+    check_log(&rt, &cache, &[]);
     let _ = close(&rt, cache);
-    Ok(())
 }

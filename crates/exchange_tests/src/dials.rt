@@ -3,10 +3,9 @@
 use crate::driving::{NOW, OK, dial_of, pool_of, prepared, wire_of};
 use exchange::{Dial, Dialled, Exchange, Turned};
 use exchange_memory::{FixedClock, Halt, MemoryDial};
-use std::test::Fail;
 
 #[test]
-fn a_turn_fails(rt: HostRuntime) -> Result<(), Fail> {
+fn a_turn_fails(rt: HostRuntime) {
     let mut dial = MemoryDial::new(rt.alloc());
     dial.fail_turn(2);
     let mut pool = pool_of(&rt, 0);
@@ -16,11 +15,10 @@ fn a_turn_fails(rt: HostRuntime) -> Result<(), Fail> {
     let _ = exchange.cancel(NOW);
     assert_eq!(rt; turned, [Turned::Done, Turned::Fault, Turned::Done]);
     assert_eq!(rt; dial.turn_failures(), 1);
-    Ok(())
 }
 
 #[test]
-fn a_dial_counts_what_it_opens(rt: HostRuntime) -> Result<(), Fail> {
+fn a_dial_counts_what_it_opens(rt: HostRuntime) {
     // it is dialled twice, and fails at that time
     for &(nth, up, opened, failures) in &[
         (1, [false, true], 1, 1),
@@ -28,7 +26,7 @@ fn a_dial_counts_what_it_opens(rt: HostRuntime) -> Result<(), Fail> {
         (3, [true, true], 2, 0),
     ] {
         let mut dial = dial_of(&rt, wire_of(&rt, OK));
-        dial.add(wire_of(&rt, OK))?;
+        dial.add(wire_of(&rt, OK)).expect(&rt, "memory");
         dial.halt_dial(nth, Halt::Fault);
         let first = dial.dial(0, 1);
         let second = dial.dial(0, 2);
@@ -43,5 +41,4 @@ fn a_dial_counts_what_it_opens(rt: HostRuntime) -> Result<(), Fail> {
             "{nth}"
         );
     }
-    Ok(())
 }

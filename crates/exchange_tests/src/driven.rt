@@ -4,7 +4,7 @@ use crate::driving::{
     GOOD, KEEP, NOW, OK, check_pool, dial_of, leased, opened, poll_once, pool_of, prepared,
     prepared_at, returned, waited, want_of, wire_of,
 };
-use exchange::{Answer, Done, Exchange, Fault, Polled, Stage, Transfer};
+use exchange::{Answer, Done, Exchange, Polled, Stage, Transfer};
 use exchange_memory::{FixedClock, Halt};
 use futures::executor::block_on;
 use futures::task::{Doorbell, Solo};
@@ -34,28 +34,15 @@ fn an_executor_drives_an_exchange(rt: HostRuntime) -> Result<(), Fail> {
 }
 
 #[test]
-fn a_close_before_the_first_poll_cancels(rt: HostRuntime) -> Result<(), Fail> {
-    let mut dial = dial_of(&rt, wire_of(&rt, OK));
-    let mut pool = pool_of(&rt, 0);
-    let clock = FixedClock { now: NOW };
-    let exchange = Exchange::new(prepared(&rt), &mut pool, &mut dial, &clock);
-    let (done, _, _, _) = exchange.close(NOW);
-    assert_eq!(rt; done, Done::Bad(Fault::Cancelled));
-    assert_eq!(rt; dial.left(), 1);
-    check_pool(&rt, &pool, &[]);
-    Ok(())
-}
-
-#[test]
-fn two_transfers_take_turns_at_a_connection(rt: HostRuntime) -> Result<(), Fail> {
-    let mut both = OK.to_vec(rt.alloc())?;
-    both.extend_from_slice(OK)?;
-    let mut wire = wire_of(&rt, &both);
+fn two_transfers_take_turns_at_a_connection(rt: HostRuntime) {
+    let responses = b"HTTP/1.1 200 OK\r\nContent-Length: 2\r\n\r\nok\
+        HTTP/1.1 200 OK\r\nContent-Length: 2\r\n\r\nok";
+    let mut wire = wire_of(&rt, responses);
     wire.set_most_read(OK.len());
     wire.halt_read(1, Halt::NotYet);
     let mut dial = dial_of(&rt, wire);
     let mut pool = pool_of(&rt, 1);
-    let solo = Solo::new(&rt, Doorbell::spinning())?;
+    let solo = Solo::new(&rt, Doorbell::spinning()).expect(&rt, "a task");
     let other = prepared_at(&rt, 0, Method::Get, "http://example.com/b", want_of(2));
     let mut first = Transfer::new(prepared(&rt));
     let mut second = Transfer::new(other);
@@ -86,5 +73,4 @@ fn two_transfers_take_turns_at_a_connection(rt: HostRuntime) -> Result<(), Fail>
             returned(1, KEEP, NOW),
         ],
     );
-    Ok(())
 }

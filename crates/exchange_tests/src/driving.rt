@@ -55,18 +55,21 @@ pub(crate) const BEFORE: u64 = 99;
 const ROOM: usize = 200;
 
 /// More polls than any exchange here takes.
-const MOST_POLLS: u32 = 1_000;
+pub(crate) const MOST_POLLS: u32 = 1_000;
+
+/// What transfer 1 wants if nothing else is said.
+pub(crate) const WANT: Want = Want {
+    transfer: 1,
+    lane: 0,
+    max_age: 118,
+    max_life: 0,
+    fresh: false,
+    forbid_reuse: false,
+};
 
 /// What a transfer wants if nothing else is said.
 pub(crate) fn want_of(transfer: u64) -> Want {
-    Want {
-        transfer,
-        lane: 0,
-        max_age: 118,
-        max_life: 0,
-        fresh: false,
-        forbid_reuse: false,
-    }
+    Want { transfer, ..WANT }
 }
 
 /// What a transfer asks of that host.
@@ -200,14 +203,15 @@ pub(crate) fn cache_with_other<R: Abort + AllocGlobal>(
     FakeCache::with_other(pool, lease, KEEP, NOW)
 }
 
-/// Polls an exchange until it is ready: how it ended, how often it was pending before, which has to
-/// be for that, and what was prepared.
+/// Polls an exchange until it is ready, but at most so often, and closes it: how it ended, how
+/// often it was pending, which has to be for that, and what was prepared.
 pub(crate) fn run_keeping<R: Abort + AllocGlobal + RandomSource>(
     rt: &R,
     parts: Prepared,
     cache: &mut FakeCache<MemoryWire>,
     dial: &mut MemoryDial,
     stage: Stage,
+    most_polls: u32,
 ) -> (Done, u32, Prepared)
     requires unused { IsUnused parts }
     ensures { 0 < length result.2.buffer.items }
@@ -215,18 +219,19 @@ pub(crate) fn run_keeping<R: Abort + AllocGlobal + RandomSource>(
     let solo = Solo::new(rt, Doorbell::spinning()).expect(rt, "a task");
     let clock = FixedClock { now: NOW };
     let mut exchange = Exchange::new(parts, cache, dial, &clock);
-    for pending in 0..MOST_POLLS {
+    let mut pending: u32 = 0;
+    for _ in 0..most_polls {
         let mut cx = solo.begin();
         let polled = exchange.poll(&mut cx);
         cx.end(&polled);
         if polled.is_ready() {
-            let (done, parts, _, _) = exchange.finish();
-            return (done, pending, parts);
+            break;
         }
         assert_eq!(rt; exchange.waits_on(), stage);
+        pending = pending.saturating_add(1);
     }
-    let _ = exchange.cancel(NOW);
-    panic!(rt; "it does not end");
+    let (done, parts, _, _) = exchange.close(NOW);
+    (done, pending, parts)
 }
 
 /// The same, without what was prepared.
@@ -239,7 +244,7 @@ pub(crate) fn run<R: Abort + AllocGlobal + RandomSource>(
 ) -> (Done, u32)
     requires unused { IsUnused parts }
 {
-    let (done, pending, _) = run_keeping(rt, parts, cache, dial, stage);
+    let (done, pending, _) = run_keeping(rt, parts, cache, dial, stage, MOST_POLLS);
     (done, pending)
 }
 
@@ -257,33 +262,25 @@ pub(crate) fn run_at_once<R: Abort + AllocGlobal + RandomSource>(
     done
 }
 
-/// Cancels an exchange before its first poll.
-pub(crate) fn cancel_unpolled<R: Abort + AllocGlobal>(
+/// Polls an exchange so often, never or once, and cancels it; what it waited for.
+pub(crate) fn cancel_after<R: Abort + AllocGlobal + RandomSource>(
     rt: &R,
-    cache: &mut FakeCache<MemoryWire>,
-    dial: &mut MemoryDial,
-) {
-    let clock = FixedClock { now: NOW };
-    let exchange = Exchange::new(prepared(rt), cache, dial, &clock);
-    let _ = exchange.cancel(NOW);
-}
-
-/// Polls an exchange once and cancels it; what it waited for.
-pub(crate) fn cancel_polled<R: Abort + AllocGlobal + RandomSource>(
-    rt: &R,
+    polls: u32,
     cache: &mut FakeCache<MemoryWire>,
     dial: &mut MemoryDial,
 ) -> Stage {
     let solo = Solo::new(rt, Doorbell::spinning()).expect(rt, "a task");
     let clock = FixedClock { now: NOW };
     let mut exchange = Exchange::new(prepared(rt), cache, dial, &clock);
-    let mut cx = solo.begin();
-    let polled = exchange.poll(&mut cx);
-    cx.end(&polled);
+    for _ in 0..polls {
+        let mut cx = solo.begin();
+        let polled = exchange.poll(&mut cx);
+        cx.end(&polled);
+    }
     let waits_on = exchange.waits_on();
     let (_, cache, _) = exchange.cancel(NOW);
     let entries = cache.pool().log(0).expect(rt, "a host").len();
-    assert!(rt; entries > 0, "out of memory");
+    assert!(rt; polls == 0 || entries > 0, "out of memory");
     waits_on
 }
 
@@ -356,11 +353,17 @@ pub(crate) fn check_log<R: Abort>(rt: &R, cache: &FakeCache<MemoryWire>, entries
 
 /// The same of a pool.
 pub(crate) fn check_pool<R: Abort>(rt: &R, pool: &Pool<MemoryWire>, entries: &[Entry]) {
+    check_front(rt, pool, entries);
+    let log = pool.log(0).expect(rt, "a host");
+    assert_eq!(rt; log.len(), entries.len(), "entries");
+}
+
+/// The first host's log has to begin so.
+pub(crate) fn check_front<R: Abort>(rt: &R, pool: &Pool<MemoryWire>, entries: &[Entry]) {
     let log = pool.log(0).expect(rt, "a host");
     for place in 0..entries.len() {
         assert_eq!(rt; log.get(place), Some(entries[place]), "entry {place}");
     }
-    assert_eq!(rt; log.len(), entries.len(), "entries");
 }
 
 /// The first host's log has to end so.

@@ -9,7 +9,6 @@ use exchange_memory::{FixedClock, MemoryDial, MemoryWire};
 use futures::task::{Doorbell, Solo};
 use persistence::Method;
 use std::alloc::AllocGlobal;
-use std::test::Fail;
 
 /// What the peer answers.
 const RESPONSE: &[u8] = b"HTTP/1.1 200 OK\r\nContent-Length: 2\r\n\r\nok";
@@ -25,38 +24,39 @@ const WANT: Want = Want {
 };
 
 #[test]
-fn one_transfer(rt: HostRuntime) -> Result<(), Fail> {
+fn one_transfer(rt: HostRuntime) {
     let mut memory = CountedMemory::new(rt.alloc());
-    let target = read_target(&mut memory, "http://example.com/a?b=1")?;
+    let target = read_target(&mut memory, "http://example.com/a?b=1").expect(&rt, "a target");
     let job = Job {
         site: 0,
         want: WANT,
         method: Method::Get,
         target,
     };
-    let parts = Prepared::new(rt.alloc(), &job)?;
+    let parts = Prepared::new(rt.alloc(), &job).expect(&rt, "memory");
     // Connections in memory: the peer of the first one that is dialled answers that.
+    let wire = MemoryWire::new(rt.alloc(), RESPONSE, 200).expect(&rt, "memory");
     let mut dial = MemoryDial::new(rt.alloc());
-    dial.add(MemoryWire::new(rt.alloc(), RESPONSE, 200)?)?;
+    dial.add(wire).expect(&rt, "memory");
     let clock = FixedClock { now: 7 };
-    let task = Solo::new(&rt, Doorbell::spinning())?;
-    let mut pool = Pool::new(rt.alloc(), Limits::new(6, 20, 4)?, 1)?;
+    let task = Solo::new(&rt, Doorbell::spinning()).expect(&rt, "a task");
+    let limits = Limits::new(6, 20, 4).expect(&rt, "limits");
+    let mut pool = Pool::new(rt.alloc(), limits, 1).expect(&rt, "memory");
     let mut exchange = Exchange::new(parts, &mut pool, &mut dial, &clock);
     for _ in 0..100 {
         let mut context = task.begin();
         let polled = exchange.poll(&mut context);
         context.end(&polled);
         if polled.is_ready() {
-            let (done, _, _, _) = exchange.finish();
-            let Done::Good(answer) = done else {
-                return Err(Fail::from("no response, or no memory"));
-            };
-            assert_eq!(rt; (answer.status, answer.body_len), (200, 2));
-            assert_eq!(rt; pool.look(0)?.idle, 1);
-            return Ok(());
+            break;
         }
         let _ = exchange.turn();
     }
-    let _ = exchange.cancel(7);
-    Err(Fail::from("it never ended"))
+    // It is cancelled here if no poll was ready.
+    let (done, _, _, _) = exchange.close(7);
+    let Done::Good(answer) = done else {
+        panic!(rt; "no response: {done:?}");
+    };
+    assert_eq!(rt; (answer.status, answer.body_len), (200, 2));
+    assert_eq!(rt; pool.look(0).expect(&rt, "a host").idle, 1);
 }

@@ -18,4 +18,8 @@ mod exchanges;
 #[cfg(test)]
 mod memory;
 #[cfg(test)]
+mod requests;
+#[cfg(test)]
+mod rows;
+#[cfg(test)]
 mod thousand;

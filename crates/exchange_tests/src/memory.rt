@@ -17,9 +17,13 @@ use leasing::Cache;
 use persistence::Method;
 use std::alloc::{AllocGlobal, Global};
 use std::process::Abort;
+use std::random::RandomSource;
 use std::test::Fail;
 
 const RESPONSE: &[u8] = b"HTTP/1.1 200 OK\r\nContent-Length: 2\r\n\r\nok";
+
+/// No read is counted so, since they are counted from one.
+const NEVER: u64 = 0;
 
 const WANT: Want = Want {
     transfer: 1,
@@ -50,9 +54,10 @@ fn prepared_for(alloc: Global, url: &str) -> Option<Prepared>
     Prepared::new(alloc, &job).ok()
 }
 
-// A dial that gives one wire with that response.
-fn dial_to(alloc: Global, response: &[u8]) -> Option<MemoryDial> {
-    let wire = MemoryWire::new(alloc, response, 200).ok()?;
+// A dial that gives one wire with that response, which is not there yet at the nth read.
+fn dial_to(alloc: Global, response: &[u8], nth: u64) -> Option<MemoryDial> {
+    let mut wire = MemoryWire::new(alloc, response, 200).ok()?;
+    wire.halt_read(nth, Halt::NotYet);
     let mut dial = MemoryDial::new(alloc);
     dial.add(wire).ok()?;
     Some(dial)
@@ -88,28 +93,34 @@ fn pool_with_ended<R: Abort + AllocGlobal>(rt: &R) -> Option<Pool<MemoryWire>> {
     }
 }
 
-// How the exchange ends over that pool. No lease and no ticket may be out then.
-fn ended_over<R: Abort>(
+// What an exchange over that pool takes, if there is memory for all: its peer does not answer yet
+// at the nth read.
+fn world_of<R: Abort + AllocGlobal + RandomSource>(
     rt: &R,
-    solo: &Solo,
-    parts: Prepared,
-    pool: Pool<MemoryWire>,
-    dial: &mut MemoryDial,
-) -> Done
-    requires unused { IsUnused parts }
+    pool: Option<Pool<MemoryWire>>,
+    nth: u64,
+) -> Option<(Prepared, MemoryDial, Solo, Pool<MemoryWire>)>
+    ensures { IfSome result (λ world. IsUnused world.0) }
 {
+    let pool = pool?;
+    let parts = prepared_for(rt.alloc(), "http://example.com/")?;
+    let dial = dial_to(rt.alloc(), RESPONSE, nth)?;
+    let solo = Solo::new(rt, Doorbell::spinning()).ok()?;
+    Some((parts, dial, solo, pool))
+}
+
+// How the exchange ends, which is closed after one poll. No lease and no ticket may be out then.
+fn ended_over<R: Abort>(rt: &R, world: (Prepared, MemoryDial, Solo, Pool<MemoryWire>)) -> Done
+    requires unused { IsUnused world.0 }
+{
+    let (parts, mut dial, solo, pool) = world;
     let mut cache = FakeCache::over(pool);
     let clock = FixedClock { now: 7 };
-    let mut exchange = Exchange::new(parts, &mut cache, dial, &clock);
+    let mut exchange = Exchange::new(parts, &mut cache, &mut dial, &clock);
     let mut context = solo.begin();
     let polled = exchange.poll(&mut context);
     context.end(&polled);
-    if !polled.is_ready() {
-        let _ = exchange.cancel(7);
-        let _ = cache.close();
-        panic!(rt; "it is pending");
-    }
-    let (done, _, _, _) = exchange.finish();
+    let (done, _, _, _) = exchange.close(7);
     let out = (cache.leases(), cache.tickets());
     let _ = cache.close();
     assert_eq!(rt; out, (0, 0));
@@ -119,19 +130,10 @@ fn ended_over<R: Abort>(
 /// Nothing is lost: the exchange is not begun, or its cache refuses, or all goes well.
 #[test]
 fn want_of_memory_for_good_ends_an_exchange(rt: HostRuntime) {
-    let Some(parts) = prepared_for(rt.alloc(), "http://example.com/") else {
+    let Some(world) = world_of(&rt, pool_at(rt.alloc()), NEVER) else {
         return;
     };
-    let Some(mut dial) = dial_to(rt.alloc(), RESPONSE) else {
-        return;
-    };
-    let Ok(solo) = Solo::new(&rt, Doorbell::spinning()) else {
-        return;
-    };
-    let Some(pool) = pool_at(rt.alloc()) else {
-        return;
-    };
-    match ended_over(&rt, &solo, parts, pool, &mut dial) {
+    match ended_over(&rt, world) {
         Done::Good(answer) => assert_eq!(rt; (answer.status, answer.body_len), (200, 2)),
         Done::Bad(fault) => assert_eq!(rt; fault, Fault::Refused(Refusal::Memory)),
     }
@@ -141,19 +143,10 @@ fn want_of_memory_for_good_ends_an_exchange(rt: HostRuntime) {
 /// a new one is asked for.
 #[test]
 fn want_of_memory_for_good_ends_a_retry(rt: HostRuntime) {
-    let Some(parts) = prepared_for(rt.alloc(), "http://example.com/") else {
+    let Some(world) = world_of(&rt, pool_with_ended(&rt), NEVER) else {
         return;
     };
-    let Some(mut dial) = dial_to(rt.alloc(), RESPONSE) else {
-        return;
-    };
-    let Ok(solo) = Solo::new(&rt, Doorbell::spinning()) else {
-        return;
-    };
-    let Some(pool) = pool_with_ended(&rt) else {
-        return;
-    };
-    match ended_over(&rt, &solo, parts, pool, &mut dial) {
+    match ended_over(&rt, world) {
         Done::Good(
             Answer {
                 body_len,
@@ -169,38 +162,13 @@ fn want_of_memory_for_good_ends_a_retry(rt: HostRuntime) {
 /// The same where it is cancelled while it waits for its answer.
 #[test]
 fn want_of_memory_for_good_ends_a_cancel(rt: HostRuntime) {
-    let Some(parts) = prepared_for(rt.alloc(), "http://example.com/") else {
+    let Some(world) = world_of(&rt, pool_at(rt.alloc()), 1) else {
         return;
     };
-    let Ok(mut wire) = MemoryWire::new(rt.alloc(), RESPONSE, 200) else {
-        return;
-    };
-    wire.halt_read(1, Halt::NotYet);
-    let mut dial = MemoryDial::new(rt.alloc());
-    let Ok(()) = dial.add(wire) else {
-        return;
-    };
-    let Ok(solo) = Solo::new(&rt, Doorbell::spinning()) else {
-        return;
-    };
-    let Some(pool) = pool_at(rt.alloc()) else {
-        return;
-    };
-    let mut cache = FakeCache::over(pool);
-    let clock = FixedClock { now: 7 };
-    let mut exchange = Exchange::new(parts, &mut cache, &mut dial, &clock);
-    let mut context = solo.begin();
-    let polled = exchange.poll(&mut context);
-    context.end(&polled);
-    if polled.is_ready() {
-        let (done, _, _, _) = exchange.finish();
-        assert_eq!(rt; done, Done::Bad(Fault::Refused(Refusal::Memory)));
-    } else {
-        let _ = exchange.cancel(7);
+    match ended_over(&rt, world) {
+        Done::Bad(Fault::Cancelled) => {}
+        done => assert_eq!(rt; done, Done::Bad(Fault::Refused(Refusal::Memory))),
     }
-    let out = (cache.leases(), cache.tickets());
-    let _ = cache.close();
-    assert_eq!(rt; out, (0, 0));
 }
 
 /// A URL whose request needs more room than that of a short one.

@@ -10,14 +10,13 @@ use crate::drawn::{DrawnDial, DrawnWire};
 use crate::driving::{prepared_at, want_of};
 use budget::Limits;
 use cache::Pool;
-use conn_log::Event;
+use conn_log::{Event, Log};
 use exchange::{Dial, Done, Fault, Prepared, Slab};
 use exchange_memory::FixedClock;
 use futures::task::{Doorbell, Poll, Solo};
 use persistence::Method;
 use std::alloc::AllocGlobal;
 use std::process::Abort;
-use std::test::Fail;
 
 const TRANSFERS: u64 = 1_000;
 
@@ -62,24 +61,32 @@ impl Ends {
     }
 }
 
+// How often a log says that a connection was opened, leased and closed.
+fn logged<R: Abort>(rt: &R, log: &Log) -> (u64, u64, u64) {
+    let (mut opened, mut leased, mut closed) = (0u64, 0u64, 0u64);
+    for place in 0..log.len() {
+        match log.get(place).expect(rt, "an entry").event {
+            Event::Opened { .. } => opened = opened.saturating_add(1),
+            Event::Leased { .. } => leased = leased.saturating_add(1),
+            Event::Closed { .. } => closed = closed.saturating_add(1),
+            _ => {}
+        }
+    }
+    (opened, leased, closed)
+}
+
 // Each host's log has to balance: nobody holds a connection or waits, what was opened and not
 // closed is idle, and each start was spent.
 fn check_accounts<R: Abort>(rt: &R, pool: &Pool<DrawnWire>) {
     for site in 0..HOSTS {
         let counts = pool.look(site).expect(rt, "a host");
-        assert_eq!(rt; (counts.leased, counts.waiting), (0, 0));
-        let log = pool.log(site).expect(rt, "a host");
-        let (mut opened, mut leased, mut closed) = (0u64, 0u64, 0u64);
-        for place in 0..log.len() {
-            match log.get(place).expect(rt, "an entry").event {
-                Event::Opened { .. } => opened = opened.saturating_add(1),
-                Event::Leased { .. } => leased = leased.saturating_add(1),
-                Event::Closed { .. } => closed = closed.saturating_add(1),
-                _ => {}
-            }
-        }
-        assert_eq!(rt; opened.saturating_sub(closed), counts.idle as u64);
-        assert_eq!(rt; pool.spent(site), Some(opened.saturating_add(leased)));
+        let (opened, leased, closed) = logged(rt, pool.log(site).expect(rt, "a host"));
+        let open = opened.saturating_sub(closed);
+        let spent = pool.spent(site).expect(rt, "a host");
+        assert_eq!(rt;
+            (counts.leased, counts.waiting, open, spent),
+            (0, 0, counts.idle as u64, opened.saturating_add(leased))
+        );
     }
 }
 
@@ -114,11 +121,12 @@ fn take_turn<R: Abort>(
 }
 
 #[test]
-fn a_thousand_go_on_at_once(rt: HostRuntime) -> Result<(), Fail> {
+fn a_thousand_go_on_at_once(rt: HostRuntime) {
     let clock = FixedClock { now: 7 };
-    let task = Solo::new(&rt, Doorbell::spinning())?;
+    let task = Solo::new(&rt, Doorbell::spinning()).expect(&rt, "a task");
     let mut dial = DrawnDial::new(rt.alloc(), 42);
-    let mut pool = Pool::new(rt.alloc(), Limits::new(6, 20, 4)?, HOSTS)?;
+    let limits = Limits::new(6, 20, 4).expect(&rt, "limits");
+    let mut pool = Pool::new(rt.alloc(), limits, HOSTS).expect(&rt, "memory");
     let mut slab = Slab::new(rt.alloc());
     for transfer in 0..TRANSFERS {
         let joined = slab.join(prepared(&rt, transfer), &pool, &clock);
@@ -142,5 +150,4 @@ fn a_thousand_go_on_at_once(rt: HostRuntime) -> Result<(), Fail> {
     );
     assert!(rt; dial.opened() < TRANSFERS / 2, "{} opened", dial.opened());
     check_accounts(&rt, &pool);
-    Ok(())
 }
