@@ -7,7 +7,9 @@ ghost use Rattle.bundle.specs.Lease.{IsBookedHere, IsMadeAt, IsNewHost};
 ghost use Rattle.bundle.specs.Replies.{IfBack, IfClaimed, IfGot, GivesLease};
 
 use budget::{Limits, Lobby, Pass, Permits, PlainBudget, Refusal, Try};
-use bundle::{Back, Booking, Bundle, Changed, Claimed, Did, Got, Lease, Served, Stray, Ticket};
+use bundle::{
+    Back, Booking, Bundle, Changed, Claimed, Did, Got, Lease, Served, Snapshot, Stray, Ticket,
+};
 use conn_log::{Cause, Entry, Event, Stamp, Want};
 use persistence::{Facts, Framing, Version};
 use std::alloc::Global;
@@ -379,6 +381,25 @@ pub(crate) fn told<S: Drop>(
     let pass = &desk.pass;
     assert!(rt; host < pass.hosts());
     (pass.last(host), pass.calls(host), pass.spent(host))
+}
+
+/// How many entries the log has, what is to be seen of host 7, which has to be at the desk, and
+/// what the pass remembers of it.
+pub(crate) type Seen = (usize, Snapshot, (Option<Did>, u64, u64));
+
+pub(crate) fn shown<S: Drop>(rt: &impl Abort, desk: &Desk<S>) -> Seen {
+    let entries = desk.bundle.log().len();
+    (entries, desk.bundle.look(), told(rt, desk, 7))
+}
+
+/// A refusal has to say that memory ran out, and to have changed nothing.
+pub(crate) fn check_refused<S: Drop>(
+    rt: &impl Abort,
+    refusal: Refusal,
+    desk: &Desk<S>,
+    before: Seen,
+) {
+    assert_eq!(rt; (refusal, shown(rt, desk)), (Refusal::Memory, before));
 }
 
 /// The booking, which has to be the host's.
