@@ -497,13 +497,6 @@ pub(crate) fn leased(
     lease
 }
 
-/// A ticket that has to be given.
-pub(crate) fn waits(rt: &impl Abort, desk: &mut Desk<Stream>, transfer: u64, now: u64) -> Ticket
-    ensures same { desk.new ≡ desk.old }
-{
-    ticket_of(rt, asked(rt, desk, want_of(transfer), now))
-}
-
 /// Whether a spent lease freed a permit; the lease has to be known.
 pub(crate) fn accept<S: Drop>(rt: &impl Abort, answer: Result<bool, Stray<Lease<S>>>) -> bool {
     match answer {
@@ -581,28 +574,6 @@ pub(crate) fn claimed(rt: &impl Abort, desk: &mut Desk<Stream>, ticket: Ticket) 
     match desk.claim(ticket) {
         Ok(Claimed::Lease(lease)) => lease,
         Ok(Claimed::Still(_ticket)) => panic!(rt; "the transfer still waits"),
-        Err(_stray) => panic!(rt; "the ticket is a stranger"),
-    }
-}
-
-/// What a ticket comes back in that has to be a stranger.
-pub(crate) fn stray(rt: &impl Abort, desk: &mut Desk<Stream>, ticket: Ticket) -> Stray<Ticket>
-    ensures same { desk.new ≡ desk.old }
-{
-    match desk.claim(ticket) {
-        Err(stray) => stray,
-        Ok(Claimed::Still(_ticket)) => panic!(rt; "the ticket is no stranger"),
-        Ok(Claimed::Lease(_lease)) => panic!(rt; "the ticket was taken"),
-    }
-}
-
-/// The ticket of a transfer that has to wait on.
-pub(crate) fn still(rt: &impl Abort, desk: &mut Desk<Stream>, ticket: Ticket) -> Ticket
-    ensures same { desk.new ≡ desk.old }
-{
-    match desk.claim(ticket) {
-        Ok(Claimed::Still(ticket)) => ticket,
-        Ok(Claimed::Lease(_lease)) => panic!(rt; "the transfer was granted a connection"),
         Err(_stray) => panic!(rt; "the ticket is a stranger"),
     }
 }
