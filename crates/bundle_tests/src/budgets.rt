@@ -1,12 +1,11 @@
 //! What no clause says of a host under a budget: that calls succeed in ample memory, and what comes
 //! of them where the budget has no room.
 
-use crate::desk::{Desk, WANT};
-use crate::keeper::{Row, Said, Step, run};
+use crate::desk::WANT;
+use crate::keeper::{Row, Said, Step, run_all};
 use budget::{Refusal, Try};
 use bundle::Served;
 use conn_log::{Cause, Want};
-use std::test::Fail;
 
 // Wants of another lane, which no connection of lane 0 fits.
 const OTHER_LANE: Want = Want {
@@ -33,7 +32,7 @@ const OF_AGE: Want = Want {
 };
 
 // What the total limits, at two hosts.
-const TOTALS: [Row; 8] = [
+static TOTALS: [Row; 8] = [
     (
         "two hosts share one connection",
         (0, 1, 4),
@@ -203,7 +202,7 @@ const TOTALS: [Row; 8] = [
 ];
 
 // What the number of those that are kept limits, and what ends for its age.
-const KEPT: [Row; 6] = [
+static KEPT: [Row; 6] = [
     (
         "the oldest goes where no more are kept",
         (0, 0, 1),
@@ -323,21 +322,11 @@ const KEPT: [Row; 6] = [
 ];
 
 #[test]
-fn two_hosts_share_the_total_so(rt: HostRuntime) -> Result<(), Fail> {
-    for row in &TOTALS {
-        let (name, limits, first, steps) = *row;
-        let desk = Desk::new(rt.alloc(), limits, first)?;
-        run(&rt, rt.alloc(), desk, name, steps);
-    }
-    Ok(())
+fn two_hosts_share_the_total_so(rt: HostRuntime) {
+    run_all(&rt, rt.alloc(), &TOTALS, 8, (7, 3));
 }
 
 #[test]
-fn a_host_keeps_so_many_so_long(rt: HostRuntime) -> Result<(), Fail> {
-    for row in &KEPT {
-        let (name, limits, first, steps) = *row;
-        let desk = Desk::new(rt.alloc(), limits, first)?;
-        run(&rt, rt.alloc(), desk, name, steps);
-    }
-    Ok(())
+fn a_host_keeps_so_many_so_long(rt: HostRuntime) {
+    run_all(&rt, rt.alloc(), &KEPT, 8, (7, 3));
 }

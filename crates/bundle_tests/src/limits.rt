@@ -1,14 +1,12 @@
 //! What no clause says of a limit that changes: that it does in ample memory, what comes of it for
 //! those that wait, and what the lobby then lists.
 
-use crate::desk::Desk;
-use crate::keeper::{Row, Said, Step, run};
+use crate::keeper::{Row, Said, Step, run_all};
 use budget::{Refusal, Try};
 use bundle::Served;
 use conn_log::Cause;
-use std::test::Fail;
 
-const ROWS: [Row; 9] = [
+static ROWS: [Row; 9] = [
     (
         "a raised limit starts who waits",
         (1, 0, 4),
@@ -179,11 +177,6 @@ const ROWS: [Row; 9] = [
 ];
 
 #[test]
-fn a_change_of_the_limit_comes_to_that(rt: HostRuntime) -> Result<(), Fail> {
-    for row in &ROWS {
-        let (name, limits, first, steps) = *row;
-        let desk = Desk::new(rt.alloc(), limits, first)?;
-        run(&rt, rt.alloc(), desk, name, steps);
-    }
-    Ok(())
+fn a_change_of_the_limit_comes_to_that(rt: HostRuntime) {
+    run_all(&rt, rt.alloc(), &ROWS, 8, (7, 3));
 }

@@ -85,10 +85,8 @@ fn history<N: Names>(
     cut_all(rt, &cache, &mut parts);
     let mut passes = Passes::new(alloc);
     passes.put_by(rt, worker.close(rt).0);
-    match passes.gather(alloc, cache) {
-        Ok(gathered) => check_hosts(rt, &gathered.hosts, &parts),
-        Err((_cache, _passes, refusal)) => panic!(rt; "not gathered: {refusal}"),
-    }
+    let gathered = passes.gathered(rt, alloc, cache);
+    check_hosts(rt, &gathered.hosts, &parts);
     parts
 }
 

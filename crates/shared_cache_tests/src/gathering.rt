@@ -64,6 +64,19 @@ impl<N: Names> Passes<N> {
         }
     }
 
+    /// The same of a cache that has to be gathered.
+    pub fn gathered(
+        self,
+        rt: &impl Abort,
+        alloc: Global,
+        cache: SharedCache<Stream, N>,
+    ) -> Gathered<Stream> {
+        match self.gather(alloc, cache) {
+            Ok(gathered) => gathered,
+            Err((_cache, _passes, refusal)) => panic!(rt; "not gathered: {refusal}"),
+        }
+    }
+
     fn gather_once(
         self,
         alloc: Global,

@@ -93,10 +93,8 @@ fn both<N: Names + Send + Sync, R: Threads + Wait + Abort + Sync>(
     assert_eq!(rt; looked, Ok(true));
     let mut passes = Passes::new(alloc);
     passes.put_by(rt, desk.close(rt));
-    match passes.gather(alloc, cache) {
-        Ok(gathered) => check_account(rt, &gathered, "both", ACCOUNT),
-        Err((_cache, _passes, refusal)) => panic!(rt; "not gathered: {refusal}"),
-    }
+    let gathered = passes.gathered(rt, alloc, cache);
+    check_account(rt, &gathered, "both", ACCOUNT);
 }
 
 #[test]

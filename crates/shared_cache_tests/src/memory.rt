@@ -22,15 +22,32 @@ const ROUNDS: u64 = 20;
 /// The account at the end.
 const ACCOUNT: Account = (1, 1, &[(1, 39, 0, 20, 1)]);
 
-// How many entries the host's log has, what is to be seen of it, and what the pass remembers.
+/// How many entries a host's log has, what is to be seen of it, and what the pass remembers.
+type Shown = (Result<usize, Refusal>, Said, Said);
+
 fn shown<N: Names>(
     rt: &(impl Wait + Abort),
     cache: &SharedCache<Stream, N>,
     desk: &Desk<N>,
     site: u32,
-) -> (Result<usize, Refusal>, Said, Said) {
+) -> Shown {
     let entries = cache.inspect(rt, site, |bundle: &Bundle<Stream>| bundle.log().len());
     (entries, look_said(rt, cache, site), desk.told(rt, site))
+}
+
+// The host is to be seen as it was before.
+fn check_unchanged<N: Names>(
+    rt: &(impl Wait + Abort),
+    cache: &SharedCache<Stream, N>,
+    desk: &Desk<N>,
+    site: u32,
+    before: Shown,
+) {
+    assert_eq!(rt; shown(rt, cache, desk, site), before);
+}
+
+fn check_said(rt: &impl Abort, said: Said, expected: Said) {
+    assert_eq!(rt; said, expected);
 }
 
 // What the transfer is answered at host 0. Where memory runs out nothing changes, and it asks
@@ -46,7 +63,7 @@ fn asked_at_last<N: Names>(
     if said != Said::Refused(Refusal::Memory) {
         return said;
     }
-    assert_eq!(rt; shown(rt, cache, desk, 0), before);
+    check_unchanged(rt, cache, desk, 0, before);
     desk.acquire(rt, cache, 0, want_of(transfer), 0)
 }
 
@@ -62,7 +79,7 @@ fn limited_at_last<N: Names>(
     if said != Said::Refused(Refusal::Memory) {
         return said;
     }
-    assert_eq!(rt; shown(rt, cache, desk, 1), before);
+    check_unchanged(rt, cache, desk, 1, before);
     desk.limit(rt, cache, 1, limit, 0)
 }
 
@@ -77,7 +94,7 @@ fn cut_at_last<N: Names>(
         Ok(part) => part.len(),
         Err(refusal) => {
             assert_eq!(rt; refusal, Refusal::Memory);
-            assert_eq!(rt; shown(rt, cache, desk, 1), before);
+            check_unchanged(rt, cache, desk, 1, before);
             cache.cut(rt, 1).expect(rt, "memory").len()
         }
     }
@@ -92,12 +109,12 @@ fn use_often<N: Names>(
     for round in 0..ROUNDS {
         let (first, second) = (2 * round, 2 * round + 1);
         asked_at_last(rt, cache, desk, first);
-        assert_eq!(rt; asked_at_last(rt, cache, desk, second), Said::Waits);
+        check_said(rt, asked_at_last(rt, cache, desk, second), Said::Waits);
         desk.back(rt, cache, first, KEEP, 0);
-        assert_eq!(rt; desk.claim(rt, cache, second), Said::Reused(1, 0));
+        check_said(rt, desk.claim(rt, cache, second), Said::Reused(1, 0));
         desk.back(rt, cache, second, KEEP, 0);
         let limit = round as u32 + 2;
-        assert_eq!(rt; limited_at_last(rt, cache, desk, limit), Said::Done);
+        check_said(rt, limited_at_last(rt, cache, desk, limit), Said::Done);
         assert_eq!(rt; cut_at_last(rt, cache, desk), 1);
     }
 }
@@ -111,10 +128,8 @@ fn whole_life<N: Names, R: Wait + Abort>(rt: &R, alloc: Global, plan: Plan<Strea
     use_often(rt, &cache, &mut desk);
     let mut passes = Passes::new(alloc);
     passes.put_by(rt, desk.close(rt));
-    match passes.gather(alloc, cache) {
-        Ok(gathered) => check_account(rt, &gathered, "a whole life", ACCOUNT),
-        Err((_cache, _passes, refusal)) => panic!(rt; "not gathered: {refusal}"),
-    }
+    let gathered = passes.gathered(rt, alloc, cache);
+    check_account(rt, &gathered, "a whole life", ACCOUNT);
 }
 
 #[test]
@@ -142,9 +157,48 @@ fn ask_until_refused<N: Names>(
         } else {
             Said::Waits
         };
-        assert_eq!(rt; said, answer);
+        check_said(rt, said, answer);
     }
     ASKING
+}
+
+// A cache of that plan, and a desk with room for all that ask; none where memory is refused.
+fn cache_with_desk<N: Names, R: Wait + Abort>(
+    rt: &R,
+    alloc: Global,
+    plan: Plan<Stream>,
+) -> Option<(SharedCache<Stream, N>, Desk<N>)>
+    requires { plan ≡ N.names }
+{
+    let Ok(cache) = SharedCache::new(alloc, plan) else {
+        return None;
+    };
+    let Ok(desk) = Desk::with_room(rt, alloc, &cache, ASKING as usize) else {
+        return None;
+    };
+    Some((cache, desk))
+}
+
+// The first transfer gives its connection back, and the second one abandons it. For each of the
+// others one is opened in its place, and withdrawn.
+fn end_each<N: Names, R: Wait + Abort>(
+    rt: &R,
+    cache: &SharedCache<Stream, N>,
+    desk: &mut Desk<N>,
+    answered: u64,
+) {
+    if answered >= 1 {
+        desk.back(rt, cache, 0, KEEP, 1);
+    }
+    if answered >= 2 {
+        check_said(rt, desk.claim(rt, cache, 1), Said::Reused(1, 1));
+        desk.abandon(rt, cache, 1, 2);
+    }
+    for transfer in 2..answered {
+        let connection = u32::try_from(transfer).expect(rt, "a number");
+        let said = desk.leave(rt, cache, transfer, 3);
+        check_said(rt, said, Said::Withdrawn(connection));
+    }
 }
 
 // A cache of that plan, whose host may have one open connection. From the refusal on there may be
@@ -152,34 +206,15 @@ fn ask_until_refused<N: Names>(
 fn end_all<N: Names, R: Wait + Abort>(rt: &R, alloc: Global, plan: Plan<Stream>)
     requires { plan ≡ N.names }
 {
-    let made: Result<SharedCache<Stream, N>, (Plan<Stream>, Refusal)> = SharedCache::new(
-        alloc, plan,
-    );
-    let Ok(cache) = made else {
-        return;
-    };
-    let Ok(mut desk) = Desk::with_room(rt, alloc, &cache, ASKING as usize) else {
+    let made: Option<(SharedCache<Stream, N>, Desk<N>)> = cache_with_desk(rt, alloc, plan);
+    let Some((cache, mut desk)) = made else {
         return;
     };
     let answered = ask_until_refused(rt, &cache, &mut desk);
-    if answered >= 1 {
-        desk.back(rt, &cache, 0, KEEP, 1);
-    }
-    if answered >= 2 {
-        assert_eq!(rt; desk.claim(rt, &cache, 1), Said::Reused(1, 1));
-        desk.abandon(rt, &cache, 1, 2);
-    }
-    // for each of the others one is opened in its place
-    for transfer in 2..answered {
-        let connection = u32::try_from(transfer).expect(rt, "a number");
-        assert_eq!(rt;
-            desk.leave(rt, &cache, transfer, 3),
-            Said::Withdrawn(connection)
-        );
-    }
+    end_each(rt, &cache, &mut desk, answered);
     let pruned = u32::from(answered == 1);
-    assert_eq!(rt; desk.prune(rt, &cache, 9, 0, 0), Said::Number(pruned));
-    assert_eq!(rt; look_said(rt, &cache, 0), Said::Look(0, 0, 0, 0, false));
+    check_said(rt, desk.prune(rt, &cache, 9, 0, 0), Said::Number(pruned));
+    check_said(rt, look_said(rt, &cache, 0), Said::Look(0, 0, 0, 0, false));
     desk.close(rt).discard();
 }
 

@@ -8,7 +8,7 @@ use conn_log::{Cause, Want};
 use shared_cache::Plan;
 use std::test::Fail;
 
-const ROWS: [Row; 22] = [
+static ROWS: [Row; 22] = [
     Row {
         name: "one waits for the total, and passes are missing",
         limits: (0, 1, 4),

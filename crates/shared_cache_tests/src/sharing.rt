@@ -28,10 +28,7 @@ fn share<N: Names + Send + Sync, R: Threads + Wait + Abort + Sync>(
     let mut workers = workers_for(rt, alloc, &cache, jobs);
     work_at_once(rt, &cache, &mut workers);
     let (passes, seen) = close_all(rt, alloc, workers);
-    match passes.gather(alloc, cache) {
-        Ok(gathered) => (gathered, seen),
-        Err((_cache, _passes, refusal)) => panic!(rt; "not gathered: {refusal}"),
-    }
+    (passes.gathered(rt, alloc, cache), seen)
 }
 
 // A worker for each job, with a pass of its own.
