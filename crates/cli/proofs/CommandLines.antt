@@ -10,10 +10,10 @@ use Rattle.clap.specs.declared.error.Error.{Error}
 use Rattle.clap.specs.declared.error.kind.ErrorKind.{ErrorKind}
 use Rattle.clap.specs.declared.error.kind.ErrorKind.TheVariants as kinds
 use Rattle.conn_key.specs.Wants.{Rises}
-use Rattle.cli.specs.declared.request.Manner.{Manner}
-use Rattle.cli.specs.declared.request.Manner.TheVariants as manners
-use Rattle.cli.specs.declared.request.Request.{Request}
-use Rattle.cli.specs.declared.request.Request.TheVariants as requests
+use Rattle.cli.specs.declared.command_line.request.Manner.{Manner}
+use Rattle.cli.specs.declared.command_line.request.Manner.TheVariants as manners
+use Rattle.cli.specs.declared.command_line.request.Request.{Request}
+use Rattle.cli.specs.declared.command_line.request.Request.TheVariants as requests
 use Rattle.cli.specs.declared.command_line.Words.{Words}
 use Rattle.cli.specs.declared.command_line.Words.TheVariants.{NoMemory}
 use Rattle.cli.specs.CommandLine.{AnswersError, AnswersGet, AnswersLoad, Asks, HasManner, Said, asked_file, file_said, get, load, manner_of, request_file, said_in, script, word_faults}

@@ -10,7 +10,7 @@ use Rattle.script_text.specs.declared.fault.FaultKind.{FaultKind}
 use Rattle.cli.specs.Fetching.{AreFetched, Carrying, Fetches, LineFails, WritesLines, lines_of}
 use Rattle.cli.specs.GetLines.{is_bad, line_of}
 use Rattle.script_run.specs.Streams.{Stream, SameFailures}
-use Rattle.cli.specs.declared.get_plan.UrlJob.{UrlJob}
+use Rattle.cli.specs.declared.get.plan.UrlJob.{UrlJob}
 
 -- so many of the jobs are carried out and told, and so many of these failed
 pub record FetchedSoFar {F : Type 0} (Fetched : Carrying F) (first mid : F) (jobs : List UrlJob) (count : ℕ) (old new : Stream) (failed : ℕ) : Type 0 where

@@ -14,9 +14,9 @@ use Rattle.conn_key.specs.declared.target.Target.{Target}
 use Rattle.socket.specs.Hosts.{AddsHost, Names}
 use Rattle.cli.specs.GetPlan.{AddsJob, AddsSite, AreJobs, HaveAddresses, IsJobOf, IsWhyOfUrl, IsWhyOfUrls, sites_with, want_said, with_site_of}
 use Rattle.cli.specs.GetWords.{IsBadUrl}
-use Rattle.cli.specs.declared.get_plan.GetRefusal.{GetRefusal}
-use Rattle.cli.specs.declared.get_plan.GetRefusal.TheVariants.{Memory, Wrong}
-use Rattle.cli.specs.declared.get_plan.UrlJob.{UrlJob}
+use Rattle.cli.specs.declared.get.plan.GetRefusal.{GetRefusal}
+use Rattle.cli.specs.declared.get.plan.GetRefusal.TheVariants.{Memory, Wrong}
+use Rattle.cli.specs.declared.get.plan.UrlJob.{UrlJob}
 
 -- the jobs of these URLs are planned, and these are their sites
 pub record PlannedSoFar (method : Method) (max_age : ℕ) (urls : List Text) (jobs : List UrlJob) (sites : List Site) (lists : List (Vec SocketAddr)) : Type 0 where

@@ -14,14 +14,14 @@ use Rattle.cli.specs.declared.command_line.Subcommand.{Subcommand}
 use Rattle.cli.specs.declared.command_line.Subcommand.TheVariants as subcommands
 use Rattle.cli.specs.declared.command_line.Words.{Words}
 use Rattle.cli.specs.declared.command_line.Words.TheVariants.{Given, NotText, NoMemory}
-use Rattle.cli.specs.declared.get_plan.GetPlan.{GetPlan}
-use Rattle.cli.specs.declared.input.ScriptInput.{ScriptInput}
-use Rattle.cli.specs.declared.options.LoadOptions.{LoadOptions}
-use Rattle.cli.specs.declared.input.ScriptInput.TheVariants.{Standard, File}
-use Rattle.cli.specs.declared.request.Manner.{Manner}
-use Rattle.cli.specs.declared.request.Manner.TheVariants as manners
-use Rattle.cli.specs.declared.request.Request.{Request}
-use Rattle.cli.specs.declared.request.Request.TheVariants as requests
+use Rattle.cli.specs.declared.get.plan.GetPlan.{GetPlan}
+use Rattle.cli.specs.declared.script.input.ScriptInput.{ScriptInput}
+use Rattle.cli.specs.declared.loading.options.LoadOptions.{LoadOptions}
+use Rattle.cli.specs.declared.script.input.ScriptInput.TheVariants.{Standard, File}
+use Rattle.cli.specs.declared.command_line.request.Manner.{Manner}
+use Rattle.cli.specs.declared.command_line.request.Manner.TheVariants as manners
+use Rattle.cli.specs.declared.command_line.request.Request.{Request}
+use Rattle.cli.specs.declared.command_line.request.Request.TheVariants as requests
 use Rattle.script_run.specs.Streams.{Stream, Puts}
 use Rattle.script_run.specs.Running.{RunsScript}
 use Rattle.script_run.specs.Files.{RunsFile}

@@ -9,9 +9,9 @@ use Rattle.script_text.specs.declared.fault.FaultKind.TheVariants.{Memory, Write
 use Rattle.socket.specs.declared.addresses.Addresses.{Addresses}
 use Rattle.cli.specs.GetLines.{is_bad, line_of}
 use Rattle.script_run.specs.Streams.{Stream, PutsFront, SameFailures, OneMoreFailed}
-use Rattle.cli.specs.declared.fetching.NetworkFault.{NetworkFault}
-use Rattle.cli.specs.declared.get_plan.GetPlan.{GetPlan}
-use Rattle.cli.specs.declared.get_plan.UrlJob.{UrlJob}
+use Rattle.cli.specs.declared.get.fetching.NetworkFault.{NetworkFault}
+use Rattle.cli.specs.declared.get.plan.GetPlan.{GetPlan}
+use Rattle.cli.specs.declared.get.plan.UrlJob.{UrlJob}
 
 -- from the one time to the other a job was carried out, and this came of it
 abbrev pub Carrying : Type 0 → Type 1

@@ -14,10 +14,10 @@ use Rattle.conn_key.specs.declared.target.Target.{Target}
 use Rattle.conn_log.specs.declared.entry.Want.{Want}
 use Rattle.socket.specs.Hosts.{Names}
 use Rattle.cli.specs.GetWords.{GetSaid, IsBadUrl, IsRefused, max_age_said, timeout_said}
-use Rattle.cli.specs.declared.get_plan.GetPlan.{GetPlan}
-use Rattle.cli.specs.declared.get_plan.GetRefusal.{GetRefusal}
-use Rattle.cli.specs.declared.get_plan.GetRefusal.TheVariants.{Memory, Wrong}
-use Rattle.cli.specs.declared.get_plan.UrlJob.{UrlJob}
+use Rattle.cli.specs.declared.get.plan.GetPlan.{GetPlan}
+use Rattle.cli.specs.declared.get.plan.GetRefusal.{GetRefusal}
+use Rattle.cli.specs.declared.get.plan.GetRefusal.TheVariants.{Memory, Wrong}
+use Rattle.cli.specs.declared.get.plan.UrlJob.{UrlJob}
 
 abbrev pub method_said : Bool → Method
 method_said head = if head then Head else Get

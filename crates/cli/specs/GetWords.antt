@@ -11,7 +11,7 @@ use Rattle.conn_key.specs.declared.target.KeyError.TheVariants.{Memory}
 use Rattle.conn_key.specs.declared.target.Target.{Target}
 use Rattle.script_text.specs.Words.{number}
 use Rattle.socket.specs.Hosts.{HasNoAddress}
-use Rattle.cli.specs.declared.get_words.GetWords.{GetWords}
+use Rattle.cli.specs.declared.get.words.GetWords.{GetWords}
 
 -- whether HEAD is to be sent, the numbers as they were given, and the URLs
 pub record GetSaid : Type 0 where

@@ -1,6 +1,6 @@
 -- The numbers that a load is given, and their ranges.
 use Rattle.std.specs.Prelude.{ℕ, ◌≤◌, ◌*◌}
-use Rattle.cli.specs.declared.load_range.NumberRange.{NumberRange}
+use Rattle.cli.specs.declared.loading.range.NumberRange.{NumberRange}
 
 abbrev pub sites_range : NumberRange
 sites_range = record { least = 1; greatest = 8 }

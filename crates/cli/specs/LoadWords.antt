@@ -7,9 +7,9 @@ use Rattle.clap.specs.declared.error.Error.{Error}
 use Rattle.clap.specs.declared.error.kind.ErrorKind.TheVariants.{OutOfMemory, ValueValidation}
 use Rattle.script_text.specs.Words.{number}
 use Rattle.cli.specs.LoadRanges.{connects_for, connects_range, jobs_range, limit_range, sites_range, workers_range}
-use Rattle.cli.specs.declared.options.LoadOptions.{LoadOptions}
-use Rattle.cli.specs.declared.load_range.NumberRange.{NumberRange}
-use Rattle.cli.specs.declared.load_words.LoadWords.{LoadWords}
+use Rattle.cli.specs.declared.loading.options.LoadOptions.{LoadOptions}
+use Rattle.cli.specs.declared.loading.range.NumberRange.{NumberRange}
+use Rattle.cli.specs.declared.loading.words.LoadWords.{LoadWords}
 
 -- the six numbers, as they were given
 pub record LoadSaid : Type 0 where

@@ -4,9 +4,9 @@ use Rattle.std.specs.Global.{Global}
 use Rattle.clap.specs.Words.{Text}
 use Rattle.script_text.specs.declared.fault.FaultKind.{FaultKind}
 use Rattle.script_run.specs.Streams.{Stream, Puts}
-use Rattle.cli.specs.declared.options.LoadOptions.{LoadOptions}
-use Rattle.cli.specs.declared.loading.LoadFault.{LoadFault}
-use Rattle.cli.specs.declared.loading.LoadFault.TheVariants.{Memory, BadWorkers, Poll, Doubled, Missing, Spawn, Listen, Gather, Write}
+use Rattle.cli.specs.declared.loading.options.LoadOptions.{LoadOptions}
+use Rattle.cli.specs.declared.loading.fault.LoadFault.{LoadFault}
+use Rattle.cli.specs.declared.loading.fault.LoadFault.TheVariants.{Memory, BadWorkers, Poll, Doubled, Missing, Spawn, Listen, Gather, Write}
 
 -- what is told of each fault, after `run: `
 abbrev pub load_fault_text : LoadFault → Text

@@ -6,13 +6,19 @@ ghost use Rattle.clap.specs.Words.{subcommand_rows_of, with_subcommand};
 ghost use Rattle.cli.specs.CommandLine.{curlpool, get_app, head_rule, said_after, said_by, said_in};
 ghost use Rattle.cli.specs.CommandLine.{load_app, script_app, url_rule, value_rule};
 
-use crate::get_words::{GetWords, get_words_of};
-use crate::help::{COMMANDS, LINES};
-use crate::input::{ScriptInput, input_of};
-use crate::load_command::load_subcommand;
-use crate::load_words::{LoadWords, load_words_of};
+pub(crate) mod help;
+pub(crate) mod memory;
+pub(crate) mod request;
+pub(crate) mod system_words;
+pub(crate) mod values;
+
+use crate::get::words::{GetWords, get_words_of};
+use crate::loading::subcommand::load_subcommand;
+use crate::loading::words::{LoadWords, load_words_of};
+use crate::script::input::{ScriptInput, input_of};
 use clap::error::ErrorKind;
 use clap::{Arg, ArgAction, ArgMatches, Command, Error};
+use help::{COMMANDS, LINES};
 use std::alloc::{AllocError, Global};
 
 /// What `--help` says of the file.
@@ -85,12 +91,12 @@ fn with_get<'a>(alloc: Global, program: Command<'a>) -> Result<Command<'a>, Allo
         app_of command ≡ with_subcommand (app_of program.entry) get_app.top) }
 {
     let head = head_flag(alloc);
-    let max_age = seconds(alloc, "max-age", MAX_AGE_HELP);
-    let timeout = seconds(alloc, "timeout", TIMEOUT_HELP);
-    let urls = url_list(alloc);
     let with_head = Command::new(alloc, "get").arg(head)?;
+    let max_age = seconds(alloc, "max-age", MAX_AGE_HELP);
     let with_age = with_head.arg(max_age)?;
+    let timeout = seconds(alloc, "timeout", TIMEOUT_HELP);
     let with_timeout = with_age.arg(timeout)?;
+    let urls = url_list(alloc);
     let with_urls = with_timeout.arg(urls)?;
     let get = with_urls
         .about("Fetches URLs in turn, and tells how each transfer ended")

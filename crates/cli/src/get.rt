@@ -5,10 +5,17 @@ ghost use Rattle.cli.specs.Fetching.{Fetches, PutsLine, RunsPlan, fetched_status
 ghost use Rattle.cli.specs.GetLines.{is_bad, line_of};
 ghost use Rattle.script_run.specs.Streams.{CanCount};
 
-use crate::fetching::{Fetcher, Network};
-use crate::get_line::line_text;
-use crate::get_plan::{GetPlan, UrlJob};
+pub(crate) mod fetching;
+pub(crate) mod line;
+pub(crate) mod plan;
+pub(crate) mod planning;
+pub(crate) mod system_network;
+pub(crate) mod words;
+
 use exchange::Done;
+use fetching::{Fetcher, Network};
+use line::line_text;
+use plan::{GetPlan, UrlJob};
 use script_run::Sink;
 use script_text::FaultKind;
 use std::alloc::Global;

@@ -1,60 +1,59 @@
-//! How loads fail.
+//! Carries out a load, and writes its report.
 
 ghost use Rattle.std.specs.Prelude.{◌≡◌};
-ghost use Rattle.cli.specs.Loading.{load_fault_text};
+ghost use Rattle.cli.specs.Loading.{RunsLoad};
+ghost use Rattle.script_run.specs.Streams.{CanCount};
 
-use std::{error, fmt};
+pub(crate) mod fault;
+pub(crate) mod numbers;
+pub(crate) mod options;
+pub(crate) mod planning;
+pub(crate) mod range;
+pub(crate) mod subcommand;
+pub(crate) mod system;
+pub(crate) mod words;
 
-/// Why a load has no report.
-#[derive(Clone, Copy, Debug, PartialEq, Eq)]
-pub enum LoadFault {
-    /// Memory ran out.
-    Memory,
-    /// There are no workers, or too many.
-    BadWorkers,
-    /// The system gives no means to wait for connections, or waiting failed.
-    Poll,
-    /// Two results came of one job.
-    Doubled,
-    /// No result came of a job.
-    Missing,
-    /// A thread could not be started.
-    Spawn,
-    /// The server could not listen.
-    Listen,
-    /// What the threads did could not be gathered.
-    Gather,
-    /// The report could not be written.
-    Write,
-}
+use fault::LoadFault;
+use options::LoadOptions;
+use script_run::Sink;
+use script_text::FaultKind;
+use std::alloc::Global;
+use std::io::Write;
 
-impl LoadFault {
-    /// What is told of it.
-    pub fn text(self) -> &'static str
-        ensures { result.now ≡ load_fault_text self }
-    {
-        match self {
-            LoadFault::Memory => "out of memory",
-            LoadFault::BadWorkers => "bad workers",
-            LoadFault::Poll => "poll failed",
-            LoadFault::Doubled => "job collected twice",
-            LoadFault::Missing => "job missing",
-            LoadFault::Spawn => "cannot start thread",
-            LoadFault::Listen => "cannot listen",
-            LoadFault::Gather => "cannot gather",
-            LoadFault::Write => "cannot write",
-        }
+/// The report was written.
+const DONE: u8 = 0;
+
+/// There is no report, or it was not written whole.
+const FAILED: u8 = 4;
+
+/// Carries out a load with these numbers by `load`, and writes its report on `output`. Answers the
+/// status: 0 if the report was written whole, else 4. What goes wrong is told on `errors`.
+pub fn run_load<L: FnOnce(Global, LoadOptions) -> Result<String, LoadFault>, W: Sink, E: Write>(
+    alloc: Global,
+    options: LoadOptions,
+    load: L,
+    output: &mut W,
+    errors: &mut E,
+) -> u8
+    requires output { CanCount (W.sink output.old) }
+    requires load { L.IsAlwaysCallable load }
+    ensures { RunsLoad (L.post load alloc) options
+        (W.sink output.old) (W.sink output.new) result }
+{
+    match load(alloc, options) {
+        Ok(report) => match output.put(report.as_bytes()) {
+            Ok(()) => DONE,
+            Err(FaultKind::Memory) => failed(errors, LoadFault::Memory),
+            Err(_) => failed(errors, LoadFault::Write),
+        },
+        Err(fault) => failed(errors, fault),
     }
 }
 
-impl fmt::Display for LoadFault {
-    ghost use Rattle.std.specs.Prelude.{Some};
-
-    ghost output = { λ fault. Some (load_fault_text fault) };
-
-    fn fmt<W: fmt::Write>(&self, f: &mut fmt::Formatter<W>) -> fmt::Result {
-        f.write_str(self.text())
-    }
+/// The status of a load that has that fault, which is told.
+fn failed<E: Write>(errors: &mut E, fault: LoadFault) -> u8
+    ensures { result ≡ 4 }
+{
+    let _ = writeln!(errors, "run: {fault}");
+    FAILED
 }
-
-impl error::Error for LoadFault {}

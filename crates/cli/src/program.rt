@@ -1,35 +1,31 @@
 //! What the program does with its words, and the status with which it ends.
 
 ghost use Rattle.std.specs.Prelude.{◌≡◌, None};
-ghost use Rattle.cli.specs.CommandLine.{AnswersRequest, AnswersScript, RunsProgram};
-ghost use Rattle.cli.specs.CommandLine.{file_said, name_of, request_file, said, status_of};
-ghost use Rattle.cli.specs.CommandLine.{word_faults};
+ghost use Rattle.cli.specs.CommandLine.{AnswersRequest, RunsProgram};
+ghost use Rattle.cli.specs.CommandLine.{file_said, request_file, said, word_faults};
 ghost use Rattle.cli.specs.Fetching.{RunsPlan};
 ghost use Rattle.cli.specs.Loading.{RunsLoad};
 ghost use Rattle.script_run.specs.Streams.{CanCount};
 
 use crate::command_line::Words;
-use crate::fetching::Network;
+use crate::command_line::memory::WordsMemory;
+use crate::command_line::request::{Request, asked_by};
+use crate::get::fetching::Network;
 use crate::get::run_plan;
-use crate::input::ScriptInput;
-use crate::load_report::run_load;
-use crate::loading::LoadFault;
-use crate::memory::WordsMemory;
-use crate::options::LoadOptions;
-use crate::request::{Request, asked_by};
-use script_run::{ScriptFiles, Sink, Source, run_file, run_script};
-use script_text::ScriptFault;
+use crate::loading::fault::LoadFault;
+use crate::loading::options::LoadOptions;
+use crate::loading::run_load;
+use crate::script::answer_script;
+use crate::script::input::ScriptInput;
+use script_run::{ScriptFiles, Sink, Source};
 use std::alloc::Global;
 use std::io::Write;
 
-/// A script was run to its end, or help or the version was asked for.
+/// Help or the version was asked for, and told.
 const DONE: u8 = 0;
 
 /// The words are refused.
 const BAD_WORDS: u8 = 2;
-
-/// The script has a fault.
-const BAD_SCRIPT: u8 = 3;
 
 /// Memory ran out while the words were read.
 const NO_MEMORY: u8 = 4;
@@ -135,42 +131,6 @@ pub fn answer_request<
         Request::NoMemory => {
             say(errors, "run: out of memory\n");
             NO_MEMORY
-        }
-    }
-}
-
-/// Runs the script that is read from there, tells of its fault on `errors`, and answers the status.
-fn answer_script<F: ScriptFiles, R: Source, W: Sink, E: Write>(
-    alloc: Global,
-    from: ScriptInput,
-    files: &mut F,
-    input: &mut R,
-    output: &mut W,
-    errors: &mut E,
-) -> u8
-    requires input { CanCount (R.source input.old) }
-    requires output { CanCount (W.sink output.old) }
-    ensures answers { AnswersScript (F.opens files.old files.new) (name_of from)
-        (R.source input.old) (R.source input.new) (W.sink output.old) (W.sink output.new) result }
-    ensures unopened { name_of from ≡ None → files.new ≡ files.old }
-{
-    match from {
-        ScriptInput::Standard => status_told(errors, run_script(alloc, input, output)),
-        ScriptInput::File(name) => {
-            status_told(errors, run_file(alloc, files, name.as_str(), output))
-        }
-    }
-}
-
-/// The status of a program that ran a script; a fault is told.
-fn status_told<E: Write>(errors: &mut E, ran: Result<(), ScriptFault>) -> u8
-    ensures { result ≡ status_of ran }
-{
-    match ran {
-        Ok(()) => DONE,
-        Err(fault) => {
-            let _ = writeln!(errors, "{fault}");
-            BAD_SCRIPT
         }
     }
 }

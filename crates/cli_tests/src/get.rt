@@ -1,19 +1,12 @@
 //! What `get` writes, and which of its words are refused.
 
-use crate::networks::{FAULTS, FakeNetwork};
+use crate::loads::FakeLoader;
+use crate::networks::FakeNetwork;
+use crate::running::{ROW, Row, Text, check, check_stopped, check_words, run, words_of};
 use crate::streams::Expecting;
-use crate::words::{run_on, words};
 use cli::{NetworkFault, Words};
 use script_run::Watched;
 use std::alloc::{AllocError, Global};
-use std::test::Fail;
-
-// What the program does with these words: its status, and what it writes.
-fn run_get(alloc: Global, given: Words, network: &mut FakeNetwork) -> (u8, Vec<u8>, Vec<u8>) {
-    let mut output = Vec::new(alloc);
-    let (status, errors) = run_on(alloc, given, false, "", network, &mut output);
-    (status, output, errors)
-}
 
 // The words of a get of so many URLs.
 fn many_urls(alloc: Global, count: u32) -> Result<Words, AllocError> {
@@ -26,17 +19,20 @@ fn many_urls(alloc: Global, count: u32) -> Result<Words, AllocError> {
     Ok(Words::Given(all))
 }
 
+/// Two transfers by HEAD, and their lines.
+const HEADS: (&str, &str) = (
+    "get http://[::1]/a?b#c --head http://u@[0:0::1]:80",
+    "200 0 new http://[::1]/a?b#c\n200 0 reused http://u@[0:0::1]:80\n",
+);
+
 /// Words, and the lines of their transfers.
-const LINES: [(&str, &str); 6] = [
+static LINES: [(&str, &str); 6] = [
     (
         "get http://127.0.0.1/ http://LOCALHOST:80/ab http://localhost/again http://127.0.0.1:81/",
         "200 1 new http://127.0.0.1/\n200 3 new http://LOCALHOST:80/ab\n\
         200 6 reused retried http://localhost/again\n200 1 new http://127.0.0.1:81/\n",
     ),
-    (
-        "get http://[::1]/a?b#c --head http://u@[0:0::1]:80",
-        "200 0 new http://[::1]/a?b#c\n200 0 reused http://u@[0:0::1]:80\n",
-    ),
+    HEADS,
     (
         "get --max-age 0 http://127.0.0.1/ http://127.1/",
         "200 1 new http://127.0.0.1/\n200 1 new http://127.1/\n",
@@ -56,50 +52,97 @@ const LINES: [(&str, &str); 6] = [
 ];
 
 #[test]
-fn lines_tell_of_responses(rt: HostRuntime) -> Result<(), Fail> {
-    for &(given, lines) in &LINES {
-        let given = words(rt.alloc(), given)?;
-        let (status, output, errors) = run_get(rt.alloc(), given, &mut FakeNetwork::new());
-        assert_eq!(rt; errors.as_slice(), b"".as_slice());
-        assert_eq!(rt; output.as_slice(), lines.as_bytes());
-        assert_eq!(rt; status, 0);
+fn lines_tell_of_responses(rt: HostRuntime) {
+    for &(words, lines) in &LINES {
+        let row = Row {
+            name: words,
+            words,
+            output: Text::Whole(lines),
+            ..ROW
+        };
+        let _ = check(&rt, &row);
     }
-    Ok(())
+}
+
+/// Words of two transfers of which the first has no good response, and their lines.
+static FAULTS: [(&str, &str); 8] = [
+    (
+        "get http://127.0.0.1/memory http://127.0.0.1/",
+        "Memory http://127.0.0.1/memory\n200 1 new http://127.0.0.1/\n",
+    ),
+    (
+        "get http://127.0.0.1/dial http://127.0.0.1/",
+        "Dial http://127.0.0.1/dial\n200 1 new http://127.0.0.1/\n",
+    ),
+    (
+        "get http://127.0.0.1/read http://127.0.0.1/",
+        "Read http://127.0.0.1/read\n200 1 new http://127.0.0.1/\n",
+    ),
+    (
+        "get http://127.0.0.1/write http://127.0.0.1/",
+        "Write http://127.0.0.1/write\n200 1 new http://127.0.0.1/\n",
+    ),
+    (
+        "get http://127.0.0.1/bad http://127.0.0.1/",
+        "BadResponse http://127.0.0.1/bad\n200 1 new http://127.0.0.1/\n",
+    ),
+    (
+        "get http://127.0.0.1/cut http://127.0.0.1/",
+        "Cut http://127.0.0.1/cut\n200 1 new http://127.0.0.1/\n",
+    ),
+    (
+        "get http://127.0.0.1/refused http://127.0.0.1/",
+        "Refused http://127.0.0.1/refused\n200 1 new http://127.0.0.1/\n",
+    ),
+    (
+        "get http://127.0.0.1/cancelled http://127.0.0.1/",
+        "Cancelled http://127.0.0.1/cancelled\n200 1 new http://127.0.0.1/\n",
+    ),
+];
+
+#[test]
+fn lines_tell_of_faults(rt: HostRuntime) {
+    for &(words, lines) in &FAULTS {
+        let row = Row {
+            name: words,
+            words,
+            output: Text::Whole(lines),
+            errors: Text::Whole("run: 1 of 2 failed\n"),
+            status: 4,
+            ..ROW
+        };
+        let _ = check(&rt, &row);
+    }
 }
 
 #[test]
-fn lines_tell_of_faults(rt: HostRuntime) -> Result<(), Fail> {
-    for &(path, _, name) in &FAULTS {
-        let text = format!(in rt.alloc(); "get http://127.0.0.1{path} http://127.0.0.1/")?;
-        let given = words(rt.alloc(), text.as_str())?;
-        let (status, output, errors) = run_get(rt.alloc(), given, &mut FakeNetwork::new());
-        let lines = format!(in rt.alloc();
-            "{name} http://127.0.0.1{path}\n200 1 new http://127.0.0.1/\n"
-        )?;
-        assert_eq!(rt; output.as_slice(), lines.as_bytes());
-        assert_eq!(rt; errors.as_slice(), b"run: 1 of 2 failed\n".as_slice());
-        assert_eq!(rt; status, 4);
-    }
-    Ok(())
-}
-
-#[test]
-fn sites_and_seconds_are_handed_on(rt: HostRuntime) -> Result<(), Fail> {
-    let text = "get --timeout 7 http://127.0.0.1/ http://[::1]/ http://127.0.0.1/b";
-    let mut network = FakeNetwork::new();
-    let _ = run_get(rt.alloc(), words(rt.alloc(), text)?, &mut network);
-    assert_eq!(rt; network.openings, 1);
-    assert_eq!(rt; network.sites, 2);
-    assert_eq!(rt; network.timeout, 7);
-    let _ = run_get(rt.alloc(), many_urls(rt.alloc(), 1_024)?, &mut network);
-    assert_eq!(rt; network.openings, 2);
-    assert_eq!(rt; network.sites, 1);
-    assert_eq!(rt; network.timeout, 30);
-    Ok(())
+fn sites_and_seconds_are_handed_on(rt: HostRuntime) {
+    let row = Row {
+        name: "three URLs of two sites",
+        words: "get --timeout 7 http://127.0.0.1/ http://[::1]/ http://127.0.0.1/b",
+        output: Text::Start("200 1 new http://127.0.0.1/\n"),
+        ..ROW
+    };
+    let (network, _) = check(&rt, &row);
+    assert_eq!(rt;
+        (network.openings, network.sites, network.timeout),
+        (1, 2, 7)
+    );
+    let row = Row {
+        name: "1,024 URLs",
+        output: Text::Start("200 1 new http://127.0.0.1/\n"),
+        ..ROW
+    };
+    let words = many_urls(rt.alloc(), 1_024).expect(&rt, "memory");
+    let (network, _) = check_words(&rt, words, &row);
+    assert_eq!(rt;
+        (network.openings, network.sites, network.timeout),
+        (1, 1, 30)
+    );
 }
 
 /// Words that are refused, and how the message begins.
-const REFUSED: [(&str, &str); 16] = [
+static REFUSED: [(&str, &str); 16] = [
     ("get", "error: "),
     ("get --head", "error: "),
     ("get --head --head http://localhost/", "error: "),
@@ -149,79 +192,84 @@ const REFUSED: [(&str, &str); 16] = [
 ];
 
 #[test]
-fn words_are_refused(rt: HostRuntime) -> Result<(), Fail> {
-    let mut network = FakeNetwork::new();
-    for &(given, start) in &REFUSED {
-        let given = words(rt.alloc(), given)?;
-        let (status, output, errors) = run_get(rt.alloc(), given, &mut network);
-        assert!(rt; errors.starts_with(start.as_bytes()), "{start}");
-        assert!(rt; output.is_empty());
-        assert_eq!(rt; status, 2);
+fn words_are_refused(rt: HostRuntime) {
+    for &(words, start) in &REFUSED {
+        let row = Row {
+            name: words,
+            words,
+            errors: Text::Start(start),
+            status: 2,
+            ..ROW
+        };
+        let (network, _) = check(&rt, &row);
+        assert_eq!(rt; network.openings, 0, "{words}");
     }
-    let (status, _, errors) = run_get(rt.alloc(), many_urls(rt.alloc(), 1_025)?, &mut network);
-    assert_eq!(rt;
-        errors.as_slice(),
-        b"error: more than 1024 URLs\n".as_slice()
-    );
-    assert_eq!(rt; status, 2);
-    assert_eq!(rt; network.openings, 0);
-    Ok(())
-}
-
-#[test]
-fn a_network_that_cannot_be_opened(rt: HostRuntime) -> Result<(), Fail> {
-    for &(fault, told) in &[
-        (NetworkFault::Memory, "run: out of memory\n"),
-        (NetworkFault::Poll, "run: poll failed\n"),
-    ] {
-        let mut network = FakeNetwork::new();
-        network.fault = Some(fault);
-        let given = words(rt.alloc(), "get http://localhost/")?;
-        let (status, output, errors) = run_get(rt.alloc(), given, &mut network);
-        assert_eq!(rt; errors.as_slice(), told.as_bytes());
-        assert!(rt; output.is_empty());
-        assert_eq!(rt; status, 4);
-    }
-    Ok(())
-}
-
-#[test]
-fn a_line_that_cannot_be_written(rt: HostRuntime) -> Result<(), Fail> {
-    let given = words(
-        rt.alloc(),
-        "get http://[::1]/ http://[::1]/b http://[::1]/cc",
-    )?;
-    let mut writer = Expecting {
-        rest: b"200 1 new http://[::1]/\n200 2 reu",
-        takes_none: false,
+    let row = Row {
+        name: "1,025 URLs",
+        errors: Text::Whole("error: more than 1024 URLs\n"),
+        status: 2,
+        ..ROW
     };
-    let mut output = Watched::new(&mut writer);
-    let mut network = FakeNetwork::new();
-    let (status, errors) = run_on(rt.alloc(), given, false, "", &mut network, &mut output);
-    assert!(rt; writer.rest.is_empty());
-    assert_eq!(rt; errors.as_slice(), b"run: cannot write\n".as_slice());
-    assert_eq!(rt; status, 4);
-    Ok(())
+    let words = many_urls(rt.alloc(), 1_025).expect(&rt, "memory");
+    let (network, _) = check_words(&rt, words, &row);
+    assert_eq!(rt; network.openings, 0);
+}
+
+/// Why the network can't be opened, and what is told of it.
+static CLOSED: [(NetworkFault, &str); 2] = [
+    (NetworkFault::Memory, "run: out of memory\n"),
+    (NetworkFault::Poll, "run: poll failed\n"),
+];
+
+#[test]
+fn a_network_that_cannot_be_opened(rt: HostRuntime) {
+    for &(fault, told) in &CLOSED {
+        let row = Row {
+            name: told,
+            words: "get http://localhost/",
+            network: Some(fault),
+            errors: Text::Whole(told),
+            status: 4,
+            ..ROW
+        };
+        let _ = check(&rt, &row);
+    }
+}
+
+#[test]
+fn a_line_that_cannot_be_written(rt: HostRuntime) {
+    let row = Row {
+        name: "a line that cannot be written",
+        words: "get http://[::1]/ http://[::1]/b http://[::1]/cc",
+        errors: Text::Whole("run: cannot write\n"),
+        status: 4,
+        ..ROW
+    };
+    check_stopped(&rt, &row, "200 1 new http://[::1]/\n200 2 reu", false);
 }
 
 // Under `rt try --test --fail-alloc N`: a front of the lines is written, and the status tells.
 #[test]
-fn want_of_memory_leaves_a_front_of_the_lines(rt: HostRuntime) -> Result<(), Fail> {
-    let (text, lines) = LINES[1];
-    let Ok(given) = words(rt.alloc(), text) else {
-        return Ok(());
+fn want_of_memory_leaves_a_front_of_the_lines(rt: HostRuntime) {
+    let (words, lines) = HEADS;
+    let Ok(words) = words_of(rt.alloc(), words) else {
+        return;
     };
-    let mut writer = Expecting {
-        rest: lines.as_bytes(),
-        takes_none: false,
-    };
+    let mut writer = Expecting::new(lines, false);
+    let mut network = FakeNetwork::new(None);
+    let mut loader = FakeLoader::new(Ok(""));
     let mut output = Watched::new(&mut writer);
-    let mut network = FakeNetwork::new();
-    let (status, _) = run_on(rt.alloc(), given, false, "", &mut network, &mut output);
+    let (status, _) = run(
+        rt.alloc(),
+        words,
+        &ROW,
+        &mut network,
+        &mut loader,
+        &mut output,
+    );
     if status == 0 {
         assert!(rt; writer.rest.is_empty());
     } else {
         assert_eq!(rt; status, 4);
     }
-    Ok(())
 }

@@ -12,6 +12,8 @@ mod loads;
 #[cfg(test)]
 mod networks;
 #[cfg(test)]
+mod running;
+#[cfg(test)]
 mod streams;
 #[cfg(test)]
 mod words;

@@ -3,7 +3,6 @@
 use script_run::run_bytes;
 use script_text::{FaultKind, ScriptFault};
 use std::alloc::{AllocError, Global};
-use std::test::Fail;
 
 // A script of so many sites, with that after them.
 fn many_sites(alloc: Global, count: u32, others: &str) -> Result<String, AllocError> {
@@ -17,47 +16,37 @@ fn many_sites(alloc: Global, count: u32, others: &str) -> Result<String, AllocEr
 }
 
 #[test]
-fn sites_have_a_limit(rt: HostRuntime) -> Result<(), Fail> {
+fn sites_have_a_limit(rt: HostRuntime) {
     let others = "site http://A.test:7/b\nget 1 1023 0 at 0\nget 1 6 0 at 0\nget 1 1024 0 at 0\n";
-    let script = many_sites(rt.alloc(), 1_024, others)?;
+    let script = many_sites(rt.alloc(), 1_024, others).expect(&rt, "memory");
     let mut out = Vec::new(rt.alloc());
-    assert_eq!(rt; run_bytes(rt.alloc(), script.as_bytes(), &mut out), Ok(()));
+    assert!(rt; run_bytes(rt.alloc(), script.as_bytes(), &mut out) == Ok(()));
     let transcript = "opened 1023.1 for 1 at 0\nopened 6.1 for 1 at 0\nrefused bad-site\n";
     assert_eq!(rt; out.as_slice(), transcript.as_bytes());
-    let script = many_sites(rt.alloc(), 1_025, "")?;
+    let script = many_sites(rt.alloc(), 1_025, "").expect(&rt, "memory");
     let fault = ScriptFault {
         line: 1_026,
         kind: FaultKind::TooManySites,
     };
-    assert_eq!(rt;
-        run_bytes(rt.alloc(), script.as_bytes(), &mut out),
-        Err(fault)
-    );
-    Ok(())
+    assert!(rt; run_bytes(rt.alloc(), script.as_bytes(), &mut out) == Err(fault));
 }
 
 #[test]
-fn scripts_have_a_limit(rt: HostRuntime) -> Result<(), Fail> {
+fn scripts_have_a_limit(rt: HostRuntime) {
     let long = ScriptFault {
         line: 0,
         kind: FaultKind::ScriptTooLong,
     };
-    for row in &[(1_048_576usize, Ok(())), (1_048_577, Err(long))] {
-        let (len, expected) = *row;
-        let script = vec![in rt.alloc(); b'\n'; len]?;
+    for &(len, expected) in &[(1_048_576usize, Ok(())), (1_048_577, Err(long))] {
+        let script = vec![in rt.alloc(); b'\n'; len].expect(&rt, "memory");
         let mut out = Vec::new(rt.alloc());
-        assert_eq!(rt;
-            run_bytes(rt.alloc(), script.as_slice(), &mut out),
-            expected,
-            "{len}"
-        );
-        assert!(rt; out.is_empty());
+        let result = run_bytes(rt.alloc(), script.as_slice(), &mut out);
+        assert!(rt; result == expected && out.is_empty(), "{len}");
     }
-    Ok(())
 }
 
 /// The faults with their texts.
-const TEXTS: [(FaultKind, &str); 11] = [
+static TEXTS: [(FaultKind, &str); 11] = [
     (FaultKind::Memory, "line 3: out of memory"),
     (FaultKind::Read, "line 3: cannot read"),
     (FaultKind::Write, "line 3: cannot write"),
@@ -72,11 +61,10 @@ const TEXTS: [(FaultKind, &str); 11] = [
 ];
 
 #[test]
-fn faults_have_their_texts(rt: HostRuntime) -> Result<(), Fail> {
-    for row in &TEXTS {
-        let (kind, text) = *row;
-        let shown = ScriptFault { line: 3, kind }.to_string(rt.alloc())?;
+fn faults_have_their_texts(rt: HostRuntime) {
+    for &(kind, text) in &TEXTS {
+        let fault = ScriptFault { line: 3, kind };
+        let shown = fault.to_string(rt.alloc()).expect(&rt, "memory");
         assert_eq!(rt; shown.as_str(), text);
     }
-    Ok(())
 }

@@ -2,25 +2,13 @@
 
 use crate::loads::FakeLoader;
 use crate::networks::FakeNetwork;
-use crate::streams::Expecting;
-use crate::words::{run_over, words};
-use cli::{LoadFault, Words, load_jobs};
+use crate::running::{ROW, Row, Text, check, check_stopped, run, words_of};
+use cli::{LoadFault, load_jobs};
 use persistence::Method;
-use script_run::Watched;
-use std::alloc::Global;
-use std::test::Fail;
-
-// What the program does with these words: its status, and what it writes.
-fn run_load(alloc: Global, given: Words, loader: &mut FakeLoader<'_>) -> (u8, Vec<u8>, Vec<u8>) {
-    let mut network = FakeNetwork::new();
-    let mut output = Vec::new(alloc);
-    let (status, errors) = run_over(alloc, given, false, "", &mut network, loader, &mut output);
-    (status, output, errors)
-}
 
 /// Words, and the numbers that a load is given: sites, jobs, workers, the limit of a host, of the
 /// total, and how many are kept.
-const NUMBERS: [(&str, [u32; 6]); 16] = [
+static NUMBERS: [(&str, [u32; 6]); 16] = [
     ("load", [2, 20, 4, 0, 0, 80]),
     ("load --sites 1", [1, 20, 4, 0, 0, 80]),
     ("load --sites 8", [8, 20, 4, 0, 0, 80]),
@@ -46,22 +34,21 @@ const NUMBERS: [(&str, [u32; 6]); 16] = [
 ];
 
 #[test]
-fn words_give_numbers(rt: HostRuntime) -> Result<(), Fail> {
-    for &(text, numbers) in &NUMBERS {
-        let mut loader = FakeLoader::new(Ok("all\n"));
-        let given = words(rt.alloc(), text)?;
-        let (status, output, errors) = run_load(rt.alloc(), given, &mut loader);
-        assert_eq!(rt; loader.asked, 1, "{text}");
-        assert_eq!(rt; loader.numbers, numbers, "{text}");
-        assert!(rt; errors.is_empty());
-        assert_eq!(rt; output.as_slice(), b"all\n".as_slice());
-        assert_eq!(rt; status, 0);
+fn words_give_numbers(rt: HostRuntime) {
+    for &(words, numbers) in &NUMBERS {
+        let row = Row {
+            name: words,
+            words,
+            output: Text::Whole("all\n"),
+            ..ROW
+        };
+        let (_, loader) = check(&rt, &row);
+        assert_eq!(rt; (loader.asked, loader.numbers), (1, numbers), "{words}");
     }
-    Ok(())
 }
 
 /// Words that are refused, and how the message begins.
-const REFUSED: [(&str, &str); 27] = [
+static REFUSED: [(&str, &str); 27] = [
     (
         "load --sites 0",
         "error: invalid value '0' for '--sites <NUMBER>': not a number from 1 to 8\n",
@@ -146,33 +133,36 @@ const REFUSED: [(&str, &str); 27] = [
 ];
 
 #[test]
-fn words_are_refused(rt: HostRuntime) -> Result<(), Fail> {
-    let mut loader = FakeLoader::new(Ok("all\n"));
-    for &(text, start) in &REFUSED {
-        let given = words(rt.alloc(), text)?;
-        let (status, output, errors) = run_load(rt.alloc(), given, &mut loader);
-        assert!(rt; errors.starts_with(start.as_bytes()), "{text}");
-        assert!(rt; output.is_empty(), "{text}");
-        assert_eq!(rt; status, 2, "{text}");
+fn words_are_refused(rt: HostRuntime) {
+    for &(words, start) in &REFUSED {
+        let row = Row {
+            name: words,
+            words,
+            errors: Text::Start(start),
+            status: 2,
+            ..ROW
+        };
+        let (_, loader) = check(&rt, &row);
+        assert_eq!(rt; loader.asked, 0, "{words}");
     }
-    assert_eq!(rt; loader.asked, 0);
-    Ok(())
 }
 
 #[test]
-fn usage_stands_below_a_refusal(rt: HostRuntime) -> Result<(), Fail> {
-    let mut loader = FakeLoader::new(Ok("all\n"));
-    let given = words(rt.alloc(), "load --jobs 0x3")?;
-    let (status, _, errors) = run_load(rt.alloc(), given, &mut loader);
+fn usage_stands_below_a_refusal(rt: HostRuntime) {
     let told = "error: invalid value '0x3' for '--jobs <NUMBER>': not a number from 1 to 10000\n\n\
         Usage: curlpool load [OPTIONS]\n\nFor more information, try '--help'.\n";
-    assert_eq!(rt; errors.as_slice(), told.as_bytes());
-    assert_eq!(rt; status, 2);
-    Ok(())
+    let row = Row {
+        name: "usage stands below a refusal",
+        words: "load --jobs 0x3",
+        errors: Text::Whole(told),
+        status: 2,
+        ..ROW
+    };
+    let _ = check(&rt, &row);
 }
 
 /// The faults of a load, and what is told of each.
-const FAULTS: [(LoadFault, &str); 9] = [
+static FAULTS: [(LoadFault, &str); 9] = [
     (LoadFault::Memory, "run: out of memory\n"),
     (LoadFault::BadWorkers, "run: bad workers\n"),
     (LoadFault::Poll, "run: poll failed\n"),
@@ -185,65 +175,63 @@ const FAULTS: [(LoadFault, &str); 9] = [
 ];
 
 #[test]
-fn faults_are_told(rt: HostRuntime) -> Result<(), Fail> {
+fn faults_are_told(rt: HostRuntime) {
     for &(fault, told) in &FAULTS {
-        let mut loader = FakeLoader::new(Err(fault));
-        let given = words(rt.alloc(), "load --jobs 3")?;
-        let (status, output, errors) = run_load(rt.alloc(), given, &mut loader);
-        assert_eq!(rt; errors.as_slice(), told.as_bytes());
-        assert!(rt; output.is_empty());
-        assert_eq!(rt; status, 4);
+        let row = Row {
+            name: told,
+            words: "load --jobs 3",
+            load: Err(fault),
+            errors: Text::Whole(told),
+            status: 4,
+            ..ROW
+        };
+        let _ = check(&rt, &row);
     }
-    Ok(())
 }
 
 #[test]
-fn a_report_that_cannot_be_written(rt: HostRuntime) -> Result<(), Fail> {
+fn a_report_that_cannot_be_written(rt: HostRuntime) {
+    let row = Row {
+        name: "a report that cannot be written",
+        words: "load",
+        load: Ok("host 0\nall 1\n"),
+        errors: Text::Whole("run: cannot write\n"),
+        status: 4,
+        ..ROW
+    };
     for &takes_none in &[false, true] {
-        let mut loader = FakeLoader::new(Ok("host 0\nall 1\n"));
-        let mut writer = Expecting {
-            rest: b"host 0\nal",
-            takes_none,
-        };
-        let mut network = FakeNetwork::new();
-        let mut output = Watched::new(&mut writer);
-        let given = words(rt.alloc(), "load")?;
-        let (status, errors) = run_over(
-            rt.alloc(),
-            given,
-            false,
-            "",
-            &mut network,
-            &mut loader,
-            &mut output,
-        );
-        assert!(rt; writer.rest.is_empty());
-        assert_eq!(rt; errors.as_slice(), b"run: cannot write\n".as_slice());
-        assert_eq!(rt; status, 4);
+        check_stopped(&rt, &row, "host 0\nal", takes_none);
     }
-    Ok(())
 }
 
 // Under `rt try --test --fail-alloc N`: the status tells, and the report is written whole or not
 // at all.
 #[test]
-fn want_of_memory_is_told(rt: HostRuntime) -> Result<(), Fail> {
-    let Ok(given) = words(rt.alloc(), "load --jobs 0003") else {
-        return Ok(());
+fn want_of_memory_is_told(rt: HostRuntime) {
+    let Ok(words) = words_of(rt.alloc(), "load --jobs 0003") else {
+        return;
     };
+    let mut network = FakeNetwork::new(None);
     let mut loader = FakeLoader::new(Ok("all\n"));
-    let (status, output, _) = run_load(rt.alloc(), given, &mut loader);
+    let mut output = Vec::new(rt.alloc());
+    let (status, _) = run(
+        rt.alloc(),
+        words,
+        &ROW,
+        &mut network,
+        &mut loader,
+        &mut output,
+    );
     if status == 0 {
         assert_eq!(rt; output.as_slice(), b"all\n".as_slice());
     } else {
         assert_eq!(rt; status, 4);
         assert!(rt; output.is_empty());
     }
-    Ok(())
 }
 
 /// The jobs of a load over three sites: site, port and path.
-const JOBS: [(u32, u16, &str); 11] = [
+static JOBS: [(u32, u16, &str); 11] = [
     (0, 8001, "/0"),
     (1, 65_535, "/1"),
     (2, 1, "/2"),
@@ -258,23 +246,18 @@ const JOBS: [(u32, u16, &str); 11] = [
 ];
 
 #[test]
-fn jobs_go_round_the_sites(rt: HostRuntime) -> Result<(), Fail> {
+fn jobs_go_round_the_sites(rt: HostRuntime) {
     let ports: [u16; 3] = [8001, 65_535, 1];
-    let jobs = load_jobs(rt.alloc(), 11, ports.as_slice())?;
+    let jobs = load_jobs(rt.alloc(), 11, ports.as_slice()).expect(&rt, "memory");
     assert_eq!(rt; jobs.len(), 11);
     let mut number: u64 = 0;
     for (job, &(site, port, path)) in jobs.iter().zip(JOBS.iter()) {
-        assert_eq!(rt; job.site, site);
-        assert_eq!(rt; job.target.port, port);
-        assert_eq!(rt; job.target.path.as_str(), path);
-        assert_eq!(rt; job.target.host.as_str(), "127.0.0.1");
-        assert_eq!(rt; job.method, Method::Get);
-        assert_eq!(rt; job.want.transfer, number);
-        assert_eq!(rt; job.want.lane, 0);
-        assert_eq!(rt; job.want.max_age, 118);
-        assert_eq!(rt; job.want.max_life, 0);
-        assert!(rt; !job.want.fresh && !job.want.forbid_reuse);
+        let (target, want) = (&job.target, &job.want);
+        assert!(rt; target.path.as_str() == path && target.host.as_str() == "127.0.0.1");
+        assert!(rt; job.method == Method::Get && !want.fresh && !want.forbid_reuse);
+        assert_eq!(rt; (job.site, target.port), (site, port));
+        assert_eq!(rt; (want.transfer, want.max_age), (number, 118));
+        assert_eq!(rt; (want.max_life, want.lane), (0, 0));
         number = number.saturating_add(1);
     }
-    Ok(())
 }

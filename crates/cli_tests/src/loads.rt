@@ -5,14 +5,14 @@ use std::alloc::Global;
 
 /// Which report or fault it answers, how often it was asked, and with which numbers last.
 #[derive(Drop)]
-pub struct FakeLoader<'a> {
-    pub answer: Result<&'a str, LoadFault>,
+pub struct FakeLoader {
+    pub answer: Result<&'static str, LoadFault>,
     pub asked: u32,
     pub numbers: [u32; 6],
 }
 
-impl<'a> FakeLoader<'a> {
-    pub fn new(answer: Result<&'a str, LoadFault>) -> FakeLoader<'a> {
+impl FakeLoader {
+    pub fn new(answer: Result<&'static str, LoadFault>) -> FakeLoader {
         FakeLoader {
             answer,
             asked: 0,
@@ -31,12 +31,7 @@ impl<'a> FakeLoader<'a> {
             options.total,
             options.connects,
         ];
-        match self.answer {
-            Ok(report) => match String::from_str(alloc, report) {
-                Ok(report) => Ok(report),
-                Err(_) => Err(LoadFault::Memory),
-            },
-            Err(fault) => Err(fault),
-        }
+        let report = self.answer?;
+        String::from_str(alloc, report).map_err(|_| LoadFault::Memory)
     }
 }

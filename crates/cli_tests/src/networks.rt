@@ -9,16 +9,16 @@ use persistence::{Facts, Framing, Method, Version};
 use socket::Addresses;
 use std::alloc::Global;
 
-/// The paths of transfers that fail, each with its fault and the fault's name.
-pub const FAULTS: [(&str, Fault, &str); 8] = [
-    ("/memory", Fault::Memory, "Memory"),
-    ("/dial", Fault::Dial, "Dial"),
-    ("/read", Fault::Read, "Read"),
-    ("/write", Fault::Write, "Write"),
-    ("/bad", Fault::BadResponse, "BadResponse"),
-    ("/cut", Fault::Cut, "Cut"),
-    ("/refused", Fault::Refused(Refusal::Exhausted), "Refused"),
-    ("/cancelled", Fault::Cancelled, "Cancelled"),
+/// The paths of transfers that fail, each with its fault.
+static FAULTS: [(&str, Fault); 8] = [
+    ("/memory", Fault::Memory),
+    ("/dial", Fault::Dial),
+    ("/read", Fault::Read),
+    ("/write", Fault::Write),
+    ("/bad", Fault::BadResponse),
+    ("/cut", Fault::Cut),
+    ("/refused", Fault::Refused(Refusal::Exhausted)),
+    ("/cancelled", Fault::Cancelled),
 ];
 
 /// The facts of each response, of which no line tells.
@@ -37,7 +37,7 @@ const FACTS: Facts = Facts {
 /// What a network was opened with, and what its jobs wanted.
 #[derive(Drop)]
 pub struct FakeNetwork {
-    pub fault: Option<NetworkFault>,
+    fault: Option<NetworkFault>,
     /// How often it was opened, for how many sites, and with which timeout.
     pub openings: u32,
     pub sites: usize,
@@ -45,9 +45,9 @@ pub struct FakeNetwork {
 }
 
 impl FakeNetwork {
-    pub fn new() -> FakeNetwork {
+    pub fn new(fault: Option<NetworkFault>) -> FakeNetwork {
         FakeNetwork {
-            fault: None,
+            fault,
             openings: 0,
             sites: 0,
             timeout: 0,

@@ -2,17 +2,17 @@
 
 use script_run::{Watched, run_script};
 use script_text::{FaultKind, ScriptFault};
+use std::alloc::Global;
 use std::io;
 use std::io::{Read, Write};
-use std::test::Fail;
 
-/// A connection is used again, and then abandoned.
-pub const REUSE_THEN_DROP: (&str, &str) = (
+/// A script of a connection that is used again and then abandoned, and its transcript.
+pub const REUSE: &str =
     "limits 1 0 4\nsite http://a.test/\nget 1 0 0 at 0\nback 1 0 keep at 2\nget 2 0 0 at 3\n\
-        drop 2 0 at 4\nlook 0\n",
-    "opened 0.1 for 1 at 0\nreturned 0.1 by 1 at 2\nleased 0.1 to 2 at 3\n\
-        closed 0.1 dropped at 4\nhost 0 open 0 idle 0 leased 0 waiting 0 queued no\n",
-);
+    drop 2 0 at 4\nlook 0\n";
+
+pub const REUSED: &str = "opened 0.1 for 1 at 0\nreturned 0.1 by 1 at 2\nleased 0.1 to 2 at 3\n\
+    closed 0.1 dropped at 4\nhost 0 open 0 idle 0 leased 0 waiting 0 queued no\n";
 
 /// Transfers that wait, claim and leave; two tickets are left at the script's end.
 const WAITING: (&str, &str) = (
@@ -42,7 +42,7 @@ impl Read for Failing {
 }
 
 #[test]
-fn a_reader_that_fails_in_the_middle(rt: HostRuntime) -> Result<(), Fail> {
+fn a_reader_that_fails_in_the_middle(rt: HostRuntime) {
     let mut reader = Watched::new(Failing {
         bytes: b"limits 4 0 4\nlook 0\n",
     });
@@ -51,16 +51,24 @@ fn a_reader_that_fails_in_the_middle(rt: HostRuntime) -> Result<(), Fail> {
         line: 0,
         kind: FaultKind::Read,
     };
-    assert_eq!(rt; run_script(rt.alloc(), &mut reader, &mut out), Err(fault));
-    assert!(rt; out.is_empty());
-    Ok(())
+    let result = run_script(rt.alloc(), &mut reader, &mut out);
+    assert!(rt; result == Err(fault) && out.is_empty());
 }
 
-// Takes what goes on as expected, a byte at a time, and then no byte, or fails.
+/// Takes what goes on as expected, a byte at a time, and then no byte, or fails.
 #[derive(Drop)]
 pub struct Expecting {
     pub rest: &'static [u8],
-    pub takes_none: bool,
+    takes_none: bool,
+}
+
+impl Expecting {
+    pub fn new(text: &'static str, takes_none: bool) -> Expecting {
+        Expecting {
+            rest: text.as_bytes(),
+            takes_none,
+        }
+    }
 }
 
 impl Write for Expecting {
@@ -80,42 +88,33 @@ impl Write for Expecting {
     }
 }
 
+// Runs a script onto that writer.
+fn run_onto(alloc: Global, script: &str, writer: &mut Expecting) -> Result<(), ScriptFault> {
+    let mut reader = script.as_bytes();
+    run_script(alloc, &mut reader, &mut Watched::new(writer))
+}
+
 #[test]
-fn a_writer_that_fails_in_the_middle(rt: HostRuntime) -> Result<(), Fail> {
-    let (script, _) = REUSE_THEN_DROP;
+fn a_writer_that_fails_in_the_middle(rt: HostRuntime) {
     let fault = ScriptFault {
         line: 4,
         kind: FaultKind::Write,
     };
     for &takes_none in &[false, true] {
-        let mut reader = script.as_bytes();
-        let mut writer = Expecting {
-            rest: b"opened 0.1 for 1 at 0\nreturned 0",
-            takes_none,
-        };
-        assert_eq!(rt;
-            run_script(rt.alloc(), &mut reader, &mut Watched::new(&mut writer)),
-            Err(fault)
-        );
-        assert!(rt; writer.rest.is_empty());
+        let mut writer = Expecting::new("opened 0.1 for 1 at 0\nreturned 0", takes_none);
+        let result = run_onto(rt.alloc(), REUSE, &mut writer);
+        assert!(rt; result == Err(fault) && writer.rest.is_empty());
     }
-    Ok(())
 }
 
 // Under `rt try --test --fail-alloc N`: what is written is a front of the transcript.
 #[test]
-fn want_of_memory_leaves_a_front_of_the_transcript(rt: HostRuntime) -> Result<(), Fail> {
-    for row in &[REUSE_THEN_DROP, WAITING] {
-        let (script, transcript) = *row;
-        let mut reader = script.as_bytes();
-        let mut writer = Expecting {
-            rest: transcript.as_bytes(),
-            takes_none: false,
-        };
-        match run_script(rt.alloc(), &mut reader, &mut Watched::new(&mut writer)) {
+fn want_of_memory_leaves_a_front_of_the_transcript(rt: HostRuntime) {
+    for &(script, transcript) in &[(REUSE, REUSED), WAITING] {
+        let mut writer = Expecting::new(transcript, false);
+        match run_onto(rt.alloc(), script, &mut writer) {
             Ok(()) => assert!(rt; writer.rest.is_empty()),
-            Err(fault) => assert_eq!(rt; fault.kind, FaultKind::Memory),
+            Err(fault) => assert!(rt; fault.kind == FaultKind::Memory),
         }
     }
-    Ok(())
 }

@@ -1,0 +1,16 @@
+use Rattle.std.proofs.Common.{◌≡◌, ◌+◌, [], ◌∷◌, length, subst, arith}
+use Rattle.std.proofs.lemmas.List.{length-append}
+use Rattle.cli.specs.LoadJobs.{IsLoadJob}
+use Rattle.cli.proofs.LoadPlans.{load-jobs-more}
+use Rattle.cli.proofs.loading.planning.load_jobs.Goals as goal
+
+pub loop-number-preserved : goal.loop-number-preserved
+loop-number-preserved c =
+    let ports = c.args.ports.now in
+    let jobs = c.loop-number.jobs.items in
+    let job = c.in_ok-job.job in
+    let next : c.loop-number.number ≡ 0 + length jobs = omega (arith, c.loop-number.invariant.count_is) in
+    record {
+      so_far = rw c.in_ok-push.ensures.items (load-jobs-more ports 0 jobs job c.loop-number.invariant.so_far (subst (λ n. IsLoadJob ports n job) next c.in_ok-job.ensures));
+      count_is = rw c.in_ok-push.ensures.items (omega (arith, c.loop-number.invariant.count_is, length-append jobs (job ∷ [])));
+    }

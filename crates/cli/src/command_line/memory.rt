@@ -1,0 +1,130 @@
+//! What the words are read in: `clap`, and memory for texts.
+
+ghost use Rattle.std.specs.Prelude.{◌≡◌, ◌≤◌, IfOk, IfErr, map, string_bytes};
+ghost use Rattle.cli.specs.GetPlan.{IsPlanOf, IsWhy};
+ghost use Rattle.cli.specs.GetWords.{get_said_by};
+ghost use Rattle.cli.specs.LoadWords.{IsLoadOf, IsLoadRefused, IsWhyNot, load_said_by};
+ghost use Rattle.clap.specs.Words.{FailsBy, fault_of, kind_of};
+ghost use Rattle.conn_key.specs.Wants.{Rises};
+ghost use Rattle.cli.specs.CommandLine.{curlpool, said_after, said_by};
+
+use crate::command_line::{Subcommand, not_text, parse};
+use crate::get::plan::{GetPlan, GetRefusal, plan_of};
+use crate::get::words::GetWords;
+use crate::loading::numbers::load_options;
+use crate::loading::options::LoadOptions;
+use crate::loading::words::LoadWords;
+use clap::Error;
+use clap::error::ErrorKind;
+use std::alloc::{AllocError, Global};
+
+/// What the words are read in. It counts the wants of memory that it answered, so that a contract
+/// can say that memory was short only where one came.
+pub trait WordsMemory {
+    ghost use Rattle.std.specs.Prelude.{ℕ};
+
+    /// How many wants of memory it answered; at the greatest u64 the count stays.
+    ghost wants: { Self → ℕ };
+
+    /// Reads the words; those that it takes name a subcommand. An error of `clap`'s kind for want
+    /// of memory counts as one.
+    fn parse(&mut self, words: &[String]) -> Result<Subcommand, Error>
+        ensures fails { FailsBy (fault_of curlpool (map string_bytes words.now)) result }
+        ensures said { IfOk result (λ subcommand.
+            said_by subcommand ≡ said_after (map string_bytes words.now)) }
+        ensures wants { IfErr result (λ error. kind_of error ≡ ErrorKind.OutOfMemory
+            → Rises (wants self.old) (wants self.new)) }
+        ensures kept { wants self.old ≤ wants self.new };
+
+    /// What the words after `get` ask for. A refusal for want of memory counts as one.
+    fn plan(&mut self, words: &GetWords) -> Result<GetPlan, GetRefusal>
+        ensures plan { IfOk result (IsPlanOf (get_said_by words.now)) }
+        ensures refused { IfErr result (IsWhy (get_said_by words.now)) }
+        ensures wants { IfErr result (λ refusal. refusal ≡ GetRefusal.Memory
+            → Rises (wants self.old) (wants self.new)) }
+        ensures kept { wants self.old ≤ wants self.new };
+
+    /// The numbers that the words after `load` give. An error of `clap`'s kind for want of memory
+    /// counts as one.
+    fn load_options(&mut self, words: &LoadWords) -> Result<LoadOptions, Error>
+        ensures options { IfOk result (IsLoadOf (load_said_by words.now)) }
+        ensures refused { IfErr result (IsWhyNot (IsLoadRefused (load_said_by words.now))) }
+        ensures wants { IfErr result (λ error. kind_of error ≡ ErrorKind.OutOfMemory
+            → Rises (wants self.old) (wants self.new)) }
+        ensures kept { wants self.old ≤ wants self.new };
+
+    /// The error for a word that is not UTF-8.
+    fn not_text(&mut self) -> Result<Error, AllocError>
+        ensures kind { IfOk result (λ error. kind_of error ≡ ErrorKind.ValueValidation) }
+        ensures wants { IfErr result (λ _. Rises (wants self.old) (wants self.new)) }
+        ensures kept { wants self.old ≤ wants self.new };
+
+    /// What an error says.
+    fn text(&mut self, error: &Error) -> Result<String, AllocError>
+        ensures wants { IfErr result (λ _. Rises (wants self.old) (wants self.new)) }
+        ensures kept { wants self.old ≤ wants self.new };
+}
+
+/// The program's memory, with a count of the wants that it answered.
+#[derive(Drop)]
+pub struct CountedWordsMemory {
+    alloc: Global,
+    wants: u64,
+}
+
+impl CountedWordsMemory {
+    /// Memory that answered no want yet.
+    pub fn new(alloc: Global) -> CountedWordsMemory
+        ensures { result.wants ≡ 0 }
+    {
+        CountedWordsMemory { alloc, wants: 0 }
+    }
+}
+
+impl WordsMemory for CountedWordsMemory {
+    ghost wants = { λ memory. memory.wants };
+
+    fn parse(&mut self, words: &[String]) -> Result<Subcommand, Error> {
+        let parsed = parse(self.alloc, words);
+        if let Err(error) = &parsed {
+            if error.kind() == ErrorKind::OutOfMemory {
+                self.wants = self.wants.saturating_add(1);
+            }
+        }
+        parsed
+    }
+
+    fn plan(&mut self, words: &GetWords) -> Result<GetPlan, GetRefusal> {
+        let plan = plan_of(self.alloc, words);
+        if let Err(GetRefusal::Memory) = &plan {
+            self.wants = self.wants.saturating_add(1);
+        }
+        plan
+    }
+
+    fn load_options(&mut self, words: &LoadWords) -> Result<LoadOptions, Error> {
+        let options = load_options(self.alloc, words);
+        if let Err(error) = &options {
+            if error.kind() == ErrorKind::OutOfMemory {
+                self.wants = self.wants.saturating_add(1);
+            }
+        }
+        options
+    }
+
+    fn not_text(&mut self) -> Result<Error, AllocError> {
+        let error = not_text(self.alloc);
+        if error.is_err() {
+            self.wants = self.wants.saturating_add(1);
+        }
+        error
+    }
+
+    fn text(&mut self, error: &Error) -> Result<String, AllocError> {
+        let text = error.to_string(self.alloc);
+        if text.is_err() {
+            self.wants = self.wants.saturating_add(1);
+        }
+        text
+    }
+}

@@ -1,0 +1,120 @@
+//! What the words on the command line ask for.
+
+ghost use Rattle.std.specs.Prelude.{◌≡◌};
+ghost use Rattle.clap.specs.Words.{kind_of};
+ghost use Rattle.cli.specs.CommandLine.{AnswersError, AnswersGet, AnswersLoad, Asks, manner_of};
+ghost use Rattle.cli.specs.CommandLine.{said, word_faults};
+ghost use Rattle.cli.specs.GetWords.{get_said_by};
+ghost use Rattle.cli.specs.LoadWords.{load_said_by};
+
+use crate::command_line::memory::WordsMemory;
+use crate::command_line::{Subcommand, Words};
+use crate::get::plan::{GetPlan, GetRefusal};
+use crate::get::words::GetWords;
+use crate::loading::options::LoadOptions;
+use crate::loading::words::LoadWords;
+use crate::script::input::ScriptInput;
+use clap::Error;
+use clap::error::ErrorKind;
+
+/// What the words ask for.
+#[derive(Drop)]
+pub enum Request {
+    /// To run the script that is read from there.
+    Script(ScriptInput),
+    /// To fetch URLs so.
+    Get(GetPlan),
+    /// To carry out a load with these numbers.
+    Load(LoadOptions),
+    /// To tell this on standard output: help, or the version.
+    Tell(String),
+    /// Nothing that the program does: this says why.
+    Refuse(String),
+    /// Nothing, since memory ran out.
+    NoMemory,
+}
+
+/// What an error of the words is.
+#[derive(Clone, Copy)]
+pub enum Manner {
+    /// Memory ran out.
+    Memory,
+    /// Help or the version was asked for.
+    Asked,
+    /// The words are wrong.
+    Mistake,
+}
+
+/// What the words ask for. `NoMemory` comes only where the words could not be had for want of
+/// memory, or the memory counted a want.
+pub fn asked_by<M: WordsMemory>(memory: &mut M, words: Words) -> Request
+    ensures { Asks (word_faults words) (said words) (M.wants memory.old)
+        (M.wants memory.new) result }
+{
+    match words {
+        Words::Given(words) => match memory.parse(words.as_slice()) {
+            Ok(Subcommand::Script(input)) => Request::Script(input),
+            Ok(Subcommand::Get(words)) => planned(memory, &words),
+            Ok(Subcommand::Load(words)) => numbered(memory, &words),
+            Err(error) => refused(memory, error),
+        },
+        Words::NotText => match memory.not_text() {
+            Ok(error) => refused(memory, error),
+            Err(_) => Request::NoMemory,
+        },
+        Words::NoMemory => Request::NoMemory,
+    }
+}
+
+/// What the words after `get` ask for.
+fn planned<M: WordsMemory>(memory: &mut M, words: &GetWords) -> Request
+    ensures { AnswersGet (get_said_by words.now) (M.wants memory.old) (M.wants memory.new)
+        result }
+{
+    match memory.plan(words) {
+        Ok(plan) => Request::Get(plan),
+        Err(GetRefusal::Wrong(text)) => Request::Refuse(text),
+        Err(GetRefusal::Memory) => Request::NoMemory,
+    }
+}
+
+/// What the words after `load` ask for.
+fn numbered<M: WordsMemory>(memory: &mut M, words: &LoadWords) -> Request
+    ensures { AnswersLoad (load_said_by words.now) (M.wants memory.old) (M.wants memory.new)
+        result }
+{
+    match memory.load_options(words) {
+        Ok(options) => Request::Load(options),
+        Err(error) => refused(memory, error),
+    }
+}
+
+/// What is asked for where reading the words gave that error.
+fn refused<M: WordsMemory>(memory: &mut M, error: Error) -> Request
+    ensures { AnswersError (manner_of (kind_of error)) (M.wants memory.old)
+        (M.wants memory.new) result }
+{
+    match manner_of(error.kind()) {
+        Manner::Memory => Request::NoMemory,
+        Manner::Asked => match memory.text(&error) {
+            Ok(text) => Request::Tell(text),
+            Err(_) => Request::NoMemory,
+        },
+        Manner::Mistake => match memory.text(&error) {
+            Ok(text) => Request::Refuse(text),
+            Err(_) => Request::NoMemory,
+        },
+    }
+}
+
+/// What an error of that kind is.
+fn manner_of(kind: ErrorKind) -> Manner
+    ensures { result ≡ manner_of kind }
+{
+    match kind {
+        ErrorKind::OutOfMemory => Manner::Memory,
+        ErrorKind::DisplayHelp => Manner::Asked,
+        ErrorKind::DisplayVersion => Manner::Asked,
+        _ => Manner::Mistake,
+    }
+}

@@ -1,0 +1,57 @@
+//! What carries out jobs, one after another, and the network that it works on.
+
+use exchange::{Done, Job};
+use socket::Addresses;
+use std::alloc::Global;
+use thiserror::Error;
+
+/// What sends one request after another, over connections that it keeps.
+pub trait Fetcher {
+    ghost use Rattle.exchange.specs.declared.done.Done.{Done};
+    ghost use Rattle.exchange.specs.declared.job.Job.{Job};
+
+    /// From the one time to the other it carried out that job, and this came of it.
+    ghost fetched: { Self → Self → Job → Done → Type 0 };
+
+    /// Carries out a job, and answers how its transfer ended.
+    fn fetch(&mut self, job: &Job) -> Done
+        ensures { fetched self.old self.new job.now result };
+}
+
+/// Why a network can't be opened.
+#[derive(Clone, Copy, Debug, PartialEq, Eq, Error)]
+pub enum NetworkFault {
+    /// There is no memory for it.
+    #[error("out of memory")]
+    Memory,
+    /// The system gives no means to wait for connections.
+    #[error("poll failed")]
+    Poll,
+}
+
+/// What connections are opened on.
+pub trait Network {
+    ghost use Rattle.std.specs.Prelude.{ℕ, Result};
+    ghost use Rattle.socket.specs.declared.addresses.Addresses.{Addresses};
+    ghost use Rattle.cli.specs.declared.get.fetching.NetworkFault.{NetworkFault};
+
+    /// What carries out jobs on it.
+    type Fetcher: Fetcher + Drop;
+
+    /// Whether opening the network for those addresses, and so many seconds, gives that fetcher or
+    /// fault, and leaves the network so.
+    ghost opens: { Self → Self → Addresses → ℕ → Result Self.Fetcher NetworkFault → Type 0 };
+
+    /// A fetcher for the hosts of these addresses, which cancels a transfer after so many seconds.
+    ///
+    /// # Errors
+    ///
+    /// `Memory` if memory ran out, `Poll` if the system can't wait for connections.
+    fn open(
+        &mut self,
+        alloc: Global,
+        addresses: Addresses,
+        timeout: u32,
+    ) -> Result<Self::Fetcher, NetworkFault>
+        ensures { opens self.old self.new addresses timeout result };
+}

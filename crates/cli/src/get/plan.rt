@@ -1,0 +1,132 @@
+//! What the words after `get` ask for.
+
+ghost use Rattle.std.specs.Prelude.{option_map, string_bytes, IfOk, IfErr};
+ghost use Rattle.cli.specs.GetPlan.{IsPlanOf, IsWhy, SaysNumber};
+ghost use Rattle.cli.specs.GetWords.{get_said_by, max_age_said, timeout_said};
+
+use crate::command_line::values::number_of;
+use crate::get::planning::plan_jobs;
+use crate::get::words::GetWords;
+use exchange::Job;
+use persistence::Method;
+use socket::Addresses;
+use std::alloc::{AllocError, Global};
+
+/// The most seconds that a connection is idle for reuse, where none are given.
+const MAX_AGE: u64 = 118;
+
+/// The seconds after which a transfer is cancelled, where none are given.
+const TIMEOUT: u32 = 30;
+
+/// The most seconds after which a transfer is cancelled.
+const LONGEST_TIMEOUT: u64 = 3_600;
+
+/// The most URLs.
+const MOST_URLS: usize = 1_024;
+
+/// A URL as it was given, and the job that fetches it.
+#[derive(Drop)]
+pub struct UrlJob {
+    pub url: String,
+    pub job: Job,
+}
+
+/// What `get` is to do.
+#[derive(Drop)]
+pub struct GetPlan {
+    /// The URLs with their jobs, in order.
+    pub jobs: Vec<UrlJob>,
+    /// The addresses of the jobs' sites.
+    pub addresses: Addresses,
+    /// The seconds after which a transfer is cancelled.
+    pub timeout: u32,
+}
+
+/// Why the words after `get` ask for nothing that can be done.
+#[derive(Drop)]
+pub enum GetRefusal {
+    /// Memory ran out.
+    Memory,
+    /// They are wrong: this says how.
+    Wrong(String),
+}
+
+impl From<AllocError> for GetRefusal {
+    ghost use Rattle.std.specs.Prelude.{◌≡◌};
+    ghost use Rattle.cli.specs.declared.get.plan.GetRefusal.TheVariants.{Memory};
+
+    ghost from_gives = { λ _ refusal. refusal ≡ Memory };
+
+    fn from(_: AllocError) -> GetRefusal {
+        GetRefusal::Memory
+    }
+}
+
+/// What the words after `get` ask for.
+///
+/// # Errors
+///
+/// `Wrong` if a number is out of its range, the URLs are more than 1,024, or one of them gives no
+/// target or no address. `Memory` if memory ran out.
+pub fn plan_of(alloc: Global, words: &GetWords) -> Result<GetPlan, GetRefusal>
+    ensures plan { IfOk result (IsPlanOf (get_said_by words.now)) }
+    ensures refused { IfErr result (IsWhy (get_said_by words.now)) }
+{
+    let max_age = max_age_of(alloc, &words.max_age)?;
+    let timeout = timeout_of(alloc, &words.timeout)?;
+    let urls = words.urls.as_slice();
+    if urls.len() > MOST_URLS {
+        return Err(wrong(String::from_str(alloc, "error: more than 1024 URLs\n")));
+    }
+    let method = if words.head {
+        Method::Head
+    } else {
+        Method::Get
+    };
+    let (jobs, addresses) = plan_jobs(alloc, urls, method, max_age)?;
+    Ok(GetPlan {
+        jobs,
+        addresses,
+        timeout,
+    })
+}
+
+/// The most seconds idle for reuse, where they were given so.
+fn max_age_of(alloc: Global, given: &Option<String>) -> Result<u64, GetRefusal>
+    ensures { SaysNumber (max_age_said (option_map string_bytes given.now)) result }
+{
+    let Some(text) = given else {
+        return Ok(MAX_AGE);
+    };
+    let text = text.as_str();
+    match number_of(text) {
+        Some(seconds) => Ok(seconds),
+        None => Err(wrong(format!(in alloc;
+            "error: --max-age {text}: not a number from 0 to 18446744073709551615\n"
+        ))),
+    }
+}
+
+/// The seconds after which a transfer is cancelled, where they were given so.
+fn timeout_of(alloc: Global, given: &Option<String>) -> Result<u32, GetRefusal>
+    ensures { SaysNumber (timeout_said (option_map string_bytes given.now)) result }
+{
+    let Some(text) = given else {
+        return Ok(TIMEOUT);
+    };
+    let text = text.as_str();
+    match number_of(text) {
+        Some(seconds) if 1 <= seconds && seconds <= LONGEST_TIMEOUT => Ok(seconds as u32),
+        _ => Err(wrong(format!(in alloc;
+            "error: --timeout {text}: not a number from 1 to 3600\n"
+        ))),
+    }
+}
+
+/// A refusal that says this, if there is memory for it.
+pub(crate) fn wrong(text: Result<String, AllocError>) -> GetRefusal {
+    match text {
+        Ok(text) => GetRefusal::Wrong(text),
+        Err(_) => GetRefusal::Memory,
+    }
+}

@@ -1,0 +1,98 @@
+//! The network of the system.
+
+ghost use Rattle.std.specs.Prelude.{⊤};
+ghost use Rattle.cache.specs.Deeds.{DidToPool};
+ghost use Rattle.exchange.specs.Worlds.{world_of};
+ghost use Rattle.client.specs.Fetching.{Fetches};
+
+use crate::get::fetching::{Fetcher, Network, NetworkFault};
+use budget::Limits;
+use cache::Pool;
+use client::Client;
+use exchange::{Done, Job, Wire};
+use socket::{Addresses, SystemClock, WaitingDial, WaitingWire};
+use std::alloc::Global;
+use std::io;
+use std::io::ErrorKind;
+use std::time::Duration;
+
+/// The most connections that are kept while they are idle, well below what a process may have open.
+const MOST_IDLE: u32 = 256;
+
+/// The most hosts.
+const MOST_HOSTS: usize = 1_024;
+
+/// The network of the system. What servers answer nobody knows.
+#[derive(Drop)]
+pub struct SystemNetwork<'a> {
+    rt: &'a HostRuntime,
+}
+
+impl<'a> SystemNetwork<'a> {
+    /// The network of that system.
+    pub fn new(rt: &'a HostRuntime) -> SystemNetwork<'a> {
+        SystemNetwork { rt }
+    }
+}
+
+impl<'a> Network for SystemNetwork<'a> {
+    type Fetcher = SystemFetcher<'a>;
+
+    ghost opens = { λ _ _ _ _ _. ⊤ };
+
+    fn open(
+        &mut self,
+        alloc: Global,
+        addresses: Addresses,
+        timeout: u32,
+    ) -> Result<SystemFetcher<'a>, NetworkFault> {
+        let hosts = addresses.len();
+        let Ok(limits) = Limits::new(0, 0, MOST_IDLE) else {
+            return Err(NetworkFault::Memory);
+        };
+        let Ok(pool) = Pool::new(alloc, limits, hosts.min(MOST_HOSTS) as u32) else {
+            return Err(NetworkFault::Memory);
+        };
+        let dial = match WaitingDial::new(self.rt, alloc, addresses) {
+            Ok(dial) => dial,
+            Err(error) => return Err(fault_of(&error)),
+        };
+        let clock = match SystemClock::new(self.rt) {
+            Ok(clock) => clock,
+            Err(error) => return Err(fault_of(&error)),
+        };
+        match Client::new(self.rt, alloc, pool, dial, clock) {
+            Ok(client) => Ok(SystemFetcher {
+                client,
+                limit: Duration::from_secs(timeout as u64),
+            }),
+            Err(error) => Err(fault_of(&error)),
+        }
+    }
+}
+
+/// Why the network can't be opened where the system gives that error.
+fn fault_of(error: &io::Error) -> NetworkFault {
+    if error.kind() == ErrorKind::OutOfMemory {
+        NetworkFault::Memory
+    } else {
+        NetworkFault::Poll
+    }
+}
+
+/// A client over sockets whose reads and writes wait.
+#[derive(Drop)]
+pub struct SystemFetcher<'a> {
+    client: Client<'a, WaitingWire, WaitingDial<'a, HostRuntime>, HostRuntime>,
+    limit: Duration,
+}
+
+impl Fetcher for SystemFetcher<'_> {
+    ghost fetched = { λ old new job done. Fetches DidToPool
+        (world_of ⟦<WaitingWire as Wire>⟧.untouched ⟦<WaitingWire as Wire>⟧.happened (λ moment. ⊤))
+        job old.client.pool new.client.pool done };
+
+    fn fetch(&mut self, job: &Job) -> Done {
+        self.client.fetch(job, self.limit)
+    }
+}

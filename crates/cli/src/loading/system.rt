@@ -1,0 +1,141 @@
+//! Loads over the system's threads and sockets.
+
+ghost use Rattle.std.specs.Prelude.{◌≡◌, ◌≤◌, length, IfOk};
+
+use crate::loading::fault::LoadFault;
+use crate::loading::options::LoadOptions;
+use crate::loading::planning::load_jobs;
+use cache_report::report;
+use driver::DriverFault;
+use exchange::Job;
+use load::{LoadError, Loaded, load};
+use loopback_server::Server;
+use std::alloc::{AllocError, AllocGlobal, Global};
+use std::io::{Error, ErrorKind};
+use std::net::{IpAddr, Ipv4Addr, SocketAddr};
+use std::random::RandomSource;
+use std::sync::Wait;
+use std::sync::atomic::{AtomicBool, Ordering};
+use std::thread;
+use std::thread::{Builder, Threads, scope_env};
+
+/// Carries out a load with these numbers by threads and sockets of the system, and answers its
+/// report. The requests go to a server of its own, which has one port of 127.0.0.1 for each site.
+/// What becomes of them nobody knows.
+///
+/// `threads` starts the threads: it is the same system, lent once more by who may start some.
+///
+/// # Errors
+///
+/// Why there is no report; any fault but `Write`.
+pub fn load_on_system<T: Threads + Wait + RandomSource + AllocGlobal + Sync>(
+    threads: &T,
+    system: &HostRuntime,
+    alloc: Global,
+    options: LoadOptions,
+) -> Result<String, LoadFault> {
+    let server = match Server::listen(system, alloc, options.sites) {
+        Ok(server) => server,
+        Err(error) => return Err(fault_of(&error, LoadFault::Listen)),
+    };
+    let Ok(sites) = sites_at(alloc, server.ports()) else {
+        return Err(LoadFault::Memory);
+    };
+    let Ok(jobs) = load_jobs(alloc, options.jobs, server.ports()) else {
+        return Err(LoadFault::Memory);
+    };
+    let loaded = load_beside(threads, system, alloc, server, &sites, &jobs, options)?;
+    match report(alloc, &loaded.gathered, &loaded.results) {
+        Ok(text) => Ok(text),
+        Err(_refusal) => Err(LoadFault::Memory),
+    }
+}
+
+/// The address of each site, which listens at that port of 127.0.0.1.
+///
+/// # Errors
+///
+/// There is no memory for them.
+pub fn sites_at(alloc: Global, ports: &[u16]) -> Result<Vec<SocketAddr>, AllocError>
+    ensures { IfOk result (λ sites. length sites.items ≡ length ports.now) }
+{
+    let mut sites = Vec::new(alloc);
+    for port in ports {
+        let site = SocketAddr::new(IpAddr::V4(Ipv4Addr::LOCALHOST), *port);
+        sites.push(site)?;
+    }
+    Ok(sites)
+}
+
+// Carries out the jobs, while the server serves on a thread of its own; it ends after them.
+fn load_beside<R: Threads + Wait + RandomSource + AllocGlobal + Sync>(
+    rt: &R,
+    system: &HostRuntime,
+    alloc: Global,
+    server: Server,
+    sites: &[SocketAddr],
+    jobs: &[Job],
+    options: LoadOptions,
+) -> Result<Loaded, LoadFault>
+    requires { length sites.now ≤ 1024 }
+{
+    let ended = AtomicBool::new(false);
+    thread::scope(
+        scope_env(),
+        rt,
+        |scope| -> Result<Loaded, LoadFault>
+            requires { length sites.now ≤ 1024 }
+        {
+            let serving = match Builder::new().spawn_scoped(scope, || server.serve(rt, &ended)) {
+                Ok(serving) => serving,
+                Err(error) => return Err(fault_of(&error, LoadFault::Spawn)),
+            };
+            let loaded = load_under(rt, system, alloc, sites, jobs, options);
+            ended.store(true, Ordering::SeqCst);
+            match serving.join(rt) {
+                Ok(()) => loaded,
+                Err(error) => Err(fault_of(&error, LoadFault::Poll)),
+            }
+        },
+    )
+}
+
+// Carries out the jobs under the limits of the options.
+fn load_under<R: Threads + Wait + RandomSource + AllocGlobal + Sync>(
+    rt: &R,
+    system: &HostRuntime,
+    alloc: Global,
+    sites: &[SocketAddr],
+    jobs: &[Job],
+    options: LoadOptions,
+) -> Result<Loaded, LoadFault>
+    requires { length sites.now ≤ 1024 }
+{
+    let limits = options.limits();
+    match load(rt, system, alloc, limits, sites, jobs, options.workers) {
+        Ok(loaded) => Ok(loaded),
+        Err(LoadError::Gather) => Err(LoadFault::Gather),
+        Err(LoadError::Run(fault)) => Err(run_fault(fault)),
+    }
+}
+
+// What is told of a run's fault.
+fn run_fault(fault: DriverFault) -> LoadFault {
+    match fault {
+        DriverFault::Memory => LoadFault::Memory,
+        DriverFault::BadWorkers => LoadFault::BadWorkers,
+        DriverFault::Poll => LoadFault::Poll,
+        DriverFault::Doubled => LoadFault::Doubled,
+        DriverFault::Missing => LoadFault::Missing,
+        DriverFault::Spawn => LoadFault::Spawn,
+    }
+}
+
+// The fault where the system gives that error: want of memory, or else that other one.
+fn fault_of(error: &Error, otherwise: LoadFault) -> LoadFault {
+    if error.kind() == ErrorKind::OutOfMemory {
+        LoadFault::Memory
+    } else {
+        otherwise
+    }
+}

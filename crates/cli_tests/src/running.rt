@@ -1,0 +1,188 @@
+//! Runs the program, and compares what it writes and answers with a row.
+
+ghost use Rattle.std.specs.Prelude.{⊤};
+ghost use Rattle.script_run.specs.Streams.{CanCount};
+
+use crate::loads::FakeLoader;
+use crate::networks::FakeNetwork;
+use crate::streams::{Expecting, REUSE};
+use cli::{CountedWordsMemory, LoadFault, NetworkFault, Words, run_program};
+use script_run::{ScriptFiles, Sink, Watched};
+use std::alloc::{AllocError, AllocGlobal, Global};
+use std::process::Abort;
+use std::str;
+
+/// A text, or what it begins with.
+#[derive(Clone, Copy)]
+pub enum Text {
+    Whole(&'static str),
+    Start(&'static str),
+}
+
+/// What the program is started with, what it then writes, and the status that it answers.
+#[derive(Clone, Copy)]
+pub struct Row {
+    pub name: &'static str,
+    /// The words after the program's name, with spaces between them.
+    pub words: &'static str,
+    pub is_typed: bool,
+    /// What standard input gives.
+    pub script: &'static str,
+    /// Why the network can't be opened, if it can't.
+    pub network: Option<NetworkFault>,
+    /// What carrying out a load gives.
+    pub load: Result<&'static str, LoadFault>,
+    pub output: Text,
+    pub errors: Text,
+    pub status: u8,
+}
+
+/// The program is started without words.
+pub const ROW: Row = Row {
+    name: "",
+    words: "",
+    is_typed: false,
+    script: "",
+    network: None,
+    load: Ok("all\n"),
+    output: Text::Whole(""),
+    errors: Text::Whole(""),
+    status: 0,
+};
+
+// One file in memory.
+#[derive(Drop)]
+struct OneFile {
+    name: &'static str,
+    bytes: &'static [u8],
+}
+
+impl ScriptFiles for OneFile {
+    type File = &'static [u8];
+
+    ghost opens = { λ _ _ _ _. ⊤ };
+
+    fn open(&mut self, name: &str) -> Option<&'static [u8]> {
+        if name == self.name {
+            Some(self.bytes)
+        } else {
+            None
+        }
+    }
+}
+
+/// The words with which the program is started, of a text with spaces between them.
+pub fn words_of(alloc: Global, text: &str) -> Result<Words, AllocError> {
+    let mut words = Vec::new(alloc);
+    words.push(String::from_str(alloc, "curlpool")?)?;
+    for word in text.split_whitespace() {
+        words.push(String::from_str(alloc, word)?)?;
+    }
+    Ok(Words::Given(words))
+}
+
+/// What the program does with these words, where `reuse` is the one file that there is: its status,
+/// and what it writes on standard error.
+pub fn run<W: Sink>(
+    alloc: Global,
+    words: Words,
+    row: &Row,
+    network: &mut FakeNetwork,
+    loader: &mut FakeLoader,
+    output: &mut W,
+) -> (u8, Vec<u8>)
+    requires { CanCount (W.sink output.old) }
+{
+    let mut memory = CountedWordsMemory::new(alloc);
+    let mut files = OneFile {
+        name: "reuse",
+        bytes: REUSE.as_bytes(),
+    };
+    let mut input = row.script.as_bytes();
+    let mut errors = Vec::new(alloc);
+    let status = run_program(
+        alloc,
+        &mut memory,
+        words,
+        row.is_typed,
+        &mut files,
+        network,
+        |alloc, options| loader.load(alloc, options),
+        &mut input,
+        output,
+        &mut errors,
+    );
+    (status, errors)
+}
+
+// That bytes are the text of the row with that name.
+fn check_text(rt: &impl Abort, name: &str, bytes: &[u8], expected: Text) {
+    let text = str::from_utf8(bytes).unwrap_or("no text");
+    let is_expected = match expected {
+        Text::Whole(whole) => text == whole,
+        Text::Start(start) => text.starts_with(start),
+    };
+    assert!(rt; is_expected, "{name}: {text}");
+}
+
+/// That the program does what the row says, started with these words.
+pub fn check_words<R: Abort + AllocGlobal>(
+    rt: &R,
+    words: Words,
+    row: &Row,
+) -> (FakeNetwork, FakeLoader) {
+    let mut network = FakeNetwork::new(row.network);
+    let mut loader = FakeLoader::new(row.load);
+    let mut output = Vec::new(rt.alloc());
+    let (status, errors) = run(
+        rt.alloc(),
+        words,
+        row,
+        &mut network,
+        &mut loader,
+        &mut output,
+    );
+    check_text(rt, row.name, errors.as_slice(), row.errors);
+    check_text(rt, row.name, output.as_slice(), row.output);
+    assert_eq!(rt; status, row.status, "{}", row.name);
+    (network, loader)
+}
+
+/// That the program does what the row says.
+pub fn check<R: Abort + AllocGlobal>(rt: &R, row: &Row) -> (FakeNetwork, FakeLoader) {
+    let words = words_of(rt.alloc(), row.words).expect(rt, "memory");
+    check_words(rt, words, row)
+}
+
+/// That the program does what the row says, and writes just that onto an output that then fails, or
+/// takes no byte.
+pub fn check_stopped<R: Abort + AllocGlobal>(
+    rt: &R,
+    row: &Row,
+    written: &'static str,
+    takes_none: bool,
+) {
+    let words = words_of(rt.alloc(), row.words).expect(rt, "memory");
+    let mut writer = Expecting::new(written, takes_none);
+    let mut network = FakeNetwork::new(row.network);
+    let mut loader = FakeLoader::new(row.load);
+    let mut output = Watched::new(&mut writer);
+    let (status, errors) = run(
+        rt.alloc(),
+        words,
+        row,
+        &mut network,
+        &mut loader,
+        &mut output,
+    );
+    assert!(rt; writer.rest.is_empty(), "{}", row.name);
+    check_text(rt, row.name, errors.as_slice(), row.errors);
+    assert_eq!(rt; status, row.status, "{}", row.name);
+}
+
+/// That the program does what the rows say.
+pub fn check_all<R: Abort + AllocGlobal>(rt: &R, rows: &[Row]) {
+    for row in rows {
+        let _ = check(rt, row);
+    }
+}
