@@ -5,6 +5,7 @@ import shutil
 import signal
 import subprocess
 import sys
+import threading
 import time
 
 TOP = os.path.dirname(os.path.dirname(os.path.abspath(__file__)))
@@ -17,14 +18,20 @@ REQUESTS = "requests"
 FEWEST_REQUESTS = ["load", "1", "0", "1", "1"]
 
 
-def needed(crate=NAME):
-    """The crates that this one stands on and the crate itself, each with those of them that it stands on."""
+def listed_crates():
+    """The crates of crates.txt, in its order, each with the libraries that it stands on."""
     listed = {}
     with open(os.path.join(TOP, "crates.txt"), encoding="utf8") as lines:
         for line in lines:
             name, found, libraries = line.split("#")[0].partition(":")
             if found:
                 listed[name.split()[0]] = libraries.split()
+    return listed
+
+
+def needed(crate=NAME):
+    """The crates that this one stands on and the crate itself, each with those of them that it stands on."""
+    listed = listed_crates()
     wanted = [crate]
     for name in wanted:
         wanted += [below for below in listed[name] if below in listed and below not in wanted]
@@ -141,3 +148,43 @@ def end_rt(started):
     if started.poll() is None:
         os.killpg(started.pid, signal.SIGTERM)
         started.wait()
+
+
+class Children:
+    """The rt processes that threads of this one have started, of which stop ends all."""
+
+    def __init__(self):
+        self.lock = threading.Lock()
+        self.running = set()
+        self.is_stopped = False
+
+    def start(self, words, folder, **streams):
+        """Starts rt there with these words, its output a pipe of text; nothing once all are stopped."""
+        with self.lock:
+            if self.is_stopped:
+                return None
+            run = start_rt(words, **{"cwd": folder, "text": True, "encoding": "utf8", "errors": "replace",
+                                     "stdin": subprocess.DEVNULL, "stdout": subprocess.PIPE,
+                                     "stderr": subprocess.STDOUT, **streams})
+            self.running.add(run)
+            return run
+
+    def wait(self, run):
+        """Waits until it ends: its status, and the processor seconds that it and what it waited for took."""
+        try:
+            _, status, used = os.wait4(run.pid, 0)
+            run.returncode = os.waitstatus_to_exitcode(status)
+            seconds = used.ru_utime + used.ru_stime
+        except ChildProcessError:
+            # stop waited for it first
+            run.wait()
+            seconds = 0
+        with self.lock:
+            self.running.discard(run)
+        return run.returncode, seconds
+
+    def stop(self):
+        with self.lock:
+            self.is_stopped = True
+            for run in self.running:
+                end_rt(run)
