@@ -1,0 +1,20 @@
+# bash completion of curlpool: source this file
+_curlpool() {
+    local word=${COMP_WORDS[COMP_CWORD]} command=${COMP_WORDS[1]}
+    local options
+    if [ "$COMP_CWORD" -eq 1 ]; then
+        options="get load script --help --version"
+    else
+        case $command in
+            get) options="--head --max-age --timeout --help" ;;
+            load) options="--sites --jobs --workers --host-limit --total --connects --help" ;;
+            script) options="--help" ;;
+        esac
+    fi
+    if [ "$command" = script ] && [ "$COMP_CWORD" -gt 1 ] && [ "${word#-}" = "$word" ]; then
+        mapfile -t COMPREPLY < <(compgen -f -- "$word")
+    else
+        mapfile -t COMPREPLY < <(compgen -W "$options" -- "$word")
+    fi
+}
+complete -F _curlpool curlpool ./curlpool

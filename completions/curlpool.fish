@@ -1,0 +1,16 @@
+# fish completion of curlpool: copy this file to ~/.config/fish/completions
+complete -c curlpool -n __fish_use_subcommand -f -a get -d 'fetches URLs over kept connections'
+complete -c curlpool -n __fish_use_subcommand -f -a load -d 'drives one shared cache by threads'
+complete -c curlpool -n __fish_use_subcommand -f -a script -d 'runs a script of pool events'
+complete -c curlpool -n __fish_use_subcommand -f -l version -d 'print the version'
+complete -c curlpool -f -l help -d 'print help'
+complete -c curlpool -n '__fish_seen_subcommand_from get' -f -l head -d 'send HEAD in place of GET'
+complete -c curlpool -n '__fish_seen_subcommand_from get' -x -l max-age -d 'maximum idle age of a reused connection'
+complete -c curlpool -n '__fish_seen_subcommand_from get' -x -l timeout -d 'time limit of one transfer'
+complete -c curlpool -n '__fish_seen_subcommand_from load' -x -l sites -d 'sites'
+complete -c curlpool -n '__fish_seen_subcommand_from load' -x -l jobs -d 'jobs'
+complete -c curlpool -n '__fish_seen_subcommand_from load' -x -l workers -d 'threads'
+complete -c curlpool -n '__fish_seen_subcommand_from load' -x -l host-limit -d 'connections open to one site'
+complete -c curlpool -n '__fish_seen_subcommand_from load' -x -l total -d 'connections open in all'
+complete -c curlpool -n '__fish_seen_subcommand_from load' -x -l connects -d 'connections kept idle'
+complete -c curlpool -n '__fish_seen_subcommand_from script' -F
