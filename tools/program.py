@@ -111,7 +111,7 @@ def has_rt():
     """Whether the kit's command is at hand; says so where it is not."""
     if shutil.which("rt"):
         return True
-    say("the Rattle kit's command rt is not on the path; docs/developing.md names the kit")
+    say("the Rattle kit's command rt is not on the path; CONTRIBUTING.md names the kit")
     return False
 
 

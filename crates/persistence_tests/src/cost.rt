@@ -1,5 +1,5 @@
 //! What reading costs: valgrind's callgrind counts the instructions of each call of `feeds_each`,
-//! in the order of the tables (docs/developing.md).
+//! in the order of the tables (docs/measurements.md).
 use crate::rows::repeated;
 use persistence::{Method, ResponseReader, persists};
 use std::alloc::{AllocError, Global};
