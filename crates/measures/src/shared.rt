@@ -378,10 +378,10 @@ struct Worker<N: Names> {
 }
 
 impl<N: Names> Model for Worker<N> {
-    ghost use Rattle.bundle.specs.Passes.{Acleases};
+    ghost use Rattle.bundle.specs.Passes.{Accounts};
     ghost use Rattle.shared_cache.specs.Passes.{IsPassOf};
 
-    ghost Value = { Acleases };
+    ghost Value = { Accounts };
 
     ghost view = { λ worker. worker.pass };
 
