@@ -20,7 +20,7 @@ from .programs import curlpool, run, tests_of, tool
 
 # the crates whose tests of want of memory try the public calls that may be refused memory
 CRATES = ("budget_tests", "bundle_tests", "cache_tests", "cli_tests", "conn_key_tests", "conn_log_tests",
-          "exchange_tests", "persistence_tests", "shared_cache_tests", "threads_tests")
+          "exchange_tests", "load_tests", "persistence_tests", "shared_cache_tests", "threads_tests")
 SECONDS = 20
 SECONDS_OF_ALL = 600
 # how many allocations a load is refused at least; its threads ask for some more or fewer each time

@@ -1,6 +1,6 @@
 //! Loads whose numbers are drawn: small limits are met often.
 
-use crate::loads::account::account_of;
+use crate::account::account_of;
 use cli::{LoadOptions, load_on_system};
 use rand_core::utils::NextWord;
 use rand_pcg::Pcg32;

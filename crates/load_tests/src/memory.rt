@@ -1,7 +1,7 @@
 //! A load where memory is short. The test passes whichever allocation fails.
 
-use crate::loads::account::account_of;
-use crate::loads::running::run_words;
+use crate::account::account_of;
+use crate::running::run_words;
 use cli::LoadOptions;
 use std::str::from_utf8;
 

@@ -1,6 +1,6 @@
 //! Loads of one thread, whose reports are known byte for byte.
 
-use crate::loads::running::run_words;
+use crate::running::run_words;
 
 /// Words, the status with which the program ends, and what it prints.
 static ROWS: [(&str, u8, &str); 3] = [
