@@ -476,17 +476,18 @@ fn a_response_that_is_bad(rt: HostRuntime) {
     run_rows(&rt, &UNREADABLE, 1);
 }
 
+static CUT_SHORT: Row = Row {
+    name: "a response that is cut",
+    done: Done::Bad(Fault::Cut),
+    log: &[OPENED],
+    last: Some(CUT),
+    ..GET
+};
+
 #[test]
 fn a_response_that_is_cut(rt: HostRuntime) {
-    let row = Row {
-        name: "a response that is cut",
-        done: Done::Bad(Fault::Cut),
-        log: &[OPENED],
-        last: Some(CUT),
-        ..GET
-    };
     for len in 0..OK.len() {
-        run_row(&rt, &row, 1, &OK[..len]);
+        run_row(&rt, &CUT_SHORT, 1, &OK[..len]);
     }
 }
 

@@ -13,7 +13,6 @@ use std::process::Abort;
 use std::random::RandomSource;
 
 /// Bytes that a peer answers: a front, so many times the same bytes, and an end.
-#[derive(Clone, Copy)]
 pub(crate) struct Text {
     pub(crate) front: &'static [u8],
     pub(crate) bytes: &'static [u8],
@@ -44,7 +43,6 @@ pub(crate) enum Start {
 }
 
 /// What doesn't do what it would at the call that [`run_row`] is told.
-#[derive(Clone, Copy)]
 pub(crate) enum Halted {
     Nothing,
     Dial(Halt),
@@ -53,7 +51,6 @@ pub(crate) enum Halted {
 }
 
 /// An exchange, and what comes of it.
-#[derive(Clone, Copy)]
 pub(crate) struct Row {
     pub(crate) name: &'static str,
     pub(crate) start: Start,

@@ -3,12 +3,12 @@
 use crate::peer::{Peer, addresses_of, target_of};
 use exchange::{Dial, Dialled};
 use socket::{AddressFault, Addresses, WaitingDial, WaitingWire};
-use std::alloc::{AllocError, AllocGlobal};
+use std::alloc::AllocGlobal;
+use std::io;
 use std::net::{IpAddr, Ipv4Addr, Ipv6Addr, SocketAddr, TcpListener};
-use std::test::Fail;
 
 /// Hosts, and whether a dial knows an address for each.
-const HOSTS: [(&str, bool); 8] = [
+static HOSTS: [(&str, bool); 8] = [
     ("localhost", true),
     ("LOCALHOST", true),
     ("127.0.0.1", true),
@@ -20,10 +20,11 @@ const HOSTS: [(&str, bool); 8] = [
 ];
 
 #[test]
-fn a_host_is_localhost_or_an_address(rt: HostRuntime) -> Result<(), Fail> {
+fn a_host_is_localhost_or_an_address(rt: HostRuntime) {
     for &(host, known) in &HOSTS {
         let mut addresses = Addresses::new(rt.alloc());
-        let added = addresses.add(&target_of(&rt, host, 80)?);
+        let target = target_of(&rt, host, 80).expect(&rt, "a target");
+        let added = addresses.add(&target);
         assert_eq!(rt;
             added,
             if known {
@@ -34,7 +35,6 @@ fn a_host_is_localhost_or_an_address(rt: HostRuntime) -> Result<(), Fail> {
         );
         assert_eq!(rt; addresses.len(), known as usize);
     }
-    Ok(())
 }
 
 // Whether a connection to the first site is opened, in some turns.
@@ -52,39 +52,46 @@ fn is_opened(dial: &mut WaitingDial<'_, HostRuntime>) -> bool {
 }
 
 #[test]
-fn the_next_address_is_tried(rt: HostRuntime) -> Result<(), Fail> {
+fn the_next_address_is_tried(rt: HostRuntime) {
     let any_port = SocketAddr::new(IpAddr::V6(Ipv6Addr::LOCALHOST), 0);
-    let listener = TcpListener::bind(&rt, any_port)?;
-    let port = listener.local_addr()?.port();
+    let listener = TcpListener::bind(&rt, any_port).expect(&rt, "a listener");
+    let port = listener.local_addr().expect(&rt, "an address").port();
     // Nobody listens at 127.0.0.1, which is tried first.
-    let mut dial = WaitingDial::new(&rt, rt.alloc(), addresses_of(&rt, "localhost", port)?)?;
+    let addresses = addresses_of(&rt, "localhost", port).expect(&rt, "an address");
+    let mut dial = WaitingDial::new(&rt, rt.alloc(), addresses).expect(&rt, "a dial");
     assert!(rt; is_opened(&mut dial));
     assert_eq!(rt; (dial.opened(), dial.failures()), (1, 0));
-    Ok(())
 }
 
 #[test]
-fn a_refused_connection_is_counted(rt: HostRuntime) -> Result<(), Fail> {
-    let listener = TcpListener::bind(&rt, SocketAddr::new(IpAddr::V4(Ipv4Addr::LOCALHOST), 0))?;
-    let address = listener.local_addr()?;
+fn a_refused_connection_is_counted(rt: HostRuntime) {
+    let any_port = SocketAddr::new(IpAddr::V4(Ipv4Addr::LOCALHOST), 0);
+    let listener = TcpListener::bind(&rt, any_port).expect(&rt, "a listener");
+    let address = listener.local_addr().expect(&rt, "an address");
     drop(listener);
     let mut addresses = Addresses::new(rt.alloc());
-    match vec![in rt.alloc(); address] {
-        Ok(list) => addresses.add_resolved(list)?,
-        Err(_) => return Err(Fail::from(AllocError)),
-    }
-    let mut dial = WaitingDial::new(&rt, rt.alloc(), addresses)?;
+    let list = vec![in rt.alloc(); address].expect(&rt, "memory");
+    addresses.add_resolved(list).expect(&rt, "an address");
+    let mut dial = WaitingDial::new(&rt, rt.alloc(), addresses).expect(&rt, "a dial");
     assert!(rt; !is_opened(&mut dial));
     assert_eq!(rt; (dial.opened(), dial.failures()), (0, 1));
-    Ok(())
+}
+
+// A server, and its port.
+fn peer_of(rt: &HostRuntime) -> io::Result<(Peer, u16)> {
+    let peer = Peer::new(rt)?;
+    let port = peer.port()?;
+    Ok((peer, port))
 }
 
 #[test]
-fn each_site_has_its_own_addresses(rt: HostRuntime) -> Result<(), Fail> {
-    let (first, second) = (Peer::new(&rt)?, Peer::new(&rt)?);
-    let mut addresses = addresses_of(&rt, "127.0.0.1", first.port()?)?;
-    addresses.add(&target_of(&rt, "127.0.0.1", second.port()?)?)?;
-    let mut dial = WaitingDial::new(&rt, rt.alloc(), addresses)?;
+fn each_site_has_its_own_addresses(rt: HostRuntime) {
+    let (first, port) = peer_of(&rt).expect(&rt, "a server");
+    let (second, other) = peer_of(&rt).expect(&rt, "a server");
+    let mut addresses = addresses_of(&rt, "127.0.0.1", port).expect(&rt, "an address");
+    let target = target_of(&rt, "127.0.0.1", other).expect(&rt, "a target");
+    addresses.add(&target).expect(&rt, "an address");
+    let mut dial = WaitingDial::new(&rt, rt.alloc(), addresses).expect(&rt, "a dial");
     for _ in 0..100 {
         let dialled: Dialled<WaitingWire> = dial.dial(1, 1);
         if !matches!(dialled, Dialled::NotYet) {
@@ -92,11 +99,9 @@ fn each_site_has_its_own_addresses(rt: HostRuntime) -> Result<(), Fail> {
         }
         let _ = dial.turn();
     }
-    assert_eq!(rt; dial.opened(), 1);
-    assert!(rt; !first.is_connected());
-    assert!(rt; second.is_connected());
+    let connected = (first.is_connected(), second.is_connected());
+    assert_eq!(rt; (dial.opened(), connected), (1, (false, true)));
     // There is no third site.
     let dialled: Dialled<WaitingWire> = dial.dial(2, 1);
     assert!(rt; matches!(dialled, Dialled::Fault));
-    Ok(())
 }

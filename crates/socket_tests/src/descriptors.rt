@@ -8,7 +8,6 @@ use std::alloc::AllocGlobal;
 use std::io;
 use std::net::{IpAddr, Ipv4Addr, SocketAddr, TcpListener};
 use std::os::fd::AsRawFd;
-use std::test::Fail;
 
 /// More connections than a listener keeps that nobody takes from it.
 const MANY: u64 = 1_000;
@@ -27,30 +26,31 @@ fn lowest_free(rt: &HostRuntime) -> io::Result<i32> {
 }
 
 #[test]
-fn refused_connections_leave_no_descriptor(rt: HostRuntime) -> Result<(), Fail> {
-    let (listener, port) = listener_of(&rt)?;
+fn refused_connections_leave_no_descriptor(rt: HostRuntime) {
+    let (listener, port) = listener_of(&rt).expect(&rt, "a listener");
     drop(listener);
-    let mut dial = WaitingDial::new(&rt, rt.alloc(), addresses_of(&rt, "localhost", port)?)?;
-    let free = lowest_free(&rt)?;
+    let addresses = addresses_of(&rt, "localhost", port).expect(&rt, "an address");
+    let mut dial = WaitingDial::new(&rt, rt.alloc(), addresses).expect(&rt, "a dial");
+    let free = lowest_free(&rt).expect(&rt, "a descriptor");
     for transfer in 0..100 {
         let dialled: Dialled<WaitingWire> = dial.dial(0, transfer);
         assert!(rt; matches!(dialled, Dialled::Fault));
     }
-    assert_eq!(rt; dial.failures(), 100);
-    assert_eq!(rt; lowest_free(&rt)?, free);
-    Ok(())
+    let then = lowest_free(&rt).expect(&rt, "a descriptor");
+    assert_eq!(rt; (dial.failures(), then), (100, free));
 }
 
 #[test]
-fn what_is_given_up_is_closed(rt: HostRuntime) -> Result<(), Fail> {
-    let (listener, port) = listener_of(&rt)?;
-    let mut dial = WaitingDial::new(&rt, rt.alloc(), addresses_of(&rt, "127.0.0.1", port)?)?;
+fn what_is_given_up_is_closed(rt: HostRuntime) {
+    let (listener, port) = listener_of(&rt).expect(&rt, "a listener");
+    let addresses = addresses_of(&rt, "127.0.0.1", port).expect(&rt, "an address");
+    let mut dial = WaitingDial::new(&rt, rt.alloc(), addresses).expect(&rt, "a dial");
     let mut wires: Vec<WaitingWire> = Vec::new(rt.alloc());
     let mut waits = None;
     for transfer in 0..MANY {
         let dialled: Dialled<WaitingWire> = dial.dial(0, transfer);
         match dialled {
-            Dialled::Up(wire) => wires.push(wire)?,
+            Dialled::Up(wire) => wires.push(wire).expect(&rt, "memory"),
             Dialled::NotYet => {
                 waits = Some(transfer);
                 break;
@@ -58,19 +58,18 @@ fn what_is_given_up_is_closed(rt: HostRuntime) -> Result<(), Fail> {
             Dialled::Fault => break,
         }
     }
-    let Some(transfer) = waits else {
-        return Err(Fail::from("the listener kept them all"));
-    };
+    let transfer = waits.expect(&rt, "the listener kept them all");
     // One more is begun, and one of the two is given up.
-    let free = lowest_free(&rt)?;
+    let free = lowest_free(&rt).expect(&rt, "a descriptor");
     let other: Dialled<WaitingWire> = dial.dial(0, MANY);
     assert!(rt; matches!(other, Dialled::NotYet));
     dial.give_up(MANY);
-    assert_eq!(rt; lowest_free(&rt)?, free);
+    let then = lowest_free(&rt).expect(&rt, "a descriptor");
+    assert_eq!(rt; then, free);
     // The other one goes on.
     let still: Dialled<WaitingWire> = dial.dial(0, transfer);
     assert!(rt; matches!(still, Dialled::NotYet));
-    assert_eq!(rt; lowest_free(&rt)?, free);
+    let then = lowest_free(&rt).expect(&rt, "a descriptor");
+    assert_eq!(rt; then, free);
     drop(listener);
-    Ok(())
 }

@@ -6,7 +6,6 @@ use std::alloc::AllocGlobal;
 use std::io;
 use std::io::{Read, Write};
 use std::net::{IpAddr, Ipv4Addr, SocketAddr, TcpListener, TcpStream};
-use std::test::Fail;
 
 /// A whole response with a body of two bytes.
 pub(crate) const OK: &[u8] = b"HTTP/1.1 200 OK\r\nContent-Length: 2\r\n\r\nok";
@@ -101,16 +100,17 @@ impl Peer {
     }
 }
 
-/// The target of a host and port.
-pub(crate) fn target_of(rt: &HostRuntime, host: &str, port: u16) -> Result<Target, Fail> {
-    let url = format!(in rt.alloc(); "http://{host}:{port}/")?;
+/// The target of a host and port, if there is memory for it.
+pub(crate) fn target_of(rt: &HostRuntime, host: &str, port: u16) -> Option<Target> {
+    let url = format!(in rt.alloc(); "http://{host}:{port}/").ok()?;
     let mut memory = CountedMemory::new(rt.alloc());
-    Ok(read_target(&mut memory, url.as_str())?)
+    read_target(&mut memory, url.as_str()).ok()
 }
 
-/// The addresses of a host and port.
-pub(crate) fn addresses_of(rt: &HostRuntime, host: &str, port: u16) -> Result<Addresses, Fail> {
+/// The addresses of a host and port, if they are known and there is memory for them.
+pub(crate) fn addresses_of(rt: &HostRuntime, host: &str, port: u16) -> Option<Addresses> {
+    let target = target_of(rt, host, port)?;
     let mut addresses = Addresses::new(rt.alloc());
-    addresses.add(&target_of(rt, host, port)?)?;
-    Ok(addresses)
+    addresses.add(&target).ok()?;
+    Some(addresses)
 }

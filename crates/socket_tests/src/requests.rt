@@ -1,6 +1,6 @@
 //! Requests over sockets of both kinds, and what comes of them.
 
-ghost use Rattle.std.specs.Prelude.{IfOk};
+ghost use Rattle.std.specs.Prelude.{IfSome};
 ghost use Rattle.exchange.specs.Answers.{IsUnused};
 
 use crate::peer::{Behaviour, Peer, addresses_of, target_of};
@@ -10,8 +10,8 @@ use conn_log::Want;
 use exchange::{Clock, Dial, Done, Exchange, Fault, Job, Prepared, Wire};
 use futures::task::{Doorbell, Solo};
 use persistence::Method;
-use socket::{PolledDial, SystemClock, WaitingDial};
-use std::test::Fail;
+use socket::{Addresses, PolledDial, SystemClock, WaitingDial};
+use std::process::Abort;
 
 /// More polls than a request here takes.
 const MOST_POLLS: u32 = 200;
@@ -39,7 +39,7 @@ struct Row {
     opened: u64,
 }
 
-const ROWS: [Row; 6] = [
+static ROWS: [Row; 6] = [
     Row {
         behaviour: Behaviour::Answers,
         first: Outcome::New,
@@ -94,9 +94,9 @@ fn outcome_of(done: Done) -> Outcome {
     }
 }
 
-// A request to the server at that port, with the memory for it.
-fn prepared(rt: &HostRuntime, transfer: u64, port: u16) -> Result<Prepared, Fail>
-    ensures { IfOk result IsUnused }
+// A request to the server at that port, prepared, if there is memory for it.
+fn prepared(rt: &HostRuntime, transfer: u64, port: u16) -> Option<Prepared>
+    ensures { IfSome result IsUnused }
 {
     let want = Want {
         transfer,
@@ -112,7 +112,7 @@ fn prepared(rt: &HostRuntime, transfer: u64, port: u16) -> Result<Prepared, Fail
         method: Method::Get,
         target: target_of(rt, "127.0.0.1", port)?,
     };
-    Ok(Prepared::new(rt.alloc(), &job)?)
+    Prepared::new(rt.alloc(), &job).ok()
 }
 
 // What comes of a request, where the server does that whenever the request waits for it.
@@ -141,21 +141,22 @@ fn requested<W: Wire, D: Dial<W>, K: Clock>(
     outcome_of(done)
 }
 
-// What comes of the two requests of a row.
+// What comes of the two requests of a row, if there is memory and the server behaves so.
 fn outcomes<W: Wire, D: Dial<W>>(
     rt: &HostRuntime,
     behaviour: Behaviour,
     peer: &mut Peer,
     dial: &mut D,
-) -> Result<(Outcome, Outcome), Fail> {
-    let task = Solo::new(rt, Doorbell::spinning())?;
-    let mut pool: Pool<W> = Pool::new(rt.alloc(), Limits::new(0, 0, 4)?, 1)?;
-    let clock = SystemClock::new(rt)?;
-    let port = peer.port()?;
+) -> Option<(Outcome, Outcome)> {
+    let task = Solo::new(rt, Doorbell::spinning()).ok()?;
+    let limits = Limits::new(0, 0, 4).ok()?;
+    let mut pool: Pool<W> = Pool::new(rt.alloc(), limits, 1).ok()?;
+    let clock = SystemClock::new(rt).ok()?;
+    let port = peer.port().ok()?;
     let parts = prepared(rt, 1, port)?;
     let next = prepared(rt, 2, port)?;
     let first = requested(&task, peer, behaviour, parts, &mut pool, dial, &clock);
-    peer.says_more_later(behaviour)?;
+    peer.says_more_later(behaviour).ok()?;
     let second = requested(
         &task,
         peer,
@@ -165,31 +166,40 @@ fn outcomes<W: Wire, D: Dial<W>>(
         dial,
         &clock,
     );
-    Ok((first, second))
+    Some((first, second))
+}
+
+// A server, and the addresses of its one site, if there is memory for them.
+fn peer_of(rt: &HostRuntime) -> Option<(Peer, Addresses)> {
+    let peer = Peer::new(rt).ok()?;
+    let addresses = addresses_of(rt, "127.0.0.1", peer.port().ok()?)?;
+    Some((peer, addresses))
+}
+
+// The outcomes of a row's requests, and how many connections were opened, are as it says.
+fn check_row(rt: &impl Abort, row: &Row, found: ((Outcome, Outcome), u64)) {
+    let expected = ((row.first, row.second), row.opened);
+    assert_eq!(rt; found, expected, "{:?}", row.behaviour);
 }
 
 #[test]
-fn requests_go_over_waiting_sockets(rt: HostRuntime) -> Result<(), Fail> {
+fn requests_go_over_waiting_sockets(rt: HostRuntime) {
     for row in &ROWS {
-        let mut peer = Peer::new(&rt)?;
-        let addresses = addresses_of(&rt, "127.0.0.1", peer.port()?)?;
-        let mut dial = WaitingDial::new(&rt, rt.alloc(), addresses)?;
-        let outcomes = outcomes(&rt, row.behaviour, &mut peer, &mut dial)?;
-        assert_eq!(rt; outcomes, (row.first, row.second));
-        assert_eq!(rt; dial.opened(), row.opened);
+        let (mut peer, addresses) = peer_of(&rt).expect(&rt, "a server");
+        let mut dial = WaitingDial::new(&rt, rt.alloc(), addresses).expect(&rt, "a dial");
+        let outcomes = outcomes(&rt, row.behaviour, &mut peer, &mut dial);
+        let outcomes = outcomes.expect(&rt, "a server that behaves so");
+        check_row(&rt, row, (outcomes, dial.opened()));
     }
-    Ok(())
 }
 
 #[test]
-fn requests_go_over_polled_sockets(rt: HostRuntime) -> Result<(), Fail> {
+fn requests_go_over_polled_sockets(rt: HostRuntime) {
     for row in &ROWS {
-        let mut peer = Peer::new(&rt)?;
-        let addresses = addresses_of(&rt, "127.0.0.1", peer.port()?)?;
-        let mut dial = PolledDial::new(&rt, rt.alloc(), addresses)?;
-        let outcomes = outcomes(&rt, row.behaviour, &mut peer, &mut dial)?;
-        assert_eq!(rt; outcomes, (row.first, row.second));
-        assert_eq!(rt; dial.opened(), row.opened);
+        let (mut peer, addresses) = peer_of(&rt).expect(&rt, "a server");
+        let mut dial = PolledDial::new(&rt, rt.alloc(), addresses).expect(&rt, "a dial");
+        let outcomes = outcomes(&rt, row.behaviour, &mut peer, &mut dial);
+        let outcomes = outcomes.expect(&rt, "a server that behaves so");
+        check_row(&rt, row, (outcomes, dial.opened()));
     }
-    Ok(())
 }
