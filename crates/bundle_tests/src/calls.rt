@@ -10,6 +10,7 @@ use crate::keeper::{Row, Said, Step, run_all};
 use budget::Refusal;
 use bundle::Lease;
 use conn_log::{Cause, Want};
+use std::test::Fail;
 
 // What transfer 2 wants that a connection of lane 0 does not fit 9 seconds after it was opened.
 const OTHER_LANE: Want = Want {
@@ -330,8 +331,8 @@ fn put_stream(lease: &mut Lease<Stream>, stream: Stream)
 }
 
 #[test]
-fn a_lease_lends_its_stream(rt: HostRuntime) {
-    let mut desk = Desk::of_host(rt.alloc(), 1, 1).expect(&rt, "memory");
+fn a_lease_lends_its_stream(rt: HostRuntime) -> Result<(), Fail> {
+    let mut desk = Desk::of_host(rt.alloc(), 1, 1)?;
     let mut lease = lease_of(&rt, asked(&rt, &mut desk, want_of(1), 0));
     assert_eq!(rt; stream_of(&mut lease), None);
     lease.attach(Stream(1));
@@ -347,4 +348,5 @@ fn a_lease_lends_its_stream(rt: HostRuntime) {
         stream_under(&rt, &mut desk, again, 6),
         (1, Some(Stream(9)))
     );
+    Ok(())
 }
