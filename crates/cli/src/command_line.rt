@@ -91,12 +91,12 @@ fn with_get<'a>(alloc: Global, program: Command<'a>) -> Result<Command<'a>, Allo
         app_of command ≡ with_subcommand (app_of program.entry) get_app.top) }
 {
     let head = head_flag(alloc);
-    let max_age = seconds(alloc, "max-age", MAX_AGE_HELP);
-    let timeout = seconds(alloc, "timeout", TIMEOUT_HELP);
-    let urls = url_list(alloc);
     let with_head = Command::new(alloc, "get").arg(head)?;
+    let max_age = seconds(alloc, "max-age", MAX_AGE_HELP);
     let with_age = with_head.arg(max_age)?;
+    let timeout = seconds(alloc, "timeout", TIMEOUT_HELP);
     let with_timeout = with_age.arg(timeout)?;
+    let urls = url_list(alloc);
     let with_urls = with_timeout.arg(urls)?;
     let get = with_urls
         .about("Fetches URLs in turn, and tells how each transfer ended")

@@ -35,7 +35,7 @@ pub enum Request {
 }
 
 /// What an error of the words is.
-#[derive(Clone, Copy, Debug, PartialEq, Eq)]
+#[derive(Clone, Copy)]
 pub enum Manner {
     /// Memory ran out.
     Memory,

@@ -1,7 +1,7 @@
 //! The range of a number that a load is given.
 
 /// The least and the greatest number that an option takes.
-#[derive(Clone, Copy, Debug, PartialEq, Eq)]
+#[derive(Clone, Copy)]
 pub struct NumberRange {
     pub least: u32,
     pub greatest: u32,
