@@ -262,7 +262,8 @@ fn want_of_memory_leaves_a_front_of_the_lines(rt: HostRuntime) {
     let (status, _) = run(
         rt.alloc(),
         words,
-        &ROW,
+        false,
+        "",
         &mut network,
         &mut loader,
         &mut output,

@@ -217,7 +217,8 @@ fn want_of_memory_is_told(rt: HostRuntime) {
     let (status, _) = run(
         rt.alloc(),
         words,
-        &ROW,
+        false,
+        "",
         &mut network,
         &mut loader,
         &mut output,

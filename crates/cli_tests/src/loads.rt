@@ -5,14 +5,14 @@ use std::alloc::Global;
 
 /// Which report or fault it answers, how often it was asked, and with which numbers last.
 #[derive(Drop)]
-pub struct FakeLoader {
-    pub answer: Result<&'static str, LoadFault>,
+pub struct FakeLoader<'a> {
+    answer: Result<&'a str, LoadFault>,
     pub asked: u32,
     pub numbers: [u32; 6],
 }
 
-impl FakeLoader {
-    pub fn new(answer: Result<&'static str, LoadFault>) -> FakeLoader {
+impl<'a> FakeLoader<'a> {
+    pub fn new(answer: Result<&'a str, LoadFault>) -> FakeLoader<'a> {
         FakeLoader {
             answer,
             asked: 0,

@@ -81,14 +81,15 @@ pub fn words_of(alloc: Global, text: &str) -> Result<Words, AllocError> {
     Ok(Words::Given(words))
 }
 
-/// What the program does with these words, where `reuse` is the one file that there is: its status,
-/// and what it writes on standard error.
+/// What the program does with these words and that script on standard input, where `reuse` is the
+/// one file that there is: its status, and what it writes on standard error.
 pub fn run<W: Sink>(
     alloc: Global,
     words: Words,
-    row: &Row,
+    is_typed: bool,
+    script: &str,
     network: &mut FakeNetwork,
-    loader: &mut FakeLoader,
+    loader: &mut FakeLoader<'_>,
     output: &mut W,
 ) -> (u8, Vec<u8>)
     requires { CanCount (W.sink output.old) }
@@ -98,13 +99,13 @@ pub fn run<W: Sink>(
         name: "reuse",
         bytes: REUSE.as_bytes(),
     };
-    let mut input = row.script.as_bytes();
+    let mut input = script.as_bytes();
     let mut errors = Vec::new(alloc);
     let status = run_program(
         alloc,
         &mut memory,
         words,
-        row.is_typed,
+        is_typed,
         &mut files,
         network,
         |alloc, options| loader.load(alloc, options),
@@ -130,14 +131,15 @@ pub fn check_words<R: Abort + AllocGlobal>(
     rt: &R,
     words: Words,
     row: &Row,
-) -> (FakeNetwork, FakeLoader) {
+) -> (FakeNetwork, FakeLoader<'static>) {
     let mut network = FakeNetwork::new(row.network);
     let mut loader = FakeLoader::new(row.load);
     let mut output = Vec::new(rt.alloc());
     let (status, errors) = run(
         rt.alloc(),
         words,
-        row,
+        row.is_typed,
+        row.script,
         &mut network,
         &mut loader,
         &mut output,
@@ -149,7 +151,7 @@ pub fn check_words<R: Abort + AllocGlobal>(
 }
 
 /// That the program does what the row says.
-pub fn check<R: Abort + AllocGlobal>(rt: &R, row: &Row) -> (FakeNetwork, FakeLoader) {
+pub fn check<R: Abort + AllocGlobal>(rt: &R, row: &Row) -> (FakeNetwork, FakeLoader<'static>) {
     let words = words_of(rt.alloc(), row.words).expect(rt, "memory");
     check_words(rt, words, row)
 }
@@ -170,7 +172,8 @@ pub fn check_stopped<R: Abort + AllocGlobal>(
     let (status, errors) = run(
         rt.alloc(),
         words,
-        row,
+        row.is_typed,
+        row.script,
         &mut network,
         &mut loader,
         &mut output,
