@@ -1,11 +1,12 @@
 //! What no clause says of a host under a budget: that calls succeed in ample memory, and what comes
 //! of them where the budget has no room.
 
-use crate::desk::WANT;
-use crate::keeper::{Row, Said, Step, run_all};
+use crate::desk::{Desk, WANT};
+use crate::keeper::{Row, Said, Step, run};
 use budget::{Refusal, Try};
 use bundle::Served;
 use conn_log::{Cause, Want};
+use std::test::Fail;
 
 // Wants of another lane, which no connection of lane 0 fits.
 const OTHER_LANE: Want = Want {
@@ -32,7 +33,7 @@ const OF_AGE: Want = Want {
 };
 
 // What the total limits, at two hosts.
-static TOTALS: [Row; 8] = [
+const TOTALS: [Row; 8] = [
     (
         "two hosts share one connection",
         (0, 1, 4),
@@ -202,7 +203,7 @@ static TOTALS: [Row; 8] = [
 ];
 
 // What the number of those that are kept limits, and what ends for its age.
-static KEPT: [Row; 6] = [
+const KEPT: [Row; 6] = [
     (
         "the oldest goes where no more are kept",
         (0, 0, 1),
@@ -322,11 +323,21 @@ static KEPT: [Row; 6] = [
 ];
 
 #[test]
-fn two_hosts_share_the_total_so(rt: HostRuntime) {
-    run_all(&rt, rt.alloc(), &TOTALS, 8, (7, 3));
+fn two_hosts_share_the_total_so(rt: HostRuntime) -> Result<(), Fail> {
+    for row in &TOTALS {
+        let (name, limits, first, steps) = *row;
+        let desk = Desk::new(rt.alloc(), limits, first)?;
+        run(&rt, rt.alloc(), desk, name, steps);
+    }
+    Ok(())
 }
 
 #[test]
-fn a_host_keeps_so_many_so_long(rt: HostRuntime) {
-    run_all(&rt, rt.alloc(), &KEPT, 8, (7, 3));
+fn a_host_keeps_so_many_so_long(rt: HostRuntime) -> Result<(), Fail> {
+    for row in &KEPT {
+        let (name, limits, first, steps) = *row;
+        let desk = Desk::new(rt.alloc(), limits, first)?;
+        run(&rt, rt.alloc(), desk, name, steps);
+    }
+    Ok(())
 }

@@ -4,9 +4,10 @@
 ghost use Rattle.std.specs.Prelude.{◌≡◌, IsSome, None, Some};
 
 use crate::desk::{
-    Desk, Stream, WANT, asked, give_back, lease_of, leased, stream_of, stream_under, want_of,
+    Desk, Stream, WANT, asked, give_back, lease_of, leased, leave, still, stray, stream_of,
+    stream_under, ticket_of, waits, want_of,
 };
-use crate::keeper::{Row, Said, Step, run_all};
+use crate::keeper::{Row, Said, Step, run};
 use budget::Refusal;
 use bundle::Lease;
 use conn_log::{Cause, Want};
@@ -33,7 +34,7 @@ const YOUNG: Want = Want {
 
 const YOUNG_OF_OTHER_LANE: Want = Want { lane: 1, ..YOUNG };
 
-static CALLS: [Row; 14] = [
+const CALLS: [Row; 13] = [
     // both come back in one moment: the greater number is the newer one
     (
         "the first comes back first",
@@ -219,28 +220,6 @@ static CALLS: [Row; 14] = [
             (Step::Drop(3, 5), Said::Freed(true)),
         ],
     ),
-    // the other host knows nothing of the transfer, and then it waits there too, for something else;
-    // where the ticket was taken it still waits
-    (
-        "a ticket may be a stranger",
-        (1, 0, 65_535),
-        1,
-        &[
-            (Step::Get(1, 0), Said::Opened(1, 0)),
-            (Step::Get(2, 1), Said::Waits),
-            (Step::Other, Said::Done),
-            (Step::Get(1, 0), Said::Opened(1, 0)),
-            (Step::Leave(2, 1), Said::Stranger),
-            (Step::Ask(OTHER_LANE, 1), Said::Waits),
-            (Step::Claim(2), Said::Stranger),
-            (Step::Leave(2, 2), Said::Freed(false)),
-            (Step::Back(1, 2), Said::Freed(false)),
-            (Step::Other, Said::Done),
-            (Step::Claim(2), Said::Still),
-            (Step::Leave(2, 2), Said::Freed(false)),
-            (Step::Back(1, 2), Said::Freed(false)),
-        ],
-    ),
     (
         "an abandoned connection is closed",
         (4, 0, 65_535),
@@ -255,7 +234,7 @@ static CALLS: [Row; 14] = [
 ];
 
 // Each of them, with the cause for which the connection is closed.
-static UNFIT: [Row; 4] = [
+const UNFIT: [Row; 4] = [
     (
         "another lane",
         (1, 0, 65_535),
@@ -311,13 +290,51 @@ static UNFIT: [Row; 4] = [
 ];
 
 #[test]
-fn calls_are_answered_so(rt: HostRuntime) {
-    run_all(&rt, rt.alloc(), &CALLS, 8, (7, 3));
+fn calls_are_answered_so(rt: HostRuntime) -> Result<(), Fail> {
+    for row in &CALLS {
+        let (name, limits, first, steps) = *row;
+        let desk = Desk::new(rt.alloc(), limits, first)?;
+        run(&rt, rt.alloc(), desk, name, steps);
+    }
+    Ok(())
 }
 
 #[test]
-fn what_does_not_fit_the_first_that_waits_is_closed(rt: HostRuntime) {
-    run_all(&rt, rt.alloc(), &UNFIT, 8, (7, 3));
+fn what_does_not_fit_the_first_that_waits_is_closed(rt: HostRuntime) -> Result<(), Fail> {
+    for row in &UNFIT {
+        let (name, limits, first, steps) = *row;
+        let desk = Desk::new(rt.alloc(), limits, first)?;
+        run(&rt, rt.alloc(), desk, name, steps);
+    }
+    Ok(())
+}
+
+#[test]
+fn a_ticket_may_be_a_stranger(rt: HostRuntime) -> Result<(), Fail> {
+    let mut here = Desk::of_host(rt.alloc(), 1, 1)?;
+    let mut there = Desk::of_host(rt.alloc(), 1, 1)?;
+    let holder_here = leased(&rt, &mut here, 1, 0);
+    let holder_there = leased(&rt, &mut there, 1, 0);
+    let ticket = waits(&rt, &mut here, 2, 1);
+    // the other host knows nothing of the transfer
+    let Err(refused) = there.withdraw(ticket, 1) else {
+        panic!(rt; "the ticket was taken");
+    };
+    let ticket = refused.keep();
+    // it waits there too, for something else
+    let want = Want {
+        lane: 1,
+        ..want_of(2)
+    };
+    let other = ticket_of(&rt, asked(&rt, &mut there, want, 1));
+    let ticket = stray(&rt, &mut there, ticket).keep();
+    // where it was taken it still waits
+    let ticket = still(&rt, &mut here, ticket);
+    leave(&rt, &mut here, ticket, 2);
+    give_back(&rt, &mut here, holder_here, 2);
+    leave(&rt, &mut there, other, 2);
+    give_back(&rt, &mut there, holder_there, 2);
+    Ok(())
 }
 
 // Writes through the stream that the lease may have.

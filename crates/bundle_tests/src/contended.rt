@@ -13,6 +13,7 @@ use bundle::{Back, Booking, Bundle, Changed, Did, Got, Lease, Served, Ticket};
 use std::alloc::Global;
 use std::marker::Model;
 use std::process::Abort;
+use std::test::Fail;
 
 // A part of a budget that answers what it is told to; only where it may is a permit given.
 #[derive(Drop)]
@@ -277,9 +278,9 @@ impl ToldHost {
 }
 
 #[test]
-fn an_acquire_is_tried_again(rt: HostRuntime) {
-    let mut host = ToldHost::new(rt.alloc(), 4, Try::Contended).expect(&rt, "memory");
-    let got = host.acquire(1, 0).expect(&rt, "memory");
+fn an_acquire_is_tried_again(rt: HostRuntime) -> Result<(), Fail> {
+    let mut host = ToldHost::new(rt.alloc(), 4, Try::Contended)?;
+    let got = host.acquire(1, 0)?;
     let booking = again_of(&rt, got);
     let booking = again_of(&rt, host.retry(&rt, booking, 1));
     let booking = again_of(&rt, host.retry_at_last(&rt, booking, 2));
@@ -290,13 +291,14 @@ fn an_acquire_is_tried_again(rt: HostRuntime) {
     assert_eq!(rt; (lease.moment(), host.held().alive), (3, 1));
     assert_eq!(rt; host.abandon(&rt, lease, 4), true);
     assert_eq!(rt; host.held(), Held { alive: 0, kept: 0 });
+    Ok(())
 }
 
 #[test]
-fn a_give_back_comes_again(rt: HostRuntime) {
+fn a_give_back_comes_again(rt: HostRuntime) -> Result<(), Fail> {
     for &close_if_full in &[true, false] {
-        let mut host = ToldHost::new(rt.alloc(), 4, Try::Got).expect(&rt, "memory");
-        let got = host.acquire(1, 0).expect(&rt, "memory");
+        let mut host = ToldHost::new(rt.alloc(), 4, Try::Got)?;
+        let got = host.acquire(1, 0)?;
         let mut lease = lease_of(&rt, got);
         attach_new(&mut lease);
         host.answer(Try::Contended);
@@ -313,12 +315,13 @@ fn a_give_back_comes_again(rt: HostRuntime) {
         assert_eq!(rt; host.held(), Held { alive: 1, kept: 1 });
         assert_eq!(rt; host.told(), (2, 1));
     }
+    Ok(())
 }
 
 #[test]
-fn a_turn_and_a_new_limit_come_again(rt: HostRuntime) {
-    let mut host = ToldHost::new(rt.alloc(), 1, Try::Full).expect(&rt, "memory");
-    let got = host.acquire(1, 0).expect(&rt, "memory");
+fn a_turn_and_a_new_limit_come_again(rt: HostRuntime) -> Result<(), Fail> {
+    let mut host = ToldHost::new(rt.alloc(), 1, Try::Full)?;
+    let got = host.acquire(1, 0)?;
     let booking = booking_of(&rt, got);
     let first = ticket_of(&rt, host.retry_at_last(&rt, booking, 0));
     host.answer(Try::Contended);
@@ -345,13 +348,14 @@ fn a_turn_and_a_new_limit_come_again(rt: HostRuntime) {
     host.withdraw(&rt, first, 9);
     host.withdraw(&rt, second, 9);
     assert_eq!(rt; host.held(), Held { alive: 0, kept: 0 });
+    Ok(())
 }
 
 #[test]
-fn a_booking_that_is_not_its_hosts_can_be_let_go(rt: HostRuntime) {
-    let mut host = ToldHost::new(rt.alloc(), 4, Try::Contended).expect(&rt, "memory");
-    let other = ToldHost::new(rt.alloc(), 4, Try::Got).expect(&rt, "memory");
-    let got = host.acquire(1, 0).expect(&rt, "memory");
+fn a_booking_that_is_not_its_hosts_can_be_let_go(rt: HostRuntime) -> Result<(), Fail> {
+    let mut host = ToldHost::new(rt.alloc(), 4, Try::Contended)?;
+    let other = ToldHost::new(rt.alloc(), 4, Try::Got)?;
+    let got = host.acquire(1, 0)?;
     let booking = again_of(&rt, got);
     assert!(rt; host.bundle.has_booked(&booking));
     if other.bundle.has_booked(&booking) {
@@ -362,4 +366,5 @@ fn a_booking_that_is_not_its_hosts_can_be_let_go(rt: HostRuntime) {
         Ok(_got) => panic!(rt; "its transfer is booked no more"),
         Err(refusal) => assert_eq!(rt; refusal, Refusal::TransferBusy),
     }
+    Ok(())
 }

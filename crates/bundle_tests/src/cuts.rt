@@ -2,21 +2,24 @@
 
 ghost use Rattle.std.specs.Prelude.{◌≡◌};
 
-use crate::desk::{
-    Desk, KEEP, Stream, WANT, asked, check_refused, drop_lease, give_back, lease_of, leased, shown,
-};
+use crate::desk::{Desk, KEEP, Stream, WANT, asked, drop_lease, give_back, lease_of, leased};
+use budget::Refusal;
 use conn_log::{Counts, Entry, Event, Want, holder, idle_oldest, open_count, waiting_len};
 use std::process::Abort;
+use std::test::Fail;
 
 /// What is handed out; where memory runs out nothing changes, and it comes the second time.
 pub(crate) fn cut_at_last(rt: &impl Abort, desk: &mut Desk<Stream>) -> Vec<Entry>
     ensures same { desk.new ≡ desk.old }
 {
-    let before = shown(rt, desk);
+    let entries = desk.bundle.log().len();
+    let before = desk.bundle.look();
     match desk.cut() {
         Ok(part) => part,
         Err(refusal) => {
-            check_refused(rt, refusal, desk, before);
+            assert_eq!(rt; refusal, Refusal::Memory);
+            assert_eq!(rt; desk.bundle.log().len(), entries);
+            assert_eq!(rt; desk.bundle.look(), before);
             desk.cut().expect(rt, "memory")
         }
     }
@@ -24,8 +27,8 @@ pub(crate) fn cut_at_last(rt: &impl Abort, desk: &mut Desk<Stream>) -> Vec<Entry
 
 // A connection is used, its host's log is cut, and it is used again.
 #[test]
-fn a_host_goes_on_after_a_cut(rt: HostRuntime) {
-    let mut desk = Desk::of_host(rt.alloc(), 4, 1).expect(&rt, "memory");
+fn a_host_goes_on_after_a_cut(rt: HostRuntime) -> Result<(), Fail> {
+    let mut desk = Desk::of_host(rt.alloc(), 4, 1)?;
     let first = leased(&rt, &mut desk, 1, 0);
     give_back(&rt, &mut desk, first, 5);
     let part = cut_at_last(&rt, &mut desk);
@@ -68,4 +71,5 @@ fn a_host_goes_on_after_a_cut(rt: HostRuntime) {
     assert_eq!(rt; (part.len(), part.first().copied()), (1, Some(leased)));
     assert!(rt; cut_at_last(&rt, &mut desk).is_empty());
     drop_lease(&rt, &mut desk, lease, 6);
+    Ok(())
 }

@@ -7,9 +7,7 @@ ghost use Rattle.bundle.specs.Lease.{IsBookedHere, IsMadeAt, IsNewHost};
 ghost use Rattle.bundle.specs.Replies.{IfBack, IfClaimed, IfGot, GivesLease};
 
 use budget::{Limits, Lobby, Pass, Permits, PlainBudget, Refusal, Try};
-use bundle::{
-    Back, Booking, Bundle, Changed, Claimed, Did, Got, Lease, Served, Snapshot, Stray, Ticket,
-};
+use bundle::{Back, Booking, Bundle, Changed, Claimed, Did, Got, Lease, Served, Stray, Ticket};
 use conn_log::{Cause, Entry, Event, Stamp, Want};
 use persistence::{Facts, Framing, Version};
 use std::alloc::Global;
@@ -383,25 +381,6 @@ pub(crate) fn told<S: Drop>(
     (pass.last(host), pass.calls(host), pass.spent(host))
 }
 
-/// How many entries the log has, what is to be seen of host 7, which has to be at the desk, and
-/// what the pass remembers of it.
-pub(crate) type Seen = (usize, Snapshot, (Option<Did>, u64, u64));
-
-pub(crate) fn shown<S: Drop>(rt: &impl Abort, desk: &Desk<S>) -> Seen {
-    let entries = desk.bundle.log().len();
-    (entries, desk.bundle.look(), told(rt, desk, 7))
-}
-
-/// A refusal has to say that memory ran out, and to have changed nothing.
-pub(crate) fn check_refused<S: Drop>(
-    rt: &impl Abort,
-    refusal: Refusal,
-    desk: &Desk<S>,
-    before: Seen,
-) {
-    assert_eq!(rt; (refusal, shown(rt, desk)), (Refusal::Memory, before));
-}
-
 /// The booking, which has to be the host's.
 pub(crate) fn booked<S: Drop>(rt: &impl Abort, bundle: &Bundle<S>, booking: Booking) -> Booking
     ensures same { result ≡ booking }
@@ -497,6 +476,13 @@ pub(crate) fn leased(
     lease
 }
 
+/// A ticket that has to be given.
+pub(crate) fn waits(rt: &impl Abort, desk: &mut Desk<Stream>, transfer: u64, now: u64) -> Ticket
+    ensures same { desk.new ≡ desk.old }
+{
+    ticket_of(rt, asked(rt, desk, want_of(transfer), now))
+}
+
 /// Whether a spent lease freed a permit; the lease has to be known.
 pub(crate) fn accept<S: Drop>(rt: &impl Abort, answer: Result<bool, Stray<Lease<S>>>) -> bool {
     match answer {
@@ -574,6 +560,28 @@ pub(crate) fn claimed(rt: &impl Abort, desk: &mut Desk<Stream>, ticket: Ticket) 
     match desk.claim(ticket) {
         Ok(Claimed::Lease(lease)) => lease,
         Ok(Claimed::Still(_ticket)) => panic!(rt; "the transfer still waits"),
+        Err(_stray) => panic!(rt; "the ticket is a stranger"),
+    }
+}
+
+/// What a ticket comes back in that has to be a stranger.
+pub(crate) fn stray(rt: &impl Abort, desk: &mut Desk<Stream>, ticket: Ticket) -> Stray<Ticket>
+    ensures same { desk.new ≡ desk.old }
+{
+    match desk.claim(ticket) {
+        Err(stray) => stray,
+        Ok(Claimed::Still(_ticket)) => panic!(rt; "the ticket is no stranger"),
+        Ok(Claimed::Lease(_lease)) => panic!(rt; "the ticket was taken"),
+    }
+}
+
+/// The ticket of a transfer that has to wait on.
+pub(crate) fn still(rt: &impl Abort, desk: &mut Desk<Stream>, ticket: Ticket) -> Ticket
+    ensures same { desk.new ≡ desk.old }
+{
+    match desk.claim(ticket) {
+        Ok(Claimed::Still(ticket)) => ticket,
+        Ok(Claimed::Lease(_lease)) => panic!(rt; "the transfer was granted a connection"),
         Err(_stray) => panic!(rt; "the ticket is a stranger"),
     }
 }

@@ -8,6 +8,7 @@ use bundle::Lease;
 use conn_log::Want;
 use std::cell::Cell;
 use std::process::Abort;
+use std::test::Fail;
 
 // A stream that counts its end.
 struct Counted<'a>(&'a Cell<u32>);
@@ -45,9 +46,9 @@ fn give_back<'a>(rt: &impl Abort, desk: &mut Desk<Counted<'a>>, lease: Lease<Cou
 }
 
 #[test]
-fn each_closing_drops_one_stream(rt: HostRuntime) {
+fn each_closing_drops_one_stream(rt: HostRuntime) -> Result<(), Fail> {
     let ends = Cell::new(0);
-    let mut desk = Desk::new(rt.alloc(), (3, 0, 4), 1).expect(&rt, "memory");
+    let mut desk = Desk::new(rt.alloc(), (3, 0, 4), 1)?;
     let first = leased(&rt, &mut desk, want_of(1), 0, &ends);
     let second = leased(&rt, &mut desk, want_of(2), 0, &ends);
     let third = leased(&rt, &mut desk, want_of(3), 0, &ends);
@@ -72,4 +73,5 @@ fn each_closing_drops_one_stream(rt: HostRuntime) {
     give_back(&rt, &mut desk, fresh, 9);
     assert_eq!(rt; desk.prune(20, 10, 0), 1);
     assert_eq!(rt; ends.get(), 4);
+    Ok(())
 }

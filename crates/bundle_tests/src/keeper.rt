@@ -1,7 +1,7 @@
 //! Rows of steps: what is done at a desk, and what each step is answered. The leases, tickets and
 //! bookings that a step gives stay at hand, by their transfers, for the later ones.
 
-ghost use Rattle.std.specs.Prelude.{◌≡◌, ◌<◌, ◌≤◌, ◌++◌, ◌∷◌, []};
+ghost use Rattle.std.specs.Prelude.{◌≡◌, ◌++◌, ◌∷◌, []};
 ghost use Rattle.bundle.specs.Lease.{IsMadeAt};
 ghost use Rattle.bundle.specs.Replies.{GivesLease, IfBack};
 
@@ -488,8 +488,14 @@ fn entry_said(entry: Option<Entry>) -> Said {
     }
 }
 
-// Does the steps of a row at a new desk; each has to be answered as the row says.
-fn run(rt: &impl Abort, alloc: Global, desk: Desk<Stream>, name: &str, steps: &[(Step, Said)]) {
+/// Does the steps of a row at a new desk; each has to be answered as the row says.
+pub(crate) fn run(
+    rt: &impl Abort,
+    alloc: Global,
+    desk: Desk<Stream>,
+    name: &str,
+    steps: &[(Step, Said)],
+) {
     let mut keeper = Keeper::new(alloc, desk);
     for place in 0..steps.len() {
         let (step, expected) = steps[place];
@@ -497,18 +503,4 @@ fn run(rt: &impl Abort, alloc: Global, desk: Desk<Stream>, name: &str, steps: &[
         assert_eq!(rt; said, expected, "{name}: step {place}");
     }
     keeper.close(rt);
-}
-
-/// Does the steps of each row at a new desk of these two hosts, of so many.
-pub(crate) fn run_all(rt: &impl Abort, alloc: Global, rows: &[Row], hosts: u32, two: (u32, u32))
-    requires hosts { 3 ≤ hosts }
-    requires here { two.0 < hosts }
-    requires there { two.1 < hosts }
-    requires two { two.0 ≡ two.1 → ⊥ }
-{
-    for row in rows {
-        let (name, limits, first, steps) = *row;
-        let desk = Desk::of_two(alloc, limits, first, hosts, two).expect(rt, name);
-        run(rt, alloc, desk, name, steps);
-    }
 }

@@ -7,34 +7,39 @@ ghost use Rattle.bundle.specs.Replies.{GivesLease};
 
 use crate::cuts::cut_at_last;
 use crate::desk::{
-    Desk, Stream, attach_new, booking_of, check_refused, claimed, drop_lease, give_back, lease_of,
-    leave, shown, ticket_of, want_of,
+    Desk, Stream, attach_new, booking_of, claimed, drop_lease, give_back, lease_of, leave,
+    ticket_of, told, want_of,
 };
 use budget::{Pass, Refusal};
 use bundle::{Bundle, Changed, Got, Lease, Ticket};
 use conn_log::Want;
 use std::alloc::Global;
 use std::process::Abort;
+use std::test::Fail;
 
 // A desk under those limits; where memory is refused once, it comes the second time.
-fn new_at_last(rt: &impl Abort, alloc: Global, limits: (u32, u32, u32)) -> Desk<Stream> {
+fn new_at_last(
+    rt: &impl Abort,
+    alloc: Global,
+    limits: (u32, u32, u32),
+) -> Result<Desk<Stream>, Refusal> {
     match Desk::new(alloc, limits, 1) {
-        Ok(desk) => desk,
+        Ok(desk) => Ok(desk),
         Err(refusal) => {
             assert_eq!(rt; refusal, Refusal::Memory);
-            Desk::new(alloc, limits, 1).expect(rt, "memory")
+            Desk::new(alloc, limits, 1)
         }
     }
 }
 
 #[test]
-fn want_of_memory_refuses_a_new_host_and_a_new_pass(rt: HostRuntime) {
+fn want_of_memory_refuses_a_new_host_and_a_new_pass(rt: HostRuntime) -> Result<(), Fail> {
     let made: Result<Bundle<Stream>, Refusal> = Bundle::new(rt.alloc(), 4, 7, 1);
     let mut bundle = match made {
         Ok(bundle) => bundle,
         Err(refusal) => {
             assert_eq!(rt; refusal, Refusal::Memory);
-            Bundle::new(rt.alloc(), 4, 7, 1).expect(&rt, "memory")
+            Bundle::new(rt.alloc(), 4, 7, 1)?
         }
     };
     assert_eq!(rt; (bundle.host(), bundle.log().len()), (7, 0));
@@ -42,7 +47,7 @@ fn want_of_memory_refuses_a_new_host_and_a_new_pass(rt: HostRuntime) {
         Ok(pass) => pass,
         Err(refusal) => {
             assert_eq!(rt; refusal, Refusal::Memory);
-            Pass::new(rt.alloc(), 8).expect(&rt, "memory")
+            Pass::new(rt.alloc(), 8)?
         }
     };
     // a seat takes no memory
@@ -50,6 +55,7 @@ fn want_of_memory_refuses_a_new_host_and_a_new_pass(rt: HostRuntime) {
     assert_eq!(rt; (pass.is_enrolled(7), pass.is_enrolled(0)), (true, false));
     assert_eq!(rt; (pass.spent(7), pass.calls(7)), (0, 0));
     pass.discard();
+    Ok(())
 }
 
 // What an acquire gives; where memory runs out it changes nothing, and comes again.
@@ -57,11 +63,16 @@ fn asked_at_last(rt: &impl Abort, desk: &mut Desk<Stream>, want: Want) -> Got<St
     ensures made_here { GivesLease result (IsMadeAt desk.old.here) }
     ensures same { desk.new ≡ desk.old }
 {
-    let before = shown(rt, desk);
+    let entries = desk.bundle.log().len();
+    let before = desk.bundle.look();
+    let remembered = told(rt, desk, 7);
     match desk.acquire(want, 0) {
         Ok(got) => got,
         Err(refusal) => {
-            check_refused(rt, refusal, desk, before);
+            assert_eq!(rt; refusal, Refusal::Memory);
+            assert_eq!(rt; desk.bundle.log().len(), entries);
+            assert_eq!(rt; desk.bundle.look(), before);
+            assert_eq!(rt; told(rt, desk, 7), remembered);
             desk.acquire(want, 0).expect(rt, "an answer")
         }
     }
@@ -83,8 +94,8 @@ fn waits_at_last(rt: &impl Abort, desk: &mut Desk<Stream>, transfer: u64) -> Tic
 }
 
 #[test]
-fn want_of_memory_refuses_an_acquire(rt: HostRuntime) {
-    let mut desk = new_at_last(&rt, rt.alloc(), (40, 0, 40));
+fn want_of_memory_refuses_an_acquire(rt: HostRuntime) -> Result<(), Fail> {
+    let mut desk = new_at_last(&rt, rt.alloc(), (40, 0, 40))?;
     for transfer in 0..40 {
         let lease = leased_at_last(&rt, &mut desk, transfer);
         give_back(&rt, &mut desk, lease, 0);
@@ -93,11 +104,12 @@ fn want_of_memory_refuses_an_acquire(rt: HostRuntime) {
         drop_lease(&rt, &mut desk, again, 0);
     }
     assert_eq!(rt; desk.bundle.log().len(), 160);
+    Ok(())
 }
 
 #[test]
-fn want_of_memory_refuses_a_wait(rt: HostRuntime) {
-    let mut desk = new_at_last(&rt, rt.alloc(), (1, 0, 4));
+fn want_of_memory_refuses_a_wait(rt: HostRuntime) -> Result<(), Fail> {
+    let mut desk = new_at_last(&rt, rt.alloc(), (1, 0, 4))?;
     let lease = leased_at_last(&rt, &mut desk, 1);
     let first = waits_at_last(&rt, &mut desk, 2);
     let second = waits_at_last(&rt, &mut desk, 3);
@@ -110,11 +122,12 @@ fn want_of_memory_refuses_a_wait(rt: HostRuntime) {
     leave(&rt, &mut desk, second, 0);
     drop_lease(&rt, &mut desk, served, 0);
     assert_eq!(rt; desk.bundle.log().len(), 79);
+    Ok(())
 }
 
 #[test]
-fn want_of_memory_leaves_no_booking(rt: HostRuntime) {
-    let mut desk = new_at_last(&rt, rt.alloc(), (0, 1, 4));
+fn want_of_memory_leaves_no_booking(rt: HostRuntime) -> Result<(), Fail> {
+    let mut desk = new_at_last(&rt, rt.alloc(), (0, 1, 4))?;
     let lease = leased_at_last(&rt, &mut desk, 1);
     for transfer in 2..40 {
         let booking = booking_of(&rt, asked_at_last(&rt, &mut desk, want_of(transfer)));
@@ -126,34 +139,41 @@ fn want_of_memory_leaves_no_booking(rt: HostRuntime) {
     }
     drop_lease(&rt, &mut desk, lease, 0);
     assert_eq!(rt; desk.bundle.log().len(), 78);
+    Ok(())
 }
 
 #[test]
-fn want_of_memory_refuses_a_cut(rt: HostRuntime) {
-    let mut desk = new_at_last(&rt, rt.alloc(), (4, 0, 4));
+fn want_of_memory_refuses_a_cut(rt: HostRuntime) -> Result<(), Fail> {
+    let mut desk = new_at_last(&rt, rt.alloc(), (4, 0, 4))?;
     let lease = leased_at_last(&rt, &mut desk, 1);
     assert_eq!(rt; cut_at_last(&rt, &mut desk).len(), 1);
     drop_lease(&rt, &mut desk, lease, 0);
     assert_eq!(rt; cut_at_last(&rt, &mut desk).len(), 1);
+    Ok(())
 }
 
 // A limit that has to be changed; where memory runs out nothing is, and it comes again.
 fn limit_at_last(rt: &impl Abort, desk: &mut Desk<Stream>, limit: u32) -> Changed
     ensures same { desk.new ≡ desk.old }
 {
-    let before = shown(rt, desk);
+    let entries = desk.bundle.log().len();
+    let before = desk.bundle.look();
+    let remembered = told(rt, desk, 7);
     match desk.set_host_limit(limit, 0) {
         Ok(changed) => changed,
         Err(refusal) => {
-            check_refused(rt, refusal, desk, before);
+            assert_eq!(rt; refusal, Refusal::Memory);
+            assert_eq!(rt; desk.bundle.log().len(), entries);
+            assert_eq!(rt; desk.bundle.look(), before);
+            assert_eq!(rt; told(rt, desk, 7), remembered);
             desk.set_host_limit(limit, 0).expect(rt, "an answer")
         }
     }
 }
 
 #[test]
-fn want_of_memory_refuses_a_new_limit(rt: HostRuntime) {
-    let mut desk = new_at_last(&rt, rt.alloc(), (1, 0, 4));
+fn want_of_memory_refuses_a_new_limit(rt: HostRuntime) -> Result<(), Fail> {
+    let mut desk = new_at_last(&rt, rt.alloc(), (1, 0, 4))?;
     let first = leased_at_last(&rt, &mut desk, 1);
     let second = waits_at_last(&rt, &mut desk, 2);
     let done = Changed::Done { freed: false };
@@ -167,4 +187,5 @@ fn want_of_memory_refuses_a_new_limit(rt: HostRuntime) {
     }
     drop_lease(&rt, &mut desk, second, 0);
     assert_eq!(rt; desk.bundle.log().len(), 46);
+    Ok(())
 }

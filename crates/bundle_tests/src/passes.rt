@@ -1,11 +1,12 @@
 //! What a pass remembers of each host: what the last call there answered, how many calls answered,
 //! and how many leases were spent with it.
 
-use crate::desk::{KEEP, WANT};
-use crate::keeper::{Row, Said, Step, run_all};
+use crate::desk::{Desk, KEEP, WANT};
+use crate::keeper::{Row, Said, Step, run};
 use budget::Refusal;
 use bundle::Did;
 use conn_log::{Cause, Entry, Event, Want};
+use std::test::Fail;
 
 // The answer of an acquire, of a give back or of the like: the entry that it wrote.
 macro_rules! wrote {
@@ -93,7 +94,7 @@ const LEASED_AGAIN: Event = Event::Leased {
 };
 
 // The hosts are 0 and 2 of three, and the pass has a seat at both.
-static ROWS: [Row; 8] = [
+const ROWS: [Row; 8] = [
     (
         "a pass has an account for each host",
         (4, 0, 4),
@@ -273,6 +274,11 @@ static ROWS: [Row; 8] = [
 ];
 
 #[test]
-fn a_pass_is_told_that(rt: HostRuntime) {
-    run_all(&rt, rt.alloc(), &ROWS, 3, (0, 2));
+fn a_pass_is_told_that(rt: HostRuntime) -> Result<(), Fail> {
+    for row in &ROWS {
+        let (name, limits, first, steps) = *row;
+        let desk = Desk::of_two(rt.alloc(), limits, first, 3, (0, 2))?;
+        run(&rt, rt.alloc(), desk, name, steps);
+    }
+    Ok(())
 }

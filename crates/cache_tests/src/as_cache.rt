@@ -10,6 +10,7 @@ use cache::Pool;
 use conn_log::{Cause, Entry, Event};
 use leasing::Cache;
 use std::process::Abort;
+use std::test::Fail;
 
 // The lease that the transfer is given at the first site.
 fn lease_for<C: Cache<u32>>(rt: &impl Abort, cache: &mut C, transfer: u64, now: u64) -> Lease<u32>
@@ -109,9 +110,8 @@ fn entry(moment: u64, event: Event) -> Entry {
 }
 
 #[test]
-fn a_pool_is_a_cache(rt: HostRuntime) {
-    let limits = Limits::new(1, 0, 4).expect(&rt, "limits");
-    let mut pool: Pool<u32> = Pool::new(rt.alloc(), limits, 1).expect(&rt, "memory");
+fn a_pool_is_a_cache(rt: HostRuntime) -> Result<(), Fail> {
+    let mut pool: Pool<u32> = Pool::new(rt.alloc(), Limits::new(1, 0, 4)?, 1)?;
     share_one_connection(&rt, &mut pool);
     let reuse = Event::Leased {
         connection: 1,
@@ -133,4 +133,5 @@ fn a_pool_is_a_cache(rt: HostRuntime) {
             returned(2, 7),
         ],
     );
+    Ok(())
 }

@@ -5,51 +5,46 @@ use crate::desk::{Desk, check_log, closed, limited, opened, returned, strange, w
 use budget::{Limits, Refusal};
 use cache::Pool;
 use conn_log::Cause;
-use std::alloc::Global;
-use std::process::Abort;
+use std::test::Fail;
 
 #[test]
-fn a_pool_has_1024_hosts_at_most(rt: HostRuntime) {
-    let limits = Limits::new(0, 0, 4).expect(&rt, "limits");
+fn a_pool_has_1024_hosts_at_most(rt: HostRuntime) -> Result<(), Fail> {
+    let limits = Limits::new(0, 0, 4)?;
     for &(hosts, refusal) in &[(0, None), (1_024, None), (1_025, Some(Refusal::BadSite))] {
         let made: Result<Pool<()>, Refusal> = Pool::new(rt.alloc(), limits, hosts);
         assert_eq!(rt; made.err(), refusal);
     }
+    Ok(())
 }
 
-// A transfer, the site at which it asks, and what it is refused.
-static REFUSED: [(u64, u32, Refusal); 3] = [
-    (1, 0, Refusal::TransferBusy),
-    (1, 7, Refusal::BadSite),
-    (2, 1, Refusal::BadSite),
-];
-
 #[test]
-fn a_transfer_is_busy_and_a_site_is_bad(rt: HostRuntime) {
-    let mut desk = Desk::new(rt.alloc(), (0, 0, 4), 1).expect(&rt, "memory");
+fn a_transfer_is_busy_and_a_site_is_bad(rt: HostRuntime) -> Result<(), Fail> {
+    let mut desk = Desk::new(rt.alloc(), (0, 0, 4), 1)?;
     desk.get(&rt, 1, 0, 0);
-    for &(transfer, site, refusal) in &REFUSED {
-        let refused = desk.ask(&rt, want_of(transfer), site, 1);
-        assert_eq!(rt; refused, Some(refusal), "transfer {transfer}, site {site}");
-    }
-    for &site in &[7, 1] {
-        assert_eq!(rt; desk.pool.look(site), Err(Refusal::BadSite), "site {site}");
-    }
+    assert_eq!(rt;
+        desk.ask(&rt, want_of(1), 0, 1),
+        Some(Refusal::TransferBusy)
+    );
+    assert_eq!(rt; desk.ask(&rt, want_of(1), 7, 1), Some(Refusal::BadSite));
+    assert_eq!(rt; desk.ask(&rt, want_of(2), 1, 1), Some(Refusal::BadSite));
+    assert_eq!(rt; desk.pool.look(7), Err(Refusal::BadSite));
+    assert_eq!(rt; desk.pool.look(1), Err(Refusal::BadSite));
     assert_eq!(rt;
         (desk.pool.log(1).is_none(), desk.pool.spent(1)),
         (true, None)
     );
-    let limits = (desk.set_host_limit(7, 1, 1), desk.set_host_limit(0, 2, 1));
-    assert_eq!(rt; limits, (Err(Refusal::BadSite), Ok(())));
+    assert_eq!(rt; desk.set_host_limit(7, 1, 1), Err(Refusal::BadSite));
+    assert_eq!(rt; desk.set_host_limit(0, 2, 1), Ok(()));
     check_log(&rt, &desk, 0, &[opened(1, want_of(1), 0), limited(2, 1)]);
     assert_eq!(rt; (desk.pool.hosts(), desk.pool.spent(0)), (1, Some(0)));
     let pool = desk.close(&rt, 2);
     assert_eq!(rt; pool.spent(0), Some(1));
+    Ok(())
 }
 
 #[test]
-fn a_prune_is_of_all_hosts(rt: HostRuntime) {
-    let mut desk = Desk::new(rt.alloc(), (0, 0, 4), 3).expect(&rt, "memory");
+fn a_prune_is_of_all_hosts(rt: HostRuntime) -> Result<(), Fail> {
+    let mut desk = Desk::new(rt.alloc(), (0, 0, 4), 3)?;
     for &(transfer, site) in &[(1, 0), (2, 1), (3, 2)] {
         desk.get(&rt, transfer, site, 0);
         desk.back(&rt, transfer, 5 * transfer);
@@ -73,18 +68,13 @@ fn a_prune_is_of_all_hosts(rt: HostRuntime) {
     assert_eq!(rt; desk.prune(14, 118, 14), 1);
     assert_eq!(rt; desk.prune(100, 0, 0), 0);
     desk.close(&rt, 16);
-}
-
-// A pool of so many hosts, each with one open connection at most.
-fn new_pool(rt: &impl Abort, alloc: Global, hosts: u32) -> Pool<()> {
-    let limits = Limits::new(1, 0, 4).expect(rt, "limits");
-    Pool::new(alloc, limits, hosts).expect(rt, "memory")
+    Ok(())
 }
 
 #[test]
-fn a_site_that_is_not_there_is_a_stranger(rt: HostRuntime) {
-    let mut small = new_pool(&rt, rt.alloc(), 7);
-    let mut large = Desk::new(rt.alloc(), (1, 0, 4), 8).expect(&rt, "memory");
+fn a_site_that_is_not_there_is_a_stranger(rt: HostRuntime) -> Result<(), Fail> {
+    let mut small: Pool<()> = Pool::new(rt.alloc(), Limits::new(1, 0, 4)?, 7)?;
+    let mut large = Desk::new(rt.alloc(), (1, 0, 4), 8)?;
     large.get(&rt, 1, 7, 0);
     large.get(&rt, 2, 7, 1);
     let ticket = large.tickets.pop().expect(&rt, "a ticket");
@@ -95,4 +85,5 @@ fn a_site_that_is_not_there_is_a_stranger(rt: HostRuntime) {
     assert_eq!(rt; (ticket.site(), ticket.transfer()), (7, 2));
     large.withdraw(&rt, ticket, 2);
     large.close(&rt, 3);
+    Ok(())
 }

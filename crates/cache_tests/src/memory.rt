@@ -8,32 +8,31 @@ use bundle::Snapshot;
 use conn_log::Entry;
 use std::alloc::Global;
 use std::process::Abort;
+use std::test::Fail;
 
 /// How often the connections are used: logs and tables grow several times.
 const ROUNDS: u64 = 20;
 
 // A desk under these limits; where memory is refused once, it comes the second time.
-fn desk_at_last(rt: &impl Abort, alloc: Global, limits: (u32, u32, u32), hosts: u32) -> Desk {
+fn desk_at_last(
+    rt: &impl Abort,
+    alloc: Global,
+    limits: (u32, u32, u32),
+    hosts: u32,
+) -> Result<Desk, Refusal> {
     match Desk::new(alloc, limits, hosts) {
-        Ok(desk) => desk,
+        Ok(desk) => Ok(desk),
         Err(refusal) => {
             assert_eq!(rt; refusal, Refusal::Memory);
-            Desk::new(alloc, limits, hosts).expect(rt, "memory")
+            Desk::new(alloc, limits, hosts)
         }
     }
 }
 
-/// How many entries a host's log has, and what is to be seen of the host.
-type Shown = (usize, Result<Snapshot, Refusal>);
-
-fn shown(rt: &impl Abort, desk: &Desk, site: u32) -> Shown {
+// How many entries the host's log has, and what is to be seen of the host.
+fn shown(rt: &impl Abort, desk: &Desk, site: u32) -> (usize, Result<Snapshot, Refusal>) {
     let log = desk.pool.log(site).expect(rt, "a host");
     (log.len(), desk.pool.look(site))
-}
-
-// A refusal has to say that memory ran out, and to have changed nothing at the host.
-fn check_refused(rt: &impl Abort, refusal: Refusal, desk: &Desk, site: u32, before: Shown) {
-    assert_eq!(rt; (refusal, shown(rt, desk, site)), (Refusal::Memory, before));
 }
 
 // The transfer acquires a connection, or waits; where memory runs out nothing changes, and it asks
@@ -43,7 +42,8 @@ fn get_at_last(rt: &impl Abort, desk: &mut Desk, transfer: u64, site: u32) {
     let Some(refusal) = desk.ask(rt, want_of(transfer), site, 0) else {
         return;
     };
-    check_refused(rt, refusal, desk, site, before);
+    assert_eq!(rt; refusal, Refusal::Memory);
+    assert_eq!(rt; shown(rt, desk, site), before);
     desk.get(rt, transfer, site, 0);
 }
 
@@ -53,7 +53,8 @@ fn limit_at_last(rt: &impl Abort, desk: &mut Desk, site: u32, limit: u32) {
     let Err(refusal) = desk.set_host_limit(site, limit, 0) else {
         return;
     };
-    check_refused(rt, refusal, desk, site, before);
+    assert_eq!(rt; refusal, Refusal::Memory);
+    assert_eq!(rt; shown(rt, desk, site), before);
     assert_eq!(rt; desk.set_host_limit(site, limit, 0), Ok(()));
 }
 
@@ -63,15 +64,16 @@ fn cut_at_last(rt: &impl Abort, desk: &mut Desk, site: u32) -> Vec<Entry> {
     match desk.pool.cut(site) {
         Ok(part) => part,
         Err(refusal) => {
-            check_refused(rt, refusal, desk, site, before);
+            assert_eq!(rt; refusal, Refusal::Memory);
+            assert_eq!(rt; shown(rt, desk, site), before);
             desk.cut(rt, site)
         }
     }
 }
 
 #[test]
-fn want_of_memory_changes_no_pool(rt: HostRuntime) {
-    let mut desk = desk_at_last(&rt, rt.alloc(), (1, 2, 1), 3);
+fn want_of_memory_changes_no_pool(rt: HostRuntime) -> Result<(), Fail> {
+    let mut desk = desk_at_last(&rt, rt.alloc(), (1, 2, 1), 3)?;
     for round in 0..ROUNDS {
         let (first, second, third) = (3 * round, 3 * round + 1, 3 * round + 2);
         get_at_last(&rt, &mut desk, first, 0);
@@ -91,6 +93,7 @@ fn want_of_memory_changes_no_pool(rt: HostRuntime) {
     let part = cut_at_last(&rt, &mut desk, 2);
     assert_eq!(rt; part.len() as u64, ROUNDS);
     let _ = desk.close(&rt, 0);
+    Ok(())
 }
 
 /// How many transfers ask for a connection.
@@ -140,7 +143,7 @@ fn want_of_memory_for_good_keeps_each_promise(rt: HostRuntime) {
         queued: false,
     };
     let (entries, seen) = shown(&rt, &desk, 0);
-    let expected = ENTRIES.get(answered as usize).copied();
-    assert_eq!(rt; (seen, Some(entries)), (Ok(nothing), expected));
+    assert_eq!(rt; seen, Ok(nothing));
+    assert_eq!(rt; ENTRIES.get(answered as usize).copied(), Some(entries));
     let _ = desk.close(&rt, 9);
 }
