@@ -66,13 +66,13 @@ def is_current():
 
 
 def build_unless_current():
-    """Builds the program where it is missing or older than its sources."""
+    """Builds the program if it is missing or older than its sources."""
     if not is_current() and subprocess.run([os.path.join(TOP, "tools", "build-program")]).returncode != 0:
         sys.exit("tools/build-program did not build the program")
 
 
 def built(crate, command, product, words=()):
-    """A crate's file in out. rt makes it first where it is missing or older than its sources, and runs a program with
+    """A crate's file in out. rt makes it first if it is missing or older than its sources, and runs a program with
     these words."""
     path = os.path.join(TOP, "crates", crate, "out", product)
     if not is_newest(path, crate):

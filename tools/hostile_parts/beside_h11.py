@@ -1,5 +1,5 @@
 #!/usr/bin/env python3
-"""Compares what our reader says of damaged responses with what another one says: h11 where Python has it, else llhttp by
+"""Compares what our reader says of mutated responses with what another one says: h11 if Python has it, else llhttp by
 node. For information alone: they need not agree.
 
     tools/hostile_parts/beside_h11.py [COUNT [SEED]]
@@ -156,7 +156,7 @@ def compare(count, seed):
         if way:
             differing[way].append((len(text), text, method, (status, length, end), theirs))
     agree = len(lines) - sum(map(len, differing.values()))
-    print(f"{agree:,} of {len(lines):,} damaged responses: {name} says the same (a fault, or status, length and end)")
+    print(f"{agree:,} of {len(lines):,} mutated responses: {name} says the same (a fault, or status, length and end)")
     for way, cases in sorted(differing.items(), key=lambda item: -len(item[1])):
         _length, text, method, ours, theirs = min(cases)
         print(f"{len(cases):6} {way}; as {method} {text[:MOST_SHOWN]!r}: ours {ours}, theirs {tuple(theirs)}")

@@ -18,7 +18,7 @@ from real_servers.servers import Server
 from .parts import Part, check
 from .programs import curlpool, run, tests_of, tool
 
-# the crates whose tests of want of memory try the public calls that may be refused memory
+# the crates whose tests of allocation failures try the public calls that may be refused memory
 CRATES = ("budget_tests", "bundle_tests", "cache_tests", "cli_tests", "conn_key_tests", "conn_log_tests",
           "exchange_tests", "load_tests", "persistence_tests", "shared_cache_tests", "threads_tests")
 SECONDS = 20
@@ -57,7 +57,7 @@ def calls_of(crate):
 
 
 def wrong_front(run, lines, urls):
-    """What is wrong with what get wrote, or nothing: each URL has its line, or a fault for want of memory, or the run
+    """What is wrong with what get wrote, or nothing: each URL has its line, or a fault for lack of memory, or the run
     ended before it."""
     found = run.output.decode().splitlines(keepends=True)
     if len(found) > len(lines):

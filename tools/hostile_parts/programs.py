@@ -1,7 +1,7 @@
 """The programs and tests that hostile tries: where they are, and what a run of them gave.
 
 BUILT names a folder that has them already: tools/hostile says which. Otherwise those in `out` are taken, which are
-built first where they are missing or older than their sources.
+built first if they are missing or older than their sources.
 """
 import contextlib
 import os

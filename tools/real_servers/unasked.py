@@ -6,7 +6,7 @@ from .cases import UNASKED
 from .places import started
 
 ASKED = """\
-Server A sends, 30 ms after each response, a whole one of 7 bytes that nobody asked for.
+Server A sends, 30 ms after each response, a whole one of 7 bytes, unsolicited.
 Asked in turn: 1 byte of A; 2 bytes of B, which takes 150 ms; 3 bytes of A again."""
 
 
