@@ -1,5 +1,5 @@
-//! Tests of `budget` and `claim`: what no clause says, worked rows, and threads that come and go, or
-//! draw jobs.
+//! Tests of `budget` and `claim`: what no clause says, worked rows, and threads that come and go,
+//! or draw jobs.
 #![tactic(auto)]
 
 #[cfg(test)]

@@ -1,5 +1,5 @@
-//! What limits over all hosts cost: a budget is asked for permits, which it gets back, and the tables
-//! that go with leases and with the queue of hosts take their steps.
+//! What limits over all hosts cost: a budget is asked for permits, which it gets back, and the
+//! tables that go with leases and with the queue of hosts take their steps.
 
 ghost use Rattle.std.specs.Prelude.{◌≡◌, ◌+◌, ◌<◌, [], None, false, length};
 ghost use Rattle.std.specs.Thread.{IsSync};

@@ -1,5 +1,5 @@
-//! The command `soak`: load that lasts. Threads, each with one desk and one pass for its whole life,
-//! make requests over one shared cache whose logs they cut.
+//! The command `soak`: load that lasts. Threads, each with one desk and one pass for its whole
+//! life, make requests over one shared cache whose logs they cut.
 
 mod carrier;
 mod counts;
