@@ -1,7 +1,7 @@
 //! How connections and the server end.
 
 use crate::beside::beside;
-use crate::client::{Client, REQUEST};
+use crate::connection::{Connection, REQUEST};
 use loopback_server::Server;
 use std::alloc::AllocGlobal;
 use std::io;
@@ -12,7 +12,7 @@ fn what_a_peer_asked_before_its_end_is_answered(rt: HostRuntime) -> Result<(), F
     let server = Server::listen(&rt, rt.alloc(), 1)?;
     let port = server.ports()[0];
     beside(&rt, server, || -> io::Result<()> {
-        let client = Client::connect(&rt, port)?;
+        let client = Connection::connect(&rt, port)?;
         client.send(REQUEST, 100)?;
         client.send(b"GET /", 100)?;
         client.end()?;
@@ -27,13 +27,13 @@ fn what_a_peer_asked_before_its_end_is_answered(rt: HostRuntime) -> Result<(), F
 fn the_server_ends_with_its_connections(rt: HostRuntime) -> Result<(), Fail> {
     let server = Server::listen(&rt, rt.alloc(), 2)?;
     let port = server.ports()[1];
-    let client = beside(&rt, server, || -> io::Result<Client> {
-        let client = Client::connect(&rt, port)?;
+    let client = beside(&rt, server, || -> io::Result<Connection> {
+        let client = Connection::connect(&rt, port)?;
         client.send(REQUEST, 100)?;
         assert_eq!(rt; client.answers(1), 1);
         Ok(client)
     })?;
     assert!(rt; client.is_ended());
-    assert!(rt; Client::connect(&rt, port).is_err());
+    assert!(rt; Connection::connect(&rt, port).is_err());
     Ok(())
 }

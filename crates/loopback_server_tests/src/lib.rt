@@ -1,12 +1,15 @@
-//! Tests of `loopback_server`, beside clients on a thread of their own: what no clause says.
+//! Tests of `loopback_server`, beside clients on a thread of their own: what no clause says. One of
+//! them is the program of docs/embedding.md.
 #![tactic(auto)]
 
 #[cfg(test)]
 mod beside;
 #[cfg(test)]
-mod client;
+mod connection;
 #[cfg(test)]
 mod ends;
+#[cfg(test)]
+mod example;
 #[cfg(test)]
 mod many;
 #[cfg(test)]

@@ -1,7 +1,7 @@
 //! Many connections at once, and many requests on one of them.
 
 use crate::beside::beside;
-use crate::client::{Client, REQUEST};
+use crate::connection::{Connection, REQUEST};
 use loopback_server::Server;
 use std::alloc::AllocGlobal;
 use std::test::Fail;
@@ -25,7 +25,7 @@ fn many_connections_are_answered(rt: HostRuntime) -> Result<(), Fail> {
         let mut clients = Vec::new(rt.alloc());
         for _ in 0..EACH {
             for port in ports.as_slice() {
-                clients.push(Client::connect(&rt, *port)?)?;
+                clients.push(Connection::connect(&rt, *port)?)?;
             }
         }
         for _ in 0..3 {
@@ -60,7 +60,7 @@ fn a_peer_that_reads_late_gets_all(rt: HostRuntime) -> Result<(), Fail> {
         block.extend_from_slice(b"GET / HTTP/1.1\r\n\r\n")?;
     }
     beside(&rt, server, || -> io::Result<()> {
-        let client = Client::connect(&rt, port)?;
+        let client = Connection::connect(&rt, port)?;
         let (sent, answers) = join(
             &rt,
             || -> io::Result<()> {

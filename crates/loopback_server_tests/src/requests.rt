@@ -1,7 +1,7 @@
 //! What comes back for the bytes that a client sends.
 
 use crate::beside::beside;
-use crate::client::{Client, REQUEST};
+use crate::connection::{Connection, REQUEST};
 use loopback_server::Server;
 use std::alloc::{AllocError, AllocGlobal};
 use std::io;
@@ -127,7 +127,7 @@ fn outcome(
     piece: usize,
     wanted: (usize, bool),
 ) -> io::Result<(usize, bool)> {
-    let client = Client::connect(rt, port)?;
+    let client = Connection::connect(rt, port)?;
     // A server that refuses the text may close before all of it is sent.
     let sent = client.send(text, piece);
     if wanted.1 {

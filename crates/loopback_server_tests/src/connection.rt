@@ -1,4 +1,4 @@
-//! A client of one connection.
+//! A client's connection.
 
 use std::io;
 use std::io::{Read, Write};
@@ -16,18 +16,18 @@ const MOST_SECONDS: u64 = 10;
 
 /// A connection to a server.
 #[derive(Drop)]
-pub(crate) struct Client {
+pub(crate) struct Connection {
     stream: TcpStream,
 }
 
-impl Client {
+impl Connection {
     /// A connection to that port of 127.0.0.1.
-    pub(crate) fn connect(rt: &HostRuntime, port: u16) -> io::Result<Client> {
+    pub(crate) fn connect(rt: &HostRuntime, port: u16) -> io::Result<Connection> {
         let address = SocketAddr::new(IpAddr::V4(Ipv4Addr::LOCALHOST), port);
         let stream = TcpStream::connect(rt, address)?;
         stream.set_nodelay(true)?;
         stream.set_read_timeout(Some(Duration::from_secs(MOST_SECONDS)))?;
-        Ok(Client { stream })
+        Ok(Connection { stream })
     }
 
     /// Sends the bytes, so many in each write.
