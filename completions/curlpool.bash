@@ -3,12 +3,13 @@ _curlpool() {
     local word=${COMP_WORDS[COMP_CWORD]} command=${COMP_WORDS[1]}
     local options
     if [ "$COMP_CWORD" -eq 1 ]; then
-        options="get load script --help --version"
+        options="get load script help --help --version"
     else
         case $command in
             get) options="--head --max-age --timeout --help" ;;
             load) options="--sites --jobs --workers --host-limit --total --connects --help" ;;
             script) options="--help" ;;
+            help) options="get load script" ;;
         esac
     fi
     if [ "$command" = script ] && [ "$COMP_CWORD" -gt 1 ] && [ "${word#-}" = "$word" ]; then

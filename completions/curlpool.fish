@@ -2,6 +2,8 @@
 complete -c curlpool -n __fish_use_subcommand -f -a get -d 'fetches URLs over kept connections'
 complete -c curlpool -n __fish_use_subcommand -f -a load -d 'drives one shared cache by threads'
 complete -c curlpool -n __fish_use_subcommand -f -a script -d 'runs a script of pool events'
+complete -c curlpool -n __fish_use_subcommand -f -a help -d 'prints help of a command'
+complete -c curlpool -n '__fish_seen_subcommand_from help' -f -a 'get load script'
 complete -c curlpool -n __fish_use_subcommand -f -l version -d 'print the version'
 complete -c curlpool -f -l help -d 'print help'
 complete -c curlpool -n '__fish_seen_subcommand_from get' -f -l head -d 'send HEAD in place of GET'

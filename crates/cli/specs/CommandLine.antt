@@ -1,5 +1,5 @@
 -- The program's command line: what its words ask for, and what the program then does.
-use Rattle.std.specs.Prelude.{◌≡◌, ◌⊎◌, ℕ, true, codes, List, [], ◌∷◌, map, string_bytes, Option, Some, None, if◌then◌else◌, Result, Ok, Err}
+use Rattle.std.specs.Prelude.{◌≡◌, ◌⊎◌, ℕ, true, codes, List, [], ◌∷◌, ◌++◌, map, string_bytes, Option, Some, None, if◌then◌else◌, Result, Ok, Err}
 use Rattle.std.specs.Str.{bytes_eq}
 use Rattle.clap.specs.Words.{App, Kinds, IsAmong, Row, Rule, Text, fault_of, new_app, new_rule, subcommand_of, with_rule, with_subcommand}
 use Rattle.clap.specs.Lexer.{usize_max}
@@ -8,7 +8,6 @@ use Rattle.clap.specs.declared.builder.action.ArgAction.TheVariants.{SetTrue}
 use Rattle.clap.specs.declared.error.kind.ErrorKind.{ErrorKind}
 use Rattle.clap.specs.declared.error.kind.ErrorKind.TheVariants as kinds
 use Rattle.conn_key.specs.Wants.{Rises}
-use Rattle.script_text.specs.declared.fault.FaultKind.{FaultKind}
 use Rattle.script_text.specs.declared.fault.ScriptFault.{ScriptFault}
 use Rattle.cli.specs.declared.command_line.Subcommand.{Subcommand}
 use Rattle.cli.specs.declared.command_line.Subcommand.TheVariants as subcommands
@@ -22,11 +21,12 @@ use Rattle.cli.specs.declared.command_line.request.Manner.{Manner}
 use Rattle.cli.specs.declared.command_line.request.Manner.TheVariants as manners
 use Rattle.cli.specs.declared.command_line.request.Request.{Request}
 use Rattle.cli.specs.declared.command_line.request.Request.TheVariants as requests
-use Rattle.script_run.specs.Streams.{Stream, Puts}
+use Rattle.script_run.specs.Streams.{Stream}
 use Rattle.script_run.specs.Running.{RunsScript}
 use Rattle.script_run.specs.Files.{RunsFile}
 use Rattle.cli.specs.GetPlan.{IsPlanOf}
 use Rattle.cli.specs.GetWords.{GetSaid, IsRefused, get_said_by, get_said_in}
+use Rattle.cli.specs.Loading.{WritesText}
 use Rattle.cli.specs.LoadWords.{IsLoadOf, IsLoadRefused, LoadSaid, load_said_by, load_said_in}
 
 -- curlpool has a version and no help subcommand, and needs one of its three subcommands
@@ -58,9 +58,17 @@ load_app = with_rule (with_rule (with_rule (with_rule (with_rule (with_rule (new
 abbrev pub curlpool : App
 curlpool = with_subcommand (with_subcommand (with_subcommand (needing_a_subcommand (new_app (codes "curlpool"))) script_app.top) get_app.top) load_app.top
 
--- what may be wrong with the words, where they name no subcommand (a request for help counts); nothing, where they do
+-- the words as they are read: `help COMMAND` is `COMMAND --help`, and `help` alone is `--help`
+abbrev pub read_words : List Text → List Text
+read_words (program ∷ first ∷ others) = if bytes_eq first (codes "help") then program ∷ (others ++ (codes "--help" ∷ [])) else program ∷ first ∷ others
+read_words words = words
+
+-- what may be wrong with the words, if they name no subcommand (a request for help counts); nothing, if they do
+abbrev pub faults_of : List Text → Kinds
+faults_of words = fault_of curlpool (read_words words)
+
 abbrev pub word_faults : Words → Kinds
-word_faults (Given words) = fault_of curlpool (map string_bytes words.items)
+word_faults (Given words) = faults_of (map string_bytes words.items)
 word_faults NotText = kinds.ValueValidation ∷ []
 word_faults NoMemory = kinds.OutOfMemory ∷ []
 
@@ -84,7 +92,7 @@ said_in (Some entered) =
     else (if bytes_eq entered.0 (codes "load") then load (load_said_in entered.1) else script (asked_file (first_of (codes "FILE") entered.1)))
 
 abbrev pub said_after : List Text → Said
-said_after words = said_in (subcommand_of curlpool words)
+said_after words = said_in (subcommand_of curlpool (read_words words))
 
 abbrev pub said : Words → Said
 said (Given words) = said_after (map string_bytes words.items)
@@ -197,12 +205,10 @@ abbrev pub AnswersScript : Opening → Option Text → Stream → Stream → Str
 AnswersScript Opens None unread left old new status = RunsAsked unread left old new status
 AnswersScript Opens (Some name) unread left old new status = RunsNamed (Opens name) unread left old new status
 
--- a text was written, or a front of it where writing failed
+-- a text was told: nothing was read
 pub record TellsText (text : List ℕ) (unread left old new : Stream) (status : ℕ) : Type 0 where
   pub unread_yet : left ≡ unread
-  pub result : Result (Unit {0}) FaultKind
-  pub told : Puts old new text result
-  pub ends : status ≡ 0
+  pub writes : WritesText text old new status
 
 -- nothing was read or written
 pub record EndsAtOnce (ending : ℕ) (unread left old new : Stream) (status : ℕ) : Type 0 where
@@ -242,7 +248,7 @@ RunsProgram Opens Runs Alone Loads faults said before after unread left old new 
 
 -- small command lines
 abbrev pub faults_after : List (List ℕ) → Kinds
-faults_after words = fault_of curlpool (codes "curlpool" ∷ words)
+faults_after words = faults_of (codes "curlpool" ∷ words)
 
 abbrev pub TakesScript : Type 0
 TakesScript = faults_after (codes "script" ∷ []) ≡ []
@@ -252,6 +258,12 @@ WantsSubcommand = faults_after [] ≡ kinds.MissingSubcommand ∷ []
 
 abbrev pub TellsHelpOnHelp : Type 0
 TellsHelpOnHelp = faults_after (codes "--help" ∷ []) ≡ kinds.DisplayHelp ∷ []
+
+-- help on the program and on each subcommand, by the word help as by the option
+abbrev pub TellsHelpOnWord : Type 0
+TellsHelpOnWord = (read_words (codes "curlpool" ∷ codes "help" ∷ []) ≡ codes "curlpool" ∷ codes "--help" ∷ [])
+    × (read_words (codes "curlpool" ∷ codes "help" ∷ codes "get" ∷ []) ≡ codes "curlpool" ∷ codes "get" ∷ codes "--help" ∷ [])
+    × (faults_after (codes "help" ∷ codes "load" ∷ []) ≡ kinds.DisplayHelp ∷ [])
 
 abbrev pub TellsVersionOnVersion : Type 0
 TellsVersionOnVersion = faults_after (codes "--version" ∷ []) ≡ kinds.DisplayVersion ∷ []

@@ -69,24 +69,31 @@ abbrev pub fetched_status : Result ℕ FaultKind → ℕ
 fetched_status (Ok failed) = if failed == 0 then 0 else 4
 fetched_status (Err kind) = 4
 
--- what opening a network for these addresses, and so many seconds a transfer, may give: a fetcher, or why there is none
-abbrev pub Connecting : Type 0 → Type 1
-Connecting F = Addresses → ℕ → Result F NetworkFault → Type 0
+-- what opening a network for these addresses, and so many seconds a transfer, may give, and leaves of it: a fetcher, or why
+-- there is none
+abbrev pub Connecting : Type 0 → Type 0 → Type 1
+Connecting N F = N → N → Addresses → ℕ → Result F NetworkFault → Type 0
 
--- the fetcher carries out the jobs
-pub record RunsFetcher {F : Type 0} (Fetched : Carrying F) (first : F) (jobs : List UrlJob) (old new : Stream) (status : ℕ) : Type 0 where
+-- what closing a fetcher leaves of its network
+abbrev pub Closing : Type 0 → Type 0 → Type 1
+Closing N F = N → N → F → Type 0
+
+-- the fetcher carries out the jobs and is then closed: it does nothing after the last of them
+pub record RunsFetcher {N F : Type 0} (Fetched : Carrying F) (Closes : Closing N F) (mid left : N) (first : F) (jobs : List UrlJob) (old new : Stream) (status : ℕ) : Type 0 where
   pub last : F
   pub result : Result ℕ FaultKind
   pub fetches : Fetches Fetched first last jobs old new result
+  pub closes : Closes mid left last
   pub ends : status ≡ fetched_status result
 
--- nothing is written where there is none
-abbrev pub RunsOpened : {F : Type 0} → Carrying F → List UrlJob → Result F NetworkFault → Stream → Stream → ℕ → Type 0
-RunsOpened Fetched jobs (Ok first) old new status = RunsFetcher Fetched first jobs old new status
-RunsOpened Fetched jobs (Err fault) old new status = (new ≡ old) × (status ≡ 4)
+-- nothing is written and nothing closed if there is none
+abbrev pub RunsOpened : {N F : Type 0} → Carrying F → Closing N F → N → N → List UrlJob → Result F NetworkFault → Stream → Stream → ℕ → Type 0
+RunsOpened Fetched Closes mid left jobs (Ok first) old new status = RunsFetcher Fetched Closes mid left first jobs old new status
+RunsOpened Fetched Closes mid left jobs (Err fault) old new status = (left ≡ mid) × (new ≡ old) × (status ≡ 4)
 
 -- the jobs of a plan are carried out by one fetcher, of the network that is opened for its addresses
-pub record RunsPlan {F : Type 0} (Opens : Connecting F) (Fetched : Carrying F) (plan : GetPlan) (old new : Stream) (status : ℕ) : Type 0 where
+pub record RunsPlan {N F : Type 0} (Opens : Connecting N F) (Fetched : Carrying F) (Closes : Closing N F) (network left : N) (plan : GetPlan) (old new : Stream) (status : ℕ) : Type 0 where
+  pub mid : N
   pub opened : Result F NetworkFault
-  pub opens : Opens plan.addresses plan.timeout opened
-  pub runs : RunsOpened Fetched plan.jobs.items opened old new status
+  pub opens : Opens network mid plan.addresses plan.timeout opened
+  pub runs : RunsOpened Fetched Closes mid left plan.jobs.items opened old new status

@@ -13,7 +13,7 @@ use Rattle.conn_key.specs.declared.site.Site.{Site}
 use Rattle.conn_key.specs.declared.target.Target.{Target}
 use Rattle.conn_log.specs.declared.entry.Want.{Want}
 use Rattle.socket.specs.Hosts.{Names}
-use Rattle.cli.specs.GetWords.{GetSaid, IsBadUrl, IsRefused, max_age_said, timeout_said}
+use Rattle.cli.specs.GetWords.{GetSaid, IsBadUrl, IsPrintable, IsRefused, max_age_said, timeout_said}
 use Rattle.cli.specs.declared.get.plan.GetPlan.{GetPlan}
 use Rattle.cli.specs.declared.get.plan.GetRefusal.{GetRefusal}
 use Rattle.cli.specs.declared.get.plan.GetRefusal.TheVariants.{Memory, Wrong}
@@ -29,6 +29,7 @@ want_said number max_age = record { transfer = number; max_age = max_age; max_li
 -- the job of a URL, where these are the sites of the URLs before it
 pub record IsJobOf (method : Method) (want : Want) (sites : List Site) (url : Text) (given : UrlJob) : Type 0 where
   pub url_given : string_bytes given.url ≡ url
+  pub printable : IsPrintable url
   pub target : GivesTarget url given.job.target
   pub site : given.job.site ≡ index_or_next sites (site_of given.job.target)
   pub want_given : given.job.want ≡ want

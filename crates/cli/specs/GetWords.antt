@@ -1,7 +1,7 @@
 -- What the words after `get` say, and when they are refused.
-use Rattle.std.specs.Prelude.{◌≡◌, ◌≢◌, ◌⊎◌, ◌<◌, ◌^◌, ◌&&◌, ℕ, Bool, false, nat_le, codes, List, [], length, map, string_bytes, Option, None, Some, unwrap_or, if◌then◌else◌}
-use Rattle.std.specs.Str.{bytes_eq}
-use Rattle.std.specs.List.{Any}
+use Rattle.std.specs.Prelude.{◌≡◌, ◌≢◌, ◌⊎◌, ◌<◌, ◌^◌, ◌&&◌, ℕ, Bool, true, false, nat_le, codes, List, [], length, map, string_bytes, Option, None, Some, unwrap_or, if◌then◌else◌}
+use Rattle.std.specs.Str.{bytes_eq, chars}
+use Rattle.std.specs.List.{Any, list_any}
 use Rattle.std.specs.Option.{option_and_then, option_map, option_map_or}
 use Rattle.clap.specs.Words.{Row, Text}
 use Rattle.clap.specs.Walk.{all_of, first_of}
@@ -11,6 +11,7 @@ use Rattle.conn_key.specs.declared.target.KeyError.TheVariants.{Memory}
 use Rattle.conn_key.specs.declared.target.Target.{Target}
 use Rattle.script_text.specs.Words.{number}
 use Rattle.socket.specs.Hosts.{HasNoAddress}
+use Rattle.cli.specs.Printable.{is_unprintable}
 use Rattle.cli.specs.declared.get.words.GetWords.{GetWords}
 
 -- whether HEAD is to be sent, the numbers as they were given, and the URLs
@@ -54,9 +55,15 @@ abbrev pub timeout_said : Option Text → Option ℕ
 timeout_said None = Some 30
 timeout_said (Some text) = option_and_then if_hour (number (2 ^ 64) text)
 
--- the text is no URL that leads to a target; or the host of its target is neither localhost nor an address
+-- a text that a terminal prints as it is
+abbrev pub IsPrintable : Text → Type 0
+IsPrintable text = list_any is_unprintable (chars text) ≡ false
+
+-- the text is no URL that leads to a target; or the host of its target is neither localhost nor an address; or it has a
+-- control character
 abbrev pub IsBadUrl : Text → Type 0
-IsBadUrl url = ((error : KeyError) × Refuses url error × (error ≢ Memory)) ⊎ ((target : Target) × GivesTarget url target × HasNoAddress (string_bytes target.host))
+IsBadUrl url = ((error : KeyError) × Refuses url error × (error ≢ Memory))
+    ⊎ (((target : Target) × GivesTarget url target × HasNoAddress (string_bytes target.host)) ⊎ (list_any is_unprintable (chars url) ≡ true))
 
 -- a number is out of its range, the URLs are more than 1,024, or one of them is bad
 abbrev pub IsRefused : GetSaid → Type 0

@@ -1,3 +1,4 @@
+pub mod Printable
 pub mod GetWords
 pub mod GetPlan
 pub mod GetLines
@@ -7,3 +8,4 @@ pub mod LoadWords
 pub mod LoadJobs
 pub mod Loading
 pub mod CommandLine
+pub mod SystemLoads

@@ -24,14 +24,18 @@ load_fault_text Write = codes "cannot write"
 abbrev pub Loading : Type 1
 Loading = LoadOptions → Result (String Global) LoadFault → Type 0
 
--- 0 where the report was written whole, else 4
+-- 0 if a text was written whole, else 4
 abbrev pub written_status : {A : Type 0} → Result A FaultKind → ℕ
 written_status (Ok done) = 0
 written_status (Err kind) = 4
 
--- the report is written, or a front of it where writing fails; where there is none, nothing is written
+-- a text is written, or a front of it if writing fails
+abbrev pub WritesText : Text → Stream → Stream → ℕ → Type 0
+WritesText text old new status = (result : Result (Unit {0}) FaultKind) × Puts old new text result × (status ≡ written_status result)
+
+-- the report is written; if there is none, nothing is
 abbrev pub WritesReport : Result (String Global) LoadFault → Stream → Stream → ℕ → Type 0
-WritesReport (Ok report) old new status = (result : Result (Unit {0}) FaultKind) × Puts old new (string_bytes report) result × (status ≡ written_status result)
+WritesReport (Ok report) old new status = WritesText (string_bytes report) old new status
 WritesReport (Err fault) old new status = (new ≡ old) × (status ≡ 4)
 
 -- a load was carried out, and its report written

@@ -1,13 +1,16 @@
 //! The program's command line, and the words that it reads.
 
 ghost use Rattle.std.specs.Prelude.{◌≡◌, false, IfOk, map, string_bytes};
-ghost use Rattle.clap.specs.Words.{FailsBy, app_of, fault_of, kind_of, rule_of};
+ghost use Rattle.clap.specs.Words.{FailsBy, app_of, kind_of, rule_of};
 ghost use Rattle.clap.specs.Words.{subcommand_rows_of, with_subcommand};
-ghost use Rattle.cli.specs.CommandLine.{curlpool, get_app, head_rule, said_after, said_by, said_in};
-ghost use Rattle.cli.specs.CommandLine.{load_app, script_app, url_rule, value_rule};
+ghost use Rattle.cli.specs.CommandLine.{curlpool, faults_of, get_app, head_rule, load_app};
+ghost use Rattle.cli.specs.CommandLine.{read_words, said_after, said_by, said_in, script_app};
+ghost use Rattle.cli.specs.CommandLine.{url_rule, value_rule};
 
 pub(crate) mod help;
 pub(crate) mod memory;
+pub(crate) mod mistake;
+pub(crate) mod printable;
 pub(crate) mod request;
 pub(crate) mod system_words;
 pub(crate) mod values;
@@ -18,7 +21,7 @@ use crate::loading::words::{LoadWords, load_words_of};
 use crate::script::input::{ScriptInput, input_of};
 use clap::error::ErrorKind;
 use clap::{Arg, ArgAction, ArgMatches, Command, Error};
-use help::{COMMANDS, LINES};
+use help::{COMMANDS, LINES, MORE};
 use std::alloc::{AllocError, Global};
 
 /// What `--help` says of the file.
@@ -61,8 +64,9 @@ fn command<'a>(alloc: Global) -> Result<Command<'a>, AllocError>
 {
     let program = Command::new(alloc, "curlpool")
         .bin_name("curlpool")?
-        .version("0.1.0")
+        .version("0.2.0")
         .about("libcurl's connection cache: fetches URLs, runs scripts, and carries out loads")
+        .after_help(MORE)
         .subcommand_required(true)
         .disable_help_subcommand(true);
     let program = with_script(alloc, program)?;
@@ -170,13 +174,44 @@ fn subcommand_of<'a>(alloc: Global, matches: &ArgMatches<'a>) -> Result<Subcomma
     }
 }
 
-/// Reads the words; those that it takes name a subcommand.
+/// The words as they are read: `help COMMAND` is `COMMAND --help`, and `help` alone is `--help`.
+fn read_words<'a>(alloc: Global, words: &'a [String]) -> Result<Vec<&'a str>, AllocError>
+    ensures { IfOk result (λ read.
+        map (λ word. word.now) read.items ≡ read_words (map string_bytes words.now)) }
+{
+    let mut read = texts_of(alloc, words)?;
+    if read.len() >= 2 && read[1] == "help" {
+        let _ = read.remove(1);
+        read.push("--help")?;
+    }
+    Ok(read)
+}
+
+/// The texts of the words.
+fn texts_of<'a>(alloc: Global, words: &'a [String]) -> Result<Vec<&'a str>, AllocError>
+    ensures { IfOk result (λ texts.
+        map (λ text. text.now) texts.items ≡ map string_bytes words.now) }
+{
+    let mut texts = Vec::new(alloc);
+    for word in words {
+        texts.push(word.as_str())?;
+    }
+    Ok(texts)
+}
+
+/// Reads the words; those that it takes name a subcommand. `help COMMAND` is read as
+/// `COMMAND --help`.
+///
+/// # Errors
+///
+/// An error of `clap`: the words are wrong, or ask for help or the version, or memory ran out.
 pub fn parse(alloc: Global, words: &[String]) -> Result<Subcommand, Error>
-    ensures fails { FailsBy (fault_of curlpool (map string_bytes words.now)) result }
+    ensures fails { FailsBy (faults_of (map string_bytes words.now)) result }
     ensures said { IfOk result (λ subcommand.
         said_by subcommand ≡ said_after (map string_bytes words.now)) }
 {
-    let matches = command(alloc)?.try_get_matches_from(words)?;
+    let read = read_words(alloc, words)?;
+    let matches = command(alloc)?.try_get_matches_from(read.as_slice())?;
     Ok(subcommand_of(alloc, &matches)?)
 }
 

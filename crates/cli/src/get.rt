@@ -27,9 +27,9 @@ const DONE: u8 = 0;
 /// Something was not.
 const FAILED: u8 = 4;
 
-/// Carries out a plan: fetches its URLs one after another, and writes a line on `output` as each
-/// transfer ends. Answers the status: 0 if all had good responses and were told, else 4. What goes
-/// wrong is told on `errors`.
+/// Carries out a plan: fetches its URLs one after another, writes a line on `output` as each
+/// transfer ends, and closes what fetched them. Answers the status: 0 if all had good responses
+/// and were told, else 4. What goes wrong is told on `errors`.
 pub fn run_plan<N: Network, W: Sink, E: Write>(
     alloc: Global,
     plan: GetPlan,
@@ -38,7 +38,7 @@ pub fn run_plan<N: Network, W: Sink, E: Write>(
     errors: &mut E,
 ) -> u8
     requires { CanCount (W.sink output.old) }
-    ensures { RunsPlan (N.opens network.old network.new) N.Fetcher.fetched plan
+    ensures { RunsPlan N.opens N.Fetcher.fetched N.closes network.old network.new plan
         (W.sink output.old) (W.sink output.new) result }
 {
     let GetPlan {
@@ -49,6 +49,7 @@ pub fn run_plan<N: Network, W: Sink, E: Write>(
     match network.open(alloc, addresses, timeout) {
         Ok(mut fetcher) => {
             let result = fetch_all(alloc, &mut fetcher, jobs.as_slice(), output);
+            network.close(fetcher);
             status_told(errors, jobs.len(), result)
         }
         Err(fault) => {

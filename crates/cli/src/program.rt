@@ -4,7 +4,7 @@ ghost use Rattle.std.specs.Prelude.{◌≡◌, None};
 ghost use Rattle.cli.specs.CommandLine.{AnswersRequest, RunsProgram};
 ghost use Rattle.cli.specs.CommandLine.{file_said, request_file, said, word_faults};
 ghost use Rattle.cli.specs.Fetching.{RunsPlan};
-ghost use Rattle.cli.specs.Loading.{RunsLoad};
+ghost use Rattle.cli.specs.Loading.{RunsLoad, WritesText};
 ghost use Rattle.script_run.specs.Streams.{CanCount};
 
 use crate::command_line::Words;
@@ -27,8 +27,8 @@ const DONE: u8 = 0;
 /// The words are refused.
 const BAD_WORDS: u8 = 2;
 
-/// Memory ran out while the words were read.
-const NO_MEMORY: u8 = 4;
+/// Memory ran out while the words were read, or help or the version was not told whole.
+const FAILED: u8 = 4;
 
 /// How a script on a terminal ends, for the person who writes it.
 const HOW_TO_END: &str = "Write a script, and end it with Ctrl-D on an empty line.\n";
@@ -39,7 +39,7 @@ const HOW_TO_END: &str = "Write a script, and end it with Ctrl-D on an empty lin
 /// - 2: the words are refused;
 /// - 3: the script has a fault;
 /// - 4: memory ran out while the words were read, a URL has no good response or no line, or a
-///   load's report was not written whole.
+///   load's report, help or the version was not written whole.
 ///
 /// The script is read from the file among `files` that the words name, or else from `input`. URLs
 /// are fetched over `network`, and `load` carries out loads. `output` gets the transcript, the
@@ -69,7 +69,7 @@ pub fn run_program<
     requires output { CanCount (W.sink output.old) }
     requires load { L.IsAlwaysCallable load }
     ensures runs { RunsProgram (F.opens files.old files.new)
-        (RunsPlan (N.opens network.old network.new) N.Fetcher.fetched)
+        (RunsPlan N.opens N.Fetcher.fetched N.closes network.old network.new)
         (network.new ≡ network.old) (RunsLoad (L.post load alloc)) (word_faults words) (said words)
         (M.wants memory.old) (M.wants memory.new) (R.source input.old) (R.source input.new)
         (W.sink output.old) (W.sink output.new) result }
@@ -110,7 +110,7 @@ pub fn answer_request<
     requires output { CanCount (W.sink output.old) }
     requires load { L.IsAlwaysCallable load }
     ensures answers { AnswersRequest (F.opens files.old files.new)
-        (RunsPlan (N.opens network.old network.new) N.Fetcher.fetched)
+        (RunsPlan N.opens N.Fetcher.fetched N.closes network.old network.new)
         (network.new ≡ network.old) (RunsLoad (L.post load alloc)) request
         (R.source input.old) (R.source input.new) (W.sink output.old) (W.sink output.new) result }
     ensures unopened { request_file request ≡ None → files.new ≡ files.old }
@@ -119,23 +119,33 @@ pub fn answer_request<
         Request::Script(from) => answer_script(alloc, from, files, input, output, errors),
         Request::Get(plan) => run_plan(alloc, plan, network, output, errors),
         Request::Load(options) => run_load(alloc, options, load, output, errors),
-        Request::Tell(text) => {
-            // Where that fails there is nobody left to tell.
-            let _ = output.put(text.as_bytes());
-            DONE
-        }
+        Request::Tell(text) => tell(text.as_str(), output, errors),
         Request::Refuse(text) => {
             say(errors, text.as_str());
             BAD_WORDS
         }
         Request::NoMemory => {
             say(errors, "run: out of memory\n");
-            NO_MEMORY
+            FAILED
         }
     }
 }
 
-/// Tells what goes wrong. Where that fails there is nobody left to tell.
+/// Tells help or the version. Answers the status: 0 if it was written whole, else 4.
+fn tell<W: Sink, E: Write>(text: &str, output: &mut W, errors: &mut E) -> u8
+    requires { CanCount (W.sink output.old) }
+    ensures { WritesText text.now (W.sink output.old) (W.sink output.new) result }
+{
+    match output.put(text.as_bytes()) {
+        Ok(()) => DONE,
+        Err(kind) => {
+            let _ = writeln!(errors, "run: {kind}");
+            FAILED
+        }
+    }
+}
+
+/// Tells what goes wrong. If that fails there is nobody left to tell.
 fn say<E: Write>(errors: &mut E, text: &str) {
     let _ = errors.write_all(text.as_bytes());
 }

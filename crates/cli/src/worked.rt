@@ -2,22 +2,25 @@
 //! program's command line was tried.
 
 ghost use Rattle.cli.specs.CommandLine.{TakesScript, WantsSubcommand, TellsHelpOnHelp};
-ghost use Rattle.cli.specs.CommandLine.{TellsVersionOnVersion, RefusesAnotherWord};
+ghost use Rattle.cli.specs.CommandLine.{TellsHelpOnWord, TellsVersionOnVersion};
+ghost use Rattle.cli.specs.CommandLine.{RefusesAnotherWord};
 ghost use Rattle.cli.specs.CommandLine.{TakesFile, TakesStandardInput, TakesDash};
 ghost use Rattle.cli.specs.CommandLine.{TakesUrls, WantsUrl, RefusesTwice};
 ghost use Rattle.cli.specs.CommandLine.{TakesNumbers, WantsNumber, RefusesNumberTwice};
 ghost use Rattle.cli.specs.GetLines.{TellsResponses, TellsFaults};
 
 /// What is wrong with small command lines, by computation: with `script` alone, or a file after it,
-/// nothing; no word at all, and a word after the file, are refused; `--help` and `--version` are
-/// asked for. Of `script` alone and `script -` the script is read from standard input. `get` takes
-/// its options among the URLs, needs a URL, and refuses an option that is given twice. `load` takes
-/// its numbers as they are given, needs one after an option, and refuses an option given twice.
+/// nothing; no word at all, and a word after the file, are refused; `--help`, `help` and
+/// `--version` are asked for. Of `script` alone and `script -` the script is read from standard
+/// input. `get` takes its options among the URLs, needs a URL, and refuses an option that is given
+/// twice. `load` takes its numbers as they are given, needs one after an option, and refuses an
+/// option given twice.
 #[tactic(auto, unfolding(clap::proofs::OnLiterals::clap_on_literals))]
 pub fn worked_command_lines()
     ensures script { TakesScript }
     ensures nothing { WantsSubcommand }
     ensures help { TellsHelpOnHelp }
+    ensures help_word { TellsHelpOnWord }
     ensures version { TellsVersionOnVersion }
     ensures another_word { RefusesAnotherWord }
     ensures file { TakesFile }

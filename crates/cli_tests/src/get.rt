@@ -26,7 +26,7 @@ const HEADS: (&str, &str) = (
 );
 
 /// Words, and the lines of their transfers.
-static LINES: [(&str, &str); 6] = [
+static LINES: [(&str, &str); 7] = [
     (
         "get http://127.0.0.1/ http://LOCALHOST:80/ab http://localhost/again http://127.0.0.1:81/",
         "200 1 new http://127.0.0.1/\n200 3 new http://LOCALHOST:80/ab\n\
@@ -48,6 +48,10 @@ static LINES: [(&str, &str); 6] = [
     (
         "get http://127.0.0.1/again",
         "200 6 new retried http://127.0.0.1/again\n",
+    ),
+    (
+        "get http://127.0.0.1/\u{a0}\u{2029}\u{202f}\u{2065}\u{206a}~",
+        "200 44 new http://127.0.0.1/\u{a0}\u{2029}\u{202f}\u{2065}\u{206a}~\n",
     ),
 ];
 
@@ -128,6 +132,7 @@ fn sites_and_seconds_are_handed_on(rt: HostRuntime) {
         (network.openings, network.sites, network.timeout),
         (1, 2, 7)
     );
+    assert_eq!(rt; (network.closings, network.fetches), (1, 3));
     let row = Row {
         name: "1,024 URLs",
         output: Text::Start("200 1 new http://127.0.0.1/\n"),
@@ -142,52 +147,96 @@ fn sites_and_seconds_are_handed_on(rt: HostRuntime) {
 }
 
 /// Words that are refused, and how the message begins.
-static REFUSED: [(&str, &str); 16] = [
-    ("get", "error: "),
-    ("get --head", "error: "),
-    ("get --head --head http://localhost/", "error: "),
-    ("get --max-age 1 --max-age 1 http://localhost/", "error: "),
-    ("get --max-age http://localhost/", "error: "),
+static REFUSED: [(&str, &str); 26] = [
+    ("get", "curlpool: "),
+    ("get --head", "curlpool: "),
+    ("get --head --head http://localhost/", "curlpool: "),
+    (
+        "get --max-age 1 --max-age 1 http://localhost/",
+        "curlpool: ",
+    ),
+    ("get --max-age http://localhost/", "curlpool: "),
     (
         "get --max-age +1 http://localhost/",
-        "error: --max-age +1: not a number",
+        "curlpool: --max-age +1: not a number",
     ),
-    ("get --max-age= http://localhost/", "error: "),
+    ("get --max-age= http://localhost/", "curlpool: "),
     (
         "get --max-age 18446744073709551616 http://localhost/",
-        "error: --max-age 184",
+        "curlpool: --max-age 184",
     ),
     (
         "get --timeout 0 http://localhost/",
-        "error: --timeout 0: not a number from 1 to 3600\n",
+        "curlpool: --timeout 0: not a number from 1 to 3600\n",
     ),
     (
         "get --timeout 3601 http://localhost/",
-        "error: --timeout 3601: not a number",
+        "curlpool: --timeout 3601: not a number",
     ),
     (
         "get http://localhost/ localhost",
-        "error: localhost: not a URL\n",
+        "curlpool: localhost: not a URL; a URL begins with http://\n",
     ),
     (
         "get https://localhost/",
-        "error: https://localhost/: not an http URL\n",
+        "curlpool: https://localhost/: not an http URL; a URL begins with http://\n",
     ),
     (
         "get http://example.com/",
-        "error: http://example.com/: its host is neither localhost nor an address\n",
+        "curlpool: http://example.com/: its host is neither localhost nor an address\n",
     ),
     (
         "get http://127.0.0.1/ http://localhost.:80/",
-        "error: http://localhost.:80/: its host is neither localhost nor an address\n",
+        "curlpool: http://localhost.:80/: its host is neither localhost nor an address\n",
     ),
     (
         "get http://a.localhost/",
-        "error: http://a.localhost/: its host is neither",
+        "curlpool: http://a.localhost/: its host is neither",
     ),
     (
         "get http://127.0.0.256/",
-        "error: http://127.0.0.256/: not a URL\n",
+        "curlpool: http://127.0.0.256/: not a URL\n",
+    ),
+    (
+        "get 127.0.0.1:8001/x",
+        "curlpool: 127.0.0.1:8001/x: not a URL; a URL begins with http://\n",
+    ),
+    (
+        "get -v http://localhost/",
+        "curlpool: unexpected argument '-v' found\n\nUsage: curlpool get ",
+    ),
+    (
+        "get --heads http://localhost/",
+        "curlpool: unexpected argument '--heads' found\n\n  \
+        tip: a similar argument exists: '--head'\n\nUsage: curlpool get ",
+    ),
+    (
+        "get --\u{1b}[31m http://localhost/",
+        "curlpool: unexpected argument '--\\x1b[31m' found\n\nUsage: curlpool get ",
+    ),
+    (
+        "get --timeout \u{1b}[31m http://localhost/",
+        "curlpool: --timeout \\x1b[31m: not a number",
+    ),
+    (
+        "get http://127.0.0.1/ok\n200 http://localhost/",
+        "curlpool: http://127.0.0.1/ok\\x0a200: a control character\n",
+    ),
+    (
+        "get http://localhost/ http://127.0.0.1/\u{0}",
+        "curlpool: http://127.0.0.1/\\x00: a control character\n",
+    ),
+    (
+        "get http://127.0.0.1/\u{7f}a\u{80}b\u{9f}",
+        "curlpool: http://127.0.0.1/\\x7fa\\u{80}b\\u{9f}: a control character\n",
+    ),
+    (
+        "get http://127.0.0.1/\u{202a}\u{202e}",
+        "curlpool: http://127.0.0.1/\\u{202a}\\u{202e}: a control character\n",
+    ),
+    (
+        "get http://127.0.0.1/\u{2066}\u{2069}",
+        "curlpool: http://127.0.0.1/\\u{2066}\\u{2069}: a control character\n",
     ),
 ];
 
@@ -206,7 +255,7 @@ fn words_are_refused(rt: HostRuntime) {
     }
     let row = Row {
         name: "1,025 URLs",
-        errors: Text::Whole("error: more than 1024 URLs\n"),
+        errors: Text::Whole("curlpool: more than 1024 URLs\n"),
         status: 2,
         ..ROW
     };
@@ -216,9 +265,10 @@ fn words_are_refused(rt: HostRuntime) {
 }
 
 /// Why the network can't be opened, and what is told of it.
-static CLOSED: [(NetworkFault, &str); 2] = [
+static CLOSED: [(NetworkFault, &str); 3] = [
     (NetworkFault::Memory, "run: out of memory\n"),
     (NetworkFault::Poll, "run: poll failed\n"),
+    (NetworkFault::Descriptors, "run: too few descriptors\n"),
 ];
 
 #[test]
@@ -232,7 +282,8 @@ fn a_network_that_cannot_be_opened(rt: HostRuntime) {
             status: 4,
             ..ROW
         };
-        let _ = check(&rt, &row);
+        let (network, _) = check(&rt, &row);
+        assert_eq!(rt; (network.closings, network.fetches), (0, 0));
     }
 }
 

@@ -51,85 +51,103 @@ fn words_give_numbers(rt: HostRuntime) {
 static REFUSED: [(&str, &str); 27] = [
     (
         "load --sites 0",
-        "error: invalid value '0' for '--sites <NUMBER>': not a number from 1 to 8\n",
+        "curlpool: invalid value '0' for '--sites <NUMBER>': not a number from 1 to 8\n",
     ),
-    ("load --sites 9", "error: invalid value '9' for '--sites "),
+    (
+        "load --sites 9",
+        "curlpool: invalid value '9' for '--sites ",
+    ),
     (
         "load --jobs 0",
-        "error: invalid value '0' for '--jobs <NUMBER>': not a number from 1 to 10000\n",
+        "curlpool: invalid value '0' for '--jobs <NUMBER>': not a number from 1 to 10000\n",
     ),
     (
         "load --jobs 10001",
-        "error: invalid value '10001' for '--jobs ",
+        "curlpool: invalid value '10001' for '--jobs ",
     ),
     (
         "load --workers 0",
-        "error: invalid value '0' for '--workers <NUMBER>': not a number from 1 to 64\n",
+        "curlpool: invalid value '0' for '--workers <NUMBER>': not a number from 1 to 64\n",
     ),
     (
         "load --workers 65",
-        "error: invalid value '65' for '--workers ",
+        "curlpool: invalid value '65' for '--workers ",
     ),
     (
         "load --host-limit 65536",
-        "error: invalid value '65536' for '--host-limit <NUMBER>': not a number from 0 to 65535\n",
+        "curlpool: invalid value '65536' for '--host-limit <NUMBER>': not a number from 0 to 65535",
     ),
     (
         "load --total 65536",
-        "error: invalid value '65536' for '--total <NUMBER>': not a number from 0 to 65535\n",
+        "curlpool: invalid value '65536' for '--total <NUMBER>': not a number from 0 to 65535\n",
     ),
     (
         "load --connects 0",
-        "error: invalid value '0' for '--connects <NUMBER>': not a number from 1 to 65535\n",
+        "curlpool: invalid value '0' for '--connects <NUMBER>': not a number from 1 to 65535\n",
     ),
-    ("load --connects 65536", "error: invalid value '65536' for "),
+    (
+        "load --connects 65536",
+        "curlpool: invalid value '65536' for ",
+    ),
     (
         "load --connects 4294967297",
-        "error: invalid value '4294967297' for ",
+        "curlpool: invalid value '4294967297' for ",
     ),
     (
         "load --total 18446744073709551616",
-        "error: invalid value '18446744073709551616' for ",
+        "curlpool: invalid value '18446744073709551616' for ",
     ),
     (
         "load --sites",
-        "error: a value is required for '--sites <NUMBER>'",
+        "curlpool: a value is required for '--sites <NUMBER>'",
     ),
     (
         "load --jobs",
-        "error: a value is required for '--jobs <NUMBER>'",
+        "curlpool: a value is required for '--jobs <NUMBER>'",
     ),
     (
         "load --sites 1 --sites 1",
-        "error: the argument '--sites <NUMBER>' cannot be used",
+        "curlpool: the argument '--sites <NUMBER>' cannot be used",
     ),
     (
         "load --jobs 1 --jobs 2",
-        "error: the argument '--jobs <NUMBER>' cannot be used",
+        "curlpool: the argument '--jobs <NUMBER>' cannot be used",
     ),
     (
         "load --workers 1 --workers=1",
-        "error: the argument '--workers <NUMBER>' cannot",
+        "curlpool: the argument '--workers <NUMBER>' cannot",
     ),
     (
         "load --host-limit=1 --host-limit=1",
-        "error: the argument '--host-limit <NUMBER>' ",
+        "curlpool: the argument '--host-limit <NUMBER>' ",
     ),
     (
         "load --total 1 --total 0",
-        "error: the argument '--total <NUMBER>' cannot be used",
+        "curlpool: the argument '--total <NUMBER>' cannot be used",
     ),
     (
         "load --connects 1 --connects 1",
-        "error: the argument '--connects <NUMBER>' cannot",
+        "curlpool: the argument '--connects <NUMBER>' cannot",
     ),
-    ("load --jobs +1", "error: invalid value '+1' for '--jobs "),
-    ("load --jobs -1", "error: unexpected argument '-1' found"),
-    ("load --jobs=-1", "error: invalid value '-1' for '--jobs "),
-    ("load --total=-0", "error: invalid value '-0' for '--total "),
-    ("load --jobs=", "error: "),
-    ("load --port 1", "error: unexpected argument '--port' found"),
-    ("load 3", "error: unexpected argument '3' found"),
+    (
+        "load --jobs +1",
+        "curlpool: invalid value '+1' for '--jobs ",
+    ),
+    ("load --jobs -1", "curlpool: unexpected argument '-1' found"),
+    (
+        "load --jobs=-1",
+        "curlpool: invalid value '-1' for '--jobs ",
+    ),
+    (
+        "load --total=-0",
+        "curlpool: invalid value '-0' for '--total ",
+    ),
+    ("load --jobs=", "curlpool: "),
+    (
+        "load --port 1",
+        "curlpool: unexpected argument '--port' found",
+    ),
+    ("load 3", "curlpool: unexpected argument '3' found"),
 ];
 
 #[test]
@@ -149,8 +167,8 @@ fn words_are_refused(rt: HostRuntime) {
 
 #[test]
 fn usage_stands_below_a_refusal(rt: HostRuntime) {
-    let told = "error: invalid value '0x3' for '--jobs <NUMBER>': not a number from 1 to 10000\n\n\
-        Usage: curlpool load [OPTIONS]\n\nFor more information, try '--help'.\n";
+    let told = "curlpool: invalid value '0x3' for '--jobs <NUMBER>': not a number from 1 to 10000\n\
+        \nUsage: curlpool load [OPTIONS]\n\nFor more information, try '--help'.\n";
     let row = Row {
         name: "usage stands below a refusal",
         words: "load --jobs 0x3",

@@ -1,6 +1,6 @@
 //! A network that is no network: how a transfer ends stands in its path.
 
-ghost use Rattle.std.specs.Prelude.{⊤};
+ghost use Rattle.std.specs.Prelude.{◌≡◌, ⊤};
 
 use budget::Refusal;
 use cli::{Fetcher, Network, NetworkFault};
@@ -42,6 +42,9 @@ pub struct FakeNetwork {
     pub openings: u32,
     pub sites: usize,
     pub timeout: u32,
+    /// How often a fetcher was closed, and what the last one had fetched.
+    pub closings: u32,
+    pub fetches: u32,
 }
 
 impl FakeNetwork {
@@ -51,6 +54,8 @@ impl FakeNetwork {
             openings: 0,
             sites: 0,
             timeout: 0,
+            closings: 0,
+            fetches: 0,
         }
     }
 }
@@ -59,6 +64,8 @@ impl Network for FakeNetwork {
     type Fetcher = FakeFetcher;
 
     ghost opens = { λ _ _ _ _ _. ⊤ };
+
+    ghost closes = { λ _ new fetcher. new.fetches ≡ fetcher.fetches };
 
     fn open(
         &mut self,
@@ -71,21 +78,31 @@ impl Network for FakeNetwork {
         self.timeout = timeout;
         match self.fault {
             Some(fault) => Err(fault),
-            None => Ok(FakeFetcher { open: [false; 64] }),
+            None => Ok(FakeFetcher {
+                open: [false; 64],
+                fetches: 0,
+            }),
         }
+    }
+
+    fn close(&mut self, fetcher: FakeFetcher) {
+        self.closings = self.closings.saturating_add(1);
+        self.fetches = fetcher.fetches;
     }
 }
 
-/// Keeps one connection to each of the first sites.
+/// Keeps one connection to each of the first sites, and counts what it fetches.
 #[derive(Drop)]
 pub struct FakeFetcher {
     open: [bool; 64],
+    fetches: u32,
 }
 
 impl Fetcher for FakeFetcher {
     ghost fetched = { λ _ _ _ _. ⊤ };
 
     fn fetch(&mut self, job: &Job) -> Done {
+        self.fetches = self.fetches.saturating_add(1);
         let path = job.target.path.as_str();
         for row in &FAULTS {
             if row.0 == path {

@@ -75,8 +75,10 @@ impl ScriptFiles for OneFile {
 pub fn words_of(alloc: Global, text: &str) -> Result<Words, AllocError> {
     let mut words = Vec::new(alloc);
     words.push(String::from_str(alloc, "curlpool")?)?;
-    for word in text.split_whitespace() {
-        words.push(String::from_str(alloc, word)?)?;
+    for word in text.split(' ') {
+        if !word.is_empty() {
+            words.push(String::from_str(alloc, word)?)?;
+        }
     }
     Ok(Words::Given(words))
 }

@@ -1,6 +1,6 @@
 //! What words ask for, and what the program then writes.
 
-use crate::running::{ROW, Row, Text, check_all, check_words};
+use crate::running::{ROW, Row, Text, check_all, check_stopped, check_words};
 use crate::streams::{REUSE, REUSED};
 use cli::Words;
 
@@ -8,7 +8,7 @@ use cli::Words;
 const HOW_TO_END: &str = "Write a script, and end it with Ctrl-D on an empty line.\n";
 
 /// Words that ask for scripts, for help or for the version, and those that are refused.
-static ROWS: [Row; 16] = [
+static ROWS: [Row; 21] = [
     Row {
         name: "words ask for a script",
         words: "script",
@@ -61,7 +61,7 @@ static ROWS: [Row; 16] = [
         words: "--version",
         is_typed: true,
         script: REUSE,
-        output: Text::Start("curlpool 0.1.0\n"),
+        output: Text::Start("curlpool 0.2.0\n"),
         ..ROW
     },
     Row {
@@ -83,9 +83,33 @@ static ROWS: [Row; 16] = [
         ..ROW
     },
     Row {
+        name: "help is told by a word",
+        words: "help",
+        output: Text::Start("libcurl's connection cache"),
+        ..ROW
+    },
+    Row {
+        name: "help on get is told by a word",
+        words: "help get",
+        output: Text::Start("Fetches URLs in turn"),
+        ..ROW
+    },
+    Row {
+        name: "help on script is told by a word",
+        words: "help script",
+        output: Text::Start("Runs a script"),
+        ..ROW
+    },
+    Row {
+        name: "the version is told by a letter",
+        words: "-V",
+        output: Text::Start("curlpool 0.2.0\n"),
+        ..ROW
+    },
+    Row {
         name: "the version is told on standard output",
         words: "--version",
-        output: Text::Start("curlpool 0.1.0\n"),
+        output: Text::Start("curlpool 0.2.0\n"),
         ..ROW
     },
     Row {
@@ -94,8 +118,16 @@ static ROWS: [Row; 16] = [
         ..REFUSED
     },
     Row {
-        name: "help without dashes is refused",
-        words: "help",
+        name: "help on another word is refused",
+        words: "help scripts",
+        ..REFUSED
+    },
+    Row {
+        name: "a word in place of a file may be passed as one",
+        words: "script -x",
+        errors: Text::Start(
+            "curlpool: unexpected argument '-x' found\n\n  tip: to pass '-x' as a value, use '-- -x'",
+        ),
         ..REFUSED
     },
     Row {
@@ -116,7 +148,7 @@ static ROWS: [Row; 16] = [
 ];
 
 const REFUSED: Row = Row {
-    errors: Text::Start("error: "),
+    errors: Text::Start("curlpool: "),
     status: 2,
     ..ROW
 };
@@ -130,7 +162,7 @@ fn words_ask_for_scripts_help_and_version(rt: HostRuntime) {
 fn words_that_could_not_be_had(rt: HostRuntime) {
     let not_text = Row {
         name: "a word is not UTF-8",
-        errors: Text::Start("error: invalid UTF-8"),
+        errors: Text::Start("curlpool: invalid UTF-8"),
         status: 2,
         ..ROW
     };
@@ -142,4 +174,19 @@ fn words_that_could_not_be_had(rt: HostRuntime) {
         ..ROW
     };
     let _ = check_words(&rt, Words::NoMemory, &no_memory);
+}
+
+#[test]
+fn help_that_cannot_be_written(rt: HostRuntime) {
+    for &(words, front) in &[("--help", "libcurl's conn"), ("--version", "curlpool 0.")] {
+        let row = Row {
+            name: words,
+            words,
+            errors: Text::Whole("run: cannot write\n"),
+            status: 4,
+            ..ROW
+        };
+        check_stopped(&rt, &row, front, false);
+        check_stopped(&rt, &row, front, true);
+    }
 }

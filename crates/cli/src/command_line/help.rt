@@ -1,4 +1,13 @@
-//! What help says of scripts, and of what `get` and `load` write.
+//! What help says of scripts, and of what `get` and `load` write, with examples.
+
+/// What help on the program says of its commands.
+pub const MORE: &str = "\
+Examples:
+  curlpool get http://localhost:8000/a http://localhost:8000/b
+  curlpool load --jobs 1000 --workers 8
+  curlpool script examples/claim-first.script
+
+curlpool help COMMAND tells all of a command, as curlpool COMMAND --help does.";
 
 /// What a script says, what its transcript says, and why a script ends early, as tables of at most
 /// 80 columns.
@@ -24,7 +33,7 @@ limit S N at M      At most N connections are open to S from now on; idle ones
                     above N are closed; refused where more are in use
 prune A F at M      Closes, at all sites, what is idle for more than A seconds,
                     or idle and open for more than F (0, no limit)
-upkeep              Keeps connections alive: with HTTP/1.1 there is no way to
+upkeep              Keeps connections alive: none, as HTTP/1.1 has no way to
 look S              Counts the connections of the host and who waits
 
 After get, each at most once and in any order:
@@ -36,20 +45,11 @@ forbid              The connection is closed after this use
 KIND                The response
 keep                lets its connection persist
 close               has the connection option close
-old                 is of HTTP/1.0
+old                 is of HTTP/1.0, without keep-alive
 old-keep            is of HTTP/1.0, and keep-alive lets its connection persist
 eof                 has a body that lasted until the connection ended
 cut                 was not read whole
 surplus             had bytes after its end
-
-After limits 1 0 1, with one site, who waited has to claim:
-get 1 0 0 at 0      opened 0.1 for 1 at 0
-get 2 0 0 at 1      waits 2 host 0 at 1
-back 1 0 keep at 2  returned 0.1 by 1 at 2
-                    leased 0.1 to 2 at 2
-back 2 0 keep at 3  refused stranger
-claim 2 0           claimed 0.1
-back 2 0 keep at 4  returned 0.1 by 2 at 4
 
 Number              From 0 to
 H and T of limits   65535, where 0 counts as 65535; N of limit too
@@ -116,18 +116,32 @@ cannot write        The transcript could not be written
 out of memory       Memory ran out
 
 Status              0: the script ran to its end; 2: the words are refused;
-                    3: the script ended early; 4: no memory to read the words";
+                    3: the script ended early; 4: no memory to read the words
+
+Examples
+curlpool script examples/claim-first.script
+curlpool script <examples/who-waits.script
+
+After limits 1 0 1, with one site, who waited has to claim:
+get 1 0 0 at 0      opened 0.1 for 1 at 0
+get 2 0 0 at 1      waits 2 host 0 at 1
+back 1 0 keep at 2  returned 0.1 by 1 at 2
+                    leased 0.1 to 2 at 2
+back 2 0 keep at 3  refused stranger
+claim 2 0           claimed 0.1
+back 2 0 keep at 4  returned 0.1 by 2 at 4";
 
 /// What `get` writes, and how it ends.
 pub const LINES: &str = "\
-Later URLs of a host and port reuse its connection. For each URL, in order, a
-line is written as its transfer ends:
+Later URLs of a host and port reuse its connection. A URL begins with http://
+and has no control characters. For each URL, in order, a line is written as its
+transfer ends:
 
 STATUS LENGTH reused|new [retried] URL
-                    The response, and the bytes of its body; whether its
-                    connection was used before; and whether the request was
-                    sent once more, since the connection first used had been
-                    closed or reset, or had bytes that nobody asked for
+                    The response's status, and the bytes of its body; whether
+                    its connection had been used before; retried: an idle
+                    connection had ended, failed or had unsolicited bytes, so a
+                    new one was used; the request may have been sent twice
 FAULT URL           There is no good response
 
 FAULT               Why
@@ -135,20 +149,34 @@ Memory              Memory ran out
 Dial                The connection could not be opened
 Read                A read failed
 Write               A write failed
-BadResponse         What came is no response that can be read
+BadResponse         What came is no HTTP/1.0 or HTTP/1.1 response, or has no
+                    one length, or passes a limit: 16384 bytes of a head, 100
+                    fields of a head or a trailer section, 8 interim responses,
+                    1024 bytes of a chunk's line, 8192 bytes of a trailer
+                    section
 Cut                 The connection ended before the response was whole
 Refused             The cache gave no connection
 Cancelled           It took longer than the timeout, or the system's clock or
                     poll failed
 
-For example, of a server on this machine:
+run: ..             Why it ends with status 4
+N of M failed       So many URLs have no good response
+out of memory       Memory ran out
+too few descriptors The process or the system may have no more files open
+poll failed         The system gives no means to wait for connections
+cannot write        A line could not be written; no more URLs were fetched
+
+Status              0: all have responses; 2: the words are refused, and
+                    nothing was dialled; 4: a line has a FAULT, or could not
+                    be written, or memory or the network was missing
+
+Examples, of a server on this machine
 curlpool get http://localhost:8000/a http://localhost:8000/b
 200 103 new http://localhost:8000/a
 200 602 reused http://localhost:8000/b
 
-Status              0: all have responses; 2: the words are refused, and
-                    nothing was dialled; 4: a line has a FAULT, or could not
-                    be written, or memory or the network was missing";
+curlpool get --head --timeout 5 http://127.0.0.1:8000/
+curlpool get --max-age 0 http://[::1]:8000/a http://[::1]:8000/b";
 
 /// What `load` does and writes, and how it ends.
 pub const REPORT: &str = "\
@@ -166,12 +194,6 @@ jobs                Requests; those without a good response; good ones on a
                     connection that had been used before; good ones that were
                     sent once more; and the bytes of their bodies
 
-For example, one thread needs one connection:
-curlpool load --sites 1 --jobs 3 --workers 1
-host       0       1       2       0       0       1
-all        1       1       2       0       0       1
-jobs       3       0       2       0       6
-
 run: ..             Why there is no report, or not the whole of it
 out of memory       Memory ran out
 bad workers         There are none, or too many
@@ -185,4 +207,12 @@ cannot write        The report could not be written
 
 Status              0: the report is written, whatever became of the requests;
                     2: the words are refused, and nothing was done; 4: there is
-                    no report, or not the whole of it, and run: .. tells why";
+                    no report, or not the whole of it, and run: .. tells why
+
+Examples
+curlpool load --sites 1 --jobs 3 --workers 1
+host       0       1       2       0       0       1
+all        1       1       2       0       0       1
+jobs       3       0       2       0       6
+
+curlpool load --sites 4 --jobs 10000 --workers 64 --host-limit 2 --total 6";

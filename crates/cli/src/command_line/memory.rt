@@ -4,10 +4,11 @@ ghost use Rattle.std.specs.Prelude.{◌≡◌, ◌≤◌, IfOk, IfErr, map, stri
 ghost use Rattle.cli.specs.GetPlan.{IsPlanOf, IsWhy};
 ghost use Rattle.cli.specs.GetWords.{get_said_by};
 ghost use Rattle.cli.specs.LoadWords.{IsLoadOf, IsLoadRefused, IsWhyNot, load_said_by};
-ghost use Rattle.clap.specs.Words.{FailsBy, fault_of, kind_of};
+ghost use Rattle.clap.specs.Words.{FailsBy, kind_of};
 ghost use Rattle.conn_key.specs.Wants.{Rises};
-ghost use Rattle.cli.specs.CommandLine.{curlpool, said_after, said_by};
+ghost use Rattle.cli.specs.CommandLine.{faults_of, said_after, said_by};
 
+use crate::command_line::mistake::text_of;
 use crate::command_line::{Subcommand, not_text, parse};
 use crate::get::plan::{GetPlan, GetRefusal, plan_of};
 use crate::get::words::GetWords;
@@ -29,7 +30,7 @@ pub trait WordsMemory {
     /// Reads the words; those that it takes name a subcommand. An error of `clap`'s kind for want
     /// of memory counts as one.
     fn parse(&mut self, words: &[String]) -> Result<Subcommand, Error>
-        ensures fails { FailsBy (fault_of curlpool (map string_bytes words.now)) result }
+        ensures fails { FailsBy (faults_of (map string_bytes words.now)) result }
         ensures said { IfOk result (λ subcommand.
             said_by subcommand ≡ said_after (map string_bytes words.now)) }
         ensures wants { IfErr result (λ error. kind_of error ≡ ErrorKind.OutOfMemory
@@ -121,7 +122,7 @@ impl WordsMemory for CountedWordsMemory {
     }
 
     fn text(&mut self, error: &Error) -> Result<String, AllocError> {
-        let text = error.to_string(self.alloc);
+        let text = text_of(self.alloc, error);
         if text.is_err() {
             self.wants = self.wants.saturating_add(1);
         }

@@ -5,7 +5,7 @@ use socket::Addresses;
 use std::alloc::Global;
 use thiserror::Error;
 
-/// What sends one request after another, over connections that it keeps.
+/// What sends one request after another, over connections that it keeps until it is closed.
 pub trait Fetcher {
     ghost use Rattle.exchange.specs.declared.done.Done.{Done};
     ghost use Rattle.exchange.specs.declared.job.Job.{Job};
@@ -27,6 +27,9 @@ pub enum NetworkFault {
     /// The system gives no means to wait for connections.
     #[error("poll failed")]
     Poll,
+    /// The process, or the system, may have no more descriptors open.
+    #[error("too few descriptors")]
+    Descriptors,
 }
 
 /// What connections are opened on.
@@ -35,18 +38,22 @@ pub trait Network {
     ghost use Rattle.socket.specs.declared.addresses.Addresses.{Addresses};
     ghost use Rattle.cli.specs.declared.get.fetching.NetworkFault.{NetworkFault};
 
-    /// What carries out jobs on it.
-    type Fetcher: Fetcher + Drop;
+    /// What carries out jobs on it. It has to be closed.
+    type Fetcher: Fetcher;
 
     /// Whether opening the network for those addresses, and so many seconds, gives that fetcher or
     /// fault, and leaves the network so.
     ghost opens: { Self → Self → Addresses → ℕ → Result Self.Fetcher NetworkFault → Type 0 };
 
+    /// Whether closing that fetcher leaves the network so.
+    ghost closes: { Self → Self → Self.Fetcher → Type 0 };
+
     /// A fetcher for the hosts of these addresses, which cancels a transfer after so many seconds.
     ///
     /// # Errors
     ///
-    /// `Memory` if memory ran out, `Poll` if the system can't wait for connections.
+    /// `Memory` if memory ran out, `Descriptors` if no more may be open, `Poll` if the system can't
+    /// wait for connections otherwise.
     fn open(
         &mut self,
         alloc: Global,
@@ -54,4 +61,8 @@ pub trait Network {
         timeout: u32,
     ) -> Result<Self::Fetcher, NetworkFault>
         ensures { opens self.old self.new addresses timeout result };
+
+    /// Closes a fetcher with the connections that it keeps.
+    fn close(&mut self, fetcher: Self::Fetcher)
+        ensures { closes self.old self.new fetcher };
 }

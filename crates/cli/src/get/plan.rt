@@ -4,6 +4,7 @@ ghost use Rattle.std.specs.Prelude.{option_map, string_bytes, IfOk, IfErr};
 ghost use Rattle.cli.specs.GetPlan.{IsPlanOf, IsWhy, SaysNumber};
 ghost use Rattle.cli.specs.GetWords.{get_said_by, max_age_said, timeout_said};
 
+use crate::command_line::printable::Escaped;
 use crate::command_line::values::number_of;
 use crate::get::planning::plan_jobs;
 use crate::get::words::GetWords;
@@ -66,8 +67,8 @@ impl From<AllocError> for GetRefusal {
 ///
 /// # Errors
 ///
-/// `Wrong` if a number is out of its range, the URLs are more than 1,024, or one of them gives no
-/// target or no address. `Memory` if memory ran out.
+/// `Wrong` if a number is out of its range, the URLs are more than 1,024, or one of them has a
+/// control character, or gives no target or no address. `Memory` if memory ran out.
 pub fn plan_of(alloc: Global, words: &GetWords) -> Result<GetPlan, GetRefusal>
     ensures plan { IfOk result (IsPlanOf (get_said_by words.now)) }
     ensures refused { IfErr result (IsWhy (get_said_by words.now)) }
@@ -76,7 +77,7 @@ pub fn plan_of(alloc: Global, words: &GetWords) -> Result<GetPlan, GetRefusal>
     let timeout = timeout_of(alloc, &words.timeout)?;
     let urls = words.urls.as_slice();
     if urls.len() > MOST_URLS {
-        return Err(wrong(String::from_str(alloc, "error: more than 1024 URLs\n")));
+        return Err(wrong(String::from_str(alloc, "curlpool: more than 1024 URLs\n")));
     }
     let method = if words.head {
         Method::Head
@@ -99,10 +100,11 @@ fn max_age_of(alloc: Global, given: &Option<String>) -> Result<u64, GetRefusal>
         return Ok(MAX_AGE);
     };
     let text = text.as_str();
+    let shown = Escaped(text);
     match number_of(text) {
         Some(seconds) => Ok(seconds),
         None => Err(wrong(format!(in alloc;
-            "error: --max-age {text}: not a number from 0 to 18446744073709551615\n"
+            "curlpool: --max-age {shown}: not a number from 0 to 18446744073709551615\n"
         ))),
     }
 }
@@ -115,10 +117,11 @@ fn timeout_of(alloc: Global, given: &Option<String>) -> Result<u32, GetRefusal>
         return Ok(TIMEOUT);
     };
     let text = text.as_str();
+    let shown = Escaped(text);
     match number_of(text) {
         Some(seconds) if 1 <= seconds && seconds <= LONGEST_TIMEOUT => Ok(seconds as u32),
         _ => Err(wrong(format!(in alloc;
-            "error: --timeout {text}: not a number from 1 to 3600\n"
+            "curlpool: --timeout {shown}: not a number from 1 to 3600\n"
         ))),
     }
 }

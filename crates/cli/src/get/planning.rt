@@ -8,6 +8,7 @@ ghost use Rattle.socket.specs.declared.addresses.AddressFault.TheVariants.{Other
 ghost use Rattle.cli.specs.GetPlan.{AddsJob, AddsSite, HaveAddresses, IsWhyOfUrl, IsWhyOfUrls};
 ghost use Rattle.cli.specs.GetPlan.{Plans, want_said};
 
+use crate::command_line::printable::{Escaped, has_unprintable};
 use crate::get::plan::{GetRefusal, UrlJob, wrong};
 use conn_key::{CountedMemory, KeyError, Sites, SitesFault, Target, read_target};
 use conn_log::Want;
@@ -20,7 +21,8 @@ use std::alloc::Global;
 ///
 /// # Errors
 ///
-/// `Wrong` if a URL gives no target, or no address. `Memory` if memory ran out.
+/// `Wrong` if a URL has a control character, or gives no target, or no address. `Memory` if memory
+/// ran out.
 pub fn plan_jobs(
     alloc: Global,
     urls: &[String],
@@ -71,7 +73,8 @@ pub(crate) fn want_of(transfer: u64, max_age: u64) -> Want
     }
 }
 
-/// The job of a URL, whose site is then among the sites.
+/// The job of a URL, whose site is then among the sites. A URL with a control character is refused,
+/// since the line of its transfer would forge another, or reach a terminal that obeys it.
 fn url_job(
     alloc: Global,
     url: &str,
@@ -86,17 +89,24 @@ fn url_job(
         url.now) }
     ensures err { IfErr result (IsWhyOfUrl url.now) }
 {
+    if has_unprintable(url) {
+        let shown = Escaped(url);
+        return Err(wrong(format!(in alloc; "curlpool: {shown}: a control character\n")));
+    }
     let target = match read_target(&mut CountedMemory::new(alloc), url) {
         Ok(target) => target,
         Err(KeyError::Memory) => return Err(GetRefusal::Memory),
-        Err(error) => return Err(wrong(format!(in alloc; "error: {url}: {error}\n"))),
+        Err(error) => {
+            let hint = scheme_hint(url);
+            return Err(wrong(format!(in alloc; "curlpool: {url}: {error}{hint}\n")));
+        }
     };
     let site = match add_site(sites, addresses, &target) {
         Ok(site) => site,
         Err(AddressFault::Memory) => return Err(GetRefusal::Memory),
         Err(AddressFault::OtherName) => {
             let fault = AddressFault::OtherName;
-            return Err(wrong(format!(in alloc; "error: {url}: {fault}\n")));
+            return Err(wrong(format!(in alloc; "curlpool: {url}: {fault}\n")));
         }
     };
     let url = String::from_str(alloc, url)?;
@@ -107,6 +117,14 @@ fn url_job(
         target,
     };
     Ok(UrlJob { url, job })
+}
+
+/// What to say of a URL that is refused and does not begin as one of this scheme does.
+fn scheme_hint(url: &str) -> &'static str {
+    match url.split_once("://") {
+        Some((scheme, _)) if scheme.eq_ignore_ascii_case("http") => "",
+        _ => "; a URL begins with http://",
+    }
 }
 
 /// The index of the target's site, which then is among the sites, with its addresses.

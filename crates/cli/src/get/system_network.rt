@@ -22,6 +22,12 @@ const MOST_IDLE: u32 = 256;
 /// The most hosts.
 const MOST_HOSTS: usize = 1_024;
 
+/// The system's error that it may have no more files open (ENFILE of open(2)).
+const TOO_MANY_IN_SYSTEM: i32 = 23;
+
+/// The system's error that the process may have no more descriptors open (EMFILE of open(2)).
+const TOO_MANY_IN_PROCESS: i32 = 24;
+
 /// The network of the system. What servers answer nobody knows.
 #[derive(Drop)]
 pub struct SystemNetwork<'a> {
@@ -39,6 +45,8 @@ impl<'a> Network for SystemNetwork<'a> {
     type Fetcher = SystemFetcher<'a>;
 
     ghost opens = { λ _ _ _ _ _. ⊤ };
+
+    ghost closes = { λ _ _ _. ⊤ };
 
     fn open(
         &mut self,
@@ -69,14 +77,28 @@ impl<'a> Network for SystemNetwork<'a> {
             Err(error) => Err(fault_of(&error)),
         }
     }
+
+    fn close(&mut self, fetcher: SystemFetcher<'a>) {
+        drop(fetcher);
+    }
 }
 
-/// Why the network can't be opened where the system gives that error.
+/// Why the network can't be opened if the system gives that error.
 fn fault_of(error: &io::Error) -> NetworkFault {
     if error.kind() == ErrorKind::OutOfMemory {
         NetworkFault::Memory
+    } else if lacks_descriptors(error) {
+        NetworkFault::Descriptors
     } else {
         NetworkFault::Poll
+    }
+}
+
+/// Whether the system gives that error since it, or the process, may have no more files open.
+fn lacks_descriptors(error: &io::Error) -> bool {
+    match error.raw_os_error() {
+        Some(code) => code == TOO_MANY_IN_SYSTEM || code == TOO_MANY_IN_PROCESS,
+        None => false,
     }
 }
 

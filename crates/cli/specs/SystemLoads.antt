@@ -1,0 +1,32 @@
+-- What a load over the system's sockets reports.
+use Rattle.std.specs.Prelude.{◌≡◌, ℕ, List, length, ⊤}
+use Rattle.clap.specs.Words.{Text}
+use Rattle.budget.specs.Limits.{bounds_of}
+use Rattle.exchange.specs.declared.job.Job.{Job}
+use Rattle.exchange.specs.Worlds.{World, world_of}
+use Rattle.socket.specs.Sockets.{IsUntouched, HappensTo}
+use Rattle.socket.specs.declared.waiting.WaitingWire.{WaitingWire}
+use Rattle.load.specs.Loading.{IsLoaded}
+use Rattle.load.specs.declared.loading.Loaded.{Loaded}
+use Rattle.cache_report.specs.Report.{report_text}
+use Rattle.cli.specs.LoadJobs.{AreLoadJobs}
+use Rattle.cli.specs.declared.loading.options.LoadOptions.{LoadOptions}
+
+-- connections over sockets whose reads and writes wait, and a clock that may tell any moment
+abbrev pub waiting_world : World WaitingWire
+waiting_world = world_of (λ wire site transfer. IsUntouched wire.connection site transfer) (λ old new happening. HappensTo old.connection new.connection happening) (λ moment. ⊤)
+
+-- these jobs were carried out by so many threads over one cache under these limits, of so many hosts
+abbrev pub IsLoadOf : LoadOptions → ℕ → List Job → Loaded → Type 0
+IsLoadOf options hosts jobs loaded = IsLoaded waiting_world (bounds_of options.host_limit options.total options.connects) hosts jobs options.workers loaded
+
+-- the report is that of a load with these numbers, over a site for each port
+pub record ReportsLoad (options : LoadOptions) (report : Text) : Type 0 where
+  pub ports : List ℕ
+  pub jobs : List Job
+  pub loaded : Loaded
+  pub a_port_each : length ports ≡ options.sites
+  pub jobs_are : AreLoadJobs ports 0 jobs
+  pub as_many : length jobs ≡ options.jobs
+  pub is_loaded : IsLoadOf options (length ports) jobs loaded
+  pub report_is : report ≡ report_text loaded.gathered.hosts.items loaded.results.items
