@@ -19,18 +19,18 @@ from .parts import Part, check
 from .programs import curlpool, run, tests_of, tool
 
 # the crates whose tests of allocation failures try the public calls that may be refused memory, and how many requests
-# are refused alone at least: those of all tests, but for threads, which ask for some more or fewer each time
+# are refused alone at least: all, but for a few of threads, which ask for some more or fewer each time
 CRATES = {
     "budget_tests": 13, "bundle_tests": 151, "cache_tests": 85, "cli_tests": 283, "conn_key_tests": 63,
-    "conn_log_tests": 10, "exchange_tests": 137, "load_tests": 222, "persistence_tests": 1, "shared_cache_tests": 94,
-    "threads_tests": 1_311,
+    "conn_log_tests": 10, "exchange_tests": 137, "load_tests": 220, "persistence_tests": 1, "shared_cache_tests": 94,
+    "threads_tests": 1_300,
 }
 # the status of words that are refused
 REFUSED_WORDS = 2
 SECONDS = 60
 SECONDS_OF_ALL = 600
 WORDS_OF_LOAD = ["load", "--sites", "2", "--jobs", "12", "--workers", "2", "--host-limit", "1", "--total", "1"]
-# words that are answered without a network or threads; the first four are refused
+# words that are answered without a network or threads: five that are refused, and one that is not
 WORDS = (
     ("load", "--jobs", "0"), ("load", "--sites", "9"), ("get", "--timeout", "0", "http://127.0.0.1/"),
     ("get", "ftp://a/"), ("get", "http://a.test/"), ("--help",),
