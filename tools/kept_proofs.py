@@ -4,13 +4,13 @@ import importlib.machinery
 import importlib.util
 import json
 import os
-import subprocess
+
+from program import kit
 
 
 def rt_module():
     """The kit's command rt as a module."""
-    page = subprocess.run(["rt", "doc"], capture_output=True, text=True, check=True).stdout.strip()
-    path = os.path.join(os.path.dirname(os.path.realpath(page)), "bin", "rt")
+    path = os.path.join(kit(), "bin", "rt")
     loader = importlib.machinery.SourceFileLoader("rt_of_the_kit", path)
     module = importlib.util.module_from_spec(importlib.util.spec_from_loader(loader.name, loader))
     loader.exec_module(module)

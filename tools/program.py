@@ -92,7 +92,10 @@ def built(crate, command, product, words=()):
 def given(name):
     """A file of the folder that BUILT names, or nothing if it names none."""
     folder = os.environ.get("BUILT")
-    return os.path.join(folder, name) if folder else None
+    path = os.path.join(folder, name) if folder else None
+    if path and not os.access(path, os.X_OK):
+        sys.exit(f"the folder that BUILT names has no {name}")
+    return path
 
 
 @functools.cache
@@ -101,6 +104,18 @@ def built_requests():
     that is built already, or BUILT a folder that has it."""
     found = os.environ.get("REQUESTS") or given(REQUESTS)
     return found or built(REQUESTS, "run", REQUESTS, FEWEST_REQUESTS)
+
+
+@functools.cache
+def kit():
+    """The kit's folder, in which the first page of its guides stands."""
+    page = subprocess.run(["rt", "doc"], capture_output=True, text=True, check=True).stdout.strip()
+    return os.path.dirname(os.path.realpath(page))
+
+
+def processors():
+    """How many processors this process may run on."""
+    return len(os.sched_getaffinity(0))
 
 
 def say(text):

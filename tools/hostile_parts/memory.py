@@ -1,7 +1,7 @@
-"""Memory that is refused: each request for it in turn, alone and from it on.
+"""Memory that is refused: each request for it in turn, alone and from it on, until a run meets no such request.
 
-The scripts are tried by tools/failing-allocations, and calls by tools/failing-allocations-in-tests. Here curlpool get
-and curlpool load are tried the same way. Each run has to give all memory back.
+The scripts are tried by tools/failing-allocations, and calls by tools/failing-allocations-in-tests. Here curlpool get,
+curlpool load and words of the command line are tried the same way. Each run has to give all memory back.
 """
 import collections
 import contextlib
@@ -11,23 +11,33 @@ import os
 import re
 import tempfile
 
-from failing_malloc import Runner, in_turn
+from failing_malloc import Runner, misrefused, refuse_each
 from real_servers import servers
 from real_servers.servers import Server
 
 from .parts import Part, check
 from .programs import curlpool, run, tests_of, tool
 
-# the crates whose tests of allocation failures try the public calls that may be refused memory
-CRATES = ("budget_tests", "bundle_tests", "cache_tests", "cli_tests", "conn_key_tests", "conn_log_tests",
-          "exchange_tests", "load_tests", "persistence_tests", "shared_cache_tests", "threads_tests")
-SECONDS = 20
+# the crates whose tests of allocation failures try the public calls that may be refused memory, and how many requests
+# are refused alone at least: all, but for a few of threads, which ask for some more or fewer each time
+CRATES = {
+    "budget_tests": 13, "bundle_tests": 151, "cache_tests": 85, "cli_tests": 283, "conn_key_tests": 63,
+    "conn_log_tests": 10, "exchange_tests": 137, "load_tests": 220, "persistence_tests": 1, "shared_cache_tests": 94,
+    "threads_tests": 1_300,
+}
+# the status of words that are refused
+REFUSED_WORDS = 2
+SECONDS = 60
 SECONDS_OF_ALL = 600
-# how many allocations a load is refused at least; its threads ask for some more or fewer each time
-BEYOND = 40
 WORDS_OF_LOAD = ["load", "--sites", "2", "--jobs", "12", "--workers", "2", "--host-limit", "1", "--total", "1"]
+# words that are answered without a network or threads: five that are refused, and one that is not
+WORDS = (
+    ("load", "--jobs", "0"), ("load", "--sites", "9"), ("get", "--timeout", "0", "http://127.0.0.1/"),
+    ("get", "ftp://a/"), ("get", "http://a.test/"), ("--help",),
+)
 FAULT = re.compile(r"(?:Memory|Refused|Dial) (\S+)\n")
 ALLOCATIONS = re.compile(r"\b(\d+) allocations", re.MULTILINE)
+REFUSED = re.compile(r"^refused: (\d+) alone, (\d+) for good$", re.MULTILINE)
 
 
 def last_of(text):
@@ -50,10 +60,12 @@ def scripts():
     return f"{len(ALLOCATIONS.findall(said))} scripts, {count} allocations, each alone and all from it on"
 
 
-def calls_of(crate):
+def calls_of(crate, least):
     said = by_tool("failing-allocations-in-tests", "--only", "want_of_memory", crate, TESTS=tests_of(crate))
-    tests = [line for line in said.splitlines() if not line.startswith(" ") and line.endswith(" allocations")]
-    return f"{len(tests)} tests, {sum(map(int, ALLOCATIONS.findall(chr(10).join(tests))))} allocations"
+    tests = sum(1 for line in said.splitlines() if not line.startswith(" ") and ALLOCATIONS.search(line))
+    alone, for_good = map(int, REFUSED.search(said).groups())
+    check(alone >= least, f"{alone} allocations were refused alone, and not {least} or more")
+    return f"{tests} tests, {alone} allocations refused alone, {for_good} for good"
 
 
 def wrong_front(run, lines, urls):
@@ -86,7 +98,7 @@ def wrong_get(run, ample, urls):
     return wrong_front(run, lines, urls)
 
 
-def wrong_load(run, ample, _):
+def wrong_load(run, _):
     """What is wrong with a run of load, or nothing."""
     if run.status == 0:
         lines = run.output.decode().splitlines()
@@ -113,36 +125,54 @@ def unreturned(run):
     return f"{run.kept} blocks were not given back" if run.kept else None
 
 
-def fail_each(words, wrong_with, urls=(), beyond=0):
-    """Fails each allocation of a run in turn, alone and all from it on; what there is to say of it."""
+def refuse_all(words, wrong_with, may_vary=False, statuses=(0,)):
+    """Refuses each allocation of a run in turn, alone and all from it on; what there is to say of it. If it may vary,
+    the run asks for some more or fewer allocations each time."""
     with tempfile.TemporaryDirectory() as room:
         runner = Runner(room, SECONDS)
         ample = runner.run(words)
-        check(ample.status == 0 and ample.asked > 0, f"in ample memory: status {ample.status}, {ample.errors!r}")
+        check(ample.status in statuses and ample.asked > 0 and not ample.kept,
+              f"in ample memory: status {ample.status}, {ample.errors!r}, {ample.kept} blocks were not given back")
         ends = collections.Counter()
         for how, run_at in (("alone", runner.alone), ("from it on", runner.from_it_on)):
-            numbers = range(1, ample.asked + beyond + 1)
-            for number, one in in_turn(functools.partial(run_at, words, b""), numbers):
-                found = one.killed() or wrong_with(one, ample, urls) or unreturned(one)
+            for number, run in refuse_each(functools.partial(run_at, words, b""), ample, may_vary=may_vary):
+                found = run.killed() or wrong_with(run, ample) or unreturned(run) or misrefused(
+                    number, run, ample, how == "alone", may_vary)
                 check(not found, f"allocation {number} {how}: {found}")
-                ends[one.status] += 1
-    return f"{ample.asked} allocations; {ends[0]} runs whole, {ends[4]} that say so"
+                if run.refused:
+                    ends[how] += 1
+                    ends[run.status == ample.status] += 1
+    return (f"{ends['alone']} allocations refused alone, {ends['from it on']} for good; {ends[True]} runs whole, "
+            f"{ends[False]} that say so")
 
 
 def get():
     with contextlib.ExitStack() as stack:
         ports = [stack.enter_context(Server(servers.lasts)).port for _ in range(2)]
         urls = [f"http://127.0.0.1:{port}/{number}" for number, port in zip((1, 2, 3), itertools.cycle(ports))]
-        return fail_each([curlpool(), "get", *urls], wrong_get, urls)
+        return refuse_all([curlpool(), "get", *urls], functools.partial(wrong_get, urls=urls), may_vary=True)
 
 
 def load():
-    return fail_each([curlpool(), *WORDS_OF_LOAD], wrong_load, beyond=BEYOND)
+    return refuse_all([curlpool(), *WORDS_OF_LOAD], wrong_load, may_vary=True)
+
+
+def wrong_answer(run, ample):
+    """What is wrong with an answer to words, or nothing: it is the one that ample memory gives, or that there is no
+    memory, and then nothing else is written."""
+    found = run.status, run.output, run.errors
+    may_be = (ample.status, ample.output, ample.errors), (4, b"", b"run: out of memory\n")
+    return None if found in may_be else f"status {run.status}, {run.output!r}, {run.errors!r}"
+
+
+def words_of(words):
+    return refuse_all([curlpool(), *words], wrong_answer, statuses=(0, REFUSED_WORDS))
 
 
 PARTS = [
     Part("memory: scripts", scripts),
-    *(Part(f"memory: calls, in {crate}", functools.partial(calls_of, crate)) for crate in CRATES),
+    *(Part(f"memory: calls, in {crate}", functools.partial(calls_of, crate, least)) for crate, least in CRATES.items()),
     Part("memory: curlpool get", get),
     Part("memory: curlpool load", load),
+    *(Part(f"memory: curlpool {' '.join(words)}", functools.partial(words_of, words)) for words in WORDS),
 ]

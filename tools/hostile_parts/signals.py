@@ -14,7 +14,9 @@ from .peers import listening
 from .programs import curlpool, end, started
 
 SIGNALS = (signal.SIGINT, signal.SIGTERM, signal.SIGHUP)
-SECONDS = 10
+SECONDS = 60
+# a load takes some tenths of a second, so on a busy machine it may have ended before the signal comes
+TRIES = 20
 
 
 @contextlib.contextmanager
@@ -56,13 +58,28 @@ def script():
     return "nothing was written"
 
 
+def has_threads(run):
+    """Whether it has started threads."""
+    with contextlib.suppress(OSError):
+        return len(os.listdir(f"/proc/{run.pid}/task")) > 1
+    return False
+
+
+def end_load(number):
+    """Ends a load by the signal, once its threads run: its status and what it wrote."""
+    words = [curlpool(), "load", "--jobs", "10000", "--sites", "1", "--total", "1", "--workers", "64"]
+    with running(words, stdin=subprocess.DEVNULL) as run:
+        while run.poll() is None and not has_threads(run):
+            time.sleep(0.001)
+        return end_by(run, number)
+
+
 def load():
     """A report is written at the end, so nothing was written."""
-    words = [curlpool(), "load", "--jobs", "10000", "--sites", "1", "--total", "1", "--workers", "64"]
     for number in SIGNALS:
-        with running(words, stdin=subprocess.DEVNULL) as run:
-            time.sleep(0.05)
-            check_same(end_by(run, number), (-number, "", ""), number.name)
+        ends = (end_load(number) for _ in range(TRIES))
+        found = next((end for end in ends if end[0] != 0), "each load ended before the signal")
+        check_same(found, (-number, "", ""), number.name)
     return "nothing was written"
 
 

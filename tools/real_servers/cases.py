@@ -14,7 +14,7 @@ import itertools
 import re
 
 from . import servers
-from .servers import nobody
+from .servers import LATER, SOON, nobody
 
 KINDS = ("waiting", "polled")
 
@@ -100,27 +100,27 @@ CASES = [
     Case("each third response ends its connection, unsaid", (servers.ends_after(3),),
          "new, 2 reused, then new retried, 2 reused", 300, opened=100, reused=200, retried=99),
     Case("surplus with each response", (servers.sends_surplus,), "new", 300, opened=300),
-    Case("surplus after each response", (servers.sends_late_surplus,), "new, then new retried", 20,
-         opened=20, retried=19, pause=100),
-    Case("an unasked answer", (servers.answers_unasked, servers.takes(0.15)), "2 new, then new retried, reused", 20,
-         opened=11, reused=9, retried=9),
+    Case("surplus after each response", (servers.sends_late_surplus,), "new, then new retried", 5,
+         opened=5, retried=4, pause=LATER),
+    Case("an unasked answer", (servers.answers_unasked, servers.takes(LATER / 1_000)),
+         "2 new, then new retried, reused", 6, opened=4, reused=2, retried=2),
     Case("100 Continue before each response", (servers.sends_interim("100 Continue"),), "new, then reused", 300,
          opened=1, reused=299),
     Case("103 Early Hints before each response",
          (servers.sends_interim("103 Early Hints", "Link: </style.css>; rel=preload"),), "new, then reused", 300,
          opened=1, reused=299),
     Case("a chunk's line in two writes", (servers.cuts_chunk_lines,), "new, then reused", 300, opened=1, reused=299),
-    Case("idle connections end after 100 ms, no pause", (servers.ends_idle_after(0.1),), "new, then reused", 300,
+    Case("idle connections end, no pause", (servers.ends_idle_after(30),), "new, then reused", 300,
          opened=1, reused=299),
-    Case("idle connections end after 100 ms, a pause of 200 ms", (servers.ends_idle_after(0.1),),
-         "new, then new retried", 15, opened=15, retried=14, pause=200),
+    Case("idle connections end, a longer pause", (servers.ends_idle_after(SOON),), "new, then new retried", 5,
+         opened=5, retried=4, pause=LATER),
     Case("reset in place of the first answer", (servers.resets_at(1),), "Read or Write", 300, opened=300, failed=300),
     Case("reset in place of the second answer", (servers.resets_at(2),), "new, then new retried", 300,
          opened=300, retried=299),
     Case("reset in place of the second answer, and once more", (servers.resets_twice,), "new, Read or Write", 300,
          opened=300, failed=150),
-    Case("half a body of each second, and then nothing", (servers.stalls,), "new, Cancelled", 6,
-         opened=3, failed=3, limit=1),
+    Case("half a body of each second, and then nothing", (servers.stalls,), "new, Cancelled", 4,
+         opened=2, failed=2, limit=3),
     Case("both lengths", (servers.gives_both_lengths,), "new", 300, opened=300),
     Case("HTTP/1.0", (servers.answers_old(),), "new", 300, opened=300),
     Case("HTTP/1.0 with keep-alive", (servers.answers_old("Connection: keep-alive"),), "new, then reused", 300,
@@ -143,7 +143,7 @@ CASES = [
 ]
 
 # a response to A, one of B meanwhile, and one of A again
-UNASKED = Case("an unasked answer", (servers.answers_unasked, servers.takes(0.15)), "2 new, new retried", 3,
+UNASKED = Case("an unasked answer", (servers.answers_unasked, servers.takes(LATER / 1_000)), "2 new, new retried", 3,
                opened=3, retried=1)
 
 # by curlpool get
@@ -156,7 +156,7 @@ GET_CASES = [
          options=("--head",)),
     Case("nobody listens", (nobody,), "Dial", 10, opened=0, failed=10),
     Case("half a body, and then nothing", (servers.stalls,), "new, Cancelled", 2, opened=1, failed=1,
-         options=("--timeout", "1")),
+         options=("--timeout", "3")),
     # whole seconds are counted: after 3 a connection was idle for more than 1
     Case("idle for too long", (servers.lasts, servers.takes(3)), "3 new", 3, opened=3, options=("--max-age", "1")),
     UNASKED,

@@ -10,7 +10,11 @@ import time
 
 from .programs import end
 
-SECONDS = 10
+# it is ready in a tenth of that
+SECONDS = 60
+TRIES = 3
+# what nginx writes
+SAID = "said"
 # each file is named for the number of its bytes
 MOST_BYTES = 1_200
 # what stands in the server of that name
@@ -81,28 +85,40 @@ def answers(port):
     return False
 
 
-def wait_for(started, ports, said):
-    """Waits until each port answers; ends the run where nginx has ended, or is not ready in time."""
+def is_ready(started, ports):
+    """Waits until each port answers: whether they do before nginx ends, and in time."""
     latest = time.monotonic() + SECONDS
     for port in ports:
         while not answers(port):
             if started.poll() is not None or time.monotonic() > latest:
-                said.seek(0)
-                raise OSError(f"nginx did not start: {said.read().strip()}")
+                return False
             time.sleep(0.02)
+    return started.poll() is None
+
+
+@contextlib.contextmanager
+def started_once(room):
+    """Runs nginx once: the port of each server by its name; nothing if nginx did not start."""
+    ports = dict(zip(SERVERS, free_ports(len(SERVERS)), strict=True))
+    with open(os.path.join(room, SAID), "w", encoding="utf8") as said:
+        started = subprocess.Popen([found(), "-p", room, "-c", write_configuration(room, ports)],
+                                   stdin=subprocess.DEVNULL, stdout=said, stderr=said, start_new_session=True)
+        try:
+            yield ports if is_ready(started, ports.values()) else None
+        finally:
+            end(started)
 
 
 @contextlib.contextmanager
 def running():
-    """Runs nginx, and gives the port of each server by its name."""
+    """Runs nginx, and gives the port of each server by its name. If another program takes one of the free ports first,
+    it is started once more."""
     with tempfile.TemporaryDirectory(prefix="real-servers-") as room:
         write_files(room)
-        ports = dict(zip(SERVERS, free_ports(len(SERVERS)), strict=True))
-        with open(os.path.join(room, "said"), "w+", encoding="utf8") as said:
-            started = subprocess.Popen([found(), "-p", room, "-c", write_configuration(room, ports)],
-                                       stdin=subprocess.DEVNULL, stdout=said, stderr=said, start_new_session=True)
-            try:
-                wait_for(started, ports.values(), said)
-                yield ports
-            finally:
-                end(started)
+        for _ in range(TRIES):
+            with started_once(room) as ports:
+                if ports:
+                    yield ports
+                    return
+        with open(os.path.join(room, SAID), encoding="utf8") as said:
+            raise OSError(f"nginx did not start: {said.read().strip()}")

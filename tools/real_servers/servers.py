@@ -9,6 +9,9 @@ import threading
 import time
 from typing import NamedTuple
 
+# how long a server waits until the client has surely read what was sent, and how long a client waits, in milliseconds,
+# until a server has surely done what it does after that: both hold beside other work too
+SOON, LATER = 0.3, 1_500
 REQUEST = re.compile(rb"(GET|HEAD) /(\d+) HTTP/1\.1\r\n(?:.*\r\n)*Host: .+")
 SURPLUS = b"surplus of 20 bytes!"
 
@@ -148,18 +151,18 @@ def sends_surplus(connection):
 
 
 def sends_late_surplus(connection):
-    """Twenty bytes more, 50 milliseconds after the response."""
+    """Twenty bytes more, soon after the response."""
     for request in connection.requests():
         connection.send(counted(request.number))
-        time.sleep(0.05)
+        time.sleep(SOON)
         connection.send(SURPLUS)
 
 
 def answers_unasked(connection):
-    """A whole response of 7 bytes that nobody asked for, 30 milliseconds after each response."""
+    """A whole response of 7 bytes that nobody asked for, soon after each response."""
     for request in connection.requests():
         connection.send(counted(request.number))
-        time.sleep(0.03)
+        time.sleep(SOON)
         connection.send(counted(7))
 
 

@@ -4,10 +4,11 @@ import shutil
 from . import programs
 from .cases import UNASKED
 from .places import started
+from .servers import LATER, SOON
 
-ASKED = """\
-Server A sends, 30 ms after each response, a whole one of 7 bytes, unsolicited.
-Asked in turn: 1 byte of A; 2 bytes of B, which takes 150 ms; 3 bytes of A again."""
+ASKED = f"""\
+Server A sends, {SOON * 1_000:.0f} ms after each response, a whole one of 7 bytes, unsolicited.
+Asked in turn: 1 byte of A; 2 bytes of B, which takes {LATER} ms; 3 bytes of A again."""
 
 
 def by_curl():
@@ -33,7 +34,7 @@ def name_of_curl():
 def length_by_curl():
     """How many bytes curl gives for the last of the requests, in words."""
     lines = by_curl()
-    return f"{name_of_curl()}: {lines[-1].split()[1]} bytes for 3" if lines else name_of_curl()
+    return f"{name_of_curl()}: {lines[-1].split()[1]} bytes for 3" if len(lines) == UNASKED.requests else name_of_curl()
 
 
 def show():
