@@ -31,12 +31,21 @@ pub(crate) fn run_next<R: Wait>(
     words: &mut Args,
 ) -> Result<(), MeasureError> {
     let script = match words.next() {
-        Some(name) if name.as_str() != "-" => fs::read(system, name.as_str()),
-        _ => read_input(system),
+        Some(name) => read_named(system, name.as_str()),
+        None => read_input(system),
     };
     match script {
         Ok(script) => run(rt, system, &script),
         Err(_) => Err(fault(0, FaultKind::Read)),
+    }
+}
+
+/// What the file of that name has.
+fn read_named(system: &HostRuntime, name: &str) -> io::Result<Vec<u8>> {
+    if name == "-" {
+        read_input(system)
+    } else {
+        fs::read(system, name)
     }
 }
 

@@ -1,7 +1,7 @@
 //! The lines that tell of what the logs of all hosts have more than before.
 
-use bundle::Bundle;
 use crate::scripts::kept::NoStream;
+use bundle::Bundle;
 use script_text::{FaultKind, lines_since};
 use shared_cache::{Names, SharedCache};
 use std::alloc::Global;
