@@ -17,11 +17,10 @@ use crate::scripts::kept::{Kept, NoStream};
 use script_text::{FaultKind, ScriptFault, first_line};
 use shared_cache::{Names, Plan, SharedCache};
 use std::env::Args;
-use std::fs;
-use std::io;
 use std::io::{Read, Write};
 use std::marker::Brand;
 use std::sync::Wait;
+use std::{fs, io};
 
 /// Runs the script in the file that the next word names, and prints its transcript. `-`, and no
 /// word, stand for standard input.

@@ -6,8 +6,9 @@ use crate::shared::KEEP;
 use budget::Refusal;
 use bundle::{Bundle, Snapshot};
 use persistence::{Facts, Framing, Version};
-use script_text::{Action, Command, Ending, FaultKind, LookLine, read_line};
-use script_text::{reply, too_many_leased, upkeep};
+use script_text::{
+    Action, Command, Ending, FaultKind, LookLine, read_line, reply, too_many_leased, upkeep,
+};
 use shared_cache::{Names, SharedCache};
 use std::alloc::Global;
 use std::sync::Wait;
@@ -29,11 +30,13 @@ pub(super) fn answer<N: Names, R: Wait>(
         Some(Command::At { site, action }) => {
             answer_at(rt, alloc, cache, kept, told, site, action)
         }
-        Some(Command::Prune {
-            max_age,
-            max_life,
-            moment,
-        }) => {
+        Some(
+            Command::Prune {
+                max_age,
+                max_life,
+                moment,
+            },
+        ) => {
             kept.prune(rt, cache, moment, max_age, max_life);
             lines(rt, alloc, cache, told, 0)
         }
