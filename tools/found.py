@@ -15,14 +15,14 @@ import threading
 from typing import NamedTuple
 
 from program import TOP, Children, listed_crates
-from reference import all_scripts
+from reference import fixed_and_drawn
 from tries import end_check_of_names
 
 CRATES = os.path.join(TOP, "crates")
 FOUND_BY, FILE, OLD, NEW = "found by: ", "file: ", "old: ", "new: "
 REFERENCE = "reference"
-# random scripts, of few hosts and of many: the fixed ones alone find all
-FEW, MANY = 80, 20
+# random scripts, of few hosts and of many: rt try takes half a second for each script
+FEW, MANY = 20, 10
 # for each script, and each crate of tests
 SECONDS = 120
 # the last line of rt try with --cases, and those of its cases that ended with a status
@@ -95,7 +95,7 @@ class Trial:
     def write_cases(self):
         """Writes the scripts of the reference run there, each with the transcript that it has to write."""
         os.mkdir(self.cases)
-        for name, both in all_scripts(self.room, FEW, MANY).items():
+        for name, both in fixed_and_drawn(self.room, FEW, MANY).items():
             for file, text in zip((name, f"{name}.stdout"), both, strict=True):
                 with open(os.path.join(self.cases, file), "wb") as written:
                     written.write(text)

@@ -29,6 +29,11 @@ def drawn(room, kind, count):
     return {f"{kind}-{name}": both for name, both in scripts_in(folder).items()}
 
 
+def fixed_and_drawn(room, few, many):
+    """The fixed scripts, and so many random ones of few hosts and of many: by name, each with its transcript."""
+    return {**fixed(), **drawn(room, "few", few), **drawn(room, "many", many)}
+
+
 def all_scripts(room, few, many):
-    """All, with so many random ones of few hosts and of many: by name, each with its transcript."""
-    return {**fixed(), **worked(), **drawn(room, "few", few), **drawn(room, "many", many)}
+    """These and the worked ones."""
+    return {**worked(), **fixed_and_drawn(room, few, many)}
