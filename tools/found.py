@@ -122,24 +122,23 @@ class Trial:
             self.children.wait(run)
         return told_by_cases(said) if is_reference else told_by_tests(said)
 
-    def one(self, edit):
-        """Tries an edit: whether its test finds it, and what that said."""
+    def one(self, edit, before):
+        """Tries an edit: whether its test, which told this without an edit, finds it, and what the test said."""
+        passes, why = before[edit.test]
+        if not passes:
+            return False, f"{edit.test} does not pass without an edit: {why}"
         passes, why = self.try_test(edit.test, edit)
         return passes is False, why
 
     def all(self, edits, at_once):
-        """Tries edits, of which those count whose test passes without one: whether each is found, and why."""
+        """Tries edits: whether each is found, and why, in their order as they end."""
         with concurrent.futures.ThreadPoolExecutor(at_once) as pool:
             try:
                 tests = sorted({edit.test for edit in edits})
                 if REFERENCE in tests:
                     self.write_cases()
                 before = dict(zip(tests, pool.map(self.try_test, tests), strict=True))
-                tried = [edit for edit in edits if before[edit.test][0]]
-                found = dict(zip(((edit.crate, edit.name) for edit in tried), pool.map(self.one, tried), strict=True))
-                return [found.get((edit.crate, edit.name),
-                                  (False, f"{edit.test} does not pass without an edit: {before[edit.test][1]}"))
-                        for edit in edits]
+                yield from pool.map(lambda edit: self.one(edit, before), edits)
             finally:
                 self.children.stop()
 
@@ -168,11 +167,10 @@ def told_by_tests(said):
 
 def try_found(crates, at_once):
     """Tries the edits of these crates, and prints what came of each: whether all were found."""
-    edits = [edit for crate in crates for edit in edits_of(crate)]
+    edits, found = [edit for crate in crates for edit in edits_of(crate)], 0
     with tempfile.TemporaryDirectory(prefix="found-") as room:
-        results = Trial(room).all(edits, at_once)
-    for edit, (is_found, why) in zip(edits, results, strict=True):
-        print(f"{'found' if is_found else 'missed'}: {edit.crate}/{edit.name} by {edit.test}: {why}")
-    found = sum(is_found for is_found, _ in results)
+        for edit, (is_found, why) in zip(edits, Trial(room).all(edits, at_once), strict=True):
+            found += is_found
+            print(f"{'found' if is_found else 'missed'}: {edit.crate}/{edit.name} by {edit.test}: {why}", flush=True)
     print(f"{found} found, {len(edits) - found} missed", flush=True)
     return found == len(edits)
