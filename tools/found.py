@@ -1,9 +1,9 @@
 """Wrong bodies that the prover lets through, and that a test finds: `tools/wrong-bodies --found`.
 
 They are the edits in crates/CRATE/found, of the form of those in wrong-bodies, with a first line `found by: TEST`:
-`reference` for the scripts of tools/reference.py, which `measures script` carries out with a shared cache, or a crate of
-tests. Each is put into a copy of the sources, where `rt try` compiles and runs its test, unproved. The test has to fail
-there; it has to pass without an edit, which is tried first.
+`reference` for the scripts of tools/reference.py, which `measures script` carries out with a shared cache, or a crate
+of tests. Each is put into a copy of the sources, where `rt try` compiles and runs its test, unproved. The test has to
+fail there; it has to pass without an edit, which is tried first.
 """
 import concurrent.futures
 import os

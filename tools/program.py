@@ -108,7 +108,7 @@ def built_requests():
 
 @functools.cache
 def built_measures():
-    """The program measures, likewise; MEASURES names another one that is built already, or BUILT a folder that has it."""
+    """The program measures, likewise; MEASURES names another one that is built, or BUILT a folder that has it."""
     found = os.environ.get("MEASURES") or given(MEASURES)
     return found or built(MEASURES, "run", MEASURES, FEWEST_ROUNDS)
 
