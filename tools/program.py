@@ -16,6 +16,9 @@ BUILT = os.path.join(FOLDER, "out", NAME)
 REQUESTS = "requests"
 # one request, to where nobody listens
 FEWEST_REQUESTS = ["load", "1", "0", "1", "1"]
+# the program that measures, and runs scripts by a shared cache
+MEASURES = "measures"
+FEWEST_ROUNDS = ["limits", "open-1", "1000"]
 
 
 def listed_crates():
@@ -116,6 +119,13 @@ def kit():
 def processors():
     """How many processors this process may run on."""
     return len(os.sched_getaffinity(0))
+
+
+@functools.cache
+def built_measures():
+    """The program measures, likewise; MEASURES names another one that is built, or BUILT a folder that has it."""
+    found = os.environ.get("MEASURES") or given(MEASURES)
+    return found or built(MEASURES, "run", MEASURES, FEWEST_ROUNDS)
 
 
 def say(text):

@@ -1,13 +1,17 @@
 #!/usr/bin/env python3
-"""Writes random scripts, with the transcripts that the model gives: generate.py FOLDER SEED COUNT."""
+"""Writes random scripts, with the transcripts that the model gives: generate.py FOLDER SEED COUNT [many].
+
+A script has up to five hosts; with `many` it has six to 60, which share three connections at most."""
 import random, sys, os
 sys.path.insert(0, os.path.dirname(__file__))
-from model import transcript, Script
+from model import Script
 
 
-def script(rng):
-    n = rng.choice([0, 1, 2, 2, 3, 3, 4, 5])
-    lines = ['limits %d %d %d' % (rng.choice([0, 1, 1, 2, 2, 3]), rng.choice([0, 1, 2, 2, 3, 4, 5]), rng.choice([1, 1, 2, 3, 8]))]
+def script(rng, many):
+    """A random script, and its transcript."""
+    n = rng.randint(6, 60) if many else rng.choice([0, 1, 2, 2, 3, 3, 4, 5])
+    totals = [1, 2, 3, 3] if many else [0, 1, 2, 2, 3, 4, 5]
+    lines = ['limits %d %d %d' % (rng.choice([0, 1, 1, 2, 2, 3]), rng.choice(totals), rng.choice([1, 1, 2, 3, 8]))]
     lines += ['site http://h%d.test/' % i for i in range(n)]
     run = Script()
     for line in lines: run.line(line)
@@ -39,13 +43,13 @@ def script(rng):
         elif r < 0.96: lines.append('upkeep')
         else: lines.append('look %d' % s)
         run.line(lines[before])
-    return '\n'.join(lines) + '\n'
+    return [''.join(line + '\n' for line in told) for told in (lines, run.out)]
 
 
 folder, seed, count = sys.argv[1], int(sys.argv[2]), int(sys.argv[3])
 os.makedirs(folder, exist_ok=True)
 rng = random.Random(seed)
 for i in range(count):
-    text = script(rng)
+    text, transcript = script(rng, sys.argv[4:] == ['many'])
     open('%s/%05d' % (folder, i), 'w').write(text)
-    open('%s/%05d.stdout' % (folder, i), 'w').write(transcript(text))
+    open('%s/%05d.stdout' % (folder, i), 'w').write(transcript)

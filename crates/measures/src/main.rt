@@ -1,15 +1,16 @@
-//! A program that only measures: rounds over the parts of the product, as often and by as many
-//! threads as its words say. It is not a part of the product.
+//! A program that measures and tries: rounds over the parts of the product, as often and by as many
+//! threads as its words say, and scripts by a shared cache. It is not a part of the product.
 #![tactic(auto)]
 
 mod counts;
 mod endless;
 mod limits;
+mod scripts;
 mod shared;
 mod transfers;
 mod words;
 
-use crate::counts::{Counts, MeasureError};
+use crate::counts::MeasureError;
 use crate::words::next_choice;
 use std::env;
 use std::env::Args;
@@ -17,11 +18,14 @@ use std::process::ExitCode;
 use std::sync::Wait;
 use std::thread::Threads;
 
-/// Memory ran out, or what was counted could not be written.
+/// Memory ran out, what was counted could not be written, or an account is wrong.
 const FAILED: u8 = 1;
 
 /// The words are refused.
 const BAD_WORDS: u8 = 2;
+
+/// The script has a fault, as `curlpool script` ends.
+const BAD_SCRIPT: u8 = 3;
 
 /// The words that there are.
 const USAGE: &str = "one or more of:\n\
@@ -29,44 +33,50 @@ const USAGE: &str = "one or more of:\n\
     shared pair|close HOSTS ROUNDS\n\
     shared threads THREADS own|one ROUNDS\n\
     exchange transfers COUNT\n\
-    exchange waiting OTHERS ENDS";
+    exchange waiting OTHERS ENDS\n\
+    script FILE (- is standard input, as is no word)";
 
-/// What is measured.
+/// What is measured, or run.
 #[derive(Clone, Copy)]
 enum Subject {
     Limits,
     Shared,
     Exchange,
+    Script,
 }
 
 /// Each subject's word.
-static SUBJECTS: [(&str, Subject); 3] = [
+static SUBJECTS: [(&str, Subject); 4] = [
     ("limits", Subject::Limits),
     ("shared", Subject::Shared),
     ("exchange", Subject::Exchange),
+    ("script", Subject::Script),
 ];
 
-/// Measures what the next words ask for; threads and locks are those of `rt`.
-fn counted<R: Threads + Wait + Sync>(
+/// Measures what the next words ask for, and prints what was counted; or runs a script. Threads and
+/// locks are those of `rt`.
+fn measure_next<R: Threads + Wait + Sync>(
     rt: &R,
     system: &HostRuntime,
     words: &mut Args,
-) -> Result<Counts, MeasureError> {
-    match next_choice(words, &SUBJECTS)? {
-        Subject::Limits => limits::counted(rt, system.alloc(), words),
-        Subject::Shared => shared::counted(rt, system.alloc(), words),
-        Subject::Exchange => transfers::counted(system, system.alloc(), words),
-    }
+) -> Result<(), MeasureError> {
+    let counts = match next_choice(words, &SUBJECTS)? {
+        Subject::Limits => limits::counted(rt, system.alloc(), words)?,
+        Subject::Shared => shared::counted(rt, system.alloc(), words)?,
+        Subject::Exchange => transfers::counted(system, system.alloc(), words)?,
+        Subject::Script => return scripts::run_next(rt, system, words),
+    };
+    counts.print(system)
 }
 
-/// Measures what the words ask for, one subject after another, and prints what was counted of each.
+/// Measures what the words ask for, one subject after another.
 fn measure_all<R: Threads + Wait + Sync>(
     rt: &R,
     system: &HostRuntime,
     words: &mut Args,
 ) -> Result<(), MeasureError> {
     for _ in 0..u64::MAX {
-        counted(rt, system, words)?.print(system)?;
+        measure_next(rt, system, words)?;
         if words.len() == 0 {
             break;
         }
@@ -83,13 +93,26 @@ fn measure<R: Threads + Wait + Sync>(rt: &R, system: &HostRuntime) -> Result<(),
     measure_all(rt, system, &mut words)
 }
 
-/// Tells why nothing more is counted; if that fails there is nobody left to tell.
+/// Tells why nothing more is done; if that fails there is nobody left to tell.
 fn tell(rt: &HostRuntime, error: MeasureError) -> ExitCode {
-    let (why, status) = match error {
-        MeasureError::Words => (USAGE, BAD_WORDS),
-        MeasureError::Memory => ("out of memory", FAILED),
-        MeasureError::Output => ("the output cannot be written", FAILED),
-    };
+    match error {
+        MeasureError::Words => tell_why(rt, USAGE, BAD_WORDS),
+        MeasureError::Memory => tell_why(rt, "out of memory", FAILED),
+        MeasureError::Output => tell_why(rt, "the output cannot be written", FAILED),
+        MeasureError::Account => tell_why(rt, "the account is not what the logs say", FAILED),
+        MeasureError::NotGathered(refusal) => {
+            let _ = eprintln!(rt; "measures: the cache is not gathered: {refusal}");
+            ExitCode::from(FAILED)
+        }
+        MeasureError::Script(fault) => {
+            let _ = eprintln!(rt; "{fault}");
+            ExitCode::from(BAD_SCRIPT)
+        }
+    }
+}
+
+/// Tells that.
+fn tell_why(rt: &HostRuntime, why: &str, status: u8) -> ExitCode {
     let _ = eprintln!(rt; "measures: {why}");
     ExitCode::from(status)
 }

@@ -24,7 +24,7 @@ const OWN_HOSTS: u32 = 16;
 const MOST_THREADS: u32 = MOST_HOSTS / OWN_HOSTS;
 
 /// A response that lets its connection persist.
-const KEEP: Facts = Facts {
+pub(crate) const KEEP: Facts = Facts {
     version: Version::V11,
     close: false,
     keep_alive: false,
