@@ -1,12 +1,13 @@
 //! A client, and how it fetches.
 
-ghost use Rattle.std.specs.Prelude.{◌≡◌, ◌<◌, length, IfOk, IfSome, ⊤};
+ghost use Rattle.std.specs.Prelude.{◌≡◌, ℕ, ◌+◌, ◌<◌, ◌≤◌, length, IfOk, IfSome, ⊤};
 ghost use Rattle.std.specs.Option.{ForSome};
 ghost use Rattle.cache.specs.Deeds.{home_of, DidToPool};
 ghost use Rattle.exchange.specs.Answers.{IsPrepared, IsSameJob};
 ghost use Rattle.exchange.specs.Worlds.{world_of};
 ghost use Rattle.exchange.specs.Owning.{IsReady, Owns};
-ghost use Rattle.exchange.specs.Exchanging.{Continues};
+ghost use Rattle.exchange.specs.Exchanging.{Continues, OpensFew, DialsItsOwn};
+ghost use Rattle.exchange.specs.Carrying.{EndsItsDials};
 ghost use Rattle.client.specs.Fetching.{Fetches};
 
 use cache::Pool;
@@ -60,10 +61,13 @@ impl<'c, W: Wire, D: Dial<W> + Drop, C: time::Clock> Client<'c, W, D, C> {
 
     /// Sends the job's request and reads its response. After that long it is cancelled, and also
     /// where the dial's event loop or the system's clock fails. What there is no memory for is not
-    /// sent, and ends with the fault `Memory`.
+    /// sent, and ends with the fault `Memory`. It opens one connection at most.
     pub fn fetch(&mut self, job: &Job, limit: Duration) -> Done
-        ensures { Fetches DidToPool (world_of W.untouched W.happened (λ moment. ⊤)) job.now
+        ensures fetches { Fetches DidToPool (world_of W.untouched W.happened (λ moment. ⊤)) job.now
             self.old.pool self.new.pool result }
+        ensures opens { D.opened self.new.dial ≤ D.opened self.old.dial + 1 }
+        ensures begun { EndsItsDials (D.begun self.old.dial) (D.begun self.new.dial)
+            job.now.want.transfer }
     {
         let Some(parts) = self.prepared(job) else {
             return Done::Bad(Fault::Memory);
@@ -94,6 +98,7 @@ impl<'c, W: Wire, D: Dial<W> + Drop, C: time::Clock> Client<'c, W, D, C> {
     fn prepared(&mut self, job: &Job) -> Option<Prepared>
         ensures prepared { IfSome result (IsPrepared job.now) }
         ensures pool { self.new.pool ≡ self.old.pool }
+        ensures dial { self.new.dial ≡ self.old.dial }
     {
         match self.spare.take() {
             None => Prepared::new(self.alloc, job).ok(),
@@ -117,23 +122,39 @@ impl<'c, W: Wire, D: Dial<W> + Drop, C: time::Clock> Client<'c, W, D, C> {
         ensures story { Continues DidToPool (world_of W.untouched W.happened (λ moment. ⊤))
             transfer.old.parts transfer.new.parts self.old.pool self.new.pool
             transfer.old.state transfer.new.state }
+        ensures opens { OpensFew transfer.old.parts transfer.new.parts transfer.old.state
+            transfer.new.state (D.opened self.old.dial) (D.opened self.new.dial) }
+        ensures begun { DialsItsOwn (D.begun self.old.dial) (D.begun self.new.dial)
+            transfer.old.parts.want.transfer transfer.old.state transfer.new.state }
     {
         let begun = self.clock.elapsed();
         for _ in 0..u64::MAX {
             let mut context = self.task.begin();
             let polled = transfer.poll(&mut context, &mut self.pool, &mut self.dial, &self.clock);
             context.end(&polled);
-            if polled.is_ready() || self.clock.is_past(begun, limit) {
+            if polled.is_ready() {
                 return;
             }
-            if needs_turn(transfer.waits_on()) && self.dial.turn() == Turned::Fault {
+            if self.clock.is_past(begun, limit) {
+                return;
+            }
+            if !self.wait(transfer.waits_on()) {
                 return;
             }
         }
     }
-}
 
-/// Whether a turn of the dial's event loop may bring what is waited for.
-fn needs_turn(stage: Stage) -> bool {
-    matches!(stage, Stage::Dialling | Stage::Sending | Stage::Reading)
+    // Waits for what may bring a transfer on, by a turn of the dial's event loop; whether none
+    // failed.
+    fn wait(&mut self, stage: Stage) -> bool
+        ensures pool { self.new.pool ≡ self.old.pool }
+        ensures opens { D.opened self.new.dial ≡ D.opened self.old.dial }
+        ensures begun { (other : ℕ) → D.begun self.new.dial other → D.begun self.old.dial other }
+        ensures kept { (other : ℕ) → D.begun self.old.dial other → D.begun self.new.dial other }
+    {
+        match stage {
+            Stage::Grant | Stage::Turn => true,
+            Stage::Dialling | Stage::Sending | Stage::Reading => self.dial.turn() == Turned::Done,
+        }
+    }
 }

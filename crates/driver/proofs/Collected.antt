@@ -219,20 +219,20 @@ module _ {W : Type 0} (world : World W) (may_stop : ℕ → Type 0) (names : Cac
   next_met (Some one) fault is other = is
   next_met None fault is other = other
 
-  next_collected : (seat other : Drawn) (results placed : List Done) (passes : List Accounts) (pass : Accounts) (own : List Result) (met fault : Option DriverFault)
-      → HasWorked world may_stop names claim jobs (left_with other pass own met) → IsPlaced own results placed → IfNone fault (IsCollected world may_stop names jobs seat results passes)
+  next_collected : (opened : ℕ) (seat other : Drawn) (results placed : List Done) (passes : List Accounts) (pass : Accounts) (own : List Result) (met fault : Option DriverFault)
+      → HasWorked world may_stop names claim jobs (left_with opened other pass own met) → IsPlaced own results placed → IfNone fault (IsCollected world may_stop names jobs seat results passes)
       → IfNone (option_or met fault) (IsCollected world may_stop names jobs (together seat other) placed (passes ++ pass ∷ []))
-  next_collected seat other results placed passes pass own (Some one) fault has put so_far = tt
-  next_collected seat other results placed passes pass own None (Some one) has put so_far = tt
-  next_collected seat other results placed passes pass own None None has put so_far =
+  next_collected opened seat other results placed passes pass own (Some one) fault has put so_far = tt
+  next_collected opened seat other results placed passes pass own None (Some one) has put so_far = tt
+  next_collected opened seat other results placed passes pass own None None has put so_far =
       collected_more world may_stop names jobs seat other results placed passes (record { results = own; pass = pass }) so_far has.work has.drawn has.fit put
 
   -- one worker more has left
-  pub next_going : (seat other : Drawn) (workers rest : List WorkerShown) (results placed : List Done) (passes : List Accounts) (pass : Accounts) (own : List Result) (met fault : Option DriverFault)
-      → workers ≡ rest ++ left_with other pass own met ∷ [] → IsPlaced own results placed → IsGoing seat workers results passes fault → IsGoing (together seat other) rest placed (passes ++ pass ∷ []) (option_or met fault)
-  next_going seat other workers rest results placed passes pass own met fault is put going =
-      let has = last_worked workers rest (left_with other pass own met) is going.worked in
-      let fewer = ap (λ (some : List WorkerShown). length some) is ∙ length-append rest (left_with other pass own met ∷ []) in
+  pub next_going : (opened : ℕ) (seat other : Drawn) (workers rest : List WorkerShown) (results placed : List Done) (passes : List Accounts) (pass : Accounts) (own : List Result) (met fault : Option DriverFault)
+      → workers ≡ rest ++ left_with opened other pass own met ∷ [] → IsPlaced own results placed → IsGoing seat workers results passes fault → IsGoing (together seat other) rest placed (passes ++ pass ∷ []) (option_or met fault)
+  next_going opened seat other workers rest results placed passes pass own met fault is put going =
+      let has = last_worked workers rest (left_with opened other pass own met) is going.worked in
+      let fewer = ap (λ (some : List WorkerShown). length some) is ∙ length-append rest (left_with opened other pass own met ∷ []) in
       let more = length-append passes (pass ∷ []) in
       let share = going.share in
       let one = has.share_is in
@@ -241,12 +241,12 @@ module _ {W : Type 0} (world : World W) (may_stop : ℕ → Type 0) (names : Cac
         claim_is = going.claim_is;
         share = omega (arith, fewer, share, one);
         number = put.number ∙ going.number;
-        worked = (All-pop (HasWorked world may_stop names claim jobs) workers rest (Some (left_with other pass own met)) is going.worked).0;
+        worked = (All-pop (HasWorked world may_stop names claim jobs) workers rest (Some (left_with opened other pass own met)) is going.worked).0;
         passes_of = All-push (IsPassOf names) passes pass going.passes_of has.pass_is;
         passes_number = omega (arith, fewer, more, count);
         past = next_past seat other met fault rest has.past;
         met = next_met met fault has.met going.met;
-        collected = next_collected seat other results placed passes pass own met fault has put going.collected;
+        collected = next_collected opened seat other results placed passes pass own met fault has put going.collected;
       }
 
   -- with what a call says of each part

@@ -11,17 +11,18 @@ use Rattle.driver.specs.declared.fault.DriverFault.{DriverFault}
 use Rattle.driver.specs.Faults.{IsWorkerFault}
 use Rattle.driver.specs.Results.{IsResultAt, CarriesOutAt}
 
--- a worker: its seat, its pass unless a desk has it, how the jobs that it drew ended, each with its number, and why it
--- gave up, if it did
+-- a worker: how many connections its dial has opened, its seat, its pass unless a desk has it, how the jobs that it drew
+-- ended, each with its number, and why it gave up, if it did
 pub record WorkerShown : Type 0 where
+  pub opened : ℕ
   pub seat : Drawn
   pub pass : Option Accounts
   pub results : List (ℕ × Done)
   pub fault : Option DriverFault
 
--- a worker that leaves its seat, its pass, its results and its fault so
-abbrev pub left_with : Drawn → Accounts → List (ℕ × Done) → Option DriverFault → WorkerShown
-left_with seat pass results fault = record { seat = seat; pass = Some pass; results = results; fault = fault }
+-- a worker whose dial has opened so many, that leaves its seat, its pass, its results and its fault so
+abbrev pub left_with : ℕ → Drawn → Accounts → List (ℕ × Done) → Option DriverFault → WorkerShown
+left_with opened seat pass results fault = record { opened = opened; seat = seat; pass = Some pass; results = results; fault = fault }
 
 -- the numbers of the jobs of these results
 abbrev pub numbers_of : List (ℕ × Done) → List ℕ

@@ -1,11 +1,13 @@
 //! What carries out one job at a time.
 
-ghost use Rattle.std.specs.Prelude.{◌≡◌, ◌<◌, ◌⊎◌, length, IfOk, IfErr};
+ghost use Rattle.std.specs.Prelude.{◌≡◌, ℕ, ◌+◌, ◌<◌, ◌≤◌, ◌⊎◌, length, IfOk, IfErr};
+ghost use Rattle.std.specs.Prelude.{slice_get, IsSomeAnd};
 ghost use Rattle.std.specs.Option.{ForSome};
 ghost use Rattle.exchange.specs.Answers.{IsPrepared, IsSameJob};
 ghost use Rattle.exchange.specs.Worlds.{world_of};
 ghost use Rattle.exchange.specs.Owning.{IsReady, Owns};
-ghost use Rattle.exchange.specs.Exchanging.{Continues, IsFinished};
+ghost use Rattle.exchange.specs.Exchanging.{Continues, IsFinished, OpensFew, DialsItsOwn};
+ghost use Rattle.exchange.specs.Carrying.{EndsItsDials};
 ghost use Rattle.driver.specs.Results.{IsResultAt, CarriesOutAt};
 ghost use Rattle.driver.specs.Faults.{IsWorkerFault};
 
@@ -56,6 +58,10 @@ impl<'d, W: Wire, D: Dial<W>> Carrier<'d, W, D> {
             (K.tells shared.now.clock.now)) shared.now.jobs.now number cache.old cache.new) }
         ensures err { IfErr result IsWorkerFault }
         ensures home { C.home cache.new ≡ C.home cache.old }
+        ensures opens { D.opened self.new.dial.now ≤ D.opened self.old.dial.now + 1 }
+        ensures begun { IsSomeAnd (slice_get shared.now.jobs.now number) (λ job.
+            EndsItsDials (D.begun self.old.dial.now) (D.begun self.new.dial.now)
+            job.want.transfer) }
     {
         let parts = self.prepared(&shared.jobs[number as usize])?;
         shared.gate.before(number);
@@ -74,6 +80,7 @@ impl<'d, W: Wire, D: Dial<W>> Carrier<'d, W, D> {
     fn prepared(&mut self, job: &Job) -> Result<Prepared, DriverFault>
         ensures ok { IfOk result (IsPrepared job.now) }
         ensures err { IfErr result IsWorkerFault }
+        ensures dial { self.new.dial.now ≡ self.old.dial.now }
     {
         let prepared = match self.spare.take() {
             None => Prepared::new(self.alloc, job),
@@ -112,6 +119,10 @@ impl<'d, W: Wire, D: Dial<W>> Carrier<'d, W, D> {
         ensures story { Continues C.did (world_of W.untouched W.happened (K.tells
             shared.now.clock.now)) transfer.old.parts transfer.new.parts cache.old cache.new
             transfer.old.state transfer.new.state }
+        ensures opens { OpensFew transfer.old.parts transfer.new.parts transfer.old.state
+            transfer.new.state (D.opened self.old.dial.now) (D.opened self.new.dial.now) }
+        ensures begun { DialsItsOwn (D.begun self.old.dial.now) (D.begun self.new.dial.now)
+            transfer.old.parts.want.transfer transfer.old.state transfer.new.state }
     {
         for _ in rt.forever() {
             if shared.gate.stop(number) {
@@ -143,6 +154,11 @@ impl<'d, W: Wire, D: Dial<W>> Carrier<'d, W, D> {
         rings: u64,
     ) -> Result<bool, DriverFault>
         ensures err { IfErr result IsWorkerFault }
+        ensures opens { D.opened self.new.dial.now ≡ D.opened self.old.dial.now }
+        ensures begun { (other : ℕ) →
+            D.begun self.new.dial.now other → D.begun self.old.dial.now other }
+        ensures kept { (other : ℕ) →
+            D.begun self.old.dial.now other → D.begun self.new.dial.now other }
     {
         match stage {
             Stage::Turn => Ok(false),

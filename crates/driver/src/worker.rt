@@ -1,6 +1,6 @@
 //! A worker, which draws jobs and carries out one after another.
 
-ghost use Rattle.std.specs.Prelude.{◌≡◌, ◌<◌, length, IfSome, IfNone, IsSome, OnErr};
+ghost use Rattle.std.specs.Prelude.{◌≡◌, ◌+◌, ◌<◌, ◌≤◌, length, IfSome, IfNone, IsSome, OnErr};
 ghost use Rattle.std.specs.Prelude.{Some, None, []};
 ghost use Rattle.exchange.specs.Worlds.{world_of};
 ghost use Rattle.driver.specs.Faults.{IsWorkerFault};
@@ -39,6 +39,7 @@ impl<'d, W: Wire, D: Dial<W>> Model for Worker<'d, W, D> {
     ghost Value = { WorkerShown };
 
     ghost view = { λ worker. record {
+      opened = D.opened worker.carrier.dial.now;
       seat = worker.seat;
       pass = worker.pass;
       results = worker.results.items;
@@ -102,7 +103,8 @@ impl<'d, W: Wire, D: Dial<W>> Worker<'d, W, D> {
     /// Ends it, once it has its pass again.
     pub(crate) fn leave(self) -> Left
         requires { IsSome self.pass }
-        ensures { self.entry ≡ left_with result.seat result.pass result.results.items result.fault }
+        ensures { self.entry ≡ left_with self.entry.opened result.seat result.pass
+            result.results.items result.fault }
     {
         let Worker {
             carrier: _,
@@ -146,6 +148,7 @@ impl<'d, W: Wire, D: Dial<W>> Worker<'d, W, D> {
             shared.now.clock.now)) (G.may_stop shared.now.gate.now) shared.now.jobs.now
             self.new.results }
         ensures fault { IfSome self.new.fault IsWorkerFault }
+        ensures opens { self.new.opened ≤ self.old.opened + length self.new.results + 1 }
         ensures pass { self.new.pass ≡ self.old.pass }
     {
         for _ in rt.forever() {
@@ -181,6 +184,7 @@ impl<'d, W: Wire, D: Dial<W>> Worker<'d, W, D> {
         ensures claim { self.new.seat.claim ≡ self.old.seat.claim }
         ensures share { self.new.seat.share ≡ self.old.seat.share }
         ensures fault { self.new.fault ≡ self.old.fault }
+        ensures opens { self.new.opened ≤ self.old.opened + 1 }
         ensures pass { self.new.pass ≡ self.old.pass }
     {
         if let Some(fault) = shared.faults.met() {

@@ -1,11 +1,11 @@
 -- What a transfer has where it stands is all that it has got and not spent.
-use Rattle.std.proofs.Common.{◌≡◌, refl, sym, subst, ℕ, ◌+◌, Bool, true, false, ◌⊎◌, inl, inr, List, ◌∷◌, Option, Some, None, IsSomeAnd, arith}
+use Rattle.std.proofs.Common.{◌≡◌, refl, sym, subst, ℕ, ◌+◌, Bool, true, false, ◌⊎◌, inl, inr, List, [], ◌∷◌, ◌++◌, Option, Some, None, IsSomeAnd, arith}
 use Rattle.std.proofs.lemmas.List.Sums.{sum_by-cons}
 use Rattle.conn_log.specs.declared.entry.Want.{Want}
 use Rattle.persistence.specs.declared.facts.Facts.{Facts}
 use Rattle.bundle.specs.Lease.{Leasing, Ticketed}
-use Rattle.leasing.specs.Deeds.{Deed}
-use Rattle.leasing.specs.Deeds.Deed.{leases, begins_wait, refuses, grants, keeps_waiting, gives_back, abandons, finds_strange_lease, finds_strange_ticket}
+use Rattle.leasing.specs.Deeds.{Deed, AllDone}
+use Rattle.leasing.specs.Deeds.Deed.{leases, begins_wait, refuses, grants, keeps_waiting, gives_back, abandons, withdraws, finds_strange_lease, finds_strange_ticket}
 use Rattle.exchange.specs.declared.job.Prepared.{Prepared}
 use Rattle.exchange.specs.declared.done.Fault.{Fault}
 use Rattle.exchange.specs.declared.done.Fault.TheVariants.{Memory, Dial, Read, Write, BadResponse, Cut, Refused, Cancelled}
@@ -18,7 +18,8 @@ use Rattle.exchange.specs.Worlds.{World}
 use Rattle.exchange.specs.Story.{Waits, IsGiven, IsGranted, Holds, Asks, AsksAt, Has, NoneDone, IsReturn, IsDrop, IsStray}
 use Rattle.exchange.specs.Standing.{StandsAt, Spent, Returns, Drops, IsBad, Ends}
 use Rattle.exchange.specs.Answers.{wanted}
-use Rattle.exchange.specs.Balance.{leases_got, leases_spent, tickets_got, tickets_spent, AreOut, leases_at, tickets_at, HasAll}
+use Rattle.exchange.specs.Exchanging.{CancelsAt, Cancels}
+use Rattle.exchange.specs.Balance.{leases_got, leases_spent, tickets_got, tickets_spent, AreOut, leases_at, tickets_at, HasAll, SpendsAllAt, SpendsAll}
 
 module _ {W : Type 0} where
   -- nothing is out, where nothing was done
@@ -134,3 +135,25 @@ module _ {W : Type 0} (world : World W) (p : Prepared) where
   pub has_all : (state : Option (State W)) (P : State W → Type 0) → IsSomeAnd state P → HasAll world p state
   has_all (Some state) P some = stands_out state
   has_all None P none = absurd none
+
+-- a transfer that is cancelled has spent what it had
+module _ {C W : Type 0} (does : C → C → Deed W → Type 0) (before after : C) where
+  spends_by : (deed : Deed W) (held waiting : ℕ) → does before after deed → leases_got deed + held ≡ leases_spent deed + 0 → tickets_got deed + waiting ≡ tickets_spent deed + 0
+      → (own : List (Deed W)) × AllDone does before after own × ((deeds : List (Deed W)) → AreOut deeds held waiting → AreOut (own ++ deeds) 0 0)
+  spends_by deed held waiting did leases_change tickets_change = (deed ∷ [], (before, refl, did), λ deeds out. out_more deed deeds held waiting 0 0 out leases_change tickets_change)
+
+  spends_at : (now : ℕ) (state : State W) → CancelsAt does before after now state → SpendsAllAt does before after state
+  spends_at now at.Asking same = ([], same, λ deeds out. out)
+  spends_at now (at.Waiting ticket) (inl did) = spends_by (withdraws ticket now) 0 1 did refl refl
+  spends_at now (at.Waiting ticket) (inr did) = spends_by (finds_strange_ticket ticket) 0 1 did refl refl
+  spends_at now (at.Dialling lease) (inl did) = spends_by (abandons lease now) 1 0 did refl refl
+  spends_at now (at.Dialling lease) (inr did) = spends_by (finds_strange_lease lease) 1 0 did refl refl
+  spends_at now (at.Sending lease sent) (inl did) = spends_by (abandons lease now) 1 0 did refl refl
+  spends_at now (at.Sending lease sent) (inr did) = spends_by (finds_strange_lease lease) 1 0 did refl refl
+  spends_at now (at.Reading lease) (inl did) = spends_by (abandons lease now) 1 0 did refl refl
+  spends_at now (at.Reading lease) (inr did) = spends_by (finds_strange_lease lease) 1 0 did refl refl
+  spends_at now (at.Finished done) same = ([], same, λ deeds out. out)
+
+  pub spends_all : (now : ℕ) (state : Option (State W)) → Cancels does before after now state → SpendsAll does before after state
+  spends_all now (Some state) cancels = spends_at now state cancels
+  spends_all now None cancels = absurd cancels

@@ -12,3 +12,5 @@ pub mod Begun
 pub mod Steps
 pub mod Slots
 pub mod Balanced
+pub mod Rounds
+pub mod Opened

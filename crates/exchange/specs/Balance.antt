@@ -1,6 +1,6 @@
 -- How many leases and tickets a transfer has got and has not spent, by what was done for it.
-use Rattle.std.specs.Prelude.{◌≡◌, ℕ, ◌+◌, List, Option, IsSomeAnd, sum_by}
-use Rattle.leasing.specs.Deeds.{Deed}
+use Rattle.std.specs.Prelude.{◌≡◌, ℕ, ◌+◌, List, ◌++◌, Option, IsSomeAnd, sum_by}
+use Rattle.leasing.specs.Deeds.{Deed, AllDone}
 use Rattle.leasing.specs.Deeds.Deed.{leases, begins_wait, grants, gives_back, abandons, withdraws, finds_strange_lease, finds_strange_ticket}
 use Rattle.exchange.specs.declared.job.Prepared.{Prepared}
 use Rattle.exchange.specs.declared.state.State.{State}
@@ -51,3 +51,12 @@ HasAllAt {W} world p state = (deeds : List (Deed W)) → StandsAt world p state 
 
 abbrev pub HasAll : {W : Type 0} → World W → Prepared → Option (State W) → Type 0
 HasAll world p state = IsSomeAnd state (HasAllAt world p)
+
+-- the cache did these deeds and nothing else; with them nothing is out any more, if all that was out before is what the
+-- transfer has there
+abbrev pub SpendsAllAt : {C W : Type 0} → (C → C → Deed W → Type 0) → C → C → State W → Type 0
+SpendsAllAt {C} {W} did before after state =
+    (own : List (Deed W)) × AllDone did before after own × ((deeds : List (Deed W)) → AreOut deeds (leases_at state) (tickets_at state) → AreOut (own ++ deeds) 0 0)
+
+abbrev pub SpendsAll : {C W : Type 0} → (C → C → Deed W → Type 0) → C → C → Option (State W) → Type 0
+SpendsAll did before after state = IsSomeAnd state (SpendsAllAt did before after)

@@ -41,9 +41,11 @@ abbrev pub OpensOne : {W : Type 0} → Dialled W → ℕ → ℕ → Type 0
 OpensOne (Up wire) old new = RisesByOne old new
 OpensOne _ old new = new ≡ old
 
--- for no other transfer a connection was begun; for this one it is begun only while it is not open yet
+-- for no other transfer a connection was begun, and what was begun for others still is; for this one it is begun only
+-- while it is not open yet
 pub record CountsBegun {W : Type 0} (dialled : Dialled W) (transfer : ℕ) (old new : ℕ → Type 0) : Type 0 where
   pub others : (other : ℕ) → other ≢ transfer → new other → old other
+  pub kept : (other : ℕ) → other ≢ transfer → old other → new other
   pub own : IfOver dialled (new transfer → ⊥)
 
 -- the count of failed turns rises where this one failed, and only there

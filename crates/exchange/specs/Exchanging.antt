@@ -1,5 +1,5 @@
 -- What is true of a transfer between two calls, and what a call leaves.
-use Rattle.std.specs.Prelude.{◌≡◌, ℕ, Bool, false, List, Option, Some, None, IsSomeAnd}
+use Rattle.std.specs.Prelude.{◌≡◌, ◌≢◌, ℕ, Bool, false, List, Option, Some, None, IsSomeAnd}
 use Rattle.futures.specs.declared.task.Poll.{Poll}
 use Rattle.futures.specs.declared.task.Poll.TheVariants.{Ready, Pending}
 use Rattle.futures.specs.declared.task.context.Context.{Context}
@@ -56,9 +56,11 @@ OpensFew p q state next old new = IsSomeAnd state (λ first. IsSomeAnd next (Ope
 abbrev pub DialsItsOwn : {W : Type 0} → (ℕ → Type 0) → (ℕ → Type 0) → ℕ → Option (State W) → Option (State W) → Type 0
 DialsItsOwn old new transfer state next = IsSomeAnd state (λ first. IsSomeAnd next (DialsAlone old new transfer first))
 
--- once it is given up, nothing is begun for it, where nothing was but while it dialled; for no other anything was begun
+-- once it is given up, nothing is begun for it, where nothing was but while it dialled; for no other anything was begun,
+-- and what was begun for others still is
 pub record GivesUpDial {W : Type 0} (old new : ℕ → Type 0) (transfer : ℕ) (state : Option (State W)) : Type 0 where
   pub others : (other : ℕ) → new other → old other
+  pub kept : (other : ℕ) → other ≢ transfer → old other → new other
   pub own : IsSomeAnd state (BeginsNone old transfer) → new transfer → ⊥
 
 -- what a cancel does at that moment: a wait ends, a lease is abandoned, and nothing happens where there is neither

@@ -1,6 +1,6 @@
 -- What an exchange keeps of its transfer holds in one way at most.
 use Rattle.std.specs.Prelude.{List, Option, Some, None}
-use Rattle.std.specs.Coded.{Coded, Coded-set, coded_bool, coded×, coded_option, code_by, ×_prop, le_prop, Unit-prop}
+use Rattle.std.specs.Coded.{Coded, Coded-set, coded_ℕ, coded_bool, coded×, coded_option, code_by, ×_prop, le_prop, Unit-prop}
 use mathlib.Core.Path.{refl}
 use mathlib.Core.HLevel.{⊥_prop}
 use Rattle.atomic_table.specs.Seated.{TableId, table_id_coded}
@@ -26,8 +26,8 @@ wire_prop home lease = ×_prop (lease_prop home lease) (Coded-set coded_bool _ _
 
 owns_at_prop : {W : Type 0} (code : Coded W) (home : List Tables) (p : Prepared) (state : State W) → IsProp (OwnsAt home p state)
 owns_at_prop code home p Asking = reader_prop p
-owns_at_prop code home p (Waiting ticket) = reader_prop p
-owns_at_prop code home p (Dialling lease) = ×_prop (lease_prop home lease) (×_prop (Coded-set (coded_option code) _ _) (×_prop (Coded-set coded_bool _ _) (reader_prop p)))
+owns_at_prop code home p (Waiting ticket) = ×_prop (Coded-set coded_ℕ _ _) (reader_prop p)
+owns_at_prop code home p (Dialling lease) = ×_prop (lease_prop home lease) (×_prop (Coded-set (coded_option code) _ _) (×_prop (Coded-set coded_bool _ _) (×_prop (Coded-set coded_ℕ _ _) (reader_prop p))))
 owns_at_prop code home p (Sending lease sent) = ×_prop (wire_prop home lease) (×_prop le_prop (reader_prop p))
 owns_at_prop code home p (Reading lease) = ×_prop (wire_prop home lease) (reader_prop p)
 owns_at_prop code home p (Finished done) = Unit-prop

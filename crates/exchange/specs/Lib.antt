@@ -15,3 +15,4 @@ pub mod Exchanging
 pub mod Carrying
 pub mod Balance
 pub mod Slabs
+pub mod Rounds

@@ -28,8 +28,8 @@ ReaderGoesOn p = p.reader.ended ≡ false
 -- what it has was made there, and the next step can be taken
 abbrev pub OwnsAt : {W : Type 0} → List Tables → Prepared → State W → Type 0
 OwnsAt home p Asking = ReaderGoesOn p
-OwnsAt home p (Waiting ticket) = ReaderGoesOn p
-OwnsAt home p (Dialling lease) = OwnsLease home lease × ((lease.stream ≡ None) × ((lease.start.reused ≡ false) × ReaderGoesOn p))
+OwnsAt home p (Waiting ticket) = (ticket.wait.want.transfer ≡ p.want.transfer) × ReaderGoesOn p
+OwnsAt home p (Dialling lease) = OwnsLease home lease × ((lease.stream ≡ None) × ((lease.start.reused ≡ false) × ((lease.start.want.transfer ≡ p.want.transfer) × ReaderGoesOn p)))
 OwnsAt home p (Sending lease sent) = OwnsWire home lease × ((sent < length (text_of p)) × ReaderGoesOn p)
 OwnsAt home p (Reading lease) = OwnsWire home lease × ReaderGoesOn p
 OwnsAt home p (Finished done) = Unit {0}

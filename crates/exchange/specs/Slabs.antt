@@ -1,5 +1,5 @@
 -- What a slab knows of its transfers.
-use Rattle.std.specs.Prelude.{◌≡◌, ℕ, ◌⊎◌, List, [], ◌∷◌, ◌++◌, filter_map, Option, Some, None, IfSome, All}
+use Rattle.std.specs.Prelude.{◌≡◌, ◌≢◌, ℕ, ◌⊎◌, List, [], ◌∷◌, ◌++◌, filter_map, Option, Some, None, IfSome, IsSomeAnd, All}
 use Rattle.bundle.specs.Seats.{Tables}
 use Rattle.exchange.specs.declared.job.Prepared.{Prepared}
 use Rattle.exchange.specs.declared.done.Done.{Done}
@@ -9,6 +9,7 @@ use Rattle.exchange.specs.declared.transfer.Transfer.{Transfer}
 use Rattle.exchange.specs.Worlds.{World}
 use Rattle.exchange.specs.Owning.{IsReady, Owns}
 use Rattle.exchange.specs.Standing.{Ends}
+use Rattle.exchange.specs.Steps.{BeginsNone}
 use Rattle.exchange.specs.Exchanging.{IsTold, Cancels, Closes, GivesUpDial, LeavesDial}
 use Rattle.leasing.specs.Deeds.{Deed}
 
@@ -52,6 +53,20 @@ abbrev pub ClosesAll : {C W : Type 0} → (C → C → Deed W → Type 0) → Wo
 ClosesAll did world before after [] = after ≡ before
 ClosesAll {C} did world before after (transfer ∷ others) =
     (middle : C) × ClosesAll did world before middle others × ((moment : ℕ) × world.tells moment × Cancels did middle after moment transfer.state)
+
+-- that number is not the transfer's
+abbrev pub IsApart : {W : Type 0} → ℕ → Transfer W → Type 0
+IsApart other transfer = other ≢ transfer.parts.want.transfer
+
+-- nothing is begun for the transfer at the dial any more, where nothing was but while it dialled
+abbrev pub IsGivenUp : {W : Type 0} → (ℕ → Type 0) → (ℕ → Type 0) → Transfer W → Type 0
+IsGivenUp old new transfer = IsSomeAnd transfer.state (BeginsNone old transfer.parts.want.transfer) → new transfer.parts.want.transfer → ⊥
+
+-- these were given up at the dial; for no other anything was begun, and what was begun for others still is
+pub record GivesUpAll {W : Type 0} (old new : ℕ → Type 0) (transfers : List (Transfer W)) : Type 0 where
+  pub others : (other : ℕ) → new other → old other
+  pub kept : (other : ℕ) → All (IsApart {W = W} other) transfers → old other → new other
+  pub own : All (IsGivenUp {W = W} old new) transfers
 
 -- one, where there is a transfer
 abbrev pub one_if_some : {W : Type 0} → Option (Transfer W) → ℕ

@@ -58,10 +58,10 @@ abbrev pub ClaimsIt : {W : Type 0} → World W → (Deed W → Type 0) → Ticke
 ClaimsIt world did ticket (Finished done) = (done ≡ Bad (Refused StrangeTicket)) × did (finds_strange_ticket ticket)
 ClaimsIt {W} world did ticket next = (given : Leasing W) × Begins world.happened given next × did (grants given)
 
--- a connection was opened, which the lease has from now on, with nothing on it yet; or it could not be, and the lease was
--- abandoned
+-- a connection was opened for the lease, to its site, which it has from now on, with nothing on it yet; or it could not
+-- be, and the lease was abandoned
 abbrev pub IsDialled : {C W : Type 0} → (C → C → Deed W → Type 0) → World W → C → C → Leasing W → State W → Type 0
-IsDialled {W = W} did world before after lease (Sending same sent) = (wire : W) × ((site : ℕ) × (transfer : ℕ) × world.untouched wire site transfer) × (same ≡ record lease { stream = Some wire }) × (sent ≡ 0) × (after ≡ before)
+IsDialled {W = W} did world before after lease (Sending same sent) = (wire : W) × world.untouched wire lease.site lease.start.want.transfer × (same ≡ record lease { stream = Some wire }) × (sent ≡ 0) × (after ≡ before)
 IsDialled did world before after lease (Finished done) = (done ≡ Bad Dial) × ((now : ℕ) × world.tells now × DropsBy (did before after) lease now)
 IsDialled did world before after lease _ = ⊥
 

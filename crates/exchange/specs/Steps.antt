@@ -135,7 +135,9 @@ abbrev pub BeginsNone : {W : Type 0} → (ℕ → Type 0) → ℕ → State W �
 BeginsNone begun transfer (Dialling lease) = Unit {0}
 BeginsNone begun transfer _ = begun transfer → ⊥
 
--- for no other transfer anything was begun; and for this one nothing is begun, but while it dials, where that was so
+-- for no other transfer anything was begun, and what was begun for others still is; and for this one nothing is begun,
+-- but while it dials, where that was so
 pub record DialsAlone {W : Type 0} (old new : ℕ → Type 0) (transfer : ℕ) (state next : State W) : Type 0 where
   pub others : (other : ℕ) → other ≢ transfer → new other → old other
+  pub kept : (other : ℕ) → other ≢ transfer → old other → new other
   pub own : BeginsNone old transfer state → BeginsNone new transfer next

@@ -27,6 +27,7 @@ fn begin<W: Wire, D: Dial<W>>(mut lease: Lease<W>, dial: &mut D) -> State<W>
     ensures counted { D.failures dial.new ≡ D.failures dial.old }
     ensures opens { D.opened dial.new ≡ D.opened dial.old }
     ensures begun { (other : ℕ) → D.begun dial.new other → D.begun dial.old other }
+    ensures kept { (other : ℕ) → D.begun dial.old other → D.begun dial.new other }
     ensures turns { D.turn_failures dial.new ≡ D.turn_failures dial.old }
 {
     match lease.stream_mut() {
@@ -76,6 +77,7 @@ pub(crate) fn claim<W: Wire, C: Cache<W>, D: Dial<W>, K: Clock>(
     ticket: Ticket,
     cx: &mut Context<'_>,
 ) -> Step<W>
+    requires its { ticket.wait.want.transfer ≡ parts.now.want.transfer }
     requires text { 0 < length (text_of parts.now) }
     requires reading { ReaderGoesOn parts.now }
     ensures stays { C.home cache.new ≡ C.home cache.old }
@@ -108,7 +110,7 @@ pub(crate) fn claim<W: Wire, C: Cache<W>, D: Dial<W>, K: Clock>(
 
 // Opens its connection.
 pub(crate) fn dial_up<W: Wire, C: Cache<W>, D: Dial<W>, K: Clock>(
-    parts: &Prepared,
+    _parts: &Prepared,
     cache: &mut C,
     dial: &mut D,
     _clock: &K,
@@ -121,24 +123,25 @@ pub(crate) fn dial_up<W: Wire, C: Cache<W>, D: Dial<W>, K: Clock>(
     requires owns { OwnsLease (C.home cache.old) lease }
     requires none { lease.stream ≡ None }
     requires fresh { lease.start.reused ≡ false }
-    requires text { 0 < length (text_of parts.now) }
-    requires reading { ReaderGoesOn parts.now }
+    requires its { lease.start.want.transfer ≡ _parts.now.want.transfer }
+    requires text { 0 < length (text_of _parts.now) }
+    requires reading { ReaderGoesOn _parts.now }
     ensures stays { C.home cache.new ≡ C.home cache.old }
-    ensures owns { AtStep result (OwnsAt (C.home cache.new) parts.now) }
+    ensures owns { AtStep result (OwnsAt (C.home cache.new) _parts.now) }
     ensures story { AtStep result (GoesOn C.did (world_of W.untouched W.happened (K.tells
-        _clock.now)) parts.now parts.now cache.old cache.new (at.Dialling lease)) }
+        _clock.now)) _parts.now _parts.now cache.old cache.new (at.Dialling lease)) }
     ensures steps { StepIs C.did (world_of W.untouched W.happened (K.tells _clock.now))
         cache.old cache.new (at.Dialling lease) result }
     ensures dialled { AtStep result (DialFails (D.failures dial.old) (D.failures dial.new)) }
-    ensures opens { AtStep result (Opens parts.now parts.now (at.Dialling lease)
+    ensures opens { AtStep result (Opens _parts.now _parts.now (at.Dialling lease)
         (D.opened dial.old) (D.opened dial.new)) }
     ensures begun { AtStep result (DialsAlone (D.begun dial.old) (D.begun dial.new)
-        parts.now.want.transfer (at.Dialling lease)) }
+        _parts.now.want.transfer (at.Dialling lease)) }
     ensures turns { D.turn_failures dial.new ≡ D.turn_failures dial.old }
     ensures leaves { StepLeaves W.source_name (D.source_name dial.new) cx.old cx.new waker.new
         result }
 {
-    match dial.dial(parts.site, parts.want.transfer) {
+    match dial.dial(&lease) {
         Dialled::Up(wire) => {
             lease.attach(wire);
             Step::Goes(State::Sending(lease, 0))

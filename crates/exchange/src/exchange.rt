@@ -14,7 +14,7 @@ ghost use Rattle.exchange.specs.Kept.{OwnsIts, owns_prop};
 ghost use Rattle.exchange.specs.Exchanging.{Stands, Continues, IsFinished, Leaves, Cancels};
 ghost use Rattle.exchange.specs.Exchanging.{Closes, GivesUpDial, LeavesDial, DialFailed, OpensFew};
 ghost use Rattle.exchange.specs.Exchanging.{DialsItsOwn};
-ghost use Rattle.exchange.specs.Balance.{HasAll};
+ghost use Rattle.exchange.specs.Balance.{HasAll, SpendsAll};
 ghost use Rattle.exchange.specs.declared.state.State.TheVariants as at;
 
 use crate::done::Done;
@@ -118,6 +118,8 @@ impl<'a, W: Wire, C: Cache<W>, D: Dial<W>, K: Clock> Exchange<'a, W, C, D, K> {
         ensures opens { D.opened self.new.dial.now ≡ D.opened self.old.dial.now }
         ensures begun { (other : ℕ) → D.begun self.new.dial.now other →
             D.begun self.old.dial.now other }
+        ensures kept { (other : ℕ) → D.begun self.old.dial.now other →
+            D.begun self.new.dial.now other }
         ensures source { D.source_name self.new.dial.now ≡ D.source_name self.old.dial.now }
         ensures transfer { self.new.transfer ≡ self.old.transfer }
         ensures cache { self.new.cache.now ≡ self.old.cache.now }
@@ -156,6 +158,8 @@ impl<'a, W: Wire, C: Cache<W>, D: Dial<W>, K: Clock> Exchange<'a, W, C, D, K> {
         ensures stays { C.home result.1.now ≡ C.home self.entry.cache.now }
         ensures cancels { Cancels C.did self.entry.cache.now result.1.now now
             self.entry.transfer.state }
+        ensures out { SpendsAll C.did self.entry.cache.now result.1.now
+            self.entry.transfer.state }
         ensures parts { result.0 ≡ self.entry.transfer.parts }
         ensures begun { GivesUpDial (D.begun self.entry.dial.now) (D.begun result.2.now)
             self.entry.transfer.parts.want.transfer self.entry.transfer.state }
@@ -180,6 +184,8 @@ impl<'a, W: Wire, C: Cache<W>, D: Dial<W>, K: Clock> Exchange<'a, W, C, D, K> {
     pub fn close(self, now: u64) -> (Done, Prepared, &'a mut C, &'a mut D)
         ensures stays { C.home result.2.now ≡ C.home self.entry.cache.now }
         ensures cancels { Cancels C.did self.entry.cache.now result.2.now now
+            self.entry.transfer.state }
+        ensures out { SpendsAll C.did self.entry.cache.now result.2.now
             self.entry.transfer.state }
         ensures closes { Closes result.0 self.entry.transfer.state }
         ensures parts { result.1 ≡ self.entry.transfer.parts }

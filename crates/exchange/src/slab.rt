@@ -4,9 +4,10 @@ ghost use Rattle.std.specs.Prelude.{◌≡◌, ◌+◌, [], sum_by, IfSome, IfEr
 ghost use Rattle.std.specs.Prelude.{IfNone, None, Some, true, ◌==◌, ◌<◌, ◌∷◌, ◌++◌};
 ghost use Rattle.std.specs.Prelude.{vec_len, vec_capacity, slice_get, slice_set};
 ghost use Rattle.exchange.specs.Answers.{IsUnused};
-ghost use Rattle.exchange.specs.Worlds.{world_of};
+ghost use Rattle.exchange.specs.Worlds.{world_of, dials_of};
 ghost use Rattle.exchange.specs.Slabs.{AreKept, HasEnded, HasClosed, ClosesOne};
-ghost use Rattle.exchange.specs.Slabs.{ClosesAll, transfers_in, one_if_some};
+ghost use Rattle.exchange.specs.Slabs.{ClosesAll, GivesUpAll, transfers_in, one_if_some};
+ghost use Rattle.exchange.specs.Rounds.{Joins, TriesPlace, PollsInTurn};
 
 use crate::done::Done;
 use crate::job::Prepared;
@@ -74,6 +75,7 @@ impl<W: Wire> Slab<W> {
             (C.home _cache.now) self.old.slots.items }
         ensures kept { AreKept (world_of W.untouched W.happened (K.tells _clock.now))
             (C.home _cache.now) self.new.slots.items }
+        ensures joins { OnOk result (Joins self.old.slots.items self.new.slots.items parts) }
         ensures ok { OnOk result (sum_by one_if_some self.new.slots.items
             ≡ sum_by one_if_some self.old.slots.items + 1) }
         ensures err { IfErr result (λ same. (same ≡ parts)
@@ -173,6 +175,9 @@ impl<W: Wire> Slab<W> {
             ≡ sum_by one_if_some self.old.slots.items) }
         ensures same { IfNone result (sum_by one_if_some self.new.slots.items
             ≡ sum_by one_if_some self.old.slots.items) }
+        ensures polls { PollsInTurn C.did (world_of W.untouched W.happened (K.tells clock.now))
+            (dials_of D.begun D.opened D.failures) cache.old cache.new dial.old dial.new
+            self.old.slots.items self.new.slots.items result }
         ensures turns { D.turn_failures dial.new ≡ D.turn_failures dial.old }
     {
         if self.is_closing {
@@ -210,6 +215,9 @@ impl<W: Wire> Slab<W> {
             ≡ sum_by one_if_some self.old.slots.items) }
         ensures same { IfNone result (sum_by one_if_some self.new.slots.items
             ≡ sum_by one_if_some self.old.slots.items) }
+        ensures polls { TriesPlace C.did (world_of W.untouched W.happened (K.tells clock.now))
+            (dials_of D.begun D.opened D.failures) cache.old cache.new dial.old dial.new
+            self.old.slots.items self.new.slots.items place result }
         ensures turns { D.turn_failures dial.new ≡ D.turn_failures dial.old }
     {
         let slot = self.slots.get_mut(place)?;
@@ -268,13 +276,16 @@ impl<W: Wire> Slab<W> {
         None
     }
 
-    /// Closes all transfers that are left, and lets go of the slab.
+    /// Closes all transfers that are left, gives up what was begun for them at the dial, and lets
+    /// go of the slab.
     pub fn close<C: Cache<W>, D: Dial<W>, K: Clock>(self, cache: &mut C, dial: &mut D, clock: &K)
         requires kept { AreKept (world_of W.untouched W.happened (K.tells clock.now))
             (C.home cache.old) self.slots.items }
         ensures stays { C.home cache.new ≡ C.home cache.old }
         ensures closes { ClosesAll C.did (world_of W.untouched W.happened (K.tells clock.now))
             cache.old cache.new (transfers_in self.slots.items) }
+        ensures begun { GivesUpAll (D.begun dial.old) (D.begun dial.new)
+            (transfers_in self.slots.items) }
         ensures counted { D.failures dial.new ≡ D.failures dial.old }
         ensures opens { D.opened dial.new ≡ D.opened dial.old }
         ensures turns { D.turn_failures dial.new ≡ D.turn_failures dial.old }

@@ -14,7 +14,7 @@ ghost use Rattle.exchange.specs.Owning.{IsReady, OwnsAt, Owns};
 ghost use Rattle.exchange.specs.Exchanging.{Continues, IsFinished, Leaves, StepEnds};
 ghost use Rattle.exchange.specs.Exchanging.{Cancels, Closes, StaysEnded, GivesUpDial, LeavesDial};
 ghost use Rattle.exchange.specs.Exchanging.{DialFailed, DialFailsSince, OpensFew, DialsItsOwn};
-ghost use Rattle.exchange.specs.Balance.{HasAll};
+ghost use Rattle.exchange.specs.Balance.{HasAll, SpendsAll};
 ghost use Rattle.exchange.specs.declared.state.State.TheVariants as at;
 
 use crate::connecting::{ask, claim, dial_up};
@@ -304,6 +304,7 @@ impl<W: Wire> Transfer<W> {
         requires owns { Owns (C.home cache.old) self.parts self.state }
         ensures stays { C.home cache.new ≡ C.home cache.old }
         ensures cancels { Cancels C.did cache.old cache.new now self.state }
+        ensures out { SpendsAll C.did cache.old cache.new self.state }
         ensures parts { result ≡ self.parts }
         ensures begun { GivesUpDial (D.begun dial.old) (D.begun dial.new)
             self.parts.want.transfer self.state }
@@ -328,6 +329,7 @@ impl<W: Wire> Transfer<W> {
         requires owns { Owns (C.home cache.old) self.parts self.state }
         ensures stays { C.home cache.new ≡ C.home cache.old }
         ensures cancels { Cancels C.did cache.old cache.new now self.state }
+        ensures out { SpendsAll C.did cache.old cache.new self.state }
         ensures closes { Closes result.0 self.state }
         ensures parts { result.1 ≡ self.parts }
         ensures begun { GivesUpDial (D.begun dial.old) (D.begun dial.new)
@@ -347,7 +349,7 @@ impl<W: Wire> Transfer<W> {
         match state {
             Some(State::Waiting(ticket)) => withdraw(cache, ticket, now),
             Some(State::Dialling(lease)) => {
-                dial.give_up(parts.want.transfer);
+                dial.give_up(&lease);
                 abandon(cache, lease, now);
             }
             Some(State::Sending(lease, _) | State::Reading(lease)) => abandon(cache, lease, now),

@@ -3,6 +3,7 @@
 ghost use Rattle.std.specs.Prelude.{◌≡◌, ℕ, ◌<◌, length};
 ghost use Rattle.conn_key.specs.Wants.{Rises};
 
+use bundle::Lease;
 use futures::task::Source;
 
 /// What a read answers.
@@ -91,12 +92,14 @@ pub trait Wire: Drop {
 }
 
 /// What opens connections, and sees when they are ready. Many may be begun at once, each for a
-/// transfer of its own: a transfer keeps to one dial.
+/// transfer of its own: a transfer keeps to one dial. It is asked by lease, which no code but a
+/// cache's can make.
 ///
 /// The ghost members tell contracts how often a dial failed, how many connections were opened, how
 /// often a turn failed, counts that stay at the greatest `u64`, what a turn does, for which
 /// transfers a connection may be begun, and the name of its source.
 pub trait Dial<W: Wire> {
+    ghost use Rattle.std.specs.Prelude.{◌≢◌, None};
     ghost use Rattle.exchange.specs.Wires.Happening.{is_adopted};
     ghost use Rattle.exchange.specs.Dialling.{IfUp, CountsDial, OpensOne, CountsTurn};
     ghost use Rattle.exchange.specs.Dialling.{CountsBegun};
@@ -119,20 +122,25 @@ pub trait Dial<W: Wire> {
     /// The name of its source.
     ghost source_name: { Self → ℕ };
 
-    /// Opens a connection to the host of that site for that transfer, or goes on with the one that
-    /// it began for it.
-    fn dial(&mut self, site: u32, transfer: u64) -> Dialled<W>
-        ensures up { IfUp result (λ wire. W.untouched wire site transfer) }
+    /// Opens the connection of a lease that has none yet, to the host of the lease's site, or goes
+    /// on with the one that it began for the lease's transfer.
+    fn dial(&mut self, lease: &Lease<W>) -> Dialled<W>
+        requires none { lease.now.stream ≡ None }
+        ensures up { IfUp result (λ wire.
+            W.untouched wire lease.now.site lease.now.start.want.transfer) }
         ensures counted { CountsDial result (failures self.old) (failures self.new) }
         ensures opens { OpensOne result (opened self.old) (opened self.new) }
-        ensures begun { CountsBegun result transfer (begun self.old) (begun self.new) }
+        ensures begun { CountsBegun result lease.now.start.want.transfer (begun self.old)
+            (begun self.new) }
         ensures turns { turn_failures self.new ≡ turn_failures self.old }
         ensures source { source_name self.new ≡ source_name self.old };
 
-    /// Ends what it began for that transfer.
-    fn give_up(&mut self, transfer: u64)
-        ensures none { begun self.new transfer → ⊥ }
+    /// Ends what it began for the lease's transfer.
+    fn give_up(&mut self, lease: &Lease<W>)
+        ensures none { begun self.new lease.now.start.want.transfer → ⊥ }
         ensures begun { (other : ℕ) → begun self.new other → begun self.old other }
+        ensures kept { (other : ℕ) → other ≢ lease.now.start.want.transfer →
+            begun self.old other → begun self.new other }
         ensures counted { failures self.new ≡ failures self.old }
         ensures opens { opened self.new ≡ opened self.old }
         ensures turns { turn_failures self.new ≡ turn_failures self.old }
@@ -144,6 +152,7 @@ pub trait Dial<W: Wire> {
         ensures counted { failures self.new ≡ failures self.old }
         ensures opens { opened self.new ≡ opened self.old }
         ensures begun { (other : ℕ) → begun self.new other → begun self.old other }
+        ensures kept { (other : ℕ) → begun self.old other → begun self.new other }
         ensures turns { turn_failures self.new ≡ turn_failures self.old }
         ensures source { source_name self.new ≡ source_name self.old };
 
@@ -154,6 +163,7 @@ pub trait Dial<W: Wire> {
         ensures counted { failures self.new ≡ failures self.old }
         ensures opens { opened self.new ≡ opened self.old }
         ensures begun { (other : ℕ) → begun self.new other → begun self.old other }
+        ensures kept { (other : ℕ) → begun self.old other → begun self.new other }
         ensures source { source_name self.new ≡ source_name self.old };
 
     /// What a task registers with that waits until a connection is open.

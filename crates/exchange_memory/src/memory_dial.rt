@@ -5,6 +5,7 @@ ghost use Rattle.conn_key.specs.Wants.{Rises};
 
 use crate::calls::{Calls, Halt};
 use crate::memory_wire::MemoryWire;
+use bundle::Lease;
 use exchange::{Dial, Dialled, Turned};
 use futures::task::Source;
 use std::alloc::{AllocError, Global};
@@ -123,7 +124,7 @@ impl MemoryDial {
 }
 
 impl Dial<MemoryWire> for MemoryDial {
-    ghost use Rattle.std.specs.Prelude.{◌≡◌, ℕ, Some};
+    ghost use Rattle.std.specs.Prelude.{◌≡◌, ◌≢◌, ℕ, Some};
 
     ghost failures = { λ dial. dial.failures };
 
@@ -140,7 +141,7 @@ impl Dial<MemoryWire> for MemoryDial {
 
     ghost source_name = { λ dial. dial.source.id };
 
-    fn dial(&mut self, _site: u32, _transfer: u64) -> Dialled<MemoryWire> {
+    fn dial(&mut self, _lease: &Lease<MemoryWire>) -> Dialled<MemoryWire> {
         match self.dials.next() {
             Some(Halt::NotYet) => return Dialled::NotYet,
             Some(_) => {
@@ -159,16 +160,18 @@ impl Dial<MemoryWire> for MemoryDial {
         Dialled::Up(wire)
     }
 
-    fn give_up(&mut self, transfer: u64)
+    fn give_up(&mut self, lease: &Lease<MemoryWire>)
         ensures none { ⊥ → ⊥ }
         ensures begun { (other : ℕ) → ⊥ → ⊥ }
+        ensures kept { (other : ℕ) → other ≢ lease.now.start.want.transfer → ⊥ → ⊥ }
         ensures counted { self.new.failures ≡ self.old.failures }
         ensures opens { self.new.opened ≡ self.old.opened }
         ensures turns { self.new.turn_failures ≡ self.old.turn_failures }
         ensures source { self.new.source.id ≡ self.old.source.id }
-        ensures kept { self.new ≡ record self.old { given_up = Some transfer } }
+        ensures noted { self.new
+            ≡ record self.old { given_up = Some lease.now.start.want.transfer } }
     {
-        self.given_up = Some(transfer);
+        self.given_up = Some(lease.transfer());
     }
 
     fn adopt(&mut self, _wire: &mut MemoryWire) {}

@@ -18,6 +18,8 @@ pub(crate) struct Attempt {
 pub(crate) fn take(begun: &mut HashMap<u64, Attempt>, transfer: u64) -> Option<Attempt>
     ensures own { IsBegun begun.new transfer → ⊥ }
     ensures others { (other : ℕ) → IsBegun begun.new other → IsBegun begun.old other }
+    ensures kept { (other : ℕ) → other ≢ transfer →
+        IsBegun begun.old other → IsBegun begun.new other }
 {
     begun.remove(&transfer)
 }
@@ -27,6 +29,7 @@ pub(crate) fn take(begun: &mut HashMap<u64, Attempt>, transfer: u64) -> Option<A
 pub(crate) fn keep(begun: &mut HashMap<u64, Attempt>, transfer: u64, attempt: Attempt) -> bool
     ensures others { (other : ℕ) → other ≢ transfer →
         IsBegun begun.new other → IsBegun begun.old other }
+    ensures kept { (other : ℕ) → IsBegun begun.old other → IsBegun begun.new other }
     ensures closed { result ≡ false → (other : ℕ) →
         IsBegun begun.new other → IsBegun begun.old other }
 {

@@ -1,6 +1,6 @@
 //! How connections are begun and opened, whatever they are used for then.
 
-ghost use Rattle.std.specs.Prelude.{◌≡◌, ℕ};
+ghost use Rattle.std.specs.Prelude.{◌≡◌, ◌≢◌, ℕ};
 ghost use Rattle.exchange.specs.Dialling.{CountsBegun, IfUp};
 ghost use Rattle.socket.specs.Begun.{IsBegun, IfOpen};
 ghost use Rattle.socket.specs.Sockets.{IsUntouched};
@@ -87,6 +87,8 @@ impl<'n, N: Net> Connector<'n, N> {
     pub(crate) fn give_up(&mut self, transfer: u64)
         ensures none { IsBegun self.new.begun transfer → ⊥ }
         ensures others { (other : ℕ) → IsBegun self.new.begun other → IsBegun self.old.begun other }
+        ensures kept { (other : ℕ) → other ≢ transfer →
+            IsBegun self.old.begun other → IsBegun self.new.begun other }
     {
         let _ = take(&mut self.begun, transfer);
     }

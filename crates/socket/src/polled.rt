@@ -7,6 +7,7 @@ use crate::connection::{Connection, is_readable};
 use crate::connector::Connector;
 use crate::counts::Counts;
 use crate::dialled_socket::{DialledSocket, TOKEN};
+use bundle::Lease;
 use exchange::{Dial, Dialled, Read, Turned, Wire, Written};
 use futures::task::Source;
 use mio::net::TcpStream;
@@ -151,8 +152,8 @@ impl<'n, N: Net> Dial<PolledWire> for PolledDial<'n, N> {
 
     ghost source_name = { λ dial. dial.source.id };
 
-    fn dial(&mut self, site: u32, transfer: u64) -> Dialled<PolledWire> {
-        let dialled = match self.connector.connect(site, transfer) {
+    fn dial(&mut self, lease: &Lease<PolledWire>) -> Dialled<PolledWire> {
+        let dialled = match self.connector.connect(lease.site(), lease.transfer()) {
             Dialled::Up(socket) => match PolledWire::new(socket, &self.registry) {
                 Some(wire) => Dialled::Up(wire),
                 None => Dialled::Fault,
@@ -164,8 +165,8 @@ impl<'n, N: Net> Dial<PolledWire> for PolledDial<'n, N> {
         dialled
     }
 
-    fn give_up(&mut self, transfer: u64) {
-        self.connector.give_up(transfer);
+    fn give_up(&mut self, lease: &Lease<PolledWire>) {
+        self.connector.give_up(lease.transfer());
     }
 
     fn adopt(&mut self, wire: &mut PolledWire) {

@@ -7,6 +7,7 @@ use crate::connection::{Connection, is_readable};
 use crate::connector::{Connector, MOST_WAIT_MILLISECONDS};
 use crate::counts::Counts;
 use crate::dialled_socket::DialledSocket;
+use bundle::Lease;
 use exchange::{Dial, Dialled, Read, Turned, Wire, Written};
 use futures::task::Source;
 use std::alloc::Global;
@@ -124,8 +125,8 @@ impl<'n, N: Net> Dial<WaitingWire> for WaitingDial<'n, N> {
 
     ghost source_name = { λ dial. dial.source.id };
 
-    fn dial(&mut self, site: u32, transfer: u64) -> Dialled<WaitingWire> {
-        let dialled = match self.connector.connect(site, transfer) {
+    fn dial(&mut self, lease: &Lease<WaitingWire>) -> Dialled<WaitingWire> {
+        let dialled = match self.connector.connect(lease.site(), lease.transfer()) {
             Dialled::Up(socket) => match WaitingWire::new(socket) {
                 Some(wire) => Dialled::Up(wire),
                 None => Dialled::Fault,
@@ -137,8 +138,8 @@ impl<'n, N: Net> Dial<WaitingWire> for WaitingDial<'n, N> {
         dialled
     }
 
-    fn give_up(&mut self, transfer: u64) {
-        self.connector.give_up(transfer);
+    fn give_up(&mut self, lease: &Lease<WaitingWire>) {
+        self.connector.give_up(lease.transfer());
     }
 
     fn adopt(&mut self, wire: &mut WaitingWire) {

@@ -56,8 +56,8 @@ join-requires-clause-other g c =
     let rest = c.pop.new.self.items in
     let popped : workers ≡ rest ++ c.in-Some.worker ∷ [] = search rules in
     let left = c.leave-other.result in
-    let last : workers ≡ rest ++ left_with left.seat left.pass left.results.items left.fault ∷ [] = subst (λ (worker : WorkerShown). workers ≡ rest ++ worker ∷ []) c.leave-other.ensures popped in
-    let has = last_worked world may_stop names jobs claim all workers rest (left_with left.seat left.pass left.results.items left.fault) last going.worked in
+    let last : workers ≡ rest ++ left_with c.in-Some.worker.opened left.seat left.pass left.results.items left.fault ∷ [] = subst (λ (worker : WorkerShown). workers ≡ rest ++ worker ∷ []) c.leave-other.ensures popped in
+    let has = last_worked world may_stop names jobs claim all workers rest (left_with c.in-Some.worker.opened left.seat left.pass left.results.items left.fault) last going.worked in
     has.claim_is
 
 pub place-requires : goal.place-requires
@@ -73,8 +73,8 @@ place-requires g c =
     let rest = c.pop.new.self.items in
     let popped : workers ≡ rest ++ c.in-Some.worker ∷ [] = search rules in
     let left = c.leave-other.result in
-    let last : workers ≡ rest ++ left_with left.seat left.pass left.results.items left.fault ∷ [] = subst (λ (worker : WorkerShown). workers ≡ rest ++ worker ∷ []) c.leave-other.ensures popped in
-    let has = last_worked world may_stop names jobs claim all workers rest (left_with left.seat left.pass left.results.items left.fault) last going.worked in
+    let last : workers ≡ rest ++ left_with c.in-Some.worker.opened left.seat left.pass left.results.items left.fault ∷ [] = subst (λ (worker : WorkerShown). workers ≡ rest ++ worker ∷ []) c.leave-other.ensures popped in
+    let has = last_worked world may_stop names jobs claim all workers rest (left_with c.in-Some.worker.opened left.seat left.pass left.results.items left.fault) last going.worked in
     places_within world may_stop names jobs claim all left.results.items c.deref.result.now c.loop-worker.results.items c.deref_mut.result.now (search rules) (search rules) has.fit going.number
 
 pub loop-worker-preserved : goal.loop-worker-preserved
@@ -90,14 +90,14 @@ loop-worker-preserved g c =
     let rest = c.pop.new.self.items in
     let popped : workers ≡ rest ++ c.in-Some.worker ∷ [] = search rules in
     let left = c.leave-other.result in
-    let last : workers ≡ rest ++ left_with left.seat left.pass left.results.items left.fault ∷ [] = subst (λ (worker : WorkerShown). workers ≡ rest ++ worker ∷ []) c.leave-other.ensures popped in
+    let last : workers ≡ rest ++ left_with c.in-Some.worker.opened left.seat left.pass left.results.items left.fault ∷ [] = subst (λ (worker : WorkerShown). workers ≡ rest ++ worker ∷ []) c.leave-other.ensures popped in
     let results = c.loop-worker.results.items in
     let put = c.place.new.results in
     let own_is : c.deref.result.now ≡ left.results.items = search rules in
     let results_are : c.deref_mut.result.now ≡ results = search rules in
     let placed : IsPlaced left.results.items results put = subst (λ (list : List Done). IsPlaced left.results.items list put) results_are (subst (λ own. IsPlaced own c.deref_mut.result.now put) own_is c.place.ensures) in
     let long : length put ≡ c.loop-worker.results.len = search rules in
-    let next = next_going world may_stop names jobs claim all c.loop-worker.seat left.seat workers rest results put c.loop-worker.passes.items left.pass left.results.items left.fault c.loop-worker.fault last placed going in
+    let next = next_going world may_stop names jobs claim all c.in-Some.worker.opened c.loop-worker.seat left.seat workers rest results put c.loop-worker.passes.items left.pass left.results.items left.fault c.loop-worker.fault last placed going in
     record {
       going = same_going world may_stop names jobs claim all _ c.join.new.seat rest put _ _ c.push_reserved.new.self.items _ c.or-fault.result (search rules) (take_at put (drop (length put) results) c.loop-worker.results.len long) (search rules) (search rules) next;
       room = search rules;

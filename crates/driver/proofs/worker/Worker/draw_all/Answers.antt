@@ -1,4 +1,5 @@
-use Rattle.std.proofs.Common.{rules, ap, sym, subst, ◌∙◌, ℕ, List, [], ◌∷◌, ◌++◌}
+use Rattle.std.proofs.Common.{rules, arith, ◌≡◌, ◌+◌, length, ap, sym, subst, ◌∙◌, ℕ, List, [], ◌∷◌, ◌++◌}
+use Rattle.std.proofs.lemmas.List.{length-append}
 use Rattle.std.proofs.lemmas.List.Elements.{All-push}
 use Rattle.claim.specs.Draws.{Drawn}
 use Rattle.exchange.specs.declared.done.Done.{Done}
@@ -18,6 +19,9 @@ loop-preserved g c =
     let before = c.loop.self in
     let after = c.draw.new.self in
     let one : DrawsOne did world may_stop jobs c.loop.cache c.draw.new.cache before.seat after.seat before.results after.results = search rules in
+    let added : length after.results ≡ length before.results + 1 = ap length one.added ∙ length-append before.results ((one.number, one.done) ∷ []) in
+    let so_far = c.loop.invariant.opens in
+    let more = c.draw.ensures.opens in
     record {
       home = search rules;
       carried = subst (CarriesOutAll did world jobs c.args.cache.now c.draw.new.cache) (sym one.added) (carried_more did world jobs c.args.cache.now c.loop.cache c.draw.new.cache before.results one.number one.done c.loop.invariant.carried one.carried);
@@ -27,5 +31,6 @@ loop-preserved g c =
       drawn = ap (λ (seat : Drawn). seat.drawn) one.drawn ∙ ap (λ (numbers : List ℕ). numbers ++ one.number ∷ []) c.loop.invariant.drawn ∙ sym (numbers_both before.results ((one.number, one.done) ∷ [])) ∙ ap numbers_of (sym one.added);
       results = subst (AreResults world may_stop jobs) (sym one.added) (All-push (λ (result : ℕ × Done). IsResultAt world may_stop jobs result.0 result.1) before.results (one.number, one.done) c.loop.invariant.results one.result_is);
       well = search rules;
+      opens = omega (arith, added, so_far, more);
       pass = search rules;
     }

@@ -1,4 +1,4 @@
-use Rattle.std.specs.Prelude.{◌≡◌, None}
+use Rattle.std.specs.Prelude.{◌≡◌, ◌+◌, ◌≤◌, length, None}
 use Rattle.exchange.specs.Worlds.{world_of}
 use Rattle.driver.specs.Results.{CarriesOutAll}
 use Rattle.driver.specs.Workers.{AreResults, numbers_of}
@@ -14,5 +14,6 @@ invariant-loop g l = record {
   drawn : l.self.seat.drawn ≡ numbers_of l.self.results;
   results : AreResults (world_of g.W.Wire.untouched g.W.Wire.happened (g.K.Clock.tells l.fn.shared.clock.now)) (g.G.Gate.may_stop l.fn.shared.gate.now) l.fn.shared.jobs.now l.self.results;
   well : l.self.fault ≡ None;
+  opens : l.self.opened ≤ l.fn.self.opened + length l.self.results;
   pass : l.self.pass ≡ l.fn.self.pass;
 }

@@ -2,6 +2,7 @@
 use Rattle.std.proofs.Common.{rules}
 use Rattle.exchange.specs.Worlds.{world_of}
 use Rattle.exchange.specs.Slabs.{transfers_in}
+use Rattle.exchange.proofs.Begun.{gives_up_none, gives_up_more}
 use Rattle.exchange.proofs.Slots.{closes_none, closes_more}
 use Rattle.exchange.proofs.slab.Slab.close.Goals as goal
 
@@ -10,6 +11,7 @@ loop-closed-init g c = record {
   stays = search rules;
   kept = search rules;
   closes = closes_none g.C.Cache.did (world_of g.W.Wire.untouched g.W.Wire.happened (g.K.Clock.tells c.args.clock.now)) c.args.cache.now (transfers_in c.args.self.slots.items);
+  begun = gives_up_none (g.D.Dial.begun c.args.dial.now) (transfers_in c.args.self.slots.items);
   counted = search rules;
   opens = search rules;
   turns = search rules;
@@ -24,6 +26,8 @@ loop-closed-preserved g c =
       stays = search rules;
       kept = search rules;
       closes = closes;
+      begun = gives_up_more (g.D.Dial.begun c.args.dial.now) (g.D.Dial.begun c.loop-closed.dial) (g.D.Dial.begun c.close_last.new.dial) (transfers_in c.args.self.slots.items)
+          (transfers_in c.loop-closed.slab.slots.items) (transfers_in c.close_last.new.self.slots.items) one.transfer c.loop-closed.invariant.begun one.taken one.begun;
       counted = search rules;
       opens = search rules;
       turns = search rules;

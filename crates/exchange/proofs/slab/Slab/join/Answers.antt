@@ -1,4 +1,5 @@
--- What joins is kept, and it is one more.
+-- What joins is a new transfer, which is kept, and it is one more.
+use Rattle.std.proofs.Common.{refl, inl, inr}
 use Rattle.std.proofs.lemmas.List.Sums.{sum_by_push}
 use Rattle.exchange.specs.Worlds.{world_of}
 use Rattle.exchange.specs.Slabs.{one_if_some}
@@ -22,4 +23,21 @@ returns-clause-ok g c =
     elim c.match-take_vacant.branch [
       | in-Some w ↦ rw (w.self-is, w.fill.ensures, c.take_vacant.ensures.same) (one_more_at slots w.in-Some.place w.new.result (rw c.take_vacant.ensures.same at w.in-Some.ensures.vacant))
       | in-None+else-is_err-2+else-is_err-3 w ↦ rw (w.self-is, w.append.ensures, w.reserve.ensures.items, c.take_vacant.ensures.same) (sum_by_push one_if_some slots _)
+    ]
+
+pub returns-clause-joins : goal.returns-clause-joins
+returns-clause-joins g c =
+    elim c.match-take_vacant.branch [
+      | in-Some w ↦ rw (w.self-is, w.fill.ensures, c.take_vacant.ensures.same) (record {
+        transfer = w.new.result;
+        its = w.new.ensures.parts;
+        begins = w.new.ensures.begins;
+        stands = inl (w.in-Some.place, rw c.take_vacant.ensures.same at w.in-Some.ensures.vacant, refl);
+      })
+      | in-None+else-is_err-2+else-is_err-3 w ↦ rw (w.self-is, w.append.ensures, w.reserve.ensures.items, c.take_vacant.ensures.same) (record {
+        transfer = w.new-in-None.result;
+        its = w.new-in-None.ensures.parts;
+        begins = w.new-in-None.ensures.begins;
+        stands = inr refl;
+      })
     ]

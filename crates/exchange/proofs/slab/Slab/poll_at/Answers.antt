@@ -1,12 +1,13 @@
 -- What was polled is kept, and what has ended is told as it ended.
-use Rattle.std.proofs.Common.{rules, ◌≡◌, refl, sym, subst, ap, ◌∙◌, length, slice_get, Some}
+use Rattle.std.proofs.Common.{rules, ◌≡◌, refl, sym, subst, ap, ◌∙◌, inl, length, slice_get, Some}
 use Rattle.std.proofs.lemmas.Option.{slice_get_read}
 use Rattle.exchange.specs.declared.transfer.Transfer.{Transfer}
 use Rattle.exchange.specs.Worlds.{world_of}
 use Rattle.exchange.specs.Owning.{IsReady}
-use Rattle.exchange.specs.Exchanging.{IsTold}
+use Rattle.exchange.specs.Exchanging.{IsTold, Leaves}
 use Rattle.exchange.specs.Slabs.{AreKept}
 use Rattle.exchange.proofs.Slots.{kept_at, told_on, kept_with, ended_is}
+use Rattle.exchange.proofs.Rounds.{pending_goes_on}
 use Rattle.exchange.proofs.slab.Slab.poll_at.Goals as goal
 
 pub returns-then-is_pending-clause-kept : goal.returns-then-is_pending-clause-kept
@@ -38,3 +39,40 @@ returns-clause-ended g c =
     let its : IsTold world c.in-Some.transfer.parts c.in-Some.transfer.state = subst (λ (t : Transfer _). IsTold world t.parts t.state) (sym same) told in
     let ready : IsReady c.in-Some.transfer.parts = subst (λ (t : Transfer _). IsReady t.parts) (sym same) c.poll-polled.ensures.ready in
     ended_is world c.finish.result.0 c.in-Some.transfer.parts c.finish.result.1 c.in-Some.transfer.state c.finish.ensures.done c.finish.ensures.parts ready its
+
+pub returns-then-is_pending-clause-polls : goal.returns-then-is_pending-clause-polls
+returns-then-is_pending-clause-polls g c =
+    let old = c.in_ok-transfer.transfer.now in
+    let new = c.poll-polled.new.self in
+    let polled = c.poll-polled.ensures in
+    let slots = c.args.self.now.slots.items in
+    let there = slice_get_read slots (length slots) c.args.place c.in_ok-slot.slot.now refl c.in_ok-slot.ensures.item.3.0 c.in_ok-slot.ensures.item.1 in
+    let lent : c.in_ok-slot.slot.now ≡ Some old = search rules in
+    let source = g.D.Dial.source_name c.poll-polled.new.dial in
+    let leaves : Leaves g.W.Wire.source_name source c.args.cx.now c.poll-polled.new.cx new.waker new.has_yielded new.state = search rules in
+    inl (record {
+      transfer = old;
+      next = new;
+      stood = there ∙ ap Some lent;
+      polled = record { same = polled.same; story = polled.story; steps = polled.steps; dialled = polled.dialled; opens = polled.opens; begun = polled.begun };
+      leaves = (refl, pending_goes_on g.W.Wire.source_name source c.args.cx.now c.poll-polled.new.cx new.waker new.has_yielded new.state leaves);
+    })
+
+pub returns-clause-polls : goal.returns-clause-polls
+returns-clause-polls g c =
+    let old = c.in_ok-transfer.transfer.now in
+    let new = c.poll-polled.new.self in
+    let polled = c.poll-polled.ensures in
+    let slots = c.args.self.now.slots.items in
+    let there = slice_get_read slots (length slots) c.args.place c.in_ok-slot.slot.now refl c.in_ok-slot.ensures.item.3.0 c.in_ok-slot.ensures.item.1 in
+    let lent : c.in_ok-slot.slot.now ≡ Some old = search rules in
+    let same : c.in-Some.transfer ≡ new = search rules in
+    let state : new.state ≡ c.in-Some.transfer.state = ap (λ (t : Transfer _). t.state) (sym same) in
+    let parts : c.in-Some.transfer.parts ≡ new.parts = ap (λ (t : Transfer _). t.parts) same in
+    inl (record {
+      transfer = old;
+      next = new;
+      stood = there ∙ ap Some lent;
+      polled = record { same = polled.same; story = polled.story; steps = polled.steps; dialled = polled.dialled; opens = polled.opens; begun = polled.begun };
+      leaves = (search rules, state ∙ c.finish.ensures.done, c.finish.ensures.parts ∙ parts);
+    })

@@ -1,6 +1,7 @@
-use Rattle.std.proofs.Common.{◌≡◌, sum_by}
-use Rattle.exchange.specs.Worlds.{world_of}
+use Rattle.std.proofs.Common.{◌≡◌, None, sum_by}
+use Rattle.exchange.specs.Worlds.{world_of, dials_of}
 use Rattle.exchange.specs.Slabs.{AreKept, one_if_some}
+use Rattle.exchange.specs.Rounds.{PollsInTurn}
 use Rattle.exchange.proofs.slab.Slab.poll_next.Given as goal
 
 abbrev pub invariant-loop : goal.invariant-loop
@@ -8,5 +9,6 @@ invariant-loop g l = record {
   stays : g.C.Cache.home l.cache ≡ g.C.Cache.home l.fn.cache;
   kept : AreKept (world_of g.W.Wire.untouched g.W.Wire.happened (g.K.Clock.tells l.fn.clock)) (g.C.Cache.home l.cache) l.self.slots.items;
   same : sum_by one_if_some l.self.slots.items ≡ sum_by one_if_some l.fn.self.slots.items;
+  polls : PollsInTurn g.C.Cache.did (world_of g.W.Wire.untouched g.W.Wire.happened (g.K.Clock.tells l.fn.clock)) (dials_of g.D.Dial.begun g.D.Dial.opened g.D.Dial.failures) l.fn.cache l.cache l.fn.dial l.dial l.fn.self.slots.items l.self.slots.items None;
   turns : g.D.Dial.turn_failures l.dial ≡ g.D.Dial.turn_failures l.fn.dial;
 }
