@@ -1,11 +1,13 @@
 //! Which addresses hosts have, and in which order they are tried.
 
+use crate::leases::{abandon, lease_at, pool_of};
 use crate::peer::{Peer, addresses_of, target_of};
 use exchange::{Dial, Dialled};
-use socket::{AddressFault, Addresses, WaitingDial, WaitingWire};
+use socket::{AddressFault, Addresses, WaitingDial};
 use std::alloc::AllocGlobal;
 use std::io;
 use std::net::{IpAddr, Ipv4Addr, Ipv6Addr, SocketAddr, TcpListener};
+use std::process::Abort;
 
 /// Hosts, and whether a dial knows an address for each.
 static HOSTS: [(&str, bool); 8] = [
@@ -37,18 +39,28 @@ fn a_host_is_localhost_or_an_address(rt: HostRuntime) {
     }
 }
 
-// Whether a connection to the first site is opened, in some turns.
-fn is_opened(dial: &mut WaitingDial<'_, HostRuntime>) -> bool {
+// Dials that site in some turns: whether a connection is open, or cannot be opened.
+fn is_opened<R: Abort + AllocGlobal>(
+    rt: &R,
+    dial: &mut WaitingDial<'_, HostRuntime>,
+    site: u32,
+) -> Option<bool> {
+    let mut pool = pool_of(rt);
+    let lease = lease_at(rt, &mut pool, site, 1);
+    let mut opened = None;
     for _ in 0..100 {
-        let dialled: Dialled<WaitingWire> = dial.dial(0, 1);
-        match dialled {
-            Dialled::Up(_) => return true,
-            Dialled::Fault => return false,
+        match dial.dial(&lease) {
+            Dialled::Up(_) => opened = Some(true),
+            Dialled::Fault => opened = Some(false),
             Dialled::NotYet => {}
+        }
+        if opened.is_some() {
+            break;
         }
         let _ = dial.turn();
     }
-    false
+    abandon(&mut pool, lease);
+    opened
 }
 
 #[test]
@@ -59,7 +71,7 @@ fn the_next_address_is_tried(rt: HostRuntime) {
     // Nobody listens at 127.0.0.1, which is tried first.
     let addresses = addresses_of(&rt, "localhost", port).expect(&rt, "an address");
     let mut dial = WaitingDial::new(&rt, rt.alloc(), addresses).expect(&rt, "a dial");
-    assert!(rt; is_opened(&mut dial));
+    assert_eq!(rt; is_opened(&rt, &mut dial, 0), Some(true));
     assert_eq!(rt; (dial.opened(), dial.failures()), (1, 0));
 }
 
@@ -73,7 +85,7 @@ fn a_refused_connection_is_counted(rt: HostRuntime) {
     let list = vec![in rt.alloc(); address].expect(&rt, "memory");
     addresses.add_resolved(list).expect(&rt, "an address");
     let mut dial = WaitingDial::new(&rt, rt.alloc(), addresses).expect(&rt, "a dial");
-    assert!(rt; !is_opened(&mut dial));
+    assert_eq!(rt; is_opened(&rt, &mut dial, 0), Some(false));
     assert_eq!(rt; (dial.opened(), dial.failures()), (0, 1));
 }
 
@@ -92,16 +104,9 @@ fn each_site_has_its_own_addresses(rt: HostRuntime) {
     let target = target_of(&rt, "127.0.0.1", other).expect(&rt, "a target");
     addresses.add(&target).expect(&rt, "an address");
     let mut dial = WaitingDial::new(&rt, rt.alloc(), addresses).expect(&rt, "a dial");
-    for _ in 0..100 {
-        let dialled: Dialled<WaitingWire> = dial.dial(1, 1);
-        if !matches!(dialled, Dialled::NotYet) {
-            break;
-        }
-        let _ = dial.turn();
-    }
+    assert_eq!(rt; is_opened(&rt, &mut dial, 1), Some(true));
     let connected = (first.is_connected(), second.is_connected());
     assert_eq!(rt; (dial.opened(), connected), (1, (false, true)));
     // There is no third site.
-    let dialled: Dialled<WaitingWire> = dial.dial(2, 1);
-    assert!(rt; matches!(dialled, Dialled::Fault));
+    assert_eq!(rt; is_opened(&rt, &mut dial, 2), Some(false));
 }

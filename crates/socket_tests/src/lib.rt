@@ -6,6 +6,8 @@ mod addresses;
 #[cfg(test)]
 mod descriptors;
 #[cfg(test)]
+mod leases;
+#[cfg(test)]
 mod peer;
 #[cfg(test)]
 mod requests;
