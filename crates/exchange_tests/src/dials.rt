@@ -1,6 +1,6 @@
 //! What a dial in memory counts.
 
-use crate::driving::{NOW, OK, dial_of, pool_of, prepared, wire_of};
+use crate::driving::{NOW, OK, abandon, dial_of, new_lease_of, pool_of, prepared, wire_of};
 use exchange::{Dial, Dialled, Exchange, Turned};
 use exchange_memory::{FixedClock, Halt, MemoryDial};
 
@@ -28,8 +28,13 @@ fn a_dial_counts_what_it_opens(rt: HostRuntime) {
         let mut dial = dial_of(&rt, wire_of(&rt, OK));
         dial.add(wire_of(&rt, OK)).expect(&rt, "memory");
         dial.halt_dial(nth, Halt::Fault);
-        let first = dial.dial(0, 1);
-        let second = dial.dial(0, 2);
+        let mut pool = pool_of(&rt, 0);
+        let one = new_lease_of(&rt, &mut pool, 1, NOW);
+        let other = new_lease_of(&rt, &mut pool, 2, NOW);
+        let first = dial.dial(&one);
+        let second = dial.dial(&other);
+        abandon(&mut pool, one);
+        abandon(&mut pool, other);
         let came = [
             matches!(first, Dialled::Up(_)),
             matches!(second, Dialled::Up(_)),

@@ -4,6 +4,7 @@
 ghost use Rattle.std.specs.Prelude.{◌≡◌, ◌≤◌, length, ⊤};
 ghost use Rattle.conn_key.specs.Wants.{Rises};
 
+use bundle::Lease;
 use exchange::{Dial, Dialled, Read, Turned, Wire, Written};
 use exchange_memory::Halt;
 use futures::task::Source;
@@ -188,7 +189,7 @@ impl Dial<DrawnWire> for DrawnDial {
 
     ghost source_name = { λ dial. dial.source.id };
 
-    fn dial(&mut self, _site: u32, _transfer: u64) -> Dialled<DrawnWire> {
+    fn dial(&mut self, _lease: &Lease<DrawnWire>) -> Dialled<DrawnWire> {
         match drawn_halt(&mut self.random) {
             Some(Halt::NotYet) => return Dialled::NotYet,
             Some(_) => {
@@ -201,7 +202,7 @@ impl Dial<DrawnWire> for DrawnDial {
         Dialled::Up(DrawnWire::new(self.alloc, self.seed, self.opened))
     }
 
-    fn give_up(&mut self, _transfer: u64) {}
+    fn give_up(&mut self, _lease: &Lease<DrawnWire>) {}
 
     fn adopt(&mut self, _wire: &mut DrawnWire) {}
 

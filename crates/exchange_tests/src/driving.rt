@@ -1,6 +1,6 @@
 //! What tests of exchanges share: what they prepare, and how they poll.
 
-ghost use Rattle.std.specs.Prelude.{IsSome, ◌≡◌, ◌<◌, length};
+ghost use Rattle.std.specs.Prelude.{IsSome, None, ◌≡◌, ◌<◌, length};
 ghost use Rattle.leasing.specs.Homes.{IsMadeBy};
 ghost use Rattle.cache.specs.Deeds.{home_of};
 ghost use Rattle.exchange.specs.Answers.{IsUnused};
@@ -141,13 +141,30 @@ pub(crate) fn lease_of<R: Abort>(
     transfer: u64,
     now: u64,
 ) -> Lease<MemoryWire>
-    ensures { IsMadeBy (home_of pool.new) result.site result.tables }
+    ensures here { IsMadeBy (home_of pool.new) result.site result.tables }
+    ensures stays { home_of pool.new ≡ home_of pool.old }
 {
     match Cache::acquire(pool, 0, want_of(transfer), now) {
         Ok(Acquired::Lease(lease)) => lease,
         Ok(Acquired::Wait(_ticket)) => panic!(rt; "it has to wait"),
         Err(refusal) => panic!(rt; "{refusal:?}"),
     }
+}
+
+/// A lease of a new connection, which has no wire yet.
+pub(crate) fn new_lease_of<R: Abort>(
+    rt: &R,
+    pool: &mut Pool<MemoryWire>,
+    transfer: u64,
+    now: u64,
+) -> Lease<MemoryWire>
+    ensures here { IsMadeBy (home_of pool.new) result.site result.tables }
+    ensures stays { home_of pool.new ≡ home_of pool.old }
+    ensures none { result.stream ≡ None }
+{
+    let lease = lease_of(rt, pool, transfer, now);
+    assert!(rt; !lease.has_stream());
+    lease
 }
 
 /// A lease of the transfer that was there before, with that wire.
@@ -159,8 +176,7 @@ pub(crate) fn lease_with<R: Abort>(
     ensures here { IsMadeBy (home_of pool.new) result.site result.tables }
     ensures stream { IsSome result.stream }
 {
-    let mut lease = lease_of(rt, pool, BEFORE, 0);
-    assert!(rt; !lease.has_stream());
+    let mut lease = new_lease_of(rt, pool, BEFORE, 0);
     lease.attach(wire);
     lease
 }
@@ -176,8 +192,11 @@ fn give_back(pool: &mut Pool<MemoryWire>, lease: Lease<MemoryWire>)
 /// Ends a lease of that pool.
 pub(crate) fn abandon(pool: &mut Pool<MemoryWire>, lease: Lease<MemoryWire>)
     requires { IsMadeBy (home_of pool.old) lease.site lease.tables }
+    ensures { home_of pool.new ≡ home_of pool.old }
 {
-    pool.abandon(lease, NOW);
+    if let Err(stray) = Cache::abandon(pool, lease, NOW) {
+        stray.scrap();
+    }
 }
 
 /// A cache of one host, with an idle connection that has that wire.

@@ -2,6 +2,7 @@
 
 ghost use Rattle.std.specs.Prelude.{⊤};
 
+use bundle::Lease;
 use exchange::{Dial, Dialled, Read, Turned, Wire, Written};
 use futures::task::Source;
 
@@ -75,14 +76,14 @@ impl Dial<EndlessWire> for EndlessDial {
 
     ghost source_name = { λ dial. dial.source.id };
 
-    fn dial(&mut self, _site: u32, _transfer: u64) -> Dialled<EndlessWire> {
+    fn dial(&mut self, _lease: &Lease<EndlessWire>) -> Dialled<EndlessWire> {
         self.opened = self.opened.saturating_add(1);
         Dialled::Up(EndlessWire {
             source: Source::new(),
         })
     }
 
-    fn give_up(&mut self, _transfer: u64) {}
+    fn give_up(&mut self, _lease: &Lease<EndlessWire>) {}
 
     fn adopt(&mut self, _wire: &mut EndlessWire) {}
 

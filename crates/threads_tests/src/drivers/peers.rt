@@ -5,6 +5,7 @@ ghost use Rattle.conn_key.specs.Wants.{Rises};
 ghost use Rattle.exchange.specs.Wires.{Reads};
 ghost use Rattle.exchange.specs.Dialling.{OnReadFault};
 
+use bundle::Lease;
 use exchange::{Dial, Dialled, Read, Turned, Wire, Written};
 use futures::task::Source;
 
@@ -166,12 +167,12 @@ impl Dial<PeerWire> for PeerDial {
 
     ghost source_name = { λ dial. dial.source.id };
 
-    fn dial(&mut self, _site: u32, _transfer: u64) -> Dialled<PeerWire> {
+    fn dial(&mut self, _lease: &Lease<PeerWire>) -> Dialled<PeerWire> {
         self.opened = self.opened.saturating_add(1);
         Dialled::Up(PeerWire::new(self.peer))
     }
 
-    fn give_up(&mut self, _transfer: u64) {}
+    fn give_up(&mut self, _lease: &Lease<PeerWire>) {}
 
     fn adopt(&mut self, _wire: &mut PeerWire) {}
 
