@@ -9,7 +9,7 @@ from program import TOP
 
 # no case takes a tenth of that; but ./curlpool takes a minute or more before it runs the program unproved
 SECONDS = 60
-SECONDS_UNPROVED = 300
+SECONDS_UNPROVED = 900
 SECONDS_TO_END = 10
 
 

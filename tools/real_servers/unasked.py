@@ -1,6 +1,8 @@
 """What curl and curlpool make of a response that nobody asked for."""
 import shutil
 
+from program import is_current
+
 from . import programs
 from .cases import UNASKED
 from .places import started
@@ -37,9 +39,14 @@ def length_by_curl():
     return f"{name_of_curl()}: {lines[-1].split()[1]} bytes for 3" if len(lines) == UNASKED.requests else name_of_curl()
 
 
+def said_of_wait():
+    """That curlpool is compiled first, if it is not built."""
+    return "" if is_current() else " (not built: compiled first, which takes minutes)"
+
+
 def show():
     """Prints what both answer; gives whether curlpool answered what was asked for."""
-    print(ASKED, name_of_curl(), *map(remarked, by_curl()), "curlpool get", sep="\n", flush=True)
+    print(ASKED, name_of_curl(), *map(remarked, by_curl()), f"curlpool get{said_of_wait()}", sep="\n", flush=True)
     with started(UNASKED, {}) as places:
         run = programs.get(places.urls)
     lines = run.output.splitlines()
