@@ -1,4 +1,4 @@
-"""Wrong bodies that the prover lets through, and that a test finds: `tools/wrong-bodies --found`.
+"""Wrong bodies that no contract speaks of, and that a test has to find: `tools/wrong-bodies --found`.
 
 They are the edits in crates/CRATE/found, of the form of those in wrong-bodies, with a first line `found by: TEST`:
 `reference` for the scripts of tools/reference.py, which `measures script` carries out with a shared cache, or a crate
