@@ -17,8 +17,8 @@ abbrev pub waiting_world : World WaitingWire
 waiting_world = world_of (λ wire site transfer. IsUntouched wire.connection site transfer) (λ old new happening. HappensTo old.connection new.connection happening) (λ moment. ⊤)
 
 -- these jobs were carried out by so many threads over one cache under these limits, of so many hosts
-abbrev pub IsLoadOf : LoadOptions → ℕ → List Job → Loaded → Type 0
-IsLoadOf options hosts jobs loaded = IsLoaded waiting_world (bounds_of options.host_limit options.total options.connects) hosts jobs options.workers loaded
+abbrev pub CarriesOutLoad : LoadOptions → ℕ → List Job → Loaded → Type 0
+CarriesOutLoad options hosts jobs loaded = IsLoaded waiting_world (bounds_of options.host_limit options.total options.connects) hosts jobs options.workers loaded
 
 -- the report is that of a load with these numbers, over a site for each port
 pub record ReportsLoad (options : LoadOptions) (report : Text) : Type 0 where
@@ -28,5 +28,5 @@ pub record ReportsLoad (options : LoadOptions) (report : Text) : Type 0 where
   pub a_port_each : length ports ≡ options.sites
   pub jobs_are : AreLoadJobs ports 0 jobs
   pub as_many : length jobs ≡ options.jobs
-  pub is_loaded : IsLoadOf options (length ports) jobs loaded
+  pub is_loaded : CarriesOutLoad options (length ports) jobs loaded
   pub report_is : report ≡ report_text loaded.gathered.hosts.items loaded.results.items

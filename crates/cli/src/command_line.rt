@@ -21,7 +21,7 @@ use crate::loading::words::{LoadWords, load_words_of};
 use crate::script::input::{ScriptInput, input_of};
 use clap::error::ErrorKind;
 use clap::{Arg, ArgAction, ArgMatches, Command, Error};
-use help::{COMMANDS, LINES, MORE};
+use help::{COMMANDS, EXAMPLES, LINES};
 use std::alloc::{AllocError, Global};
 
 /// What `--help` says of the file.
@@ -66,7 +66,7 @@ fn command<'a>(alloc: Global) -> Result<Command<'a>, AllocError>
         .bin_name("curlpool")?
         .version("0.2.0")
         .about("libcurl's connection cache: fetches URLs, runs scripts, and carries out loads")
-        .after_help(MORE)
+        .after_help(EXAMPLES)
         .subcommand_required(true)
         .disable_help_subcommand(true);
     let program = with_script(alloc, program)?;

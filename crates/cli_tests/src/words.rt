@@ -126,7 +126,8 @@ static ROWS: [Row; 21] = [
         name: "a word in place of a file may be passed as one",
         words: "script -x",
         errors: Text::Start(
-            "curlpool: unexpected argument '-x' found\n\n  tip: to pass '-x' as a value, use '-- -x'",
+            "curlpool: unexpected argument '-x' found\n\n  \
+             tip: to pass '-x' as a value, use '-- -x'",
         ),
         ..REFUSED
     },

@@ -1,7 +1,7 @@
 //! What help says of scripts, and of what `get` and `load` write, with examples.
 
-/// What help on the program says of its commands.
-pub const MORE: &str = "\
+/// The end of help on the program: examples, and how to ask for more.
+pub const EXAMPLES: &str = "\
 Examples:
   curlpool get http://localhost:8000/a http://localhost:8000/b
   curlpool load --jobs 1000 --workers 8

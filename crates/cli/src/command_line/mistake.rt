@@ -5,14 +5,14 @@ use clap::Error;
 use std::alloc::{AllocError, Global};
 use std::fmt;
 
-/// What `clap` begins the text of a mistake with.
-const CLAP: &str = "error: ";
+/// The words with which `clap` begins the text of a mistake.
+const MISTAKE_START: &str = "error: ";
 
-/// What the usage begins with that follows a mistake in the words after `get`.
-const GET: &str = "\nUsage: curlpool get ";
+/// The start of the usage that follows a mistake in the words after `get`.
+const GET_USAGE: &str = "\nUsage: curlpool get ";
 
-/// What a tip of `clap` begins with that advises to pass an option as a value: there, as a URL.
-const TIP: &str = "\n  tip: to pass '";
+/// The start of a tip of `clap` to pass an option as a value, which after `get` is a URL.
+const VALUE_TIP: &str = "\n  tip: to pass '";
 
 /// What an error says: help and the version as they are, and a mistake after the program's name,
 /// with control characters escaped.
@@ -22,7 +22,7 @@ const TIP: &str = "\n  tip: to pass '";
 /// There is no memory for it.
 pub(crate) fn text_of(alloc: Global, error: &Error) -> Result<String, AllocError> {
     let text = error.to_string(alloc)?;
-    let Some(mistake) = text.as_str().strip_prefix(CLAP) else {
+    let Some(mistake) = text.as_str().strip_prefix(MISTAKE_START) else {
         return Ok(text);
     };
     match around_tip(mistake) {
@@ -40,10 +40,10 @@ pub(crate) fn text_of(alloc: Global, error: &Error) -> Result<String, AllocError
 
 /// The lines before a tip to pass an option to `get` as a URL, and those after it.
 fn around_tip(mistake: &str) -> Option<(&str, &str)> {
-    if !mistake.contains(GET) {
+    if !mistake.contains(GET_USAGE) {
         return None;
     }
-    let (before, tip) = mistake.split_once(TIP)?;
+    let (before, tip) = mistake.split_once(VALUE_TIP)?;
     let (_, after) = tip.split_once("\n")?;
     Some((before.strip_suffix("\n").unwrap_or(before), after))
 }

@@ -1,7 +1,7 @@
 //! Loads over the system's threads and sockets.
 
 ghost use Rattle.std.specs.Prelude.{◌≡◌, ◌≤◌, length, string_bytes, IfOk};
-ghost use Rattle.cli.specs.SystemLoads.{IsLoadOf, ReportsLoad};
+ghost use Rattle.cli.specs.SystemLoads.{CarriesOutLoad, ReportsLoad};
 
 use crate::loading::fault::LoadFault;
 use crate::loading::options::LoadOptions;
@@ -22,7 +22,7 @@ use std::thread::{Builder, Threads, scope_env};
 
 /// Carries out a load with these numbers by threads and sockets of the system, and answers its
 /// report. The requests go to a server of its own, which has one port of 127.0.0.1 for each site.
-/// What becomes of them nobody knows; what did is in the report.
+/// Nobody knows beforehand how they end; the report says how they did.
 ///
 /// `threads` starts the threads: it is the same system, lent once more by who may start some.
 ///
@@ -81,7 +81,7 @@ fn load_beside<R: Threads + Wait + RandomSource + AllocGlobal + Sync>(
     options: LoadOptions,
 ) -> Result<Loaded, LoadFault>
     requires { length sites.now ≤ 1024 }
-    ensures { IfOk result (IsLoadOf options (length sites.now) jobs.now) }
+    ensures { IfOk result (CarriesOutLoad options (length sites.now) jobs.now) }
 {
     let ended = AtomicBool::new(false);
     thread::scope(
@@ -89,7 +89,7 @@ fn load_beside<R: Threads + Wait + RandomSource + AllocGlobal + Sync>(
         rt,
         |scope| -> Result<Loaded, LoadFault>
             requires { length sites.now ≤ 1024 }
-            ensures { IfOk result (IsLoadOf options (length sites.entry.now) jobs.entry.now) }
+            ensures { IfOk result (CarriesOutLoad options (length sites.entry.now) jobs.entry.now) }
         {
             let serving = match Builder::new().spawn_scoped(scope, || server.serve(rt, &ended)) {
                 Ok(serving) => serving,
@@ -115,7 +115,7 @@ fn load_under<R: Threads + Wait + RandomSource + AllocGlobal + Sync>(
     options: LoadOptions,
 ) -> Result<Loaded, LoadFault>
     requires { length sites.now ≤ 1024 }
-    ensures { IfOk result (IsLoadOf options (length sites.now) jobs.now) }
+    ensures { IfOk result (CarriesOutLoad options (length sites.now) jobs.now) }
 {
     let limits = options.limits();
     match load(rt, system, alloc, limits, sites, jobs, options.workers) {
