@@ -26,7 +26,10 @@ pub struct Held {
 /// a later one and an answer. `Full`: in between the budget was asked and answered so, and this
 /// part has left the number since. `Contended`: it was asked and answered so at least once. `Got`
 /// tells nothing. What each tells of the number is the budget's to say.
-pub trait Permits {
+///
+/// `K` is the key of who may ask: each call that asks takes one, and only who can make keys has
+/// one. To give a permit back takes none.
+pub trait Permits<K> {
     ghost use Rattle.budget.specs.declared.permits.Held.{Held};
     ghost use Rattle.budget.specs.declared.permits.Try.{Try};
     ghost use Rattle.budget.specs.declared.permits.Try.TheVariants.{Got, Contended};
@@ -67,7 +70,7 @@ pub trait Permits {
     ghost same_kept: { Self → Self → Type 0 };
 
     /// Asks for one more open connection.
-    fn reserve_open(&mut self) -> Try
+    fn reserve_open(&mut self, key: &K) -> Try
         requires stands { stands self.old }
         ensures stands { stands self.new }
         ensures stays { stays self.old self.new }
@@ -78,7 +81,7 @@ pub trait Permits {
         ensures same_kept { same_kept self.old self.new };
 
     /// Asks for one more connection kept open after its use.
-    fn reserve_kept(&mut self) -> Try
+    fn reserve_kept(&mut self, key: &K) -> Try
         requires stands { stands self.old }
         ensures stands { stands self.new }
         ensures stays { stays self.old self.new }

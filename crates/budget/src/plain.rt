@@ -169,7 +169,7 @@ pub struct HostPermits<'a> {
     host: usize,
 }
 
-impl Permits for HostPermits<'_> {
+impl<K> Permits<K> for HostPermits<'_> {
     ghost use Rattle.std.specs.Prelude.{◌≡◌, ◌<◌, length};
     ghost use Rattle.std.specs.Prelude.{refl};
     ghost use Rattle.std.proofs.Common.{◌∙◌};
@@ -200,11 +200,11 @@ impl Permits for HostPermits<'_> {
 
     ghost same_kept = { λ x y. kept_in y.budget.now.hosts ≡ kept_in x.budget.now.hosts };
 
-    fn reserve_open(&mut self) -> Try {
+    fn reserve_open(&mut self, _key: &K) -> Try {
         self.budget.reserve_open(self.host)
     }
 
-    fn reserve_kept(&mut self) -> Try {
+    fn reserve_kept(&mut self, _key: &K) -> Try {
         self.budget.reserve_kept(self.host)
     }
 

@@ -24,5 +24,5 @@ is_lent (Some lobby) = true
 
 abbrev pub IsServed : ℕ → Served → Bool → Queue → Queue → Type 0
 IsServed host Given is old new = HadTurn host is old new
-IsServed host Full is old new = new ≡ old
+IsServed host (Full short) is old new = new ≡ old
 IsServed host Contended is old new = new ≡ old

@@ -1,6 +1,7 @@
 -- What calls answer, by the case of the answer.
 use Rattle.std.specs.Prelude.{◌≡◌, ℕ, Bool, true, false, Result, Ok}
 use Rattle.conn_log.specs.declared.entry.Want.{Want}
+use Rattle.conn_log.specs.declared.entry.Cause.TheVariants.{TotalRoom}
 use Rattle.persistence.specs.declared.facts.Facts.{Facts}
 use Rattle.budget.specs.declared.permits.Try.{Try}
 use Rattle.budget.specs.declared.permits.Try.TheVariants.{Got as TryGot, Full as TryFull, Contended as TryContended}
@@ -73,10 +74,10 @@ abbrev pub UnlessSpent : {S : Type 0} → Back S → Type 0 → Type 0
 UnlessSpent (Spent freed) P = Unit {0}
 UnlessSpent _ P = P
 
--- a turn answers what the budget answered
+-- a turn answers what the budget answered; full is the total
 abbrev pub answer_of : Try → Served
 answer_of TryGot = Given
-answer_of TryFull = Full
+answer_of TryFull = Full TotalRoom
 answer_of TryContended = Contended
 
 -- where a limit is changed, and where the budget has to be asked again

@@ -25,6 +25,7 @@ ghost use Rattle.budget.specs.Accounts.{IsEnrolledAt, KeepsSeats};
 ghost use Rattle.bundle.specs.Passes.{tells, got_did, acquire_did, AccountsForStarts};
 
 use crate::answers::Got;
+use crate::asker::Asker;
 use crate::booking::Booking;
 use crate::did::{Did, start_entry, tell_got, tell_refused};
 use crate::host::Bundle;
@@ -54,7 +55,7 @@ impl<S: Drop> Bundle<S> {
     ///
     /// Asked of the caller: the pass is enrolled here.
     #[inline(always)]
-    pub fn acquire<P: Permits>(
+    pub fn acquire<P: Permits<Asker>>(
         &mut self,
         want: Want,
         now: u64,
@@ -162,7 +163,7 @@ impl<S: Drop> Bundle<S> {
     ///
     /// Asked of the caller: the booking is this host's, and the pass is enrolled here; the lobby
     /// lists this host exactly where it is queued.
-    pub fn retry<P: Permits>(
+    pub fn retry<P: Permits<Asker>>(
         &mut self,
         booking: Booking,
         now: u64,
@@ -226,7 +227,7 @@ impl<S: Drop> Bundle<S> {
     }
 
     // The same steps for an acquire that is halfway.
-    fn try_again<P: Permits>(
+    fn try_again<P: Permits<Asker>>(
         &mut self,
         booking: Booking,
         now: u64,
@@ -302,7 +303,7 @@ impl<S: Drop> Bundle<S> {
 // Where nobody's acquire is halfway: a lease on the newest idle connection, where that fits and
 // nothing else is to be done. It takes one look into the table of holders.
 #[inline(always)]
-fn lease_at_once<S: Drop, P: Permits>(
+fn lease_at_once<S: Drop, P: Permits<Asker>>(
     state: &mut State<S>,
     seats: &mut Seats,
     bookings: &[u64],

@@ -3,6 +3,7 @@ ghost use Rattle.bundle.specs.Replies.{is_halfway};
 
 use crate::booking::Booking;
 use crate::lease::{Lease, Stray};
+use crate::shortage::{NoKeep, NoRoom, Shortage};
 use crate::ticket::Ticket;
 
 /// What an acquire gives, or another try of one.
@@ -12,7 +13,7 @@ pub enum Got<S> {
     /// A ticket: the transfer waits at the host.
     Wait(Ticket),
     /// The budget answered that it has no room. The acquire is halfway: it is tried again.
-    NoRoom(Booking),
+    NoRoom(NoRoom),
     /// The budget has to be asked again. The acquire is halfway: it is tried again.
     Again(Booking),
 }
@@ -53,7 +54,7 @@ pub enum Back<S> {
         freed: bool,
     },
     /// The budget answered that as many connections are kept as may be.
-    NoKeep(Lease<S>),
+    NoKeep(NoKeep<S>),
     /// The budget has to be asked again.
     Again(Lease<S>),
     /// The host's log does not show the lease. No bundle answers this: a lease that was made there
@@ -62,12 +63,12 @@ pub enum Back<S> {
 }
 
 /// What a turn of a queued host comes to.
-#[derive(Clone, Copy, Debug, PartialEq, Eq)]
+#[derive(Drop)]
 pub enum Served {
     /// A connection was opened for the first transfer that waits.
     Given,
     /// The budget answered that it has no room. Nothing changed.
-    Full,
+    Full(Shortage),
     /// The budget has to be asked again. Nothing changed.
     Contended,
 }

@@ -138,24 +138,13 @@ impl<S: Drop> Bundle<S> {
         }
     }
 
-    /// Whether the booking is this host's: its transfer's acquire is halfway here.
+    /// Whether the booking is this host's: its transfer's acquire is halfway here. Only
+    /// [`Bundle::retry`] at its own host ends a booking.
     pub fn has_booked(&self, booking: &Booking) -> bool
         ensures { let is_here = booking.now.site == self.now.host in
             result ≡ (is_here && is_among booking.now.want.transfer self.now.booked) }
     {
         booking.site() == self.host() && self.bookings.contains(&booking.transfer())
-    }
-
-    /// Gives a booking up that is not this host's: whoever let go of its host's lock may have come
-    /// back to another host. Nothing changes here. At its own host the transfer stays booked, and
-    /// nobody can try its acquire again.
-    ///
-    /// Asked of the caller: [`Bundle::has_booked`] is false of it.
-    pub fn scrap_stranger(&self, booking: Booking)
-        requires { let is_here = booking.site == self.now.host in
-            (is_here && is_among booking.want.transfer self.now.booked) ≡ false }
-    {
-        let _want = booking.spend();
     }
 
     /// Gives the pass a seat in the host's tally, with which it can spend leases here. It takes no

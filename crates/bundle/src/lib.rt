@@ -3,6 +3,7 @@
 
 mod acquiring;
 mod answers;
+mod asker;
 mod booking;
 mod cutting;
 mod did;
@@ -14,13 +15,16 @@ mod limit;
 mod room;
 mod seats;
 mod serving;
+mod shortage;
 mod spending;
 mod ticket;
 
 pub use answers::{Acquired, Back, Changed, Claimed, Got, Served};
+pub use asker::Asker;
 pub use booking::Booking;
 pub use did::Did;
 pub use host::{Bundle, MOST_HOSTS};
 pub use host_rules::Snapshot;
 pub use lease::{Lease, Stray};
+pub use shortage::{NoKeep, NoRoom, Shortage, short_of_total};
 pub use ticket::Ticket;

@@ -23,6 +23,7 @@ ghost use Rattle.host_rules.specs.Orders.{Lists, IsMarked};
 ghost use Rattle.bundle.specs.Replies.{IfChanged, OnChangeAgain};
 
 use crate::answers::Changed;
+use crate::asker::Asker;
 use crate::did::{Did, tell_held};
 use crate::grant::Grant;
 use crate::host::Bundle;
@@ -48,7 +49,7 @@ impl<S: Drop> Bundle<S> {
     ///
     /// Asked of the caller: the pass is enrolled here; the lobby lists this host exactly where it
     /// is queued.
-    pub fn set_host_limit<P: Permits>(
+    pub fn set_host_limit<P: Permits<Asker>>(
         &mut self,
         limit: u32,
         now: u64,
@@ -166,7 +167,7 @@ fn starts_due<S: Drop>(state: &State<S>, is_queued: bool, most: u32) -> u32
 
 // Changes the limit, and opens a connection for each of so many that wait, whose permits are had
 // already. It answers whether fewer are open than before.
-fn change_limit<S: Drop, P: Permits>(
+fn change_limit<S: Drop, P: Permits<Asker>>(
     state: &mut State<S>,
     seats: &mut Seats,
     grants: &mut Vec<Grant<S>>,
@@ -218,7 +219,7 @@ fn change_limit<S: Drop, P: Permits>(
 
 // Asks the budget for so many connections, one after the other, until it has no room; it answers
 // how many it got. Where the budget has to be asked again, all are given back.
-fn reserve_up_to<P: Permits>(count: u32, permits: &mut P) -> Option<u32>
+fn reserve_up_to<P: Permits<Asker>>(count: u32, permits: &mut P) -> Option<u32>
     requires stands { P.stands permits.old }
     ensures most { IfSome result (λ got. got ≤ count) }
     ensures full { IfSome result (λ got. got < count → P.opening permits.old permits.new Full) }
@@ -235,7 +236,7 @@ fn reserve_up_to<P: Permits>(count: u32, permits: &mut P) -> Option<u32>
 {
     let mut got = 0;
     while got < count {
-        match permits.reserve_open() {
+        match permits.reserve_open(&Asker::of_bundle()) {
             Try::Got => got += 1,
             Try::Full => return Some(got),
             Try::Contended => {
@@ -248,7 +249,7 @@ fn reserve_up_to<P: Permits>(count: u32, permits: &mut P) -> Option<u32>
 }
 
 // Gives so many permits of open connections back.
-fn release_opens<P: Permits>(count: u32, permits: &mut P)
+fn release_opens<P: Permits<Asker>>(count: u32, permits: &mut P)
     requires stands { P.stands permits.old }
     requires held { count ≤ (P.held permits.old).alive }
     ensures held { let before = P.held permits.old in
@@ -266,7 +267,7 @@ fn release_opens<P: Permits>(count: u32, permits: &mut P)
 }
 
 // Gives both permits of so many closed connections back.
-fn release_closed<P: Permits>(count: u32, permits: &mut P)
+fn release_closed<P: Permits<Asker>>(count: u32, permits: &mut P)
     requires stands { P.stands permits.old }
     requires open { count ≤ (P.held permits.old).alive }
     requires kept { count ≤ (P.held permits.old).kept }

@@ -6,7 +6,7 @@ ghost use Rattle.conn_log.specs.declared.entry.Event.TheVariants.{Closed};
 ghost use Rattle.conn_log.specs.Fit.{oldest_stamp};
 ghost use Rattle.host_state.specs.Steps.{moment_at, add, picked, without_picked};
 ghost use Rattle.host_state.specs.declared.closing.Closing.TheVariants.{Pruned};
-ghost use Rattle.host_rules.specs.Calls.{after_turn, is_queued, makes_room_for_others, GrowsBy};
+ghost use Rattle.host_rules.specs.Calls.{after_turn, is_queued, GrowsBy};
 ghost use Rattle.bundle.specs.Lease.{KeepsStreams, KeepsAll, StaysThere};
 ghost use Rattle.host_rules.specs.Counts.{held_by};
 ghost use Rattle.host_rules.specs.Laws.{IsSoundAndQuiet};
@@ -19,11 +19,13 @@ ghost use Rattle.budget.specs.Accounts.{IsEnrolledAt, KeepsSeats};
 ghost use Rattle.bundle.specs.declared.did.Did.TheVariants.{Pruned as WasPruned};
 
 use crate::answers::Served;
+use crate::asker::Asker;
 use crate::did::Did;
 use crate::host::Bundle;
 use crate::serving::{close_idle, open_for_head};
+use crate::shortage::Shortage;
 use budget::{Lobby, Pass, Permits, Try};
-use conn_log::{Cause, Stamp};
+use conn_log::Stamp;
 use host_state::Closing;
 
 impl<S: Drop> Bundle<S> {
@@ -33,7 +35,7 @@ impl<S: Drop> Bundle<S> {
     /// It takes no memory.
     ///
     /// Asked of the caller: the host is queued, and the first that the lobby lists.
-    pub fn serve_queued<P: Permits>(
+    pub fn serve_queued<P: Permits<Asker>>(
         &mut self,
         now: u64,
         permits: &mut P,
@@ -63,9 +65,9 @@ impl<S: Drop> Bundle<S> {
     {
         // The log is sound and quiet.
         let _log = self.log();
-        match permits.reserve_open() {
+        match permits.reserve_open(&Asker::of_bundle()) {
             Try::Got => {}
-            Try::Full => return Served::Full,
+            Try::Full => return Served::Full(Shortage::of_total()),
             Try::Contended => return Served::Contended,
         }
         let moment = self.state.moment(now);
@@ -89,25 +91,23 @@ impl<S: Drop> Bundle<S> {
         lobby.delist(self.state.host());
     }
 
-    /// Closes the oldest idle connection for that cause, where its stamp is that one, and frees its
-    /// permits; it answers whether it did. `now` is in seconds. It takes no memory.
-    ///
-    /// Asked of the caller: the cause is [`Cause::TotalRoom`] or [`Cause::CacheFull`].
-    pub fn evict_oldest<P: Permits>(
+    /// Closes the oldest idle connection, if it has that stamp, for the cause that the shortage has,
+    /// and frees its permits; it answers whether it did. The shortage is spent either way. `now` is
+    /// in seconds. It takes no memory.
+    pub fn evict_oldest<P: Permits<Asker>>(
         &mut self,
         stamp: Stamp,
-        cause: Cause,
+        short: Shortage,
         now: u64,
         permits: &mut P,
     ) -> bool
-        requires cause { makes_room_for_others cause ≡ true }
         requires stands { P.stands permits.old }
         requires part { P.held permits.old ≡ held_by self.old.log }
         ensures oldest { result ≡ true → oldest_stamp self.old.log self.old.host ≡ Some stamp }
         ensures not_oldest { result ≡ false →
             oldest_stamp self.old.log self.old.host ≡ Some stamp → ⊥ }
         ensures log { let moment = moment_at self.old.log now in
-            result ≡ true → self.new.log ≡ add moment (Closed stamp.number cause) self.old.log }
+            result ≡ true → self.new.log ≡ add moment (Closed stamp.number short) self.old.log }
         ensures unchanged { result ≡ false → (self.new ≡ self.old) × (permits.new ≡ permits.old) }
         ensures streams { KeepsStreams self.old self.new }
         ensures booked { self.new.booked ≡ self.old.booked }
@@ -132,6 +132,7 @@ impl<S: Drop> Bundle<S> {
             return false;
         }
         let moment = self.state.moment(now);
+        let cause = short.spend();
         self.state.close_oldest(cause, moment);
         permits.release_kept();
         permits.release_open();
@@ -144,7 +145,7 @@ impl<S: Drop> Bundle<S> {
     /// in seconds. It takes no memory.
     ///
     /// Asked of the caller: the pass is enrolled here.
-    pub fn prune<P: Permits>(
+    pub fn prune<P: Permits<Asker>>(
         &mut self,
         now: u64,
         max_age: u64,

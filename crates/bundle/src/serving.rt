@@ -29,10 +29,12 @@ ghost use Rattle.host_state.specs.State.{IsSameHost, KeepsOpen, KeepsOpenBut, Cl
 ghost use Rattle.host_state.specs.State.{OpensOnly, open_len, idle_len};
 
 use crate::answers::Got;
+use crate::asker::Asker;
 use crate::booking::Booking;
 use crate::grant::Grant;
 use crate::lease::{Lease, Use};
 use crate::seats::Seats;
+use crate::shortage::NoRoom;
 use crate::ticket::Ticket;
 use budget::{Permits, Try};
 use conn_log::{Cause, Want};
@@ -41,7 +43,7 @@ use host_state::{Closing, Held, State};
 /// Closes the idle connections that the closing picks, the one idle for the longest first, and
 /// frees both permits of each. It answers how many it closed.
 #[inline(always)]
-pub(crate) fn close_idle<S: Drop, P: Permits>(
+pub(crate) fn close_idle<S: Drop, P: Permits<Asker>>(
     state: &mut State<S>,
     closing: &Closing,
     moment: u64,
@@ -77,7 +79,7 @@ pub(crate) fn close_idle<S: Drop, P: Permits>(
 // Out of line, so that the reuse of the newest connection stays small enough to be inlined.
 #[cold]
 #[inline(never)]
-pub(crate) fn start_or_wait<S: Drop, P: Permits>(
+pub(crate) fn start_or_wait<S: Drop, P: Permits<Asker>>(
     state: &mut State<S>,
     seats: &mut Seats,
     want: Want,
@@ -136,7 +138,7 @@ pub(crate) fn start_or_wait<S: Drop, P: Permits>(
 
 // The host has room: the budget is asked for one connection more.
 #[inline(always)]
-fn start_as_told<S: Drop, P: Permits>(
+fn start_as_told<S: Drop, P: Permits<Asker>>(
     state: &mut State<S>,
     seats: &mut Seats,
     want: Want,
@@ -174,7 +176,7 @@ fn start_as_told<S: Drop, P: Permits>(
     ensures part { P.held permits.new ≡ held_by state.new.log }
     ensures same { IsSameHost state.old state.new }
 {
-    match permits.reserve_open() {
+    match permits.reserve_open(&Asker::of_bundle()) {
         Try::Got => {
             // One more can be counted.
             let _open = state.open_len();
@@ -189,7 +191,7 @@ fn start_as_told<S: Drop, P: Permits>(
             if is_last {
                 return start_in_place(state, seats, want, Cause::TotalRoom, moment, permits);
             }
-            Got::NoRoom(Booking::new(state.host(), want))
+            Got::NoRoom(NoRoom::of(Booking::new(state.host(), want)))
         }
     }
 }
@@ -197,7 +199,7 @@ fn start_as_told<S: Drop, P: Permits>(
 // The oldest idle connection makes room for a new one, which takes over its permit; where none is
 // idle the transfer waits.
 #[inline(always)]
-fn start_in_place<S: Drop, P: Permits>(
+fn start_in_place<S: Drop, P: Permits<Asker>>(
     state: &mut State<S>,
     seats: &mut Seats,
     want: Want,
@@ -323,7 +325,7 @@ pub(crate) fn open_for_head<S: Drop>(
 /// transfer that waits; where nobody waits it is freed.
 #[cold]
 #[inline(never)]
-pub(crate) fn hand_on<S: Drop, P: Permits>(
+pub(crate) fn hand_on<S: Drop, P: Permits<Asker>>(
     state: &mut State<S>,
     seats: &mut Seats,
     grants: &mut Vec<Grant<S>>,

@@ -29,12 +29,14 @@ ghost use Rattle.budget.specs.Accounts.{IsEnrolledAt, KeepsSeats};
 ghost use Rattle.budget.specs.Pairs.{pair_count, without_pair};
 
 use crate::answers::{Back, Claimed};
+use crate::asker::Asker;
 use crate::did::Did;
 use crate::grant::{granted_want, take_grant};
 use crate::host::Bundle;
 use crate::lease::{Lease, Stray, Use};
 use crate::seats::Seats;
 use crate::serving::{grant_to_head, hand_on};
+use crate::shortage::NoKeep;
 use crate::ticket::Ticket;
 use budget::{Lobby, Pass, Permits, StartSeat, Try};
 use conn_log::{Cause, Entry, Event, Want};
@@ -125,7 +127,7 @@ impl<S: Drop> Bundle<S> {
     /// Asked of the caller: the lease was made here, so that it is no stranger, and the pass is
     /// enrolled here; a queued host is lent the lobby, which lists it exactly where it is queued.
     #[inline(always)]
-    pub fn give_back<P: Permits>(
+    pub fn give_back<P: Permits<Asker>>(
         &mut self,
         lease: Lease<S>,
         facts: Facts,
@@ -182,7 +184,7 @@ impl<S: Drop> Bundle<S> {
 
     // The same, whatever becomes of the host's mark.
     #[inline(always)]
-    fn take_back<P: Permits>(
+    fn take_back<P: Permits<Asker>>(
         &mut self,
         lease: Lease<S>,
         facts: Facts,
@@ -254,7 +256,8 @@ impl<S: Drop> Bundle<S> {
                     return Back::Again(again(used, stream, start, &mut self.seats));
                 }
                 if !close_if_full {
-                    return Back::NoKeep(again(used, stream, start, &mut self.seats));
+                    let lease = again(used, stream, start, &mut self.seats);
+                    return Back::NoKeep(NoKeep::of(lease));
                 }
                 let host = self.state.host();
                 spend_returned(used, start, &mut self.seats, host, pass, moment, facts);
@@ -274,7 +277,7 @@ impl<S: Drop> Bundle<S> {
     ///
     /// Asked of the caller: the lease was made here, so that it is no stranger, and the pass is
     /// enrolled here; a queued host is lent the lobby, which lists it exactly where it is queued.
-    pub fn abandon<P: Permits>(
+    pub fn abandon<P: Permits<Asker>>(
         &mut self,
         lease: Lease<S>,
         now: u64,
@@ -326,7 +329,7 @@ impl<S: Drop> Bundle<S> {
     }
 
     // The same, whatever becomes of the host's mark.
-    fn close_leased<P: Permits>(
+    fn close_leased<P: Permits<Asker>>(
         &mut self,
         lease: Lease<S>,
         now: u64,
@@ -388,7 +391,7 @@ impl<S: Drop> Bundle<S> {
     ///
     /// Asked of the caller: the pass is enrolled here; a queued host is lent the lobby, which lists
     /// it exactly where it is queued.
-    pub fn withdraw<P: Permits>(
+    pub fn withdraw<P: Permits<Asker>>(
         &mut self,
         ticket: Ticket,
         now: u64,
@@ -447,7 +450,7 @@ impl<S: Drop> Bundle<S> {
     }
 
     // The same, whatever becomes of the host's mark.
-    fn end_wait<P: Permits>(
+    fn end_wait<P: Permits<Asker>>(
         &mut self,
         ticket: Ticket,
         now: u64,
@@ -525,7 +528,7 @@ impl<S: Drop> Bundle<S> {
 // Asks the budget to keep one connection more, where nobody waits, its response lets it persist and
 // reuse is not forbidden.
 #[inline(always)]
-fn ask_to_keep<S: Drop, P: Permits>(
+fn ask_to_keep<S: Drop, P: Permits<Asker>>(
     state: &State<S>,
     used: &Use<S>,
     facts: &Facts,
@@ -547,7 +550,7 @@ fn ask_to_keep<S: Drop, P: Permits>(
     if state.anyone_waits() || !persists(facts) || forbids_reuse(state, used) {
         return None;
     }
-    Some(permits.reserve_kept())
+    Some(permits.reserve_kept(&Asker::of_bundle()))
 }
 
 // Whether reuse is forbidden: by the lease's own want, which is a flag, and where that does, by the
@@ -666,7 +669,7 @@ fn must_ask_again(asked: Option<Try>) -> bool
 
 // Gives a permit to keep back that was got and is not used.
 #[inline(always)]
-fn release_unused<P: Permits>(asked: Option<Try>, permits: &mut P)
+fn release_unused<P: Permits<Asker>>(asked: Option<Try>, permits: &mut P)
     requires stands { P.stands permits.old }
     requires one { asked ≡ Some Got → 0 < (P.held permits.old).kept }
     ensures stands { P.stands permits.new }

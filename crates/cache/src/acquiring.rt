@@ -13,8 +13,8 @@ ghost use Rattle.cache.specs.Pools.{StreamsStay, OtherStreamsStay};
 
 use crate::hosts::Hosts;
 use budget::Refusal;
-use bundle::{Acquired, Booking, Got};
-use conn_log::{Cause, Want};
+use bundle::{Acquired, Got, NoRoom};
+use conn_log::Want;
 
 impl<S: Drop> Hosts<S> {
     /// Leases a connection of the host to the transfer, or has it wait there. Where the host has
@@ -74,7 +74,7 @@ impl<S: Drop> Hosts<S> {
     // Where the total has no room. Inlined, so that the room for what it moves is cleared here, and
     // not before each acquire; what it does is not, so that an acquire stays small.
     #[inline(always)]
-    fn start_with_room(&mut self, booking: Booking, now: u64) -> Acquired<S>
+    fn start_with_room(&mut self, booking: NoRoom, now: u64) -> Acquired<S>
         requires there { booking.site < length self.old.hosts }
         requires here { IsBookedHere (host_at self.old booking.site) booking }
         requires full { total (all_hosts self.old) ≡ self.old.limits.total }
@@ -117,7 +117,7 @@ impl<S: Drop> Hosts<S> {
     // last time that found no room in total.
     #[cold]
     #[inline(never)]
-    fn start_in_place_of_oldest(&mut self, booking: Booking, now: u64) -> Acquired<S>
+    fn start_in_place_of_oldest(&mut self, booking: NoRoom, now: u64) -> Acquired<S>
         requires there { booking.site < length self.old.hosts }
         requires here { IsBookedHere (host_at self.old booking.site) booking }
         requires full { total (all_hosts self.old) ≡ self.old.limits.total }
@@ -153,12 +153,13 @@ impl<S: Drop> Hosts<S> {
         ensures others { KeepsOtherHosts booking.site self.old self.new }
         ensures stays { StaysPool self.old self.new }
     {
-        let site = booking.site();
-        self.close_oldest(Cause::TotalRoom, now);
+        let (halfway, short) = booking.part();
+        let site = halfway.site();
+        self.close_oldest(short, now);
         let bundle = &mut self.bundles[site as usize];
         let mut permits = self.budget.at(site);
         let lobby = Some(&mut self.lobby);
-        let got = bundle.retry(booking, now, &mut permits, lobby, &mut self.pass);
+        let got = bundle.retry(halfway, now, &mut permits, lobby, &mut self.pass);
         match got {
             Got::Lease(lease) => Acquired::Lease(lease),
             Got::Wait(ticket) => Acquired::Wait(ticket),

@@ -10,14 +10,15 @@ ghost use Rattle.cache.specs.Pools.{all_hosts, KeepsHosts, StaysPool};
 ghost use Rattle.cache.specs.Turns.{IsOneFewer, KeepsSpent, KeepStreams};
 
 use crate::hosts::Hosts;
-use conn_log::{Cause, Stamp};
+use bundle::{Shortage, short_of_total};
+use conn_log::Stamp;
 
 impl<S: Drop> Hosts<S> {
-    /// Closes the oldest idle connection of all for that cause, where there is one; it answers
-    /// whether there was. `now` is in seconds.
-    pub fn close_oldest(&mut self, cause: Cause, now: u64) -> bool
-        requires cause { makes_room_for_others cause ≡ true }
-        ensures all { all_hosts self.new ≡ without_oldest cause now (all_hosts self.old) }
+    /// Closes the oldest idle connection of all for want of that room, where there is one; it
+    /// answers whether there was. `now` is in seconds.
+    pub fn close_oldest(&mut self, short: Shortage, now: u64) -> bool
+        requires cause { makes_room_for_others short ≡ true }
+        ensures all { all_hosts self.new ≡ without_oldest short now (all_hosts self.old) }
         ensures closed { result ≡ is_some (oldest_of_all (all_hosts self.old)) }
         ensures any { result ≡ nat_lt 0 (kept (all_hosts self.old)) }
         ensures fewer { result ≡ true → IsOneFewer (all_hosts self.old) (all_hosts self.new) }
@@ -30,16 +31,16 @@ impl<S: Drop> Hosts<S> {
         let Some(stamp) = self.oldest() else {
             return false;
         };
-        self.close_at(stamp, cause, now);
+        self.close_at(stamp, short, now);
         true
     }
 
     // Closes the connection of that stamp, which is the oldest of all.
-    fn close_at(&mut self, stamp: Stamp, cause: Cause, now: u64)
-        requires cause { makes_room_for_others cause ≡ true }
+    fn close_at(&mut self, stamp: Stamp, short: Shortage, now: u64)
+        requires cause { makes_room_for_others short ≡ true }
         requires there { stamp.host < length self.old.hosts }
         requires oldest { oldest_of_all (all_hosts self.old) ≡ Some stamp }
-        ensures all { all_hosts self.new ≡ without_oldest cause now (all_hosts self.old) }
+        ensures all { all_hosts self.new ≡ without_oldest short now (all_hosts self.old) }
         ensures fewer { IsOneFewer (all_hosts self.old) (all_hosts self.new) }
         ensures keeps { KeepsHosts self.old self.new }
         ensures spent { KeepsSpent self.old self.new }
@@ -48,7 +49,7 @@ impl<S: Drop> Hosts<S> {
     {
         let bundle = &mut self.bundles[stamp.host as usize];
         let mut permits = self.budget.at(stamp.host);
-        let _closed = bundle.evict_oldest(stamp, cause, now, &mut permits);
+        let _closed = bundle.evict_oldest(stamp, short, now, &mut permits);
         let _log = bundle.log();
         let oldest = bundle.oldest();
         self.noted.set(stamp.host as usize, oldest);
@@ -123,7 +124,8 @@ impl<S: Drop> Hosts<S> {
         if !self.budget.is_full() {
             return true;
         }
-        self.close_oldest(Cause::TotalRoom, now)
+        let short = short_of_total(&self.budget);
+        self.close_oldest(short, now)
     }
 
     // The turn of that host: one connection is opened for the first transfer that waits there.

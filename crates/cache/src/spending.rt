@@ -15,8 +15,7 @@ ghost use Rattle.cache.specs.Pools.{StreamsStay, OtherStreamsStay};
 
 use crate::hosts::Hosts;
 use crate::notes::{note_after_return, note_oldest};
-use bundle::{Back, Claimed, Lease, Stray, Ticket};
-use conn_log::Cause;
+use bundle::{Back, Claimed, Lease, NoKeep, Stray, Ticket};
 use persistence::Facts;
 
 impl<S: Drop> Hosts<S> {
@@ -83,7 +82,8 @@ impl<S: Drop> Hosts<S> {
     {
         if self.lobby.first().is_some() {
             self.give_back_otherwise(lease, facts, now);
-        } else if let Some(lease) = self.keep_at_once(lease, facts, now) {
+        } else if let Some(no_keep) = self.keep_at_once(lease, facts, now) {
+            let (lease, _short) = no_keep.part();
             self.give_back_otherwise(lease, facts, now);
         }
     }
@@ -136,44 +136,45 @@ impl<S: Drop> Hosts<S> {
         ensures others { KeepsOtherHosts lease.site self.old self.new }
         ensures stays { StaysPool self.old self.new }
     {
-        if let Some(lease) = self.try_to_keep(lease, facts, now) {
-            self.keep_in_place_of_oldest(lease, facts, now);
+        if let Some(no_keep) = self.try_to_keep(lease, facts, now) {
+            self.keep_in_place_of_oldest(no_keep, facts, now);
         }
     }
 
     // The same, where as many are kept as may be: the oldest of all is closed.
-    fn keep_in_place_of_oldest(&mut self, lease: Lease<S>, facts: Facts, now: u64)
-        requires there { lease.site < length self.old.hosts }
-        requires here { lease.tables ≡ (host_at self.old lease.site).tables }
-        requires stream { IsSome lease.stream }
-        requires idle { let log = log_at (all_hosts self.old) lease.site in
-            becomes_idle log lease.start.number facts now ≡ true }
+    fn keep_in_place_of_oldest(&mut self, no_keep: NoKeep<S>, facts: Facts, now: u64)
+        requires there { no_keep.site < length self.old.hosts }
+        requires here { no_keep.tables ≡ (host_at self.old no_keep.site).tables }
+        requires stream { IsSome no_keep.stream }
+        requires idle { let log = log_at (all_hosts self.old) no_keep.site in
+            becomes_idle log no_keep.start.number facts now ≡ true }
         requires full { let kept = kept (all_hosts self.old) in
             (kept ≡ self.old.limits.connects) × (0 < kept) }
-        ensures all { let number = lease.start.number in all_hosts self.new
-            ≡ given_back self.old.limits lease.site number facts now (all_hosts self.old) }
-        ensures spends { let old = host_at self.old lease.site in
-            let new = host_at self.new lease.site in
-            Spends old new lease.start.want.transfer }
-        ensures stream { KeepsItsStream (host_at self.new lease.site) lease }
-        ensures streams { let old = host_at self.old lease.site in
-            let new = host_at self.new lease.site in
-            OtherStreamsStay lease.start.number old new }
-        ensures site { StaysHost (host_at self.old lease.site) (host_at self.new lease.site) }
-        ensures others { KeepsOtherHosts lease.site self.old self.new }
+        ensures all { let number = no_keep.start.number in all_hosts self.new
+            ≡ given_back self.old.limits no_keep.site number facts now (all_hosts self.old) }
+        ensures spends { let old = host_at self.old no_keep.site in
+            let new = host_at self.new no_keep.site in
+            Spends old new no_keep.start.want.transfer }
+        ensures stream { KeepsItsStream (host_at self.new no_keep.site) no_keep }
+        ensures streams { let old = host_at self.old no_keep.site in
+            let new = host_at self.new no_keep.site in
+            OtherStreamsStay no_keep.start.number old new }
+        ensures site { StaysHost (host_at self.old no_keep.site) (host_at self.new no_keep.site) }
+        ensures others { KeepsOtherHosts no_keep.site self.old self.new }
         ensures stays { StaysPool self.old self.new }
     {
-        self.close_oldest(Cause::CacheFull, now);
+        let (lease, short) = no_keep.part();
+        self.close_oldest(short, now);
         match self.try_to_keep(lease, facts, now) {
             None => {}
             // One fewer is kept than may be.
-            Some(_lease) => unreachable!(),
+            Some(_no_keep) => unreachable!(),
         }
     }
 
     // The same where no host is queued; where as many are kept as may be, the lease comes back.
     #[inline(always)]
-    fn keep_at_once(&mut self, lease: Lease<S>, facts: Facts, now: u64) -> Option<Lease<S>>
+    fn keep_at_once(&mut self, lease: Lease<S>, facts: Facts, now: u64) -> Option<NoKeep<S>>
         requires there { lease.site < length self.old.hosts }
         requires here { lease.tables ≡ (host_at self.old lease.site).tables }
         requires stream { IsSome lease.stream }
@@ -211,7 +212,7 @@ impl<S: Drop> Hosts<S> {
                 note_after_return(&mut self.noted, bundle, now);
                 None
             }
-            Back::NoKeep(lease) => Some(lease),
+            Back::NoKeep(no_keep) => Some(no_keep),
             // The budget of one thread need not be asked again, and the lease was made here.
             Back::Again(_lease) => unreachable!(),
             Back::Strange(_stray) => unreachable!(),
@@ -219,7 +220,7 @@ impl<S: Drop> Hosts<S> {
     }
 
     // The same; where it is to be idle and as many are kept as may be, the lease comes back.
-    fn try_to_keep(&mut self, lease: Lease<S>, facts: Facts, now: u64) -> Option<Lease<S>>
+    fn try_to_keep(&mut self, lease: Lease<S>, facts: Facts, now: u64) -> Option<NoKeep<S>>
         requires there { lease.site < length self.old.hosts }
         requires here { lease.tables ≡ (host_at self.old lease.site).tables }
         requires stream { IsSome lease.stream }
@@ -258,7 +259,7 @@ impl<S: Drop> Hosts<S> {
         note_oldest(&mut self.noted, bundle);
         match back {
             Back::Spent { freed: _ } => None,
-            Back::NoKeep(lease) => Some(lease),
+            Back::NoKeep(no_keep) => Some(no_keep),
             // The budget of one thread need not be asked again, and the lease was made here.
             Back::Again(_lease) => unreachable!(),
             Back::Strange(_stray) => unreachable!(),

@@ -10,8 +10,8 @@ use crate::cache::SharedCache;
 use crate::names::Names;
 use crate::serving::TRIES;
 use budget::{Pass, Refusal};
-use bundle::{Acquired, Booking, Did, Got};
-use conn_log::{Cause, Want};
+use bundle::{Acquired, Booking, Did, Got, NoRoom};
+use conn_log::Want;
 use std::sync::Wait;
 
 impl<S: Drop, N: Names> SharedCache<S, N> {
@@ -66,9 +66,9 @@ impl<S: Drop, N: Names> SharedCache<S, N> {
                 self.serve(rt, now);
                 Ok(Acquired::Wait(ticket))
             }
-            Ok(Got::NoRoom(booking)) => {
+            Ok(Got::NoRoom(no_room)) => {
                 self.unlock(host);
-                Ok(self.acquire_with_room(rt, booking, now, pass))
+                Ok(self.acquire_with_room(rt, no_room, now, pass))
             }
             Ok(Got::Again(booking)) => {
                 self.unlock(host);
@@ -87,17 +87,17 @@ impl<S: Drop, N: Names> SharedCache<S, N> {
     fn acquire_with_room<R: Wait>(
         &self,
         rt: &R,
-        booking: Booking,
+        no_room: NoRoom,
         now: u64,
         pass: &mut Pass<Did>,
     ) -> Acquired<S>
-        requires there { booking.site < length N.names.hosts }
+        requires there { no_room.site < length N.names.hosts }
         requires pass { IsPassOf N.names pass.old }
-        ensures acquired { IsAcquiredFor N.names booking.site booking.want now result }
-        ensures tells { pass.new ≡ tells booking.site (Some (acquired_did result)) pass.old }
+        ensures acquired { IsAcquiredFor N.names no_room.site no_room.want now result }
+        ensures tells { pass.new ≡ tells no_room.site (Some (acquired_did result)) pass.old }
         ensures pass { IsPassOf N.names pass.new }
     {
-        let acquired = self.start_with_room(rt, booking, now, pass, TRIES);
+        let acquired = self.start_with_room(rt, no_room, now, pass, TRIES);
         self.serve(rt, now);
         acquired
     }
@@ -141,7 +141,7 @@ impl<S: Drop, N: Names> SharedCache<S, N> {
         let tried = self.try_again(rt, booking, now, pass);
         match tried {
             Ok(acquired) => acquired,
-            Err(booking) => self.start_with_room(rt, booking, now, pass, TRIES),
+            Err(no_room) => self.start_with_room(rt, no_room, now, pass, TRIES),
         }
     }
 
@@ -152,24 +152,25 @@ impl<S: Drop, N: Names> SharedCache<S, N> {
     fn start_with_room<R: Wait>(
         &self,
         rt: &R,
-        booking: Booking,
+        no_room: NoRoom,
         now: u64,
         pass: &mut Pass<Did>,
         tries: u32,
     ) -> Acquired<S>
-        requires there { booking.site < length N.names.hosts }
+        requires there { no_room.site < length N.names.hosts }
         requires pass { IsPassOf N.names pass.old }
-        ensures acquired { IsAcquiredFor N.names booking.site booking.want now result }
-        ensures tells { pass.new ≡ tells booking.site (Some (acquired_did result)) pass.old }
+        ensures acquired { IsAcquiredFor N.names no_room.site no_room.want now result }
+        ensures tells { pass.new ≡ tells no_room.site (Some (acquired_did result)) pass.old }
         ensures pass { IsPassOf N.names pass.new }
     {
-        if tries == 0 || !self.make_room(rt, Cause::TotalRoom, now) {
+        let (booking, short) = no_room.part();
+        if tries == 0 || !self.make_room(rt, short, now) {
             return self.start_at_last(rt, booking, now, pass);
         }
         let tried = self.try_again(rt, booking, now, pass);
         match tried {
             Ok(acquired) => acquired,
-            Err(booking) => self.start_with_room(rt, booking, now, pass, tries - 1),
+            Err(no_room) => self.start_with_room(rt, no_room, now, pass, tries - 1),
         }
     }
 
@@ -181,7 +182,7 @@ impl<S: Drop, N: Names> SharedCache<S, N> {
         booking: Booking,
         now: u64,
         pass: &mut Pass<Did>,
-    ) -> Result<Acquired<S>, Booking>
+    ) -> Result<Acquired<S>, NoRoom>
         requires there { booking.site < length N.names.hosts }
         requires pass { IsPassOf N.names pass.old }
         ensures ok { IfOk result (IsAcquiredFor N.names booking.site booking.want now) }
@@ -199,7 +200,7 @@ impl<S: Drop, N: Names> SharedCache<S, N> {
             match got {
                 Got::Lease(lease) => return Ok(Acquired::Lease(lease)),
                 Got::Wait(ticket) => return Ok(Acquired::Wait(ticket)),
-                Got::NoRoom(booking) => return Err(booking),
+                Got::NoRoom(no_room) => return Err(no_room),
                 Got::Again(booking) => halfway = booking,
             }
         }
@@ -231,7 +232,11 @@ impl<S: Drop, N: Names> SharedCache<S, N> {
             match got {
                 Got::Lease(lease) => return Acquired::Lease(lease),
                 Got::Wait(ticket) => return Acquired::Wait(ticket),
-                Got::NoRoom(booking) | Got::Again(booking) => halfway = booking,
+                Got::NoRoom(no_room) => {
+                    let (booking, _short) = no_room.part();
+                    halfway = booking;
+                }
+                Got::Again(booking) => halfway = booking,
             }
         }
         unreachable!()

@@ -12,7 +12,7 @@ use crate::locked::{LockedHost, LockedQueue};
 use crate::names::Names;
 use crate::plan::{Plan, PlannedHost};
 use budget::{Link, Refusal, WordBudget};
-use bundle::Booking;
+use bundle::{Asker, Booking};
 use std::alloc::Global;
 use std::marker::{Model, PhantomData};
 use std::sync::atomic::{AtomicBool, Ordering};
@@ -35,7 +35,7 @@ use std::sync::{Mutex, MutexGuard, Wait};
 pub struct SharedCache<S: Drop, N: Names> {
     pub(crate) hosts: Vec<Mutex<LockedHost<S, N>>>,
     pub(crate) hints: Hints,
-    pub(crate) budget: WordBudget,
+    pub(crate) budget: WordBudget<Asker>,
     pub(crate) link: Link,
     pub(crate) queue: Mutex<LockedQueue<N>>,
     // Whether the queue has a host, as it was when its lock was last let go.

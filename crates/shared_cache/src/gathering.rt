@@ -20,7 +20,7 @@ use crate::gathered::{Gathered, HostCount};
 use crate::locked::LockedHost;
 use crate::names::Names;
 use budget::{BudgetSeat, Pass, Refusal, WordBudget};
-use bundle::{Bundle, Did};
+use bundle::{Asker, Bundle, Did};
 use std::alloc::Global;
 use std::marker::PhantomData;
 use std::sync::Mutex;
@@ -248,8 +248,8 @@ fn lock_again<S: Drop, N: Names>(
 
 // Joins the seats of the hosts into the first one, and counts each host from its log.
 fn join_hosts<S: Drop, N: Names>(
-    budget: &WordBudget,
-    gatherer: &mut BudgetSeat,
+    budget: &WordBudget<Asker>,
+    gatherer: &mut BudgetSeat<Asker>,
     hosts: Vec<LockedHost<S, N>>,
     room: Vec<HostCount>,
     room_for_bundles: Vec<Bundle<S>>,

@@ -7,14 +7,14 @@ ghost use Rattle.host_rules.specs.Orders.{order_after};
 
 use crate::names::Names;
 use budget::{BudgetSeat, Link, Lobby, LobbySeat, MarkSeat};
-use bundle::Bundle;
+use bundle::{Asker, Bundle};
 use std::marker::{Model, PhantomData};
 
 /// A host, under its lock. `N` names the cache that it belongs to.
 #[derive(Drop)]
 pub(crate) struct LockedHost<S: Drop, N: Names> {
     pub(crate) bundle: Bundle<S>,
-    pub(crate) seat: BudgetSeat,
+    pub(crate) seat: BudgetSeat<Asker>,
     pub(crate) mark: MarkSeat,
     pub(crate) of: PhantomData<N>,
 }
@@ -42,7 +42,7 @@ impl<S: Drop, N: Names> Model for LockedHost<S, N> {
 pub(crate) struct LockedQueue<N: Names> {
     pub(crate) lobby: Lobby,
     pub(crate) listed: LobbySeat,
-    pub(crate) gatherer: BudgetSeat,
+    pub(crate) gatherer: BudgetSeat<Asker>,
     pub(crate) of: PhantomData<N>,
 }
 

@@ -5,7 +5,7 @@ ghost use Rattle.std.specs.Prelude.{IfErr, OnOk, OnErr};
 ghost use Rattle.budget.specs.Accounts.{account_at};
 ghost use Rattle.conn_log.specs.declared.entry.Cause.TheVariants.{Dropped};
 ghost use Rattle.conn_log.specs.declared.entry.Event.TheVariants.{Returned, Closed};
-ghost use Rattle.host_rules.specs.Calls.{is_queued, makes_room_for_others};
+ghost use Rattle.host_rules.specs.Calls.{is_queued};
 ghost use Rattle.bundle.specs.Lease.{IsBookedHere};
 ghost use Rattle.bundle.specs.Replies.{IfGot, IfClaimed, IfStill, IsBackAs, OnSpent, UnlessSpent};
 ghost use Rattle.bundle.specs.Replies.{IfChanged, OnChangeAgain};
@@ -20,8 +20,10 @@ use crate::hints::word_of;
 use crate::locked::{LockedHost, LockedQueue, mark_as};
 use crate::names::Names;
 use budget::{Link, Pass, Refusal, SeatPermits, WordBudget};
-use bundle::{Back, Booking, Changed, Claimed, Did, Got, Lease, Served, Stray, Ticket};
-use conn_log::{Cause, Want};
+use bundle::{
+    Asker, Back, Booking, Changed, Claimed, Did, Got, Lease, Served, Shortage, Stray, Ticket,
+};
+use conn_log::Want;
 use persistence::Facts;
 
 impl<S: Drop, N: Names> LockedHost<S, N> {
@@ -29,7 +31,7 @@ impl<S: Drop, N: Names> LockedHost<S, N> {
     #[inline(always)]
     pub fn acquire(
         &mut self,
-        budget: &WordBudget,
+        budget: &WordBudget<Asker>,
         want: Want,
         now: u64,
         pass: &mut Pass<Did>,
@@ -50,7 +52,7 @@ impl<S: Drop, N: Names> LockedHost<S, N> {
     /// Another try of an acquire that is halfway. It changes no mark.
     pub fn retry(
         &mut self,
-        budget: &WordBudget,
+        budget: &WordBudget<Asker>,
         booking: Booking,
         now: u64,
         pass: &mut Pass<Did>,
@@ -71,7 +73,7 @@ impl<S: Drop, N: Names> LockedHost<S, N> {
     /// oldest idle connection makes room, or the transfer waits, and the host is queued.
     pub fn retry_at_last(
         &mut self,
-        budget: &WordBudget,
+        budget: &WordBudget<Asker>,
         link: &Link,
         queue: &mut LockedQueue<N>,
         booking: Booking,
@@ -126,7 +128,7 @@ impl<S: Drop, N: Names> LockedHost<S, N> {
     #[inline(always)]
     pub fn give_back(
         &mut self,
-        budget: &WordBudget,
+        budget: &WordBudget<Asker>,
         lease: Lease<S>,
         facts: Facts,
         now: u64,
@@ -154,7 +156,7 @@ impl<S: Drop, N: Names> LockedHost<S, N> {
     /// The same with the queue's lock taken too.
     pub fn give_back_queued(
         &mut self,
-        budget: &WordBudget,
+        budget: &WordBudget<Asker>,
         link: &Link,
         queue: &mut LockedQueue<N>,
         lease: Lease<S>,
@@ -201,7 +203,13 @@ impl<S: Drop, N: Names> LockedHost<S, N> {
     }
 
     /// A connection of a host that is not queued is closed, as [`bundle::Bundle::abandon`].
-    pub fn abandon(&mut self, budget: &WordBudget, lease: Lease<S>, now: u64, pass: &mut Pass<Did>)
+    pub fn abandon(
+        &mut self,
+        budget: &WordBudget<Asker>,
+        lease: Lease<S>,
+        now: u64,
+        pass: &mut Pass<Did>,
+    )
         requires not_queued { is_queued self.old.host.settings self.old.host.log ≡ false }
         requires budget { budget.now.table ≡ N.names.budget }
         requires pass { IsPassOf N.names pass.old }
@@ -222,7 +230,7 @@ impl<S: Drop, N: Names> LockedHost<S, N> {
     /// The same with the queue's lock taken too.
     pub fn abandon_queued(
         &mut self,
-        budget: &WordBudget,
+        budget: &WordBudget<Asker>,
         link: &Link,
         queue: &mut LockedQueue<N>,
         lease: Lease<S>,
@@ -260,7 +268,7 @@ impl<S: Drop, N: Names> LockedHost<S, N> {
     /// A ticket of a host that is not queued comes back, as [`bundle::Bundle::withdraw`].
     pub fn withdraw(
         &mut self,
-        budget: &WordBudget,
+        budget: &WordBudget<Asker>,
         ticket: Ticket,
         now: u64,
         pass: &mut Pass<Did>,
@@ -284,7 +292,7 @@ impl<S: Drop, N: Names> LockedHost<S, N> {
     /// The same with the queue's lock taken too.
     pub fn withdraw_queued(
         &mut self,
-        budget: &WordBudget,
+        budget: &WordBudget<Asker>,
         link: &Link,
         queue: &mut LockedQueue<N>,
         ticket: Ticket,
@@ -319,11 +327,10 @@ impl<S: Drop, N: Names> LockedHost<S, N> {
         withdrawn
     }
 
-    /// Closes the host's oldest idle connection for that cause, if it is the one that the hint
-    /// tells of.
-    pub fn close_oldest(&mut self, budget: &WordBudget, hint: u64, cause: Cause, now: u64)
+    /// Closes the host's oldest idle connection for want of that room, if it is the one that the
+    /// hint tells of.
+    pub fn close_oldest(&mut self, budget: &WordBudget<Asker>, hint: u64, short: Shortage, now: u64)
         requires budget { budget.now.table ≡ N.names.budget }
-        requires cause { makes_room_for_others cause ≡ true }
         ensures place { self.new.host.host ≡ self.old.host.host }
     {
         let oldest = self.bundle.oldest();
@@ -334,13 +341,13 @@ impl<S: Drop, N: Names> LockedHost<S, N> {
             return;
         }
         let mut permits = SeatPermits::new(budget, &mut self.seat);
-        self.bundle.evict_oldest(stamp, cause, now, &mut permits);
+        self.bundle.evict_oldest(stamp, short, now, &mut permits);
     }
 
     /// A turn of the host, where it is the queue's first; `None` where it is not.
     pub fn take_turn(
         &mut self,
-        budget: &WordBudget,
+        budget: &WordBudget<Asker>,
         link: &Link,
         queue: &mut LockedQueue<N>,
         now: u64,
@@ -357,7 +364,7 @@ impl<S: Drop, N: Names> LockedHost<S, N> {
         let served = self
             .bundle
             .serve_queued(now, &mut permits, &mut queue.lobby);
-        if served == Served::Given {
+        if let Served::Given = served {
             if self.bundle.queued() {
                 link.rotate(&mut queue.listed);
             } else {
@@ -370,7 +377,7 @@ impl<S: Drop, N: Names> LockedHost<S, N> {
     /// Closes what is too old by these two numbers, as [`bundle::Bundle::prune`].
     pub fn prune(
         &mut self,
-        budget: &WordBudget,
+        budget: &WordBudget<Asker>,
         now: u64,
         max_age: u64,
         max_life: u64,
@@ -393,7 +400,7 @@ impl<S: Drop, N: Names> LockedHost<S, N> {
     /// Changes the host's limit, as [`bundle::Bundle::set_host_limit`].
     pub fn set_limit(
         &mut self,
-        budget: &WordBudget,
+        budget: &WordBudget<Asker>,
         link: &Link,
         queue: &mut LockedQueue<N>,
         limit: u32,

@@ -9,7 +9,7 @@ ghost use Rattle.shared_cache.specs.Names.{IsPlanFor};
 ghost use Rattle.shared_cache.specs.Planning.{AreNewFrom};
 
 use budget::{BudgetSeat, Limits, Link, Lobby, LobbySeat, MarkSeat, Refusal, WordBudget};
-use bundle::{Bundle, MOST_HOSTS};
+use bundle::{Asker, Bundle, MOST_HOSTS};
 use std::alloc::Global;
 use std::marker::Model;
 
@@ -17,7 +17,7 @@ use std::marker::Model;
 #[derive(Drop)]
 pub(crate) struct PlannedHost<S: Drop> {
     pub(crate) bundle: Bundle<S>,
-    pub(crate) seat: BudgetSeat,
+    pub(crate) seat: BudgetSeat<Asker>,
     pub(crate) mark: MarkSeat,
 }
 
@@ -39,11 +39,11 @@ impl<S: Drop> Model for PlannedHost<S> {
 /// [`SharedCache::new`]: crate::SharedCache::new
 #[derive(Drop)]
 pub struct Plan<S: Drop> {
-    pub(crate) budget: WordBudget,
+    pub(crate) budget: WordBudget<Asker>,
     pub(crate) link: Link,
     pub(crate) lobby: Lobby,
     pub(crate) listed: LobbySeat,
-    pub(crate) gatherer: BudgetSeat,
+    pub(crate) gatherer: BudgetSeat<Asker>,
     pub(crate) hosts: Vec<PlannedHost<S>>,
 }
 
@@ -111,8 +111,8 @@ fn plan_hosts<S: Drop>(
     alloc: Global,
     most: u32,
     hosts: u32,
-    budget: &WordBudget,
-    gatherer: &mut BudgetSeat,
+    budget: &WordBudget<Asker>,
+    gatherer: &mut BudgetSeat<Asker>,
     link: &Link,
     listed: &mut LobbySeat,
 ) -> Result<Vec<PlannedHost<S>>, Refusal>

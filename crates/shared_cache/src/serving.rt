@@ -1,12 +1,10 @@
 //! How room is made among all hosts, and how hosts that are queued get it.
 
-ghost use Rattle.std.specs.Prelude.{◌≡◌, ◌<◌, true, length, IfSome};
-ghost use Rattle.host_rules.specs.Calls.{makes_room_for_others};
+ghost use Rattle.std.specs.Prelude.{◌<◌, length, IfSome};
 
 use crate::cache::SharedCache;
 use crate::names::Names;
-use bundle::Served;
-use conn_log::Cause;
+use bundle::{Served, Shortage};
 use std::sync::Wait;
 use std::sync::atomic::Ordering;
 
@@ -17,22 +15,21 @@ pub(crate) const TRIES: u32 = 3;
 const MOST_TURNS: u32 = 4_096;
 
 /// What became of a turn.
-#[derive(Clone, Copy)]
+#[derive(Drop)]
 enum Turn {
     /// A connection was opened for a transfer that waits, or the queue changed meanwhile.
     Taken,
     /// The total has no room.
-    NoRoom,
+    NoRoom(Shortage),
     /// No host is queued.
     Nobody,
 }
 
 impl<S: Drop, N: Names> SharedCache<S, N> {
-    /// Closes the oldest idle connection of all for that cause. It answers whether one is idle
-    /// anywhere, as the hints tell: what they tell of is closed if it is still its host's oldest.
-    pub(crate) fn make_room<R: Wait>(&self, rt: &R, cause: Cause, now: u64) -> bool
-        requires { makes_room_for_others cause ≡ true }
-    {
+    /// Closes the oldest idle connection of all for want of that room. It answers whether one is
+    /// idle anywhere, as the hints tell: what they tell of is closed if it is still its host's
+    /// oldest.
+    pub(crate) fn make_room<R: Wait>(&self, rt: &R, short: Shortage, now: u64) -> bool {
         if !self.budget.keeps_any() {
             return false;
         }
@@ -40,7 +37,7 @@ impl<S: Drop, N: Names> SharedCache<S, N> {
             return false;
         };
         let mut host = self.at(rt, hinted.host);
-        host.close_oldest(&self.budget, hinted.since, cause, now);
+        host.close_oldest(&self.budget, hinted.since, short, now);
         self.unlock(host);
         true
     }
@@ -69,12 +66,12 @@ impl<S: Drop, N: Names> SharedCache<S, N> {
     // the total has no room; it answers whether a turn was taken.
     fn take_turn<R: Wait>(&self, rt: &R, now: u64) -> bool {
         for _ in 0..TRIES {
-            match self.take_first_turn(rt, now) {
+            let short = match self.take_first_turn(rt, now) {
                 Turn::Taken => return true,
                 Turn::Nobody => return false,
-                Turn::NoRoom => {}
-            }
-            if !self.make_room(rt, Cause::TotalRoom, now) {
+                Turn::NoRoom(short) => short,
+            };
+            if !self.make_room(rt, short, now) {
                 return false;
             }
         }
@@ -92,7 +89,7 @@ impl<S: Drop, N: Names> SharedCache<S, N> {
             let served = self.serve_at(rt, site, now);
             match served {
                 None | Some(Served::Given) => return Turn::Taken,
-                Some(Served::Full) => return Turn::NoRoom,
+                Some(Served::Full(short)) => return Turn::NoRoom(short),
                 Some(Served::Contended) => {}
             }
         }

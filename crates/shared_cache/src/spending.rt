@@ -13,8 +13,7 @@ use crate::cache::SharedCache;
 use crate::names::Names;
 use crate::serving::TRIES;
 use budget::Pass;
-use bundle::{Back, Claimed, Did, Lease, Stray, Ticket};
-use conn_log::Cause;
+use bundle::{Back, Claimed, Did, Lease, NoKeep, Shortage, Stray, Ticket};
 use persistence::Facts;
 use std::sync::Wait;
 
@@ -89,9 +88,9 @@ impl<S: Drop, N: Names> SharedCache<S, N> {
                 self.unlock(host);
                 self.serve(rt, now);
             }
-            Back::NoKeep(lease) => {
+            Back::NoKeep(no_keep) => {
                 self.unlock(host);
-                self.give_back_with_room(rt, lease, facts, now, pass);
+                self.give_back_with_room(rt, no_keep, facts, now, pass);
             }
             Back::Again(lease) => {
                 self.unlock(host);
@@ -107,19 +106,20 @@ impl<S: Drop, N: Names> SharedCache<S, N> {
     fn give_back_with_room<R: Wait>(
         &self,
         rt: &R,
-        lease: Lease<S>,
+        no_keep: NoKeep<S>,
         facts: Facts,
         now: u64,
         pass: &mut Pass<Did>,
     )
-        requires made { IsMadeBy N.names lease }
-        requires stream { IsSome lease.stream }
+        requires made { IsMadeBy N.names no_keep }
+        requires stream { IsSome no_keep.stream }
         requires pass { IsPassOf N.names pass.old }
-        ensures spent { let returned = Returned lease.start.number facts in
-            SpendsAs lease.site now returned pass.old pass.new }
+        ensures spent { let returned = Returned no_keep.start.number facts in
+            SpendsAs no_keep.site now returned pass.old pass.new }
         ensures pass { IsPassOf N.names pass.new }
     {
-        let tries = self.tries_left(rt, now, TRIES);
+        let (lease, short) = no_keep.part();
+        let tries = self.tries_left(rt, short, now, TRIES);
         self.take_back_again(rt, lease, facts, now, pass, tries);
         self.serve(rt, now);
     }
@@ -172,8 +172,9 @@ impl<S: Drop, N: Names> SharedCache<S, N> {
             let back = self.try_to_keep(rt, unspent, facts, now, pass, tries == 0);
             match back {
                 Back::Spent { freed: _ } => return,
-                Back::NoKeep(lease) => {
-                    tries = self.tries_left(rt, now, tries);
+                Back::NoKeep(no_keep) => {
+                    let (lease, short) = no_keep.part();
+                    tries = self.tries_left(rt, short, now, tries);
                     unspent = lease;
                 }
                 Back::Again(lease) => unspent = lease,
@@ -187,8 +188,8 @@ impl<S: Drop, N: Names> SharedCache<S, N> {
     // often that may be tried again.
     #[cold]
     #[inline(never)]
-    fn tries_left<R: Wait>(&self, rt: &R, now: u64, tries: u32) -> u32 {
-        if !self.make_room(rt, Cause::CacheFull, now) {
+    fn tries_left<R: Wait>(&self, rt: &R, short: Shortage, now: u64, tries: u32) -> u32 {
+        if !self.make_room(rt, short, now) {
             return 0;
         }
         tries.saturating_sub(1)

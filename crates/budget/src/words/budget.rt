@@ -13,7 +13,7 @@ use crate::words::rule::{
 use crate::words::view::SeatView;
 use atomic_table::{Seat, Table};
 use std::alloc::Global;
-use std::marker::Model;
+use std::marker::{Model, PhantomData};
 
 // The word that counts open connections, and the one that counts kept ones.
 const TOTAL: usize = 0;
@@ -23,13 +23,16 @@ const KEPT: usize = 1;
 /// How many connections are open in total and how many are kept, as two words that threads step on,
 /// each step single: a load, an exchange to one more, or a subtraction of one. Between any two
 /// steps each word is the sum of what the seats hold, and is not above its limit. No call waits.
+///
+/// `K` is the key of who may ask for a permit: a type that only those can make.
 #[derive(Drop)]
-pub struct WordBudget {
+pub struct WordBudget<K> {
     table: Table<(), SeatView, Limits, BudgetRule, Global>,
     limits: Limits,
+    of: PhantomData<K>,
 }
 
-impl Model for WordBudget {
+impl<K> Model for WordBudget<K> {
     ghost use Rattle.std.specs.Prelude.{◌≡◌};
     ghost use Rattle.budget.specs.Words.{Shared};
 
@@ -50,14 +53,15 @@ impl Model for WordBudget {
 /// A seat at a word budget, which one thread at a time steps with. It holds permits, has a share of
 /// the whole, and remembers what its last loads read.
 #[derive(Drop)]
-pub struct BudgetSeat {
+pub struct BudgetSeat<K> {
     seat: Seat<(), SeatView>,
     alive: u32,
     kept: u32,
     seen: Seen,
+    of: PhantomData<K>,
 }
 
-impl Model for BudgetSeat {
+impl<K> Model for BudgetSeat<K> {
     ghost use Rattle.std.specs.Prelude.{◌≡◌, ◌<◌, ◌≤◌, []};
     ghost use Rattle.budget.specs.Words.{SeatShown};
 
@@ -99,11 +103,11 @@ pub struct Words {
     pub kept: u64,
 }
 
-impl WordBudget {
+impl<K> WordBudget<K> {
     /// A budget under these limits, and its first seat: it holds nothing and has the whole share.
     ///
     /// The only refusal is [`Refusal::Memory`].
-    pub fn new(alloc: Global, limits: Limits) -> Result<(WordBudget, BudgetSeat), Refusal>
+    pub fn new(alloc: Global, limits: Limits) -> Result<(WordBudget<K>, BudgetSeat<K>), Refusal>
         ensures limits { IfOk result (λ made. made.0.limits ≡ limits) }
         ensures table { IfOk result (λ made. made.1.table ≡ made.0.table) }
         ensures seat { IfOk result (λ made. made.1.view ≡ empty_seat whole) }
@@ -111,13 +115,18 @@ impl WordBudget {
     {
         let _connects = limits.connects();
         let (table, seat) = Table::of_words(alloc, &[0, 0], &limits)?;
-        Ok((WordBudget { table, limits }, BudgetSeat::new(seat)))
+        let budget = WordBudget {
+            table,
+            limits,
+            of: PhantomData,
+        };
+        Ok((budget, BudgetSeat::new(seat)))
     }
 
     /// Asks for one more open connection: one load, and below the limit one exchange.
     /// Full where the load read the limit, Contended where the exchange found another value.
     #[inline(always)]
-    pub fn try_open(&self, seat: &mut BudgetSeat) -> Try
+    pub fn try_open(&self, seat: &mut BudgetSeat<K>, _key: &K) -> Try
         requires { seat.old.table ≡ self.now.table }
         ensures { TriesOpen self.now.limits.total seat.old result seat.new }
     {
@@ -137,7 +146,7 @@ impl WordBudget {
 
     /// Gives back the permit of one open connection: one subtraction.
     #[inline(always)]
-    pub fn free_open(&self, seat: &mut BudgetSeat)
+    pub fn free_open(&self, seat: &mut BudgetSeat<K>)
         requires table { seat.old.table ≡ self.now.table }
         requires one { 0 < seat.old.view.total.held }
         ensures { seat.new ≡ seated seat.old (on_total one_less seat.old.view) }
@@ -151,7 +160,7 @@ impl WordBudget {
     /// Asks to keep one more connection: one load, and below the limit one exchange.
     /// Full where the load read the limit, Contended where the exchange found another value.
     #[inline(always)]
-    pub fn try_keep(&self, seat: &mut BudgetSeat) -> Try
+    pub fn try_keep(&self, seat: &mut BudgetSeat<K>, _key: &K) -> Try
         requires { seat.old.table ≡ self.now.table }
         ensures { TriesKept self.now.limits.connects seat.old result seat.new }
     {
@@ -171,7 +180,7 @@ impl WordBudget {
 
     /// Gives back the permit of one kept connection: one subtraction.
     #[inline(always)]
-    pub fn free_keep(&self, seat: &mut BudgetSeat)
+    pub fn free_keep(&self, seat: &mut BudgetSeat<K>)
         requires table { seat.old.table ≡ self.now.table }
         requires one { 0 < seat.old.view.kept.held }
         ensures { seat.new ≡ seated seat.old (on_kept one_less seat.old.view) }
@@ -183,7 +192,7 @@ impl WordBudget {
     }
 
     /// What the seat's last loads read, 0 before any.
-    pub fn seen(&self, seat: &BudgetSeat) -> Seen
+    pub fn seen(&self, seat: &BudgetSeat<K>) -> Seen
         ensures total { result.total ≡ seat.now.view.total.seen }
         ensures kept { result.kept ≡ seat.now.view.kept.seen }
     {
@@ -197,7 +206,7 @@ impl WordBudget {
     }
 
     /// A new seat, with one unit of the seat's share and no permit.
-    pub fn split(&self, seat: &mut BudgetSeat) -> BudgetSeat
+    pub fn split(&self, seat: &mut BudgetSeat<K>) -> BudgetSeat<K>
         requires table { seat.old.table ≡ self.now.table }
         requires units { 2 ≤ seat.old.view.share }
         ensures seat { seat.new ≡ seated seat.old (after_split seat.old.view) }
@@ -207,7 +216,7 @@ impl WordBudget {
     }
 
     /// The seat takes over the share and the permits of the other one.
-    pub fn join(&self, seat: &mut BudgetSeat, other: BudgetSeat)
+    pub fn join(&self, seat: &mut BudgetSeat<K>, other: BudgetSeat<K>)
         requires table { seat.old.table ≡ self.now.table }
         requires other { other.table ≡ self.now.table }
         ensures { seat.new ≡ seated seat.old (joined_and_compared seat.old.view other.view) }
@@ -217,6 +226,7 @@ impl WordBudget {
             alive,
             kept,
             seen: _,
+            of: _,
         } = other;
         let table = &self.table.shared;
         table.join_seat::<Joins>(&mut seat.seat, others);
@@ -229,7 +239,7 @@ impl WordBudget {
 
     /// The two words at the end, neither above its limit. The seat has the whole share, so they are
     /// what it holds.
-    pub fn finish(self, seat: BudgetSeat) -> Words
+    pub fn finish(self, seat: BudgetSeat<K>) -> Words
         requires table { seat.table ≡ self.table }
         requires all { seat.view.share ≡ whole }
         ensures total { result.total ≡ seat.view.total.held }
@@ -237,12 +247,17 @@ impl WordBudget {
         ensures total_within { result.total ≤ self.limits.total }
         ensures kept_within { result.kept ≤ self.limits.connects }
     {
-        let WordBudget { table, limits: _ } = self;
+        let WordBudget {
+            table,
+            limits: _,
+            of: _,
+        } = self;
         let BudgetSeat {
             seat,
             alive: _,
             kept: _,
             seen: _,
+            of: _,
         } = seat;
         let closed = table.close_with(seat);
         let words = Words {
@@ -254,9 +269,9 @@ impl WordBudget {
     }
 }
 
-impl BudgetSeat {
+impl<K> BudgetSeat<K> {
     // A seat that holds nothing yet.
-    fn new(seat: Seat<(), SeatView>) -> BudgetSeat
+    fn new(seat: Seat<(), SeatView>) -> BudgetSeat<K>
         requires slots { seat.me.1 ≡ [] }
         requires share { 0 < seat.me.0.share }
         requires nothing { seat.me.0 ≡ empty_seat seat.me.0.share }
@@ -269,6 +284,7 @@ impl BudgetSeat {
             alive: 0,
             kept: 0,
             seen: Seen { total: 0, kept: 0 },
+            of: PhantomData,
         }
     }
 

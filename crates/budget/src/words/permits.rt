@@ -7,14 +7,14 @@ use crate::words::budget::{BudgetSeat, WordBudget};
 /// answered only where the load that the call made read the limit, Contended only where the
 /// exchange that followed found another value.
 #[derive(Drop)]
-pub struct SeatPermits<'a> {
-    budget: &'a WordBudget,
-    seat: &'a mut BudgetSeat,
+pub struct SeatPermits<'a, K> {
+    budget: &'a WordBudget<K>,
+    seat: &'a mut BudgetSeat<K>,
 }
 
-impl<'a> SeatPermits<'a> {
+impl<'a, K> SeatPermits<'a, K> {
     /// The seat, at its budget.
-    pub fn new(budget: &'a WordBudget, seat: &'a mut BudgetSeat) -> SeatPermits<'a>
+    pub fn new(budget: &'a WordBudget<K>, seat: &'a mut BudgetSeat<K>) -> SeatPermits<'a, K>
         ensures same_reference { result.seat.ghost_name ≡ seat.entry.ghost_name }
         ensures budget { result.budget.now ≡ budget.now }
         ensures seat { result.seat.now ≡ seat.old }
@@ -23,7 +23,7 @@ impl<'a> SeatPermits<'a> {
     }
 }
 
-impl Permits for SeatPermits<'_> {
+impl<K> Permits<K> for SeatPermits<'_, K> {
     ghost use Rattle.std.specs.Prelude.{◌≡◌, refl};
     ghost use Rattle.std.proofs.Common.{◌∙◌};
     ghost use Rattle.budget.specs.Words.{Stays, Opening, Keeping, TriesOpen, TriesKept, held_by};
@@ -54,13 +54,13 @@ impl Permits for SeatPermits<'_> {
     ghost same_kept = { λ x y. y.seat.now.view.kept ≡ x.seat.now.view.kept };
 
     #[inline(always)]
-    fn reserve_open(&mut self) -> Try {
-        self.budget.try_open(self.seat)
+    fn reserve_open(&mut self, key: &K) -> Try {
+        self.budget.try_open(self.seat, key)
     }
 
     #[inline(always)]
-    fn reserve_kept(&mut self) -> Try {
-        self.budget.try_keep(self.seat)
+    fn reserve_kept(&mut self, key: &K) -> Try {
+        self.budget.try_keep(self.seat, key)
     }
 
     #[inline(always)]

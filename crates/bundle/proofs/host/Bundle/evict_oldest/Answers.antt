@@ -14,7 +14,7 @@ invariant_of-self g c =
     let inv = c.self.invariant in
     let closed = c.close_oldest.ensures in
     let closes = closed.closes in
-    let after = evict_keeps _ _ _ _ _ _ c.args.now _ inv.settled inv.grants inv.bookings closes.same.settings c.moment-moment.ensures closes.holders closes.waiting closed.number c.args.cause closed.oldest (of_idle_for_others c.args.cause c.requires.cause) closed.log in
+    let after = evict_keeps _ _ _ _ _ _ c.args.now _ inv.settled inv.grants inv.bookings closes.same.settings c.moment-moment.ensures closes.holders closes.waiting closed.number c.spend-cause.result closed.oldest (of_idle_for_others c.spend-cause.result c.spend-cause.ensures.makes_room) closed.log in
     record {
       count = closes.booked ∙ inv.count;
       bookings = after.halfway;
@@ -35,7 +35,7 @@ returns-clause-keeps g c =
     let inv = c.self.invariant in
     let closed = c.close_oldest.ensures in
     let closes = closed.closes in
-    let after = evict_keeps _ _ _ _ _ _ c.args.now _ inv.settled inv.grants inv.bookings closes.same.settings c.moment-moment.ensures closes.holders closes.waiting closed.number c.args.cause closed.oldest (of_idle_for_others c.args.cause c.requires.cause) closed.log in
+    let after = evict_keeps _ _ _ _ _ _ c.args.now _ inv.settled inv.grants inv.bookings closes.same.settings c.moment-moment.ensures closes.holders closes.waiting closed.number c.spend-cause.result closed.oldest (of_idle_for_others c.spend-cause.result c.spend-cause.ensures.makes_room) closed.log in
     keeps_at _ _ _ c.self.view_is (grants_keep _ _ _ _ _ _ _ _ _ _ _ _ _ _ _ _ after.same)
 
 pub returns-clause-grew : goal.returns-clause-grew
@@ -43,11 +43,11 @@ returns-clause-grew g c =
     let inv = c.self.invariant in
     let closed = c.close_oldest.ensures in
     let closes = closed.closes in
-    let after = evict_keeps _ _ _ _ _ _ c.args.now _ inv.settled inv.grants inv.bookings closes.same.settings c.moment-moment.ensures closes.holders closes.waiting closed.number c.args.cause closed.oldest (of_idle_for_others c.args.cause c.requires.cause) closed.log in
+    let after = evict_keeps _ _ _ _ _ _ c.args.now _ inv.settled inv.grants inv.bookings closes.same.settings c.moment-moment.ensures closes.holders closes.waiting closed.number c.spend-cause.result closed.oldest (of_idle_for_others c.spend-cause.result c.spend-cause.ensures.makes_room) closed.log in
     grows_at _ _ _ (ap (λ (v : HostShown g.row.S.Denot). v.log) c.self.view_is) after.grew
 
 pub close_oldest-requires-clause-cause : goal.close_oldest-requires-clause-cause
-close_oldest-requires-clause-cause g c = of_idle_for_others c.args.cause c.requires.cause
+close_oldest-requires-clause-cause g c = of_idle_for_others c.spend-cause.result c.spend-cause.ensures.makes_room
 
 pub returns-clause-gone : goal.returns-clause-gone
 returns-clause-gone g c =

@@ -289,12 +289,12 @@ returns-then-not-close_if_full-clause-told g c =
     let same = c.in-Unkept.ensures.unkept_same.1 in
     let idle = would_rest state.settings state inv.settled.sound c.transfer-transfer.result number c.args.facts c.args.now c.in-Unkept.ensures.unkept.1 (if_there asked.result not_given.0 asked.ensures.nobody) in
     let idle_here = ap (λ (v : HostShown g.row.S.Denot). becomes_idle v.log c.args.lease.start.number c.args.facts c.args.now) (sym c.self.view_is) ∙ ap (λ (n : ℕ). becomes_idle state.log n c.args.facts c.args.now) (sym number_is) ∙ idle in
-    let handed = handed_back c.self.inside.seats c.take_back-start.new.self _ c.take_back-start.ensures.back inv.seated.none_back c.again-then-not-close_if_full.new.seats c.again-then-not-close_if_full.ensures.seats in
-    let unchanged = ap (λ (s : HostState g.row.S.Denot). shown s c.self.inside.grants.items c.self.inside.bookings.items c.again-then-not-close_if_full.new.seats.tables) same ∙ ap (λ (h : SeatsShown). shown state c.self.inside.grants.items c.self.inside.bookings.items h.tables) handed ∙ c.self.view_is in
+    let handed = handed_back c.self.inside.seats c.take_back-start.new.self _ c.take_back-start.ensures.back inv.seated.none_back c.again-lease.new.seats c.again-lease.ensures.seats in
+    let unchanged = ap (λ (s : HostState g.row.S.Denot). shown s c.self.inside.grants.items c.self.inside.bookings.items c.again-lease.new.seats.tables) same ∙ ap (λ (h : SeatsShown). shown state c.self.inside.grants.items c.self.inside.bookings.items h.tables) handed ∙ c.self.view_is in
     let now_here = tables_here c.args.lease _ _ c.take_apart-used.ensures.used c.self.inside.seats c.take_back-start.new.self _ _ c.requires.here (ap (λ (v : HostShown g.row.S.Denot). v.tables) c.self.view_is) c.take_back-start.ensures.back in
-    let as_it_was = same_lease c.args.lease c.again-then-not-close_if_full.result _ _ _ _ _ _ c.take_apart-used.ensures.used c.detach-stream.ensures.stream c.detach-stream.ensures.rest c.again-then-not-close_if_full.ensures.lease now_here c.in-Unkept.ensures.unkept_same.0 in
+    let as_it_was = c.of.ensures ∙ same_lease c.args.lease c.again-lease.result _ _ _ _ _ _ c.take_apart-used.ensures.used c.detach-stream.ensures.stream c.detach-stream.ensures.rest c.again-lease.ensures.lease now_here c.in-Unkept.ensures.unkept_same.0 in
     let full = full_told asked.result not_given.0 not_given.1 (c.must_ask_again.ensures.no c.if-must_ask_again.false) in
-    (Full, if_some asked.result Full (λ told. g.P.Permits.keeping c.args.permits.now asked.new.permits told) full asked.ensures.told, back_not_kept c.args.self.now (shown c.give_back-back.new.self c.self.inside.grants.items c.self.inside.bookings.items c.again-then-not-close_if_full.new.seats.tables) c.args.lease c.args.facts c.args.now idle_here c.args.close_if_full c.if-not-close_if_full.true _ as_it_was unchanged)
+    (Full, if_some asked.result Full (λ told. g.P.Permits.keeping c.args.permits.now asked.new.permits told) full asked.ensures.told, back_not_kept c.args.self.now (shown c.give_back-back.new.self c.self.inside.grants.items c.self.inside.bookings.items c.again-lease.new.seats.tables) c.args.lease c.args.facts c.args.now idle_here c.args.close_if_full c.if-not-close_if_full.true _ as_it_was unchanged)
 
 pub invariant_of-self-then-must_ask_again : goal.invariant_of-self-then-must_ask_again
 invariant_of-self-then-must_ask_again g c =
@@ -320,7 +320,7 @@ invariant_of-self-then-not-close_if_full g c =
     let grants = c.self.inside.grants.items in
     let inv = c.self.invariant in
     let same = c.in-Unkept.ensures.unkept_same.1 in
-    let handed = handed_back c.self.inside.seats c.take_back-start.new.self _ c.take_back-start.ensures.back inv.seated.none_back c.again-then-not-close_if_full.new.seats c.again-then-not-close_if_full.ensures.seats in
+    let handed = handed_back c.self.inside.seats c.take_back-start.new.self _ c.take_back-start.ensures.back inv.seated.none_back c.again-lease.new.seats c.again-lease.ensures.seats in
     let old = sym same in
     record {
       count = ap (λ (s : HostState g.row.S.Denot). s.booked) same ∙ inv.count;
@@ -343,8 +343,8 @@ pub returns-then-not-close_if_full-clause-unchanged : goal.returns-then-not-clos
 returns-then-not-close_if_full-clause-unchanged g c =
     let state = c.self.inside.state in
     let same = c.in-Unkept.ensures.unkept_same.1 in
-    let handed = handed_back c.self.inside.seats c.take_back-start.new.self _ c.take_back-start.ensures.back c.self.invariant.seated.none_back c.again-then-not-close_if_full.new.seats c.again-then-not-close_if_full.ensures.seats in
-    ap (λ (s : HostState g.row.S.Denot). shown s c.self.inside.grants.items c.self.inside.bookings.items c.again-then-not-close_if_full.new.seats.tables) same ∙ ap (λ (h : SeatsShown). shown state c.self.inside.grants.items c.self.inside.bookings.items h.tables) handed ∙ c.self.view_is
+    let handed = handed_back c.self.inside.seats c.take_back-start.new.self _ c.take_back-start.ensures.back c.self.invariant.seated.none_back c.again-lease.new.seats c.again-lease.ensures.seats in
+    ap (λ (s : HostState g.row.S.Denot). shown s c.self.inside.grants.items c.self.inside.bookings.items c.again-lease.new.seats.tables) same ∙ ap (λ (h : SeatsShown). shown state c.self.inside.grants.items c.self.inside.bookings.items h.tables) handed ∙ c.self.view_is
 
 pub unreachable-requires : goal.unreachable-requires
 unreachable-requires g c =

@@ -48,8 +48,8 @@ returns-clause-all g c =
     let e = ap (λ (p : PoolShown g.row.S.Denot). oldest_of_all (all_hosts p)) c.self.view_is ∙ c.requires.oldest in
     let found = found_at (record { limits = inside.budget.limits; hosts = hosts; queue = inside.lobby.order }) stamp e in
     let closed = is_done c.evict_oldest-closed.result done.not_oldest (own_stamp hosts stamp was found read it.place) in
-    all_without inside.budget.limits inside.lobby.order hosts stamp new c.args.cause c.args.now e was (read_is hosts stamp.host was there read) (done.log closed)
-    ∙ ap (λ (p : PoolShown g.row.S.Denot). without_oldest c.args.cause c.args.now (all_hosts p)) c.self.view_is
+    all_without inside.budget.limits inside.lobby.order hosts stamp new c.args.short c.args.now e was (read_is hosts stamp.host was there read) (done.log closed)
+    ∙ ap (λ (p : PoolShown g.row.S.Denot). without_oldest c.args.short c.args.now (all_hosts p)) c.self.view_is
 
 pub returns-clause-fewer : goal.returns-clause-fewer
 returns-clause-fewer g c =
@@ -65,7 +65,7 @@ returns-clause-fewer g c =
     let e = ap (λ (p : PoolShown g.row.S.Denot). oldest_of_all (all_hosts p)) c.self.view_is ∙ c.requires.oldest in
     let found = found_at (record { limits = inside.budget.limits; hosts = hosts; queue = inside.lobby.order }) stamp e in
     let closed = is_done c.evict_oldest-closed.result done.not_oldest (own_stamp hosts stamp was found read it.place) in
-    let fewer = fewer_without inside.budget.limits inside.lobby.order hosts stamp new c.args.cause c.args.now was found (read_is hosts stamp.host was there read) (done.log closed) it.settled c.requires.cause in
+    let fewer = fewer_without inside.budget.limits inside.lobby.order hosts stamp new c.args.short c.args.now was found (read_is hosts stamp.host was there read) (done.log closed) it.settled c.requires.cause in
     rw (sym c.self.view_is) fewer
 
 pub returns-clause-keeps : goal.returns-clause-keeps

@@ -1,6 +1,7 @@
 use Rattle.std.proofs.Common.{◌≡◌, Bool, false, sym, ap, ◌∙◌}
 use Rattle.std.specs.Prelude.{if◌then◌else◌}
 use Rattle.budget.specs.Plain.{alive_in}
+use Rattle.conn_log.specs.declared.entry.Cause.{Cause}
 use Rattle.conn_log.specs.declared.entry.Cause.TheVariants.{TotalRoom}
 use Rattle.pool_rules.specs.AllHosts.{has_room, without_oldest}
 use Rattle.cache.specs.Pools.{PoolShown, all_hosts}
@@ -15,4 +16,4 @@ returns-clause-all g c =
     let no_room : has_room c.args.self.now.limits all ≡ false =
     ap (λ (p : PoolShown g.row.S.Denot). has_room p.limits (all_hosts p)) (sym c.self.view_is)
     ∙ no_room_at_limit (alive_in inside.budget.hosts) _ inside.budget.limits.total (total_is inside.bundles.items inside.budget c.self.invariant.parts) at_limit in
-    λ closed. c.close_oldest.ensures.all ∙ sym (ap (λ (b : Bool). if b then all else without_oldest TotalRoom c.args.now all) no_room)
+    λ closed. c.close_oldest.ensures.all ∙ ap (λ (cause : Cause). without_oldest cause c.args.now all) c.short_of_total-short.ensures ∙ sym (ap (λ (b : Bool). if b then all else without_oldest TotalRoom c.args.now all) no_room)

@@ -3,7 +3,8 @@ use Rattle.host_rules.specs.Calls.{acquired as acquired_at, GrowsBy}
 use Rattle.host_rules.specs.Laws.{IsSoundAndQuiet}
 use Rattle.bundle.specs.Lease.{HostShown, HasItsStream, KeepsStreams, KeepsOthers}
 use Rattle.bundle.specs.Replies.{GivesLease as GotLease, GivesTicket as GotTicket, IsGot}
-use Rattle.pool_rules.specs.AllHosts.{terms}
+use Rattle.conn_log.specs.declared.entry.Cause.{Cause}
+use Rattle.pool_rules.specs.AllHosts.{terms, without_oldest}
 use Rattle.cache.specs.Pools.{all_hosts, host_at, logs_of, IsAcquired, GivesLease, GivesTicket, StreamsStay, OtherStreamsStay, KeepsHost}
 use Rattle.cache.proofs.HostParts.{part_changed}
 use Rattle.cache.proofs.StreamsStay.{open_ones_stay, open_others_stay, but_one, streams_on, others_on}
@@ -23,20 +24,20 @@ unreachable-requires g c =
     let done = c.retry-got.ensures in
     let was = c.index_mut-bundle.result.now in
     let told = done.told.0 in
-    let begins = last_begins_as_told was.settings c.args.booking.want c.args.now told was.log (never_again c.retry-got.new.permits.budget.now told done.told.1) in
-    begins.0 (no_room_reply g.row.S.Denot was.host c.args.booking.want _ c.in-NoRoom._booking (subst (λ r. IsGot was.host c.args.booking.want (acquired_at true told was.settings was.log c.args.booking.want c.args.now).reply r) c.in-NoRoom.is done.told.2.got_is))
+    let begins = last_begins_as_told was.settings c.part-halfway.result.0.want c.args.now told was.log (never_again c.retry-got.new.permits.budget.now told done.told.1) in
+    begins.0 (no_room_reply g.row.S.Denot was.host c.part-halfway.result.0.want _ c.in-NoRoom._booking (subst (λ r. IsGot was.host c.part-halfway.result.0.want (acquired_at true told was.settings was.log c.part-halfway.result.0.want c.args.now).reply r) c.in-NoRoom.is done.told.2.got_is))
 
 pub unreachable-requires-in-Again : goal.unreachable-requires-in-Again
 unreachable-requires-in-Again g c =
     let done = c.retry-got.ensures in
     let was = c.index_mut-bundle.result.now in
     let told = done.told.0 in
-    let begins = last_begins_as_told was.settings c.args.booking.want c.args.now told was.log (never_again c.retry-got.new.permits.budget.now told done.told.1) in
-    begins.1 (again_reply g.row.S.Denot was.host c.args.booking.want _ c.in-Again._booking (subst (λ r. IsGot was.host c.args.booking.want (acquired_at true told was.settings was.log c.args.booking.want c.args.now).reply r) c.in-Again.is done.told.2.got_is))
+    let begins = last_begins_as_told was.settings c.part-halfway.result.0.want c.args.now told was.log (never_again c.retry-got.new.permits.budget.now told done.told.1) in
+    begins.1 (again_reply g.row.S.Denot was.host c.part-halfway.result.0.want _ c.in-Again._booking (subst (λ r. IsGot was.host c.part-halfway.result.0.want (acquired_at true told was.settings was.log c.part-halfway.result.0.want c.args.now).reply r) c.in-Again.is done.told.2.got_is))
 
 -- the site is there once room was made
 site_there : (g : _) (c : goal.Joined-got g) → c.site-site.result < length c.self.inside.bundles.items
-site_there g c = there_inside c.site-site.result c.self.view_is (rw (c.close_oldest.ensures.stays.count, c.site-site.ensures) c.requires.there)
+site_there g c = there_inside c.site-site.result c.self.view_is (rw (c.close_oldest.ensures.stays.count, c.site-site.ensures, c.part-halfway.ensures.booking) c.requires.there)
 
 pub invariant_of-self : goal.invariant_of-self
 invariant_of-self g c =
@@ -59,11 +60,11 @@ invariant_of-self g c =
     let notes : NotesOne site inside.noted inside.noted _ = record {
       stamps = refl;
       other_stamps = λ other apart. refl;
-      not_later = still_not_later true done.told.0 was.settings was.log new.log c.args.booking.want c.args.now site _ done.told.2.log it.not_later;
+      not_later = still_not_later true done.told.0 was.settings was.log new.log c.part-halfway.result.0.want c.args.now site _ done.told.2.log it.not_later;
     } in
     kept_called site hosts was new inside.budget later inside.lobby after inside.pass pass inside.noted inside.noted c.self.invariant there read done.same settled part marks tells done.seats done.account notes
 
-told_at : (g : _) (c : goal.Joined-got g) → IsToldAt true c.args.self.now.limits c.self.inside.bundles.items c.site-site.result c.index_mut-bundle.result.now c.retry-got.new.self c.retry-got.new.permits.budget.now c.self.inside.lobby.order c.retry-got.new.lobby.0.order c.args.booking.want c.args.now c.retry-got.ensures.told.0
+told_at : (g : _) (c : goal.Joined-got g) → IsToldAt true c.args.self.now.limits c.self.inside.bundles.items c.site-site.result c.index_mut-bundle.result.now c.retry-got.new.self c.retry-got.new.permits.budget.now c.self.inside.lobby.order c.retry-got.new.lobby.0.order c.part-halfway.result.0.want c.args.now c.retry-got.ensures.told.0
 told_at g c =
     let site = c.site-site.result in
     let inside = c.self.inside in
@@ -102,7 +103,7 @@ room_at g c =
     record {
       was_full = c.requires.full;
       closed = c.close_oldest.result;
-      mid_is = is ∙ made.all;
+      mid_is = is ∙ made.all ∙ ap (λ (cause : Cause). without_oldest cause c.args.now (all_hosts c.args.self.now)) c.part-halfway.ensures.short;
       any = made.any;
       fewer = λ e. subst (IsOneFewer (all_hosts c.args.self.now)) (sym is) (made.fewer e);
       none = λ e. is ∙ ap all_hosts (made.none e);
@@ -110,16 +111,16 @@ room_at g c =
 
 pub returns-clause-all : goal.returns-clause-all
 returns-clause-all g c =
-    rw (sym c.site-site.ensures) (last_all c.args.self.now.limits c.self.inside.bundles.items c.site-site.result c.index_mut-bundle.result.now c.retry-got.new.self c.retry-got.new.permits.budget.now c.self.inside.lobby.order c.retry-got.new.lobby.0.order c.args.booking.want c.args.now c.retry-got.ensures.told.0 (told_at g c) (all_hosts c.args.self.now) (room_at g c))
+    rw (sym c.part-halfway.ensures.booking, sym c.site-site.ensures) (last_all c.args.self.now.limits c.self.inside.bundles.items c.site-site.result c.index_mut-bundle.result.now c.retry-got.new.self c.retry-got.new.permits.budget.now c.self.inside.lobby.order c.retry-got.new.lobby.0.order c.part-halfway.result.0.want c.args.now c.retry-got.ensures.told.0 (told_at g c) (all_hosts c.args.self.now) (room_at g c))
 
 pub returns-clause-reply : goal.returns-clause-reply
 returns-clause-reply g c =
     let was = c.index_mut-bundle.result.now in
-    let want = c.args.booking.want in
+    let want = c.part-halfway.result.0.want in
     let done = c.retry-got.ensures in
     let reply = (acquired_at true done.told.0 was.settings was.log want c.args.now).reply in
     let place = (told_at g c).place in
-    rw (sym c.site-site.ensures) (subst (λ r. IsAcquired c.site-site.result r c.match-got.result) (last_reply c.args.self.now.limits c.self.inside.bundles.items c.site-site.result c.index_mut-bundle.result.now c.retry-got.new.self c.retry-got.new.permits.budget.now c.self.inside.lobby.order c.retry-got.new.lobby.0.order c.args.booking.want c.args.now c.retry-got.ensures.told.0 (told_at g c) (all_hosts c.args.self.now) (room_at g c))
+    rw (sym c.part-halfway.ensures.booking, sym c.site-site.ensures) (subst (λ r. IsAcquired c.site-site.result r c.match-got.result) (last_reply c.args.self.now.limits c.self.inside.bundles.items c.site-site.result c.index_mut-bundle.result.now c.retry-got.new.self c.retry-got.new.permits.budget.now c.self.inside.lobby.order c.retry-got.new.lobby.0.order c.part-halfway.result.0.want c.args.now c.retry-got.ensures.told.0 (told_at g c) (all_hosts c.args.self.now) (room_at g c))
     (elim c.match-got.branch [
       | in-Lease w ↦ subst (IsAcquired c.site-site.result reply) (sym w.result-is) (lease_reply g.row.S.Denot was.host c.site-site.result want reply w.in-Lease.lease place (subst (IsGot was.host want reply) w.in-Lease.is done.told.2.got_is))
       | in-Wait w ↦ subst (IsAcquired c.site-site.result reply) (sym w.result-is) (wait_reply g.row.S.Denot was.host c.site-site.result want reply w.in-Wait.ticket place (subst (IsGot was.host want reply) w.in-Wait.is done.told.2.got_is))
@@ -134,7 +135,7 @@ returns-clause-others g c =
     let made = c.close_oldest.ensures in
     let new = c.retry-got.new.self in
     let later = c.retry-got.new.lobby.0.order in
-    rw (sym c.site-site.ensures) (keeps_others_on site old mid (record { limits = inside.budget.limits; hosts = slice_set inside.bundles.items site new; queue = later }) made.stays (keeps_others site old mid made.keeps)
+    rw (sym c.part-halfway.ensures.booking, sym c.site-site.ensures) (keeps_others_on site old mid (record { limits = inside.budget.limits; hosts = slice_set inside.bundles.items site new; queue = later }) made.stays (keeps_others site old mid made.keeps)
     (rw (sym c.self.view_is) (others_keep inside.budget.limits inside.lobby.order later inside.bundles.items site new)))
 
 pub returns-clause-stream : goal.returns-clause-stream
@@ -143,15 +144,15 @@ returns-clause-stream g c =
     let inside = c.self.inside in
     let hosts = inside.bundles.items in
     let was = c.index_mut-bundle.result.now in
-    let want = c.args.booking.want in
+    let want = c.part-halfway.result.0.want in
     let done = c.retry-got.ensures in
     let old = c.args.self.now in
     let there = site_there g c in
-    let old_there : site < length old.hosts = rw c.site-site.ensures c.requires.there in
+    let old_there : site < length old.hosts = rw (c.site-site.ensures, c.part-halfway.ensures.booking) c.requires.there in
     let at_mid : KeepsStreams (host_at old site) (host_at c.close_oldest.new.self site) = c.close_oldest.ensures.streams site old_there in
     let inside_is : host_at c.close_oldest.new.self site ≡ was = sym (read_is hosts site was there c.index_mut-bundle.ensures.value ∙ ap (λ p. host_at p site) c.self.view_is) in
     let keeps : KeepsStreams (host_at old site) was = subst (KeepsStreams (host_at old site)) inside_is at_mid in
-    rw (sym c.site-site.ensures) (elim c.match-got.branch [
+    rw (sym c.part-halfway.ensures.booking, sym c.site-site.ensures) (elim c.match-got.branch [
       | in-Lease w ↦ subst (λ r. GivesLease r (HasItsStream (host_at old site).streams)) (sym w.result-is)
           (stream_kept true done.told.0 (host_at old site) was want c.args.now was.host w.in-Lease.lease keeps (subst (IsGot was.host want (acquired_at true done.told.0 was.settings was.log want c.args.now).reply) w.in-Lease.is done.told.2.got_is)
           (subst (λ r. GotLease r (HasItsStream was.streams)) w.in-Lease.is done.stream))
@@ -167,10 +168,10 @@ returns-clause-grew g c =
     let new = c.retry-got.new.self in
     let old = c.args.self.now in
     let there = site_there g c in
-    let old_there : site < length old.hosts = rw c.site-site.ensures c.requires.there in
+    let old_there : site < length old.hosts = rw (c.site-site.ensures, c.part-halfway.ensures.booking) c.requires.there in
     let inside_is : host_at c.close_oldest.new.self site ≡ was = sym (read_is hosts site was there c.index_mut-bundle.ensures.value ∙ ap (λ p. host_at p site) c.self.view_is) in
     let first : GrowsBy (host_at old site).log was.log = subst (λ (h : HostShown g.row.S.Denot). GrowsBy (host_at old site).log h.log) inside_is (c.close_oldest.ensures.keeps site old_there).stays.grew in
-    rw (sym c.site-site.ensures) (rw (host_changed hosts site new there) (grows_on (host_at old site).log was.log new.log first c.retry-got.ensures.grew))
+    rw (sym c.part-halfway.ensures.booking, sym c.site-site.ensures) (rw (host_changed hosts site new there) (grows_on (host_at old site).log was.log new.log first c.retry-got.ensures.grew))
 
 -- what is kept at the site until the last try
 made_room : (g : _) (c : goal.Joined-got g) → KeepsHost (host_at c.args.self.now c.site-site.result) c.index_mut-bundle.result.now
@@ -180,7 +181,7 @@ made_room g c =
     let was = c.index_mut-bundle.result.now in
     let old = c.args.self.now in
     let there = site_there g c in
-    let old_there : site < length old.hosts = rw c.site-site.ensures c.requires.there in
+    let old_there : site < length old.hosts = rw (c.site-site.ensures, c.part-halfway.ensures.booking) c.requires.there in
     let inside_is : host_at c.close_oldest.new.self site ≡ was = sym (read_is hosts site was there c.index_mut-bundle.ensures.value ∙ ap (λ p. host_at p site) c.self.view_is) in
     subst (KeepsHost (host_at old site)) inside_is (c.close_oldest.ensures.keeps site old_there)
 
@@ -194,7 +195,7 @@ returns-clause-streams g c =
     let old = host_at c.args.self.now site in
     let there = site_there g c in
     let first = made_room g c in
-    rw (sym c.site-site.ensures) (rw (host_changed hosts site new there) (elim c.match-got.branch [
+    rw (sym c.part-halfway.ensures.booking, sym c.site-site.ensures) (rw (host_changed hosts site new there) (elim c.match-got.branch [
       | in-Lease w ↦
           let number = w.in-Lease.lease.start.number in
           let others : KeepsOthers number was new = subst (λ r. GotLease r (λ lease. KeepsOthers lease.start.number was new)) w.in-Lease.is done.streams in
@@ -213,7 +214,7 @@ returns-clause-kept g c =
     let old = host_at c.args.self.now site in
     let there = site_there g c in
     let first = made_room g c in
-    rw (sym c.site-site.ensures) (rw (host_changed hosts site new there) (elim c.match-got.branch [
+    rw (sym c.part-halfway.ensures.booking, sym c.site-site.ensures) (rw (host_changed hosts site new there) (elim c.match-got.branch [
       | in-Lease w ↦ subst (λ r. GivesTicket r (λ ticket. StreamsStay old new)) (sym w.result-is) tt
       | in-Wait w ↦
           let all : KeepsStreams was new = subst (λ r. GotTicket r (λ ticket. KeepsStreams was new)) w.in-Wait.is done.kept in

@@ -4,7 +4,7 @@ use Rattle.budget.proofs.Keeps.{kept_word, looks, takes}
 use Rattle.budget.proofs.words.budget.WordBudget.try_keep.Goals as goal
 
 pub load-kept-requires : goal.load-kept-requires
-load-kept-requires c = (search rules, search rules, looks _ (kept_word _) _ _ _ c.seat.invariant.share)
+load-kept-requires g c = (search rules, search rules, looks _ (kept_word _) _ _ _ c.seat.invariant.share)
 
 pub compare_exchange-found-requires : goal.compare_exchange-found-requires
-compare_exchange-found-requires c = (search rules, search rules, takes _ (kept_word _) _ _ _ _ (search rules) (search rules) (λ e. c.if-kept-from.false (e ∙ ap (λ (limits : Bounds). limits.connects) c.self.invariant.limits ∙ sym (c.from.ensures ∙ c.connects.ensures.connects))))
+compare_exchange-found-requires g c = (search rules, search rules, takes _ (kept_word _) _ _ _ _ (search rules) (search rules) (λ e. c.if-kept-from.false (e ∙ ap (λ (limits : Bounds). limits.connects) c.self.invariant.limits ∙ sym (c.from.ensures ∙ c.connects.ensures.connects))))
