@@ -1,6 +1,8 @@
 -- For which transfers a connection was begun.
 use Rattle.std.specs.Prelude.{ℕ, nat_eq, IsSome}
 use Rattle.std.specs.HashMap.{get, HashMap}
+use Rattle.exchange.specs.declared.wire.Dialled.{Dialled}
+use Rattle.exchange.specs.declared.wire.Dialled.TheVariants.{NotYet}
 use Rattle.socket.specs.declared.begun.Attempt.{Attempt}
 use Rattle.socket.specs.declared.dialled_socket.DialledSocket.{DialledSocket}
 use Rattle.socket.specs.declared.connector.Opening.{Opening}
@@ -14,3 +16,8 @@ IsBegun begun transfer = IsSome (get nat_eq begun transfer)
 abbrev pub IfOpen : Opening → (DialledSocket → Type 0) → Type 0
 IfOpen (Open socket) P = P socket
 IfOpen _ P = Unit {0}
+
+-- if it is not open yet, this holds
+abbrev pub IfNotYet : {W : Type 0} → Dialled W → Type 0 → Type 0
+IfNotYet NotYet P = P
+IfNotYet _ P = Unit {0}

@@ -1,14 +1,15 @@
 //! How connections are begun and opened, whatever they are used for then.
 
-ghost use Rattle.std.specs.Prelude.{◌≡◌, ◌≢◌, ℕ};
-ghost use Rattle.exchange.specs.Dialling.{CountsBegun, IfUp};
-ghost use Rattle.socket.specs.Begun.{IsBegun, IfOpen};
+ghost use Rattle.std.specs.Prelude.{◌≡◌, ◌≢◌, ℕ, IfOk};
+ghost use Rattle.exchange.specs.Dialling.{CountsBegun, CountsDial, CountsTurn, IfUp};
+ghost use Rattle.socket.specs.Begun.{IsBegun, IfNotYet, IfOpen};
 ghost use Rattle.socket.specs.Sockets.{IsUntouched};
 
 use crate::addresses::Addresses;
 use crate::begun::{Attempt, keep, take};
+use crate::counts::Counts;
 use crate::dialled_socket::{DialledSocket, Progress};
-use exchange::Dialled;
+use exchange::{Dialled, Turned};
 use mio::{Events, Poll, Registry};
 use std::alloc::Global;
 use std::collections::HashMap;
@@ -22,7 +23,8 @@ pub(crate) const MOST_WAIT_MILLISECONDS: u64 = 10;
 /// How many events one turn takes. What is left is seen by the next turn.
 const MOST_EVENTS: usize = 256;
 
-/// What opens connections: those that it has begun, and the poller that knows them.
+/// What opens connections: those that it has begun, the poller that knows them, and its counts,
+/// which rise where the system answers.
 #[derive(Drop)]
 pub(crate) struct Connector<'n, N: Net> {
     net: &'n N,
@@ -30,6 +32,7 @@ pub(crate) struct Connector<'n, N: Net> {
     poll: Poll,
     events: Events,
     pub(crate) begun: HashMap<u64, Attempt>,
+    pub(crate) counts: Counts,
 }
 
 /// How far a connection has come.
@@ -43,28 +46,36 @@ pub(crate) enum Opening {
 }
 
 impl<'n, N: Net> Connector<'n, N> {
-    /// What opens connections to these addresses; nothing is begun.
+    /// What opens connections to these addresses; nothing is begun or counted.
     ///
     /// # Errors
     ///
     /// There is no memory for it, or the system gives no poller.
-    pub(crate) fn new(net: &'n N, alloc: Global, addresses: Addresses) -> io::Result<Self> {
+    pub(crate) fn new(net: &'n N, alloc: Global, addresses: Addresses) -> io::Result<Self>
+        ensures counts { IfOk result (λ connector.
+            connector.counts ≡ record { opened = 0; failures = 0; turn_failures = 0 }) }
+    {
         Ok(Connector {
             net,
             addresses,
             poll: Poll::new(net)?,
             events: Events::with_capacity(alloc, MOST_EVENTS)?,
             begun: HashMap::new(alloc),
+            counts: Counts::new(),
         })
     }
 
     /// Opens a connection to the host of that site for that transfer, or goes on with the one that
     /// was begun for it. The addresses of the host are tried in their order. What is open is
-    /// registered nowhere.
+    /// registered nowhere. A failure is counted.
     pub(crate) fn connect(&mut self, site: u32, transfer: u64) -> Dialled<DialledSocket>
         ensures up { IfUp result (λ socket. IsUntouched socket.connection site transfer) }
+        ensures waits { IfNotYet result (IsBegun self.new.begun transfer) }
         ensures begun { CountsBegun result transfer (IsBegun self.old.begun)
             (IsBegun self.new.begun) }
+        ensures counted { CountsDial result self.old.counts.failures self.new.counts.failures }
+        ensures others { self.new.counts
+            ≡ record self.old.counts { failures = self.new.counts.failures } }
     {
         let opening = match take(&mut self.begun, transfer) {
             Some(attempt) => self.go_on(attempt, site, transfer),
@@ -76,10 +87,14 @@ impl<'n, N: Net> Connector<'n, N> {
                 if keep(&mut self.begun, transfer, attempt) {
                     Dialled::NotYet
                 } else {
+                    self.counts.fail_dial();
                     Dialled::Fault
                 }
             }
-            Opening::Failed => Dialled::Fault,
+            Opening::Failed => {
+                self.counts.fail_dial();
+                Dialled::Fault
+            }
         }
     }
 
@@ -89,6 +104,7 @@ impl<'n, N: Net> Connector<'n, N> {
         ensures others { (other : ℕ) → IsBegun self.new.begun other → IsBegun self.old.begun other }
         ensures kept { (other : ℕ) → other ≢ transfer →
             IsBegun self.old.begun other → IsBegun self.new.begun other }
+        ensures counts { self.new.counts ≡ self.old.counts }
     {
         let _ = take(&mut self.begun, transfer);
     }
@@ -103,13 +119,21 @@ impl<'n, N: Net> Connector<'n, N> {
         self.poll.registry()
     }
 
-    /// Waits until something that is registered is ready, for at most ten milliseconds; whether the
-    /// system let it.
-    pub(crate) fn wait(&mut self) -> bool
-        ensures { self.new.begun ≡ self.old.begun }
+    /// Waits until something that is registered is ready, for at most ten milliseconds. A wait that
+    /// the system refuses is counted.
+    pub(crate) fn wait(&mut self) -> Turned
+        ensures counted { CountsTurn result self.old.counts.turn_failures
+            self.new.counts.turn_failures }
+        ensures others { self.new.counts
+            ≡ record self.old.counts { turn_failures = self.new.counts.turn_failures } }
+        ensures begun { self.new.begun ≡ self.old.begun }
     {
         let most = Duration::from_millis(MOST_WAIT_MILLISECONDS);
-        self.poll.poll(&mut self.events, Some(most)).is_ok()
+        if self.poll.poll(&mut self.events, Some(most)).is_ok() {
+            return Turned::Done;
+        }
+        self.counts.fail_turn();
+        Turned::Fault
     }
 
     // Goes on with an attempt for that transfer and site. One for another is closed.

@@ -5,7 +5,6 @@ ghost use Rattle.std.specs.Prelude.{◌≡◌, IfSome, IfOk};
 use crate::addresses::Addresses;
 use crate::connection::{Connection, is_readable};
 use crate::connector::Connector;
-use crate::counts::Counts;
 use crate::dialled_socket::{DialledSocket, TOKEN};
 use bundle::Lease;
 use exchange::{Dial, Dialled, Read, Turned, Wire, Written};
@@ -97,7 +96,6 @@ impl Wire for PolledWire {
 pub struct PolledDial<'n, N: Net> {
     connector: Connector<'n, N>,
     registry: Arc<Registry>,
-    counts: Counts,
     source: Source,
 }
 
@@ -109,30 +107,29 @@ impl<'n, N: Net> PolledDial<'n, N> {
     /// There is no memory for it, or the system gives no poller.
     pub fn new(net: &'n N, alloc: Global, addresses: Addresses) -> io::Result<Self>
         ensures counts { IfOk result (λ dial.
-            dial.counts ≡ record { opened = 0; failures = 0; turn_failures = 0 }) }
+            dial.connector.counts ≡ record { opened = 0; failures = 0; turn_failures = 0 }) }
     {
         let connector = Connector::new(net, alloc, addresses)?;
         let registry = Arc::new(alloc, connector.registry().try_clone()?)?;
         Ok(PolledDial {
             connector,
             registry,
-            counts: Counts::new(),
             source: Source::new(),
         })
     }
 
     /// How many connections it has opened; the count stays at the greatest `u64`.
     pub fn opened(&self) -> u64
-        ensures { result ≡ self.now.counts.opened }
+        ensures { result ≡ self.now.connector.counts.opened }
     {
-        self.counts.opened
+        self.connector.counts.opened
     }
 
     /// How many connections it could not open; the count stays at the greatest `u64`.
     pub fn failures(&self) -> u64
-        ensures { result ≡ self.now.counts.failures }
+        ensures { result ≡ self.now.connector.counts.failures }
     {
-        self.counts.failures
+        self.connector.counts.failures
     }
 }
 
@@ -140,11 +137,11 @@ impl<'n, N: Net> Dial<PolledWire> for PolledDial<'n, N> {
     ghost use Rattle.std.specs.Prelude.{◌≡◌};
     ghost use Rattle.socket.specs.Begun.{IsBegun};
 
-    ghost failures = { λ dial. dial.counts.failures };
+    ghost failures = { λ dial. dial.connector.counts.failures };
 
-    ghost opened = { λ dial. dial.counts.opened };
+    ghost opened = { λ dial. dial.connector.counts.opened };
 
-    ghost turn_failures = { λ dial. dial.counts.turn_failures };
+    ghost turn_failures = { λ dial. dial.connector.counts.turn_failures };
 
     ghost turned = { λ old new. new.connector.begun ≡ old.connector.begun };
 
@@ -153,16 +150,11 @@ impl<'n, N: Net> Dial<PolledWire> for PolledDial<'n, N> {
     ghost source_name = { λ dial. dial.source.id };
 
     fn dial(&mut self, lease: &Lease<PolledWire>) -> Dialled<PolledWire> {
-        let dialled = match self.connector.connect(lease.site(), lease.transfer()) {
-            Dialled::Up(socket) => match PolledWire::new(socket, &self.registry) {
-                Some(wire) => Dialled::Up(wire),
-                None => Dialled::Fault,
-            },
+        match self.connector.connect(lease.site(), lease.transfer()) {
+            Dialled::Up(socket) => self.connector.counts.note(PolledWire::new(socket, &self.registry)),
             Dialled::NotYet => Dialled::NotYet,
             Dialled::Fault => Dialled::Fault,
-        };
-        self.counts.note(&dialled);
-        dialled
+        }
     }
 
     fn give_up(&mut self, lease: &Lease<PolledWire>) {
@@ -176,11 +168,7 @@ impl<'n, N: Net> Dial<PolledWire> for PolledDial<'n, N> {
     }
 
     fn turn(&mut self) -> Turned {
-        if self.connector.wait() {
-            return Turned::Done;
-        }
-        self.counts.fail_turn();
-        Turned::Fault
+        self.connector.wait()
     }
 
     fn source(&self) -> &Source {

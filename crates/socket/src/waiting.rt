@@ -5,7 +5,6 @@ ghost use Rattle.std.specs.Prelude.{◌≡◌, ℕ, IfSome, IfOk};
 use crate::addresses::Addresses;
 use crate::connection::{Connection, is_readable};
 use crate::connector::{Connector, MOST_WAIT_MILLISECONDS};
-use crate::counts::Counts;
 use crate::dialled_socket::DialledSocket;
 use bundle::Lease;
 use exchange::{Dial, Dialled, Read, Turned, Wire, Written};
@@ -73,7 +72,6 @@ impl Wire for WaitingWire {
 #[derive(Drop)]
 pub struct WaitingDial<'n, N: Net> {
     connector: Connector<'n, N>,
-    counts: Counts,
     source: Source,
 }
 
@@ -85,27 +83,26 @@ impl<'n, N: Net> WaitingDial<'n, N> {
     /// There is no memory for it, or the system gives no poller.
     pub fn new(net: &'n N, alloc: Global, addresses: Addresses) -> io::Result<Self>
         ensures counts { IfOk result (λ dial.
-            dial.counts ≡ record { opened = 0; failures = 0; turn_failures = 0 }) }
+            dial.connector.counts ≡ record { opened = 0; failures = 0; turn_failures = 0 }) }
     {
         Ok(WaitingDial {
             connector: Connector::new(net, alloc, addresses)?,
-            counts: Counts::new(),
             source: Source::new(),
         })
     }
 
     /// How many connections it has opened; the count stays at the greatest `u64`.
     pub fn opened(&self) -> u64
-        ensures { result ≡ self.now.counts.opened }
+        ensures { result ≡ self.now.connector.counts.opened }
     {
-        self.counts.opened
+        self.connector.counts.opened
     }
 
     /// How many connections it could not open; the count stays at the greatest `u64`.
     pub fn failures(&self) -> u64
-        ensures { result ≡ self.now.counts.failures }
+        ensures { result ≡ self.now.connector.counts.failures }
     {
-        self.counts.failures
+        self.connector.counts.failures
     }
 }
 
@@ -113,11 +110,11 @@ impl<'n, N: Net> Dial<WaitingWire> for WaitingDial<'n, N> {
     ghost use Rattle.std.specs.Prelude.{◌≡◌};
     ghost use Rattle.socket.specs.Begun.{IsBegun};
 
-    ghost failures = { λ dial. dial.counts.failures };
+    ghost failures = { λ dial. dial.connector.counts.failures };
 
-    ghost opened = { λ dial. dial.counts.opened };
+    ghost opened = { λ dial. dial.connector.counts.opened };
 
-    ghost turn_failures = { λ dial. dial.counts.turn_failures };
+    ghost turn_failures = { λ dial. dial.connector.counts.turn_failures };
 
     ghost turned = { λ old new. new.connector.begun ≡ old.connector.begun };
 
@@ -126,16 +123,11 @@ impl<'n, N: Net> Dial<WaitingWire> for WaitingDial<'n, N> {
     ghost source_name = { λ dial. dial.source.id };
 
     fn dial(&mut self, lease: &Lease<WaitingWire>) -> Dialled<WaitingWire> {
-        let dialled = match self.connector.connect(lease.site(), lease.transfer()) {
-            Dialled::Up(socket) => match WaitingWire::new(socket) {
-                Some(wire) => Dialled::Up(wire),
-                None => Dialled::Fault,
-            },
+        match self.connector.connect(lease.site(), lease.transfer()) {
+            Dialled::Up(socket) => self.connector.counts.note(WaitingWire::new(socket)),
             Dialled::NotYet => Dialled::NotYet,
             Dialled::Fault => Dialled::Fault,
-        };
-        self.counts.note(&dialled);
-        dialled
+        }
     }
 
     fn give_up(&mut self, lease: &Lease<WaitingWire>) {
@@ -147,11 +139,10 @@ impl<'n, N: Net> Dial<WaitingWire> for WaitingDial<'n, N> {
     }
 
     fn turn(&mut self) -> Turned {
-        if !self.connector.has_begun() || self.connector.wait() {
+        if !self.connector.has_begun() {
             return Turned::Done;
         }
-        self.counts.fail_turn();
-        Turned::Fault
+        self.connector.wait()
     }
 
     fn source(&self) -> &Source {
