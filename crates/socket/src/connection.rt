@@ -5,7 +5,7 @@ ghost use Rattle.exchange.specs.Wires.{Reads, Writes};
 ghost use Rattle.exchange.specs.Wires.Happening.{is_adopted};
 ghost use Rattle.exchange.specs.Dialling.{OnReadFault, OnWriteFault};
 ghost use Rattle.conn_key.specs.Wants.{Rises};
-ghost use Rattle.socket.specs.Sockets.{IsUntouched, HappensTo, Fails, Judges};
+ghost use Rattle.socket.specs.Sockets.{IsUntouched, IsDialledTo, HappensTo, Fails, Judges};
 ghost use Rattle.socket.specs.Streams.{ReadFrom, WrittenTo};
 
 use exchange::{Read, Written};
@@ -13,6 +13,7 @@ use libc::net::{POLLIN, POLLRDHUP, poll};
 use libc::types::pollfd;
 use std::io;
 use std::io::{Error, ErrorKind};
+use std::net::SocketAddr;
 use std::os::fd::AsRawFd;
 
 /// What has happened on a connection.
@@ -26,27 +27,42 @@ pub(crate) enum Condition {
     Unfit,
 }
 
-/// What is known of a connection: to which site's host it was dialled, for which transfer, what has
-/// happened on it, and how often a read or a write failed, counted up to the greatest `u64`.
-#[derive(Clone, Copy, Debug, PartialEq, Eq)]
+/// What is known of a connection: to which site's host and to which address it was dialled, for
+/// which transfer, what has happened on it, and how often a read or a write failed, counted up to
+/// the greatest `u64`.
+#[derive(Clone, Copy, Debug)]
 pub(crate) struct Connection {
     site: u32,
     transfer: u64,
+    address: SocketAddr,
     condition: Condition,
     failures: u64,
 }
 
 impl Connection {
-    /// A connection to the host of that site, for that transfer.
-    pub(crate) fn new(site: u32, transfer: u64) -> Connection
-        ensures { IsUntouched result site transfer }
+    /// A connection to the host of that site at that address, for that transfer.
+    pub(crate) fn new(address: SocketAddr, site: u32, transfer: u64) -> Connection
+        ensures untouched { IsUntouched result site transfer }
+        ensures address { result.address ≡ address }
     {
         Connection {
             site,
             transfer,
+            address,
             condition: Condition::Untouched,
             failures: 0,
         }
+    }
+
+    /// Whether it was dialled for that transfer to the host of that site, which has these addresses,
+    /// and nothing has happened on it yet.
+    pub(crate) fn is_for(&self, addresses: &[SocketAddr], site: u32, transfer: u64) -> bool
+        ensures { result ≡ true → IsDialledTo addresses.now self.now site transfer }
+    {
+        self.site == site
+            && self.transfer == transfer
+            && self.condition == Condition::Untouched
+            && addresses.contains(&self.address)
     }
 
     /// Reads from its socket into the buffer, which must have room.

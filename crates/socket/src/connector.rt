@@ -1,9 +1,11 @@
 //! How connections are begun and opened, whatever they are used for then.
 
-ghost use Rattle.std.specs.Prelude.{◌≡◌, ◌≢◌, ℕ, IfOk};
+ghost use Rattle.std.specs.Prelude.{◌≡◌, ◌≢◌, ℕ, List, Contains, IfOk};
+ghost use Rattle.std.specs.declared.net.socket_addr.SocketAddr.{SocketAddr};
 ghost use Rattle.exchange.specs.Dialling.{CountsBegun, CountsDial, CountsTurn, IfUp};
-ghost use Rattle.socket.specs.Begun.{IsBegun, IfNotYet, IfOpen};
-ghost use Rattle.socket.specs.Sockets.{IsUntouched};
+ghost use Rattle.socket.specs.Begun.{IsBegun, IfNotYet, IfSocket};
+ghost use Rattle.socket.specs.Hosts.{addresses_at};
+ghost use Rattle.socket.specs.Sockets.{IsDialledTo};
 
 use crate::addresses::Addresses;
 use crate::begun::{Attempt, keep, take};
@@ -52,6 +54,7 @@ impl<'n, N: Net> Connector<'n, N> {
     ///
     /// There is no memory for it, or the system gives no poller.
     pub(crate) fn new(net: &'n N, alloc: Global, addresses: Addresses) -> io::Result<Self>
+        ensures addresses { IfOk result (λ connector. connector.addresses ≡ addresses) }
         ensures counts { IfOk result (λ connector.
             connector.counts ≡ record { opened = 0; failures = 0; turn_failures = 0 }) }
     {
@@ -69,7 +72,9 @@ impl<'n, N: Net> Connector<'n, N> {
     /// was begun for it. The addresses of the host are tried in their order. What is open is
     /// registered nowhere. A failure is counted.
     pub(crate) fn connect(&mut self, site: u32, transfer: u64) -> Dialled<DialledSocket>
-        ensures up { IfUp result (λ socket. IsUntouched socket.connection site transfer) }
+        ensures up { IfUp result (λ socket. IsDialledTo
+            (addresses_at self.old.addresses.hosts.items site) socket.connection site transfer) }
+        ensures addresses { self.new.addresses ≡ self.old.addresses }
         ensures waits { IfNotYet result (IsBegun self.new.begun transfer) }
         ensures begun { CountsBegun result transfer (IsBegun self.old.begun)
             (IsBegun self.new.begun) }
@@ -104,6 +109,7 @@ impl<'n, N: Net> Connector<'n, N> {
         ensures others { (other : ℕ) → IsBegun self.new.begun other → IsBegun self.old.begun other }
         ensures kept { (other : ℕ) → other ≢ transfer →
             IsBegun self.old.begun other → IsBegun self.new.begun other }
+        ensures addresses { self.new.addresses ≡ self.old.addresses }
         ensures counts { self.new.counts ≡ self.old.counts }
     {
         let _ = take(&mut self.begun, transfer);
@@ -127,6 +133,7 @@ impl<'n, N: Net> Connector<'n, N> {
         ensures others { self.new.counts
             ≡ record self.old.counts { turn_failures = self.new.counts.turn_failures } }
         ensures begun { self.new.begun ≡ self.old.begun }
+        ensures addresses { self.new.addresses ≡ self.old.addresses }
     {
         let most = Duration::from_millis(MOST_WAIT_MILLISECONDS);
         if self.poll.poll(&mut self.events, Some(most)).is_ok() {
@@ -138,9 +145,10 @@ impl<'n, N: Net> Connector<'n, N> {
 
     // Goes on with an attempt for that transfer and site. One for another is closed.
     fn go_on(&self, attempt: Attempt, site: u32, transfer: u64) -> Opening
-        ensures { IfOpen result (λ socket. IsUntouched socket.connection site transfer) }
+        ensures { IfSocket result (λ socket. IsDialledTo
+            (addresses_at self.now.addresses.hosts.items site) socket.connection site transfer) }
     {
-        if !attempt.socket.is_for(site, transfer) {
+        if !attempt.socket.is_for(self.addresses.of(site), site, transfer) {
             return self.begin(site, transfer, 0);
         }
         match attempt.socket.progress() {
@@ -157,7 +165,8 @@ impl<'n, N: Net> Connector<'n, N> {
     // Begins a connection for that transfer, to the first of the site's addresses that takes one,
     // from that place on.
     fn begin(&self, site: u32, transfer: u64, first: usize) -> Opening
-        ensures { IfOpen result (λ socket. IsUntouched socket.connection site transfer) }
+        ensures { IfSocket result (λ socket. IsDialledTo
+            (addresses_at self.now.addresses.hosts.items site) socket.connection site transfer) }
     {
         let addresses = self.addresses.of(site);
         for place in first..addresses.len() {
@@ -171,7 +180,8 @@ impl<'n, N: Net> Connector<'n, N> {
 
     // Begins a connection for that transfer, to that address.
     fn attempt(&self, address: SocketAddr, site: u32, transfer: u64, next: usize) -> Opening
-        ensures { IfOpen result (λ socket. IsUntouched socket.connection site transfer) }
+        ensures { (addresses : List SocketAddr) → Contains addresses address →
+            IfSocket result (λ socket. IsDialledTo addresses socket.connection site transfer) }
     {
         let Ok(mut socket) = DialledSocket::begin(self.net, address, site, transfer) else {
             return Opening::Failed;

@@ -82,6 +82,7 @@ impl<'n, N: Net> WaitingDial<'n, N> {
     ///
     /// There is no memory for it, or the system gives no poller.
     pub fn new(net: &'n N, alloc: Global, addresses: Addresses) -> io::Result<Self>
+        ensures addresses { IfOk result (λ dial. dial.connector.addresses ≡ addresses) }
         ensures counts { IfOk result (λ dial.
             dial.connector.counts ≡ record { opened = 0; failures = 0; turn_failures = 0 }) }
     {
