@@ -148,7 +148,8 @@ impl<'n, N: Net> Connector<'n, N> {
         ensures { IfSocket result (λ socket. IsDialledTo
             (addresses_at self.now.addresses.hosts.items site) socket.connection site transfer) }
     {
-        if !attempt.socket.is_for(self.addresses.of(site), site, transfer) {
+        let begun = &attempt.socket;
+        if !begun.is_for(self.addresses.of(site), site, transfer) {
             return self.begin(site, transfer, 0);
         }
         match attempt.socket.progress() {

@@ -15,15 +15,16 @@ use std::net::{Net, TcpStream};
 use std::time::Duration;
 
 /// A connection over a socket whose reads and writes wait, at most ten milliseconds each. A request
-/// and its answer take two system calls, and a reused one's look takes a third.
+/// and its answer take two system calls, and a reused one's look takes a third. It is a wire over
+/// every stream, whose bytes contracts may know, but only one over the system's socket can be made.
 #[derive(Drop)]
-pub struct WaitingWire {
-    stream: TcpStream,
+pub struct WaitingWire<S = TcpStream> {
+    stream: S,
     connection: Connection,
     source: Source,
 }
 
-impl WaitingWire {
+impl WaitingWire<TcpStream> {
     // A connection that is open, if the system lets it wait.
     fn new(socket: DialledSocket) -> Option<WaitingWire>
         ensures { IfSome result (λ wire. wire.connection ≡ socket.connection) }
@@ -43,12 +44,14 @@ impl WaitingWire {
     }
 }
 
-impl Wire for WaitingWire {
-    ghost use Rattle.socket.specs.Sockets.{IsUntouched, HappensTo};
+impl<S: io::Read + io::Write + Drop> Wire for WaitingWire<S> {
+    ghost use Rattle.socket.specs.Sockets.{IsUntouched};
+    ghost use Rattle.socket.specs.Streams.{HappensOver};
 
     ghost untouched = { λ wire site transfer. IsUntouched wire.connection site transfer };
 
-    ghost happened = { λ old new happening. HappensTo old.connection new.connection happening };
+    ghost happened = { λ old new happening. HappensOver S.contents S.remaining old.connection
+        new.connection old.stream new.stream happening };
 
     ghost failures = { λ wire. wire.connection.failures };
 
@@ -108,8 +111,11 @@ impl<'n, N: Net> WaitingDial<'n, N> {
 }
 
 impl<'n, N: Net> Dial<WaitingWire> for WaitingDial<'n, N> {
-    ghost use Rattle.std.specs.Prelude.{◌≡◌};
-    ghost use Rattle.socket.specs.Begun.{IsBegun};
+    ghost use Rattle.std.specs.Prelude.{◌≡◌, Contains};
+    ghost use Rattle.exchange.specs.Dialling.{IfUp, CountsDial, OpensOne, CountsBegun};
+    ghost use Rattle.socket.specs.Begun.{IsBegun, IfNotYet};
+    ghost use Rattle.socket.specs.Hosts.{addresses_at};
+    ghost use Rattle.socket.specs.Sockets.{IsUntouched};
 
     ghost failures = { λ dial. dial.connector.counts.failures };
 
@@ -117,13 +123,31 @@ impl<'n, N: Net> Dial<WaitingWire> for WaitingDial<'n, N> {
 
     ghost turn_failures = { λ dial. dial.connector.counts.turn_failures };
 
-    ghost turned = { λ old new. new.connector.begun ≡ old.connector.begun };
+    ghost turned = { λ old new. (new.connector.begun ≡ old.connector.begun)
+        × (new.connector.addresses ≡ old.connector.addresses) };
 
     ghost begun = { λ dial transfer. IsBegun dial.connector.begun transfer };
 
     ghost source_name = { λ dial. dial.source.id };
 
-    fn dial(&mut self, lease: &Lease<WaitingWire>) -> Dialled<WaitingWire> {
+    fn dial(&mut self, lease: &Lease<WaitingWire>) -> Dialled<WaitingWire>
+        ensures up { IfUp result (λ wire.
+            IsUntouched wire.connection lease.now.site lease.now.start.want.transfer) }
+        ensures to { IfUp result (λ wire. Contains (addresses_at
+            self.old.connector.addresses.hosts.items lease.now.site) wire.connection.address) }
+        ensures counted { CountsDial result self.old.connector.counts.failures
+            self.new.connector.counts.failures }
+        ensures opens { OpensOne result self.old.connector.counts.opened
+            self.new.connector.counts.opened }
+        ensures waits { IfNotYet result
+            (IsBegun self.new.connector.begun lease.now.start.want.transfer) }
+        ensures begun { CountsBegun result lease.now.start.want.transfer
+            (IsBegun self.old.connector.begun) (IsBegun self.new.connector.begun) }
+        ensures turns { self.new.connector.counts.turn_failures
+            ≡ self.old.connector.counts.turn_failures }
+        ensures source { self.new.source.id ≡ self.old.source.id }
+        ensures addresses { self.new.connector.addresses ≡ self.old.connector.addresses }
+    {
         match self.connector.connect(lease.site(), lease.transfer()) {
             Dialled::Up(socket) => self.connector.counts.note(WaitingWire::new(socket)),
             Dialled::NotYet => Dialled::NotYet,
