@@ -2,3 +2,4 @@ pub mod Hosts
 pub mod Begun
 pub mod Sockets
 pub mod Streams
+pub mod SystemAnswers

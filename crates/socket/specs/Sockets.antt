@@ -1,5 +1,6 @@
 -- What happens on a connection over a socket, and what it does to what is known of it.
-use Rattle.std.specs.Prelude.{◌≡◌, ◌≢◌, ℕ, Bool, true, false}
+use Rattle.std.specs.Prelude.{◌≡◌, ◌≢◌, ℕ, Bool, true, false, List, Contains}
+use Rattle.std.specs.declared.net.socket_addr.SocketAddr.{SocketAddr}
 use Rattle.conn_key.specs.Wants.{Rises}
 use Rattle.exchange.specs.Wires.{Happening}
 use Rattle.exchange.specs.Wires.Happening.{nothing, is_adopted, takes, gives, ends, fails_to_read, fails_to_write}
@@ -12,6 +13,11 @@ pub record IsUntouched (connection : Connection) (site transfer : ℕ) : Type 0 
   pub its_site : connection.site ≡ site
   pub its_transfer : connection.transfer ≡ transfer
   pub untouched : connection.condition ≡ Untouched
+
+-- it was dialled so, to one of these addresses
+pub record IsDialledTo (addresses : List SocketAddr) (connection : Connection) (site transfer : ℕ) : Type 0 where
+  pub untouched : IsUntouched connection site transfer
+  pub to : Contains addresses connection.address
 
 -- its socket was used, and so it was fit for use
 pub record IsUsed (old new : Connection) : Type 0 where

@@ -1,20 +1,22 @@
--- What a read and a write of a connection do to its stream, where the stream's bytes are known.
-use Rattle.std.specs.Prelude.{ℕ, List, Option, take}
+-- What happens on a connection, and to the bytes of the stream that it goes over.
+use Rattle.std.specs.Prelude.{ℕ, ◌⊎◌, List, Option}
 use Rattle.std.specs.Io.KnownBytes.{Appends, Consumes, IsAtEnd, Keeps}
-use Rattle.exchange.specs.declared.wire.Read.{Read}
-use Rattle.exchange.specs.declared.wire.Read.TheVariants.{Bytes, NotYet as NotReadable, End, Fault as ReadFault}
-use Rattle.exchange.specs.declared.wire.Written.{Written}
-use Rattle.exchange.specs.declared.wire.Written.TheVariants.{Took, NotYet as NotWritable, Fault as WriteFault}
+use Rattle.exchange.specs.Wires.{Happening}
+use Rattle.exchange.specs.Wires.Happening.{nothing, is_adopted, takes, gives, ends, fails_to_read, fails_to_write}
+use Rattle.socket.specs.declared.connection.Connection.{Connection}
+use Rattle.socket.specs.Sockets.{HappensTo}
 
--- a read that answers that, and leaves the buffer so, took the bytes that it tells, and ends where the stream does
-abbrev pub ReadFrom : Option (List ℕ) → Option (List ℕ) → Read → List ℕ → Type 0
-ReadFrom old new (Bytes n) buffer = Consumes old new (take n buffer)
-ReadFrom old new End buffer = IsAtEnd new
-ReadFrom old new NotReadable buffer = Keeps old new
-ReadFrom old new ReadFault buffer = Keeps old new
+-- from the one time to the other this happened: the bytes written, where they are known, grew by those that it takes and
+-- no others, and those that are left to read, where they are known, shrank by those that it gives
+abbrev pub Carries : Option (List ℕ) → Option (List ℕ) → Option (List ℕ) → Option (List ℕ) → Happening → Type 0
+Carries written written' left left' nothing = Keeps written written' ⊎ Keeps left left'
+Carries written written' left left' is_adopted = Keeps written written' × Keeps left left'
+Carries written written' left left' (takes bytes) = Appends written written' bytes
+Carries written written' left left' (gives bytes) = Consumes left left' bytes
+Carries written written' left left' ends = IsAtEnd left'
+Carries written written' left left' fails_to_read = Keeps left left'
+Carries written written' left left' fails_to_write = Keeps written written'
 
--- a write that answers that put the bytes that it tells
-abbrev pub WrittenTo : Option (List ℕ) → Option (List ℕ) → Written → List ℕ → Type 0
-WrittenTo old new (Took n) bytes = Appends old new (take n bytes)
-WrittenTo old new NotWritable bytes = Keeps old new
-WrittenTo old new WriteFault bytes = Keeps old new
+-- this happened on a connection over that stream
+abbrev pub HappensOver : {S : Type 0} → (S → Option (List ℕ)) → (S → Option (List ℕ)) → Connection → Connection → S → S → Happening → Type 0
+HappensOver contents remaining old new before after happening = HappensTo old new happening × Carries (contents before) (contents after) (remaining before) (remaining after) happening

@@ -1,6 +1,6 @@
 //! The connections that a dial has begun, by the transfer for which it did.
 
-ghost use Rattle.std.specs.Prelude.{◌≡◌, ◌≢◌, ℕ, false};
+ghost use Rattle.std.specs.Prelude.{◌≡◌, ◌≢◌, ℕ, true, false};
 ghost use Rattle.socket.specs.Begun.{IsBegun};
 
 use crate::dialled_socket::DialledSocket;
@@ -30,6 +30,7 @@ pub(crate) fn keep(begun: &mut HashMap<u64, Attempt>, transfer: u64, attempt: At
     ensures others { (other : ℕ) → other ≢ transfer →
         IsBegun begun.new other → IsBegun begun.old other }
     ensures kept { (other : ℕ) → IsBegun begun.old other → IsBegun begun.new other }
+    ensures own { result ≡ true → IsBegun begun.new transfer }
     ensures closed { result ≡ false → (other : ℕ) →
         IsBegun begun.new other → IsBegun begun.old other }
 {

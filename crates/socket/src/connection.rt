@@ -5,14 +5,22 @@ ghost use Rattle.exchange.specs.Wires.{Reads, Writes};
 ghost use Rattle.exchange.specs.Wires.Happening.{is_adopted};
 ghost use Rattle.exchange.specs.Dialling.{OnReadFault, OnWriteFault};
 ghost use Rattle.conn_key.specs.Wants.{Rises};
-ghost use Rattle.socket.specs.Sockets.{IsUntouched, HappensTo, Fails, Judges};
-ghost use Rattle.socket.specs.Streams.{ReadFrom, WrittenTo};
+ghost use Rattle.socket.specs.Sockets.{IsUntouched, IsDialledTo, HappensTo, Fails, Judges};
+ghost use Rattle.socket.specs.Streams.{HappensOver};
+ghost use Rattle.socket.specs.SystemAnswers.{
+  IsTemporary,
+  TellsRead,
+  TellsWrite,
+  NotesRead,
+  NotesWrite,
+};
 
 use exchange::{Read, Written};
 use libc::net::{POLLIN, POLLRDHUP, poll};
 use libc::types::pollfd;
 use std::io;
-use std::io::{Error, ErrorKind};
+use std::io::ErrorKind;
+use std::net::SocketAddr;
 use std::os::fd::AsRawFd;
 
 /// What has happened on a connection.
@@ -26,42 +34,84 @@ pub(crate) enum Condition {
     Unfit,
 }
 
-/// What is known of a connection: to which site's host it was dialled, for which transfer, what has
-/// happened on it, and how often a read or a write failed, counted up to the greatest `u64`.
-#[derive(Clone, Copy, Debug, PartialEq, Eq)]
+/// What is known of a connection: to which site's host and to which address it was dialled, for
+/// which transfer, what has happened on it, and how often a read or a write failed, counted up to
+/// the greatest `u64`.
+#[derive(Clone, Copy, Debug)]
 pub(crate) struct Connection {
     site: u32,
     transfer: u64,
+    address: SocketAddr,
     condition: Condition,
     failures: u64,
 }
 
 impl Connection {
-    /// A connection to the host of that site, for that transfer.
-    pub(crate) fn new(site: u32, transfer: u64) -> Connection
-        ensures { IsUntouched result site transfer }
+    /// A connection to the host of that site at that address, for that transfer.
+    pub(crate) fn new(address: SocketAddr, site: u32, transfer: u64) -> Connection
+        ensures untouched { IsUntouched result site transfer }
+        ensures address { result.address ≡ address }
     {
         Connection {
             site,
             transfer,
+            address,
             condition: Condition::Untouched,
             failures: 0,
         }
     }
 
-    /// Reads from its socket into the buffer, which must have room.
-    pub(crate) fn read<S: io::Read>(&mut self, socket: &mut S, buffer: &mut [u8]) -> Read
+    /// Whether it was dialled for that transfer to the host of that site, which has these addresses,
+    /// and nothing has happened on it yet.
+    pub(crate) fn is_for(&self, addresses: &[SocketAddr], site: u32, transfer: u64) -> bool
+        ensures { result ≡ true → IsDialledTo addresses.now self.now site transfer }
+    {
+        self.site == site
+            && self.transfer == transfer
+            && self.condition == Condition::Untouched
+            && addresses.contains(&self.address)
+    }
+
+    /// Reads from its stream into the buffer, which must have room.
+    pub(crate) fn read<S: io::Read + io::Write>(
+        &mut self,
+        stream: &mut S,
+        buffer: &mut [u8],
+    ) -> Read
         requires { 0 < length buffer.old }
-        ensures bytes { ReadFrom (S.remaining socket.old) (S.remaining socket.new) result
-            buffer.new }
-        ensures reads { Reads buffer.new (HappensTo self.old self.new) result }
+        ensures reads { Reads buffer.new (HappensOver S.contents S.remaining self.old self.new
+            stream.old stream.new) result }
         ensures fault { OnReadFault result (Rises self.old.failures self.new.failures) }
     {
         if self.condition == Condition::Unfit {
             self.fail();
             return Read::Fault;
         }
-        match socket.read(buffer) {
+        let answered = stream.read(buffer);
+        self.note_read(answered)
+    }
+
+    /// Writes a front of the bytes to its stream, of which there must be one.
+    pub(crate) fn write<S: io::Read + io::Write>(&mut self, stream: &mut S, bytes: &[u8]) -> Written
+        requires { 0 < length bytes.now }
+        ensures writes { Writes bytes.now (HappensOver S.contents S.remaining self.old self.new
+            stream.old stream.new) result }
+        ensures fault { OnWriteFault result (Rises self.old.failures self.new.failures) }
+    {
+        if self.condition == Condition::Unfit {
+            self.fail();
+            return Written::Fault;
+        }
+        let answered = stream.write(bytes);
+        self.note_write(answered)
+    }
+
+    // Notes what the system answered to a read, and tells it.
+    fn note_read(&mut self, answered: io::Result<usize>) -> Read
+        ensures told { TellsRead answered result }
+        ensures noted { NotesRead result self.old self.new }
+    {
+        match answered {
             Ok(0) => {
                 self.condition = Condition::Used;
                 Read::End
@@ -71,7 +121,7 @@ impl Connection {
                 Read::Bytes(count)
             }
             Err(error) => {
-                if is_not_yet(&error) {
+                if is_temporary(error.kind()) {
                     return Read::NotYet;
                 }
                 self.fail();
@@ -80,19 +130,12 @@ impl Connection {
         }
     }
 
-    /// Writes a front of the bytes to its socket, of which there must be one.
-    pub(crate) fn write<S: io::Write>(&mut self, socket: &mut S, bytes: &[u8]) -> Written
-        requires { 0 < length bytes.now }
-        ensures bytes { WrittenTo (S.contents socket.old) (S.contents socket.new) result
-            bytes.now }
-        ensures writes { Writes bytes.now (HappensTo self.old self.new) result }
-        ensures fault { OnWriteFault result (Rises self.old.failures self.new.failures) }
+    // Notes what the system answered to a write, and tells it.
+    fn note_write(&mut self, answered: io::Result<usize>) -> Written
+        ensures told { TellsWrite answered result }
+        ensures noted { NotesWrite result self.old self.new }
     {
-        if self.condition == Condition::Unfit {
-            self.fail();
-            return Written::Fault;
-        }
-        match socket.write(bytes) {
+        match answered {
             Ok(0) => {
                 self.fail();
                 Written::Fault
@@ -102,7 +145,7 @@ impl Connection {
                 Written::Took(count)
             }
             Err(error) => {
-                if is_not_yet(&error) {
+                if is_temporary(error.kind()) {
                     return Written::NotYet;
                 }
                 self.fail();
@@ -135,10 +178,13 @@ impl Connection {
     }
 }
 
-/// Whether a call has only to be made again: it would wait, or its time is up, which the system
-/// tells as one error (the manual page socket(7), at SO_RCVTIMEO), or a signal came.
-fn is_not_yet(error: &Error) -> bool {
-    matches!(error.kind(), ErrorKind::WouldBlock | ErrorKind::Interrupted)
+/// Whether a call that failed so has only to be made again: it would wait, or its time is up, which
+/// the system tells as one error (the manual page socket(7), at SO_RCVTIMEO), or a signal came.
+fn is_temporary(kind: ErrorKind) -> bool
+    ensures again { result ≡ true → IsTemporary kind }
+    ensures fails { IsTemporary kind → result ≡ true }
+{
+    matches!(kind, ErrorKind::WouldBlock | ErrorKind::Interrupted)
 }
 
 /// How often a look is tried that a signal may have interrupted.

@@ -1,14 +1,17 @@
 //! How connections are begun and opened, whatever they are used for then.
 
-ghost use Rattle.std.specs.Prelude.{◌≡◌, ◌≢◌, ℕ};
-ghost use Rattle.exchange.specs.Dialling.{CountsBegun, IfUp};
-ghost use Rattle.socket.specs.Begun.{IsBegun, IfOpen};
-ghost use Rattle.socket.specs.Sockets.{IsUntouched};
+ghost use Rattle.std.specs.Prelude.{◌≡◌, ◌≢◌, ℕ, List, Contains, IfOk};
+ghost use Rattle.std.specs.declared.net.socket_addr.SocketAddr.{SocketAddr};
+ghost use Rattle.exchange.specs.Dialling.{CountsBegun, CountsDial, CountsTurn, IfUp};
+ghost use Rattle.socket.specs.Begun.{IsBegun, IfNotYet, IfSocket};
+ghost use Rattle.socket.specs.Hosts.{addresses_at};
+ghost use Rattle.socket.specs.Sockets.{IsDialledTo};
 
 use crate::addresses::Addresses;
 use crate::begun::{Attempt, keep, take};
+use crate::counts::Counts;
 use crate::dialled_socket::{DialledSocket, Progress};
-use exchange::Dialled;
+use exchange::{Dialled, Turned};
 use mio::{Events, Poll, Registry};
 use std::alloc::Global;
 use std::collections::HashMap;
@@ -22,7 +25,8 @@ pub(crate) const MOST_WAIT_MILLISECONDS: u64 = 10;
 /// How many events one turn takes. What is left is seen by the next turn.
 const MOST_EVENTS: usize = 256;
 
-/// What opens connections: those that it has begun, and the poller that knows them.
+/// What opens connections: those that it has begun, the poller that knows them, and its counts,
+/// which rise where the system answers.
 #[derive(Drop)]
 pub(crate) struct Connector<'n, N: Net> {
     net: &'n N,
@@ -30,6 +34,7 @@ pub(crate) struct Connector<'n, N: Net> {
     poll: Poll,
     events: Events,
     pub(crate) begun: HashMap<u64, Attempt>,
+    pub(crate) counts: Counts,
 }
 
 /// How far a connection has come.
@@ -43,28 +48,39 @@ pub(crate) enum Opening {
 }
 
 impl<'n, N: Net> Connector<'n, N> {
-    /// What opens connections to these addresses; nothing is begun.
+    /// What opens connections to these addresses; nothing is begun or counted.
     ///
     /// # Errors
     ///
     /// There is no memory for it, or the system gives no poller.
-    pub(crate) fn new(net: &'n N, alloc: Global, addresses: Addresses) -> io::Result<Self> {
+    pub(crate) fn new(net: &'n N, alloc: Global, addresses: Addresses) -> io::Result<Self>
+        ensures addresses { IfOk result (λ connector. connector.addresses ≡ addresses) }
+        ensures counts { IfOk result (λ connector.
+            connector.counts ≡ record { opened = 0; failures = 0; turn_failures = 0 }) }
+    {
         Ok(Connector {
             net,
             addresses,
             poll: Poll::new(net)?,
             events: Events::with_capacity(alloc, MOST_EVENTS)?,
             begun: HashMap::new(alloc),
+            counts: Counts::new(),
         })
     }
 
     /// Opens a connection to the host of that site for that transfer, or goes on with the one that
     /// was begun for it. The addresses of the host are tried in their order. What is open is
-    /// registered nowhere.
+    /// registered nowhere. A failure is counted.
     pub(crate) fn connect(&mut self, site: u32, transfer: u64) -> Dialled<DialledSocket>
-        ensures up { IfUp result (λ socket. IsUntouched socket.connection site transfer) }
+        ensures up { IfUp result (λ socket. IsDialledTo
+            (addresses_at self.old.addresses.hosts.items site) socket.connection site transfer) }
+        ensures addresses { self.new.addresses ≡ self.old.addresses }
+        ensures waits { IfNotYet result (IsBegun self.new.begun transfer) }
         ensures begun { CountsBegun result transfer (IsBegun self.old.begun)
             (IsBegun self.new.begun) }
+        ensures counted { CountsDial result self.old.counts.failures self.new.counts.failures }
+        ensures others { self.new.counts
+            ≡ record self.old.counts { failures = self.new.counts.failures } }
     {
         let opening = match take(&mut self.begun, transfer) {
             Some(attempt) => self.go_on(attempt, site, transfer),
@@ -76,10 +92,14 @@ impl<'n, N: Net> Connector<'n, N> {
                 if keep(&mut self.begun, transfer, attempt) {
                     Dialled::NotYet
                 } else {
+                    self.counts.fail_dial();
                     Dialled::Fault
                 }
             }
-            Opening::Failed => Dialled::Fault,
+            Opening::Failed => {
+                self.counts.fail_dial();
+                Dialled::Fault
+            }
         }
     }
 
@@ -89,6 +109,8 @@ impl<'n, N: Net> Connector<'n, N> {
         ensures others { (other : ℕ) → IsBegun self.new.begun other → IsBegun self.old.begun other }
         ensures kept { (other : ℕ) → other ≢ transfer →
             IsBegun self.old.begun other → IsBegun self.new.begun other }
+        ensures addresses { self.new.addresses ≡ self.old.addresses }
+        ensures counts { self.new.counts ≡ self.old.counts }
     {
         let _ = take(&mut self.begun, transfer);
     }
@@ -103,20 +125,31 @@ impl<'n, N: Net> Connector<'n, N> {
         self.poll.registry()
     }
 
-    /// Waits until something that is registered is ready, for at most ten milliseconds; whether the
-    /// system let it.
-    pub(crate) fn wait(&mut self) -> bool
-        ensures { self.new.begun ≡ self.old.begun }
+    /// Waits until something that is registered is ready, for at most ten milliseconds. A wait that
+    /// the system refuses is counted.
+    pub(crate) fn wait(&mut self) -> Turned
+        ensures counted { CountsTurn result self.old.counts.turn_failures
+            self.new.counts.turn_failures }
+        ensures others { self.new.counts
+            ≡ record self.old.counts { turn_failures = self.new.counts.turn_failures } }
+        ensures begun { self.new.begun ≡ self.old.begun }
+        ensures addresses { self.new.addresses ≡ self.old.addresses }
     {
         let most = Duration::from_millis(MOST_WAIT_MILLISECONDS);
-        self.poll.poll(&mut self.events, Some(most)).is_ok()
+        if self.poll.poll(&mut self.events, Some(most)).is_ok() {
+            return Turned::Done;
+        }
+        self.counts.fail_turn();
+        Turned::Fault
     }
 
     // Goes on with an attempt for that transfer and site. One for another is closed.
     fn go_on(&self, attempt: Attempt, site: u32, transfer: u64) -> Opening
-        ensures { IfOpen result (λ socket. IsUntouched socket.connection site transfer) }
+        ensures { IfSocket result (λ socket. IsDialledTo
+            (addresses_at self.now.addresses.hosts.items site) socket.connection site transfer) }
     {
-        if !attempt.socket.is_for(site, transfer) {
+        let begun = &attempt.socket;
+        if !begun.is_for(self.addresses.of(site), site, transfer) {
             return self.begin(site, transfer, 0);
         }
         match attempt.socket.progress() {
@@ -133,7 +166,8 @@ impl<'n, N: Net> Connector<'n, N> {
     // Begins a connection for that transfer, to the first of the site's addresses that takes one,
     // from that place on.
     fn begin(&self, site: u32, transfer: u64, first: usize) -> Opening
-        ensures { IfOpen result (λ socket. IsUntouched socket.connection site transfer) }
+        ensures { IfSocket result (λ socket. IsDialledTo
+            (addresses_at self.now.addresses.hosts.items site) socket.connection site transfer) }
     {
         let addresses = self.addresses.of(site);
         for place in first..addresses.len() {
@@ -147,7 +181,8 @@ impl<'n, N: Net> Connector<'n, N> {
 
     // Begins a connection for that transfer, to that address.
     fn attempt(&self, address: SocketAddr, site: u32, transfer: u64, next: usize) -> Opening
-        ensures { IfOpen result (λ socket. IsUntouched socket.connection site transfer) }
+        ensures { (addresses : List SocketAddr) → Contains addresses address →
+            IfSocket result (λ socket. IsDialledTo addresses socket.connection site transfer) }
     {
         let Ok(mut socket) = DialledSocket::begin(self.net, address, site, transfer) else {
             return Opening::Failed;

@@ -2,7 +2,8 @@
 
 ghost use Rattle.std.specs.Prelude.{◌≡◌};
 ghost use Rattle.conn_key.specs.Wants.{Rises};
-ghost use Rattle.exchange.specs.Dialling.{CountsDial, OpensOne};
+ghost use Rattle.exchange.specs.Dialling.{CountsDial, IfUp, OpensOne};
+ghost use Rattle.socket.specs.Begun.{IfNotYet};
 
 use exchange::Dialled;
 
@@ -27,17 +28,32 @@ impl Counts {
         }
     }
 
-    /// Counts what came of a dial.
-    pub(crate) fn note<W: Drop>(&mut self, dialled: &Dialled<W>)
-        ensures failures { CountsDial dialled.now self.old.failures self.new.failures }
-        ensures opened { OpensOne dialled.now self.old.opened self.new.opened }
+    /// Counts a connection that is open if there is a wire over it, and a failure if there is none.
+    pub(crate) fn note<W: Drop>(&mut self, wire: Option<W>) -> Dialled<W>
+        ensures up { IfUp result (λ made. wire ≡ Some made) }
+        ensures over { IfNotYet result ⊥ }
+        ensures failures { CountsDial result self.old.failures self.new.failures }
+        ensures opened { OpensOne result self.old.opened self.new.opened }
         ensures turns { self.new.turn_failures ≡ self.old.turn_failures }
     {
-        match dialled {
-            Dialled::Up(_) => self.opened = self.opened.saturating_add(1),
-            Dialled::NotYet => {}
-            Dialled::Fault => self.failures = self.failures.saturating_add(1),
+        match wire {
+            Some(made) => {
+                self.opened = self.opened.saturating_add(1);
+                Dialled::Up(made)
+            }
+            None => {
+                self.fail_dial();
+                Dialled::Fault
+            }
         }
+    }
+
+    /// A connection could not be opened.
+    pub(crate) fn fail_dial(&mut self)
+        ensures rises { Rises self.old.failures self.new.failures }
+        ensures others { self.new ≡ record self.old { failures = self.new.failures } }
+    {
+        self.failures = self.failures.saturating_add(1);
     }
 
     /// A turn failed.

@@ -1,7 +1,7 @@
 //! Sockets that were begun for a transfer. Only here are a socket and what is known of it paired.
 
 ghost use Rattle.std.specs.Prelude.{◌≡◌, true, IfOk};
-ghost use Rattle.socket.specs.Sockets.{IsUntouched};
+ghost use Rattle.socket.specs.Sockets.{IsUntouched, IsDialledTo};
 
 use crate::connection::Connection;
 use mio::net::TcpStream;
@@ -40,19 +40,20 @@ impl DialledSocket {
         site: u32,
         transfer: u64,
     ) -> io::Result<DialledSocket>
-        ensures { IfOk result (λ socket. IsUntouched socket.connection site transfer) }
+        ensures untouched { IfOk result (λ socket. IsUntouched socket.connection site transfer) }
+        ensures address { IfOk result (λ socket. socket.connection.address ≡ address) }
     {
         Ok(DialledSocket {
             stream: TcpStream::connect(net, address)?,
-            connection: Connection::new(site, transfer),
+            connection: Connection::new(address, site, transfer),
         })
     }
 
-    /// Whether it was begun for that transfer, to the host of that site.
-    pub(crate) fn is_for(&self, site: u32, transfer: u64) -> bool
-        ensures { result ≡ true → IsUntouched self.now.connection site transfer }
+    /// Whether it was begun for that transfer, to the host of that site, which has these addresses.
+    pub(crate) fn is_for(&self, addresses: &[SocketAddr], site: u32, transfer: u64) -> bool
+        ensures { result ≡ true → IsDialledTo addresses.now self.now.connection site transfer }
     {
-        self.connection == Connection::new(site, transfer)
+        self.connection.is_for(addresses, site, transfer)
     }
 
     /// Whether it is open (the manual page connect(2), at EINPROGRESS).

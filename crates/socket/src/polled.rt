@@ -5,7 +5,6 @@ ghost use Rattle.std.specs.Prelude.{◌≡◌, IfSome, IfOk};
 use crate::addresses::Addresses;
 use crate::connection::{Connection, is_readable};
 use crate::connector::Connector;
-use crate::counts::Counts;
 use crate::dialled_socket::{DialledSocket, TOKEN};
 use bundle::Lease;
 use exchange::{Dial, Dialled, Read, Turned, Wire, Written};
@@ -19,17 +18,18 @@ use std::os::fd::AsRawFd;
 use std::sync::Arc;
 
 /// A connection over a socket whose reads and writes never wait. The poller of the dial that drives
-/// it knows it, and ends a turn once more can be read than before.
+/// it knows it, and ends a turn once more can be read than before. It is a wire over every stream,
+/// whose bytes contracts may know, but only one over the system's socket can be made.
 #[derive(Drop)]
-pub struct PolledWire {
-    stream: TcpStream,
+pub struct PolledWire<S = TcpStream> {
+    stream: S,
     connection: Connection,
     // What knows it.
     registry: Arc<Registry>,
     source: Source,
 }
 
-impl PolledWire {
+impl PolledWire<TcpStream> {
     // A connection that is open, if that registry takes it.
     fn new(socket: DialledSocket, registry: &Arc<Registry>) -> Option<PolledWire>
         ensures { IfSome result (λ wire. wire.connection ≡ socket.connection) }
@@ -68,12 +68,14 @@ impl PolledWire {
     }
 }
 
-impl Wire for PolledWire {
-    ghost use Rattle.socket.specs.Sockets.{IsUntouched, HappensTo};
+impl<S: io::Read + io::Write + Drop> Wire for PolledWire<S> {
+    ghost use Rattle.socket.specs.Sockets.{IsUntouched};
+    ghost use Rattle.socket.specs.Streams.{HappensOver};
 
     ghost untouched = { λ wire site transfer. IsUntouched wire.connection site transfer };
 
-    ghost happened = { λ old new happening. HappensTo old.connection new.connection happening };
+    ghost happened = { λ old new happening. HappensOver S.contents S.remaining old.connection
+        new.connection old.stream new.stream happening };
 
     ghost failures = { λ wire. wire.connection.failures };
 
@@ -97,7 +99,6 @@ impl Wire for PolledWire {
 pub struct PolledDial<'n, N: Net> {
     connector: Connector<'n, N>,
     registry: Arc<Registry>,
-    counts: Counts,
     source: Source,
 }
 
@@ -108,61 +109,80 @@ impl<'n, N: Net> PolledDial<'n, N> {
     ///
     /// There is no memory for it, or the system gives no poller.
     pub fn new(net: &'n N, alloc: Global, addresses: Addresses) -> io::Result<Self>
+        ensures addresses { IfOk result (λ dial. dial.connector.addresses ≡ addresses) }
         ensures counts { IfOk result (λ dial.
-            dial.counts ≡ record { opened = 0; failures = 0; turn_failures = 0 }) }
+            dial.connector.counts ≡ record { opened = 0; failures = 0; turn_failures = 0 }) }
     {
         let connector = Connector::new(net, alloc, addresses)?;
         let registry = Arc::new(alloc, connector.registry().try_clone()?)?;
         Ok(PolledDial {
             connector,
             registry,
-            counts: Counts::new(),
             source: Source::new(),
         })
     }
 
     /// How many connections it has opened; the count stays at the greatest `u64`.
     pub fn opened(&self) -> u64
-        ensures { result ≡ self.now.counts.opened }
+        ensures { result ≡ self.now.connector.counts.opened }
     {
-        self.counts.opened
+        self.connector.counts.opened
     }
 
     /// How many connections it could not open; the count stays at the greatest `u64`.
     pub fn failures(&self) -> u64
-        ensures { result ≡ self.now.counts.failures }
+        ensures { result ≡ self.now.connector.counts.failures }
     {
-        self.counts.failures
+        self.connector.counts.failures
     }
 }
 
 impl<'n, N: Net> Dial<PolledWire> for PolledDial<'n, N> {
-    ghost use Rattle.std.specs.Prelude.{◌≡◌};
-    ghost use Rattle.socket.specs.Begun.{IsBegun};
+    ghost use Rattle.std.specs.Prelude.{◌≡◌, Contains};
+    ghost use Rattle.exchange.specs.Dialling.{IfUp, CountsDial, OpensOne, CountsBegun};
+    ghost use Rattle.socket.specs.Begun.{IsBegun, IfNotYet};
+    ghost use Rattle.socket.specs.Hosts.{addresses_at};
+    ghost use Rattle.socket.specs.Sockets.{IsUntouched};
 
-    ghost failures = { λ dial. dial.counts.failures };
+    ghost failures = { λ dial. dial.connector.counts.failures };
 
-    ghost opened = { λ dial. dial.counts.opened };
+    ghost opened = { λ dial. dial.connector.counts.opened };
 
-    ghost turn_failures = { λ dial. dial.counts.turn_failures };
+    ghost turn_failures = { λ dial. dial.connector.counts.turn_failures };
 
-    ghost turned = { λ old new. new.connector.begun ≡ old.connector.begun };
+    ghost turned = { λ old new. (new.connector.begun ≡ old.connector.begun)
+        × (new.connector.addresses ≡ old.connector.addresses) };
 
     ghost begun = { λ dial transfer. IsBegun dial.connector.begun transfer };
 
     ghost source_name = { λ dial. dial.source.id };
 
-    fn dial(&mut self, lease: &Lease<PolledWire>) -> Dialled<PolledWire> {
-        let dialled = match self.connector.connect(lease.site(), lease.transfer()) {
-            Dialled::Up(socket) => match PolledWire::new(socket, &self.registry) {
-                Some(wire) => Dialled::Up(wire),
-                None => Dialled::Fault,
-            },
+    fn dial(&mut self, lease: &Lease<PolledWire>) -> Dialled<PolledWire>
+        ensures up { IfUp result (λ wire.
+            IsUntouched wire.connection lease.now.site lease.now.start.want.transfer) }
+        ensures to { IfUp result (λ wire. Contains (addresses_at
+            self.old.connector.addresses.hosts.items lease.now.site) wire.connection.address) }
+        ensures counted { CountsDial result self.old.connector.counts.failures
+            self.new.connector.counts.failures }
+        ensures opens { OpensOne result self.old.connector.counts.opened
+            self.new.connector.counts.opened }
+        ensures waits { IfNotYet result
+            (IsBegun self.new.connector.begun lease.now.start.want.transfer) }
+        ensures begun { CountsBegun result lease.now.start.want.transfer
+            (IsBegun self.old.connector.begun) (IsBegun self.new.connector.begun) }
+        ensures turns { self.new.connector.counts.turn_failures
+            ≡ self.old.connector.counts.turn_failures }
+        ensures source { self.new.source.id ≡ self.old.source.id }
+        ensures addresses { self.new.connector.addresses ≡ self.old.connector.addresses }
+    {
+        match self.connector.connect(lease.site(), lease.transfer()) {
+            Dialled::Up(socket) => self
+                .connector
+                .counts
+                .note(PolledWire::new(socket, &self.registry)),
             Dialled::NotYet => Dialled::NotYet,
             Dialled::Fault => Dialled::Fault,
-        };
-        self.counts.note(&dialled);
-        dialled
+        }
     }
 
     fn give_up(&mut self, lease: &Lease<PolledWire>) {
@@ -176,11 +196,7 @@ impl<'n, N: Net> Dial<PolledWire> for PolledDial<'n, N> {
     }
 
     fn turn(&mut self) -> Turned {
-        if self.connector.wait() {
-            return Turned::Done;
-        }
-        self.counts.fail_turn();
-        Turned::Fault
+        self.connector.wait()
     }
 
     fn source(&self) -> &Source {

@@ -5,7 +5,6 @@ ghost use Rattle.std.specs.Prelude.{◌≡◌, ℕ, IfSome, IfOk};
 use crate::addresses::Addresses;
 use crate::connection::{Connection, is_readable};
 use crate::connector::{Connector, MOST_WAIT_MILLISECONDS};
-use crate::counts::Counts;
 use crate::dialled_socket::DialledSocket;
 use bundle::Lease;
 use exchange::{Dial, Dialled, Read, Turned, Wire, Written};
@@ -16,15 +15,16 @@ use std::net::{Net, TcpStream};
 use std::time::Duration;
 
 /// A connection over a socket whose reads and writes wait, at most ten milliseconds each. A request
-/// and its answer take two system calls, and a reused one's look takes a third.
+/// and its answer take two system calls, and a reused one's look takes a third. It is a wire over
+/// every stream, whose bytes contracts may know, but only one over the system's socket can be made.
 #[derive(Drop)]
-pub struct WaitingWire {
-    stream: TcpStream,
+pub struct WaitingWire<S = TcpStream> {
+    stream: S,
     connection: Connection,
     source: Source,
 }
 
-impl WaitingWire {
+impl WaitingWire<TcpStream> {
     // A connection that is open, if the system lets it wait.
     fn new(socket: DialledSocket) -> Option<WaitingWire>
         ensures { IfSome result (λ wire. wire.connection ≡ socket.connection) }
@@ -44,12 +44,14 @@ impl WaitingWire {
     }
 }
 
-impl Wire for WaitingWire {
-    ghost use Rattle.socket.specs.Sockets.{IsUntouched, HappensTo};
+impl<S: io::Read + io::Write + Drop> Wire for WaitingWire<S> {
+    ghost use Rattle.socket.specs.Sockets.{IsUntouched};
+    ghost use Rattle.socket.specs.Streams.{HappensOver};
 
     ghost untouched = { λ wire site transfer. IsUntouched wire.connection site transfer };
 
-    ghost happened = { λ old new happening. HappensTo old.connection new.connection happening };
+    ghost happened = { λ old new happening. HappensOver S.contents S.remaining old.connection
+        new.connection old.stream new.stream happening };
 
     ghost failures = { λ wire. wire.connection.failures };
 
@@ -73,7 +75,6 @@ impl Wire for WaitingWire {
 #[derive(Drop)]
 pub struct WaitingDial<'n, N: Net> {
     connector: Connector<'n, N>,
-    counts: Counts,
     source: Source,
 }
 
@@ -84,58 +85,74 @@ impl<'n, N: Net> WaitingDial<'n, N> {
     ///
     /// There is no memory for it, or the system gives no poller.
     pub fn new(net: &'n N, alloc: Global, addresses: Addresses) -> io::Result<Self>
+        ensures addresses { IfOk result (λ dial. dial.connector.addresses ≡ addresses) }
         ensures counts { IfOk result (λ dial.
-            dial.counts ≡ record { opened = 0; failures = 0; turn_failures = 0 }) }
+            dial.connector.counts ≡ record { opened = 0; failures = 0; turn_failures = 0 }) }
     {
         Ok(WaitingDial {
             connector: Connector::new(net, alloc, addresses)?,
-            counts: Counts::new(),
             source: Source::new(),
         })
     }
 
     /// How many connections it has opened; the count stays at the greatest `u64`.
     pub fn opened(&self) -> u64
-        ensures { result ≡ self.now.counts.opened }
+        ensures { result ≡ self.now.connector.counts.opened }
     {
-        self.counts.opened
+        self.connector.counts.opened
     }
 
     /// How many connections it could not open; the count stays at the greatest `u64`.
     pub fn failures(&self) -> u64
-        ensures { result ≡ self.now.counts.failures }
+        ensures { result ≡ self.now.connector.counts.failures }
     {
-        self.counts.failures
+        self.connector.counts.failures
     }
 }
 
 impl<'n, N: Net> Dial<WaitingWire> for WaitingDial<'n, N> {
-    ghost use Rattle.std.specs.Prelude.{◌≡◌};
-    ghost use Rattle.socket.specs.Begun.{IsBegun};
+    ghost use Rattle.std.specs.Prelude.{◌≡◌, Contains};
+    ghost use Rattle.exchange.specs.Dialling.{IfUp, CountsDial, OpensOne, CountsBegun};
+    ghost use Rattle.socket.specs.Begun.{IsBegun, IfNotYet};
+    ghost use Rattle.socket.specs.Hosts.{addresses_at};
+    ghost use Rattle.socket.specs.Sockets.{IsUntouched};
 
-    ghost failures = { λ dial. dial.counts.failures };
+    ghost failures = { λ dial. dial.connector.counts.failures };
 
-    ghost opened = { λ dial. dial.counts.opened };
+    ghost opened = { λ dial. dial.connector.counts.opened };
 
-    ghost turn_failures = { λ dial. dial.counts.turn_failures };
+    ghost turn_failures = { λ dial. dial.connector.counts.turn_failures };
 
-    ghost turned = { λ old new. new.connector.begun ≡ old.connector.begun };
+    ghost turned = { λ old new. (new.connector.begun ≡ old.connector.begun)
+        × (new.connector.addresses ≡ old.connector.addresses) };
 
     ghost begun = { λ dial transfer. IsBegun dial.connector.begun transfer };
 
     ghost source_name = { λ dial. dial.source.id };
 
-    fn dial(&mut self, lease: &Lease<WaitingWire>) -> Dialled<WaitingWire> {
-        let dialled = match self.connector.connect(lease.site(), lease.transfer()) {
-            Dialled::Up(socket) => match WaitingWire::new(socket) {
-                Some(wire) => Dialled::Up(wire),
-                None => Dialled::Fault,
-            },
+    fn dial(&mut self, lease: &Lease<WaitingWire>) -> Dialled<WaitingWire>
+        ensures up { IfUp result (λ wire.
+            IsUntouched wire.connection lease.now.site lease.now.start.want.transfer) }
+        ensures to { IfUp result (λ wire. Contains (addresses_at
+            self.old.connector.addresses.hosts.items lease.now.site) wire.connection.address) }
+        ensures counted { CountsDial result self.old.connector.counts.failures
+            self.new.connector.counts.failures }
+        ensures opens { OpensOne result self.old.connector.counts.opened
+            self.new.connector.counts.opened }
+        ensures waits { IfNotYet result
+            (IsBegun self.new.connector.begun lease.now.start.want.transfer) }
+        ensures begun { CountsBegun result lease.now.start.want.transfer
+            (IsBegun self.old.connector.begun) (IsBegun self.new.connector.begun) }
+        ensures turns { self.new.connector.counts.turn_failures
+            ≡ self.old.connector.counts.turn_failures }
+        ensures source { self.new.source.id ≡ self.old.source.id }
+        ensures addresses { self.new.connector.addresses ≡ self.old.connector.addresses }
+    {
+        match self.connector.connect(lease.site(), lease.transfer()) {
+            Dialled::Up(socket) => self.connector.counts.note(WaitingWire::new(socket)),
             Dialled::NotYet => Dialled::NotYet,
             Dialled::Fault => Dialled::Fault,
-        };
-        self.counts.note(&dialled);
-        dialled
+        }
     }
 
     fn give_up(&mut self, lease: &Lease<WaitingWire>) {
@@ -147,11 +164,10 @@ impl<'n, N: Net> Dial<WaitingWire> for WaitingDial<'n, N> {
     }
 
     fn turn(&mut self) -> Turned {
-        if !self.connector.has_begun() || self.connector.wait() {
+        if !self.connector.has_begun() {
             return Turned::Done;
         }
-        self.counts.fail_turn();
-        Turned::Fault
+        self.connector.wait()
     }
 
     fn source(&self) -> &Source {
