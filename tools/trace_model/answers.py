@@ -21,9 +21,10 @@ def lawful_line(report):
 
 def violation_lines(violation, name, shows_state):
     """The lines of a violation in the trace of that name."""
-    yield f"{name}:{violation.line}: {violation.event}: {violation.text}"
-    if violation.earlier:
-        yield f"{name}:{violation.earlier.line}: here {violation.earlier.text}"
+    earlier = violation.finding.earlier
+    yield f"{name}:{violation.line}: {violation.event}: {violation.finding.text}"
+    if earlier:
+        yield f"{name}:{earlier.line}: here {earlier.text}"
     if shows_state:
         yield f"{name}:{violation.line}: {violation.state}"
 
@@ -40,12 +41,16 @@ def text_of(report, name="trace", shows_state=False):
     return "".join(f"{line}\n" for line in found)
 
 
+def told(finding):
+    """A finding, as JSON has it."""
+    return {"text": finding.text, "earlier": finding.earlier.line if finding.earlier else None}
+
+
 def json_of(report):
     """The same as one JSON object; nothing if the trace can't be read."""
     if report.fault:
         return ""
-    violations = [{"line": one.line, "rule": one.rule, "text": one.text,
-                   "earlier": one.earlier.line if one.earlier else None} for one in report.violations]
+    violations = [{"line": one.line, "rule": one.rule, **told(one.finding)} for one in report.violations]
     return json.dumps({"lawful": not violations, "events": report.events, "hosts": report.hosts,
                        "open": report.open, "violations": violations}) + "\n"
 

@@ -17,8 +17,7 @@ class Violation:
     line: int
     event: str
     rule: str
-    text: str
-    earlier: rules.Earlier | None
+    finding: rules.Finding
     # the open connections and the waiters of its host, before it
     state: str
 
@@ -268,7 +267,7 @@ class Audit:
 
     def tell(self, rule, finding, place, host):
         self.report.violations.append(
-            Violation(place.line, place.words, rule, finding.text, finding.earlier, state_of(host)))
+            Violation(place.line, place.words, rule, finding, state_of(host)))
         if not self.tells_all:
             raise Stop
 

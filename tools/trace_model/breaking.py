@@ -241,12 +241,12 @@ def kept(site):
     held = site.held()
     if held and not held.holder.forbids_reuse:
         transfer = held.holder.transfer
-        return [site.back(transfer, "keep"), site.returned(held.number, transfer), site.rest()]
+        return [site.back(transfer, "keep"), site.returned(held.number, transfer), "rest"]
     if not site.has_room():
         return None
     transfer, connection = site.transfer(), site.connection()
     return [site.get(transfer), site.opened(connection, transfer), site.back(transfer, "keep"),
-            site.returned(connection, transfer), site.rest()]
+            site.returned(connection, transfer), "rest"]
 
 
 def waiter_idle(site):

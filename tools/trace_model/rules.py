@@ -2,7 +2,7 @@
 
 A rule is named for its function, with `-` for `_`. The rules of an event ask the history before it.
 """
-from dataclasses import dataclass
+from dataclasses import dataclass, replace
 
 from trace_model import lines
 from trace_model.history import History, Host
@@ -26,6 +26,8 @@ class Finding:
 
     text: str
     earlier: Earlier | None = None
+    # the same with another idle connection, if several are idle: any of them may be named
+    others: tuple["Finding", ...] = ()
 
 
 @dataclass(frozen=True)
@@ -58,6 +60,12 @@ def wait_of(waiter):
 
 def seconds(count):
     return "1 second" if count == 1 else f"{count} seconds"
+
+
+def any_of(findings):
+    """The first of these findings, with the others beside it, or nothing."""
+    first, *others = [*findings] or [None]
+    return replace(first, others=tuple(others)) if first else None
 
 
 # any event
@@ -168,9 +176,8 @@ def waits_already(case):
 
 
 def beside_idle(case):
-    for connection in case.host.idle():
-        name = case.host.name_of(connection.number)
-        return Finding(f"waits beside an idle connection, {name}", return_of(case.host, connection))
+    return any_of(Finding(f"waits beside an idle connection, {case.host.name_of(connection.number)}",
+                          return_of(case.host, connection)) for connection in case.host.idle())
 
 
 def not_waiting(case):
@@ -200,9 +207,9 @@ def kept(history: History):
 
 def waiter_idle(host: Host):
     waiter = host.first_waiter()
-    for connection in host.idle() if waiter else ():
-        return Finding(f"a waiter beside an idle connection: transfer {waiter.want.transfer} waits, "
-                       f"{host.name_of(connection.number)} is idle", wait_of(waiter))
+    return any_of(Finding(f"a waiter beside an idle connection: transfer {waiter.want.transfer} waits, "
+                          f"{host.name_of(connection.number)} is idle", wait_of(waiter))
+                  for connection in (host.idle() if waiter else ()))
 
 
 def waiter_room(history: History, host: Host):
