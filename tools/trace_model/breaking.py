@@ -264,7 +264,9 @@ def waiter_room(site):
         return None
     if site.is_full() and site.history.open_len() < site.history.total and site.rng.random() < 0.5:
         return [site.limit(site.host.limit + 1)]
-    return [f"look {site.host.index}", site.closed(held.number, site.rng.choice(("", *HOLDER_CAUSES)))] if held else None
+    if not held:
+        return None
+    return [f"look {site.host.index}", site.closed(held.number, site.rng.choice(("", *HOLDER_CAUSES)))]
 
 
 BREAKERS = {rule.__name__.replace("_", "-"): rule for rule in (

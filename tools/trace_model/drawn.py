@@ -21,7 +21,7 @@ class Drawn(NamedTuple):
 
 
 def draw(rng, number):
-    """The trace of that number: of twenty, five as a pool made them, ten that break a rule, two damaged, three soups."""
+    """The trace of that number: of twenty, five are a pool's, ten break a rule, two are damaged, three soups."""
     place = number % 20
     if place < 5:
         return Drawn("scripted", text_of(rng, varied(rng, scripted(rng))))

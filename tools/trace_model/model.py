@@ -1,10 +1,10 @@
 #!/usr/bin/env python3
-"""An independent model of `curlpool audit`: it reads a trace and tells which rules the pool broke, from the rules alone.
+"""An independent model of `curlpool audit`: it reads a trace and tells which rules the pool broke.
 
     model.py [--all] [--json] [--state] [FILE]      of standard input without FILE, or with `-`
 
-The status is 0 for a lawful trace, 1 if a rule is broken, 2 for wrong words, 3 if the trace can't be read on, and 4 if
-the answer can't be written. docs/traces.md has the format and the rules.
+It is written from the rules alone, which stand in docs/traces.md with the format. The status is 0 for a lawful trace, 1
+if a rule is broken, 2 for wrong words, 3 if the trace can't be read on, and 4 if the answer can't be written.
 """
 import os
 import sys
