@@ -14,6 +14,8 @@ const plan = JSON.parse(fs.readFileSync(path, 'utf8'));
 const began = process.hrtime.bigint();
 const lines = [];
 const opened = plan.ports.map(() => 0);
+// sockets that were opened and are not closed yet
+const open = new Set();
 
 function say(text, options = '') {
   lines.push(`${text} at ${(process.hrtime.bigint() - began) / 1000000000n}${options}`);
@@ -43,8 +45,12 @@ function start(request, socket) {
   if (socket.named === undefined) {
     socket.named = `${host}.${++opened[host]}`;
     say(`opened ${socket.named} for ${number}`);
+    open.add(socket);
     // before the agent's own listener, which makes room
-    socket.prependListener('close', () => say(`closed ${socket.named}`));
+    socket.prependListener('close', () => {
+      open.delete(socket);
+      say(`closed ${socket.named}`);
+    });
   } else {
     say(`leased ${socket.named} to ${number}`);
   }
@@ -80,8 +86,8 @@ function forgetClose(request) {
 // http.request hands the request to the agent at once, so what is planned has to be known by then.
 class PlannedRequest extends http.ClientRequest {
   constructor(planned, done) {
-    super({ host: '127.0.0.1', port: plan.ports[planned.host], path: `/${planned.number}`, agent: undefined,
-      createConnection: undefined, ...{ agent: new Handing(planned) } }, done);
+    super({ host: '127.0.0.1', port: plan.ports[planned.host], path: `/${planned.number}`, agent: new Handing(planned) },
+      done);
   }
 }
 
@@ -108,15 +114,23 @@ class Handing {
 
 function send(planned) {
   return new Promise((resolve) => {
+    const end = () => setImmediate(() => resolve(rest()));
     const request = new PlannedRequest({ ...planned }, (response) => {
       response.resume();
-      response.on('close', resolve);
-      response.on('error', resolve);
+      response.on('close', end);
+      response.on('error', end);
     });
-    request.on('error', resolve);
+    request.on('error', end);
     request.setTimeout(10 * MILLISECONDS, () => request.destroy());
     request.end();
   });
+}
+
+// Between two turns the agent is at rest, unless a socket is destroyed and its close yet to come.
+function rest() {
+  if ([...open].every((socket) => !socket.destroyed && socket.writable)) {
+    lines.push('rest');
+  }
 }
 
 function pause(milliseconds) {
@@ -131,7 +145,7 @@ async function main() {
     await Promise.all(batch.map(send));
     // until the sockets of this batch are free or closed
     await pause(100);
-    lines.push('rest');
+    rest();
   }
   const head = [`limits ${LIMITS.maxSockets} ${LIMITS.maxTotalSockets} ${LIMITS.maxFreeSockets * plan.ports.length}`,
     ...plan.ports.map((port) => `site http://127.0.0.1:${port}/`), 'rest'];
