@@ -15,11 +15,13 @@ PERSISTENT_KINDS = ("keep", "keep", "old-keep")
 
 @dataclass
 class Site:
-    """A host at a place of a trace, and the hand that draws."""
+    """A host at a place of a trace, and the hand that draws. The way, from 0 to 1, is the same at all places of a
+    trace: of several ways to break a rule, one is drawn before the place is."""
 
     rng: Random
     history: History
     host: Host
+    way: float
 
     def moment(self):
         return self.host.moment + self.rng.choice((0, 0, 1))
@@ -84,14 +86,23 @@ class Site:
 
 
 def earlier(site):
-    host, moment = site.host, site.host.moment
-    if moment == 0:
+    host, transfer = site.host, site.transfer()
+    if host.moment == 0:
         return None
-    before = moment - site.rng.randint(1, min(moment, 3))
-    idle = site.idle()
-    if idle and site.rng.random() < 0.5:
-        return [f"closed {host.index}.{idle.number} at {before}"]
-    return [site.limit(host.limit, before)]
+    moment = host.moment - site.rng.randint(1, min(host.moment, 3))
+    idle, held = site.idle(), site.held()
+    events = {
+        "opened": [site.get(transfer), site.opened(site.connection(), transfer)],
+        "leased": idle and [site.get(transfer, idle.lane), site.leased(idle.number, transfer)],
+        "returned": held and not held.holder.forbids_reuse and [
+            site.back(held.holder.transfer, "keep"), site.returned(held.number, held.holder.transfer)],
+        "closed": idle and [site.closed(idle.number)],
+        "waits": [site.get(transfer), site.waits(transfer)],
+        "left": host.waiters and [site.left(site.rng.choice(list(host.waiters)))],
+        "limit": [site.limit(host.limit)],
+    }
+    lines = list(events.values())[int(site.way * len(events))]
+    return lines and [*lines[:-1], f"{lines[-1].rpartition(' ')[0]} {moment}"]
 
 
 def full(site):
@@ -100,33 +111,39 @@ def full(site):
 
 
 def not_first(site):
-    waiters, transfer = list(site.host.waiters), site.transfer()
-    if not waiters or site.is_full():
+    waiters, transfer, idle = list(site.host.waiters), site.transfer(), site.idle()
+    if not waiters:
         return None
-    if len(waiters) > 1 and site.rng.random() < 0.5:
-        return [site.opened(site.connection(), site.rng.choice(waiters[1:]))]
-    asks = [site.get(transfer)] if site.rng.random() < 0.7 else []
+    if site.way < 0.2:
+        # without a line that asks, at which the pool would be at rest
+        return [site.leased(idle.number, transfer)] if idle else None
+    if site.is_full():
+        return None
+    if site.way < 0.6:
+        return [site.opened(site.connection(), site.rng.choice(waiters[1:]))] if waiters[1:] else None
+    asks = [site.get(transfer)] if site.way < 0.9 else []
     return [*asks, site.opened(site.connection(), transfer)]
 
 
 def holds(site):
     if not site.host.held:
         return None
-    transfer = site.rng.choice(list(site.host.held))
+    transfer, idle = site.rng.choice(list(site.host.held)), site.idle()
     asks = [site.get(transfer)] if site.rng.random() < 0.7 else []
-    idle = site.idle()
-    if site.host.waiters or site.rng.random() < 0.4:
+    if site.way < 0.4:
         return [*asks, site.waits(transfer)]
-    if idle and site.rng.random() < 0.5:
-        return [site.get(transfer, idle.lane, "age 1000000"), site.leased(idle.number, transfer)]
+    if site.host.waiters:
+        return None
+    if site.way < 0.7:
+        return [site.get(transfer, idle.lane, "age 1000000"), site.leased(idle.number, transfer)] if idle else None
     return None if site.is_full() else [*asks, site.opened(site.connection(), transfer)]
 
 
 def not_open(site):
-    connection, transfer, drawn = site.connection(), site.transfer(), site.rng.random()
-    if drawn < 0.3:
+    connection, transfer = site.connection(), site.transfer()
+    if site.way < 0.3:
         return [site.closed(connection, site.rng.choice(("", "dropped", "cut", "pruned")))]
-    if drawn < 0.6:
+    if site.way < 0.6:
         return [site.back(transfer, "keep"), site.returned(connection, transfer)]
     return [site.get(transfer), site.leased(connection, transfer)]
 
@@ -140,7 +157,7 @@ def in_use(site):
     held, transfer = site.held(), site.transfer()
     if not held:
         return None
-    if site.rng.random() < 0.5:
+    if site.way < 0.5:
         return [site.closed(held.number, site.rng.choice(IDLE_CAUSES))]
     return [site.get(transfer, held.lane), site.leased(held.number, transfer)]
 
@@ -179,14 +196,15 @@ def open_too_long(site):
 
 
 def not_held(site):
-    idle, held, owed, transfer = site.idle(), site.held(), site.owed(), site.transfer()
-    if owed:
-        transfer = site.rng.choice((transfer, owed.holder.transfer))
-        return [site.back(transfer, "keep"), site.returned(owed.number, transfer)]
-    if idle and site.rng.random() < 0.5:
-        return [site.closed(idle.number, site.rng.choice(HOLDER_CAUSES))]
-    found = site.rng.choice([one for one in (idle, held) if one] or [None])
-    kind = site.rng.choice(("keep", "close"))
+    transfer, kind = site.transfer(), site.rng.choice(("keep", "close"))
+    if site.way < 0.25:
+        idle = site.idle()
+        return [site.closed(idle.number, site.rng.choice(HOLDER_CAUSES))] if idle else None
+    if site.way < 0.5:
+        found = site.owed()
+        transfer = site.rng.choice((transfer, found.holder.transfer)) if found else transfer
+    else:
+        found = site.idle() if site.way < 0.75 else site.held()
     return [site.back(transfer, kind), site.returned(found.number, transfer)] if found else None
 
 
@@ -262,8 +280,9 @@ def waiter_room(site):
     held = site.held()
     if not site.host.waiters:
         return None
-    if site.is_full() and site.history.open_len() < site.history.total and site.rng.random() < 0.5:
-        return [site.limit(site.host.limit + 1)]
+    if site.way < 0.3:
+        has_room = site.history.open_len() < site.history.total
+        return [site.limit(site.host.limit + 1), site.rest()] if site.is_full() and has_room else None
     if not held:
         return None
     return [f"look {site.host.index}", site.closed(held.number, site.rng.choice(("", *HOLDER_CAUSES)))]

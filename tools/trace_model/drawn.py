@@ -58,7 +58,7 @@ def broken(rng, rule):
 
 def place_to_break(rng, trace, breaker):
     """A random place of those at which the rule can be broken, and the lines that do so."""
-    run, found, place_found, lines_found = Audit(tells_all=True), 0, None, None
+    run, way, found, place_found, lines_found = Audit(tells_all=True), rng.random(), 0, None, None
     for place, line in enumerate(trace, 1):
         try:
             run.read(place, line.encode())
@@ -67,7 +67,7 @@ def place_to_break(rng, trace, breaker):
         if run.report.violations:
             break
         hosts = [host for host in run.history.hosts if host.opened or host.waiters] if run.history else []
-        lines = breaker(Site(rng, run.history, rng.choice(hosts))) if hosts else None
+        lines = breaker(Site(rng, run.history, rng.choice(hosts), way)) if hosts else None
         if lines:
             found += 1
             if rng.randrange(found) == 0:
@@ -81,7 +81,8 @@ def damaged(rng, trace):
     """One to three lines lost, doubled, swapped, or changed in a word."""
     trace = list(trace)
     for _ in range(rng.choice((1, 1, 2, 3))):
-        place = rng.randrange(len(trace))
+        # the first lines too, which are few
+        place = rng.randrange(min(len(trace), 4) if rng.random() < 0.15 else len(trace))
         way = rng.random()
         if way < 0.25:
             trace.insert(place, trace[rng.randrange(len(trace))])
