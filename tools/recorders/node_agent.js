@@ -56,6 +56,7 @@ function start(request, socket) {
   }
   socket.holder = request.planned;
   request.planned.isStarted = true;
+  setImmediate(rest);
 }
 
 // before the agent's own listener, which serves a waiter or keeps the socket
