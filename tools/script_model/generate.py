@@ -46,10 +46,15 @@ def script(rng, many):
     return [''.join(line + '\n' for line in told) for told in (lines, run.out)]
 
 
-folder, seed, count = sys.argv[1], int(sys.argv[2]), int(sys.argv[3])
-os.makedirs(folder, exist_ok=True)
-rng = random.Random(seed)
-for i in range(count):
-    text, transcript = script(rng, sys.argv[4:] == ['many'])
-    open('%s/%05d' % (folder, i), 'w').write(text)
-    open('%s/%05d.stdout' % (folder, i), 'w').write(transcript)
+def main():
+    folder, seed, count = sys.argv[1], int(sys.argv[2]), int(sys.argv[3])
+    os.makedirs(folder, exist_ok=True)
+    rng = random.Random(seed)
+    for i in range(count):
+        text, transcript = script(rng, sys.argv[4:] == ['many'])
+        open('%s/%05d' % (folder, i), 'w').write(text)
+        open('%s/%05d.stdout' % (folder, i), 'w').write(transcript)
+
+
+if __name__ == '__main__':
+    main()

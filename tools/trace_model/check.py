@@ -1,0 +1,214 @@
+#!/usr/bin/env python3
+"""Checks the model of `curlpool audit`, or a program beside it.
+
+    tools/trace_model/check.py [--drawn COUNT] [--scripts COUNT] [--beside PROGRAM]
+
+Each file worked/NAME.trace has the answer of worked/NAME.answer, whose first line has the options and the status. Those
+named for a rule break it alone, and no line of theirs can be left out. The scripts of `examples/` with their
+transcripts, and random scripts with what they caused, are lawful traces. Of random traces half and more break a rule,
+each rule in one of 100. With PROGRAM, `PROGRAM audit` has to give the model's answers to all of these.
+
+Each finding has a line. The last line is `N passed, M failed`; the status is 0 if nothing failed.
+"""
+import argparse
+import collections
+import contextlib
+import dataclasses
+import io
+import json
+import os
+import random
+import subprocess
+import sys
+from typing import NamedTuple
+
+sys.dont_write_bytecode = True
+TOOLS = os.path.dirname(os.path.dirname(os.path.abspath(__file__)))
+sys.path.insert(0, TOOLS)
+from script_model.model import transcript
+from trace_model import answers, rules
+from trace_model.audit import audit
+from trace_model.drawn import draw, scripted
+from trace_model.scripted import trace_of
+
+WORKED = os.path.join(TOOLS, "trace_model", "worked")
+EXAMPLES = os.path.join(os.path.dirname(TOOLS), "examples")
+SEED = 60
+# of random traces: how many break a rule, and how many each rule
+MOST_LAWFUL, FEWEST_OF_A_RULE = 1 / 2, 1 / 100
+
+
+class Answer(NamedTuple):
+    status: int
+    output: str
+    errors: str
+
+
+def answer_of_model(text, options=()):
+    """The model's answer to a trace."""
+    report = audit(io.BytesIO(text), "--all" in options)
+    output = answers.json_of(report) if "--json" in options else answers.text_of(report, "trace", "--state" in options)
+    return Answer(answers.status_of(report), output, answers.fault_of(report))
+
+
+def answer_of(program, text, options=()):
+    """A program's answer to a trace on standard input."""
+    run = subprocess.run([program, "audit", *options], input=text, capture_output=True)
+    return Answer(run.returncode, run.stdout.decode(errors="replace"), run.stderr.decode(errors="replace"))
+
+
+def read(*parts):
+    with open(os.path.join(*parts), "rb") as file:
+        return file.read()
+
+
+def names_in(folder, ending):
+    return sorted(name.removesuffix(ending) for name in os.listdir(folder) if name.endswith(ending))
+
+
+# the worked traces
+
+def worked():
+    """The worked traces by name, each with the options and the answer that it has to have."""
+    for name in names_in(WORKED, ".trace"):
+        head, _, text = read(WORKED, f"{name}.answer").decode().partition("\n")
+        words, _, status = head.partition(": status ")
+        faults = [line for line in text.splitlines() if line.startswith("line ")]
+        output = "".join(f"{line}\n" for line in text.splitlines() if line not in faults)
+        answer = Answer(int(status), output, "".join(f"{line}\n" for line in faults))
+        yield name, read(WORKED, f"{name}.trace"), words.split()[1:], answer
+
+
+def check_worked(answer_to):
+    for name, trace, options, wanted in worked():
+        found = answer_to(trace, options)
+        yield f"worked {name}", None if found == wanted else f"{found} in place of {wanted}"
+
+
+def broken_rules(lines):
+    """The rules that a trace breaks, each as often as it does; none if it can't be read."""
+    report = audit(io.BytesIO(b"".join(lines)), tells_all=True)
+    return [] if report.fault else [violation.rule for violation in report.violations]
+
+
+def check_smallest():
+    """Whether each rule has a worked trace that breaks it alone, of which no line can be left out."""
+    for rule in rules.NAMES:
+        path = os.path.join(WORKED, f"{rule}.trace")
+        if not os.path.exists(path):
+            yield f"smallest {rule}", "there is no such worked trace"
+            continue
+        lines = read(path).splitlines(keepends=True)
+        spare = [place + 1 for place in range(len(lines)) if broken_rules(lines[:place] + lines[place + 1:]) == [rule]]
+        found = broken_rules(lines)
+        complaint = f"line {spare[0]} can be left out" if spare else None
+        yield f"smallest {rule}", complaint if found == [rule] else f"it breaks {found}"
+
+
+# lawful traces
+
+def check_lawful(name, trace):
+    found = answer_of_model(trace)
+    return name, None if found.status == answers.LAWFUL else f"{found.output}{found.errors}".strip()
+
+
+def check_examples():
+    """Whether each example with its transcript is a lawful trace."""
+    for name in names_in(EXAMPLES, ".script"):
+        script, told = (read(EXAMPLES, name + ending).decode() for ending in (".script", ".transcript"))
+        if transcript(script) != told:
+            yield f"example {name}", "the model of scripts gives another transcript"
+        else:
+            yield check_lawful(f"example {name}", "\n".join(trace_of(script.splitlines())).encode())
+
+
+def check_scripts(count):
+    rng = random.Random(SEED)
+    for number in range(count):
+        yield check_lawful(f"script {number}", "\n".join(scripted(rng)).encode())
+
+
+# random traces
+
+def check_drawn(traces):
+    """Whether enough of the random traces break a rule, and each rule."""
+    found = collections.Counter()
+    for trace in traces:
+        report = audit(io.BytesIO(trace))
+        found[report.violations[0].rule if report.violations else "unreadable" if report.fault else "lawful"] += 1
+    print(", ".join(f"{name} {count}" for name, count in found.most_common()))
+    rest = found["lawful"] + found["unreadable"]
+    yield "drawn", f"{rest} break no rule" if rest > MOST_LAWFUL * len(traces) else None
+    for rule in rules.NAMES:
+        few = found[rule] < int(FEWEST_OF_A_RULE * len(traces))
+        yield f"drawn {rule}", f"{found[rule]} of {len(traces)} break it" if few else None
+
+
+def check_beside(program, traces):
+    """Whether the program answers as the model does: the first violation as text, and all as JSON."""
+    for number, trace in enumerate(traces):
+        found = answer_of(program, trace)
+        if found not in possible_answers(trace):
+            yield f"beside {number}", f"{found} in place of {answer_of_model(trace)}"
+            continue
+        complaint = complaint_of_all(trace, answer_of(program, trace, ["--all", "--json"]))
+        yield f"beside {number}", complaint
+
+
+def possible_answers(trace):
+    """The answers that a trace may have: if several connections are idle, any of them may be named."""
+    first = answer_of_model(trace)
+    yield first
+    report = audit(io.BytesIO(trace))
+    for violation in report.violations:
+        for other in violation.finding.others:
+            lines = answers.violation_lines(dataclasses.replace(violation, finding=other), "trace", False)
+            yield first._replace(output="".join(f"{line}\n" for line in lines))
+
+
+def complaint_of_all(trace, found):
+    """What is wrong with the violations as JSON, or nothing."""
+    wanted, report = answer_of_model(trace, ["--all", "--json"]), audit(io.BytesIO(trace), tells_all=True)
+    if (found.status, found.errors) != (wanted.status, wanted.errors) or report.fault:
+        return None if found == wanted else f"{found} in place of {wanted}"
+    with contextlib.suppress(ValueError):
+        values, other = json.loads(wanted.output), json.loads(found.output)
+        for violation, value, other_value in zip(report.violations, values["violations"], other["violations"]):
+            if any(other_value == {**value, **answers.told(one)} for one in violation.finding.others):
+                other_value.update(value)
+        if values == other:
+            return None
+    return f"{found.output.strip()} in place of {wanted.output.strip()}"
+
+
+def findings(options):
+    """The name of each check, with what is wrong or nothing."""
+    yield from check_worked(answer_of_model)
+    yield from check_smallest()
+    yield from check_examples()
+    yield from check_scripts(options.scripts)
+    rng = random.Random(SEED)
+    traces = [draw(rng, number).text for number in range(options.drawn)]
+    yield from check_drawn(traces)
+    if options.beside:
+        yield from check_worked(lambda trace, words: answer_of(options.beside, trace, words))
+        yield from check_beside(options.beside, traces)
+
+
+def main():
+    parser = argparse.ArgumentParser(description=__doc__, formatter_class=argparse.RawDescriptionHelpFormatter)
+    parser.add_argument("--drawn", type=int, default=2_000, metavar="COUNT", help="how many random traces")
+    parser.add_argument("--scripts", type=int, default=1_000, metavar="COUNT", help="how many random scripts")
+    parser.add_argument("--beside", metavar="PROGRAM", help="a program with the command audit")
+    options = parser.parse_args()
+    counts = collections.Counter()
+    for name, complaint in findings(options):
+        counts[bool(complaint)] += 1
+        if complaint:
+            print(f"{name}: {complaint}")
+    print(f"{counts[False]} passed, {counts[True]} failed")
+    return 1 if counts[True] else 0
+
+
+if __name__ == "__main__":
+    sys.exit(main())
