@@ -11,6 +11,7 @@ mod host;
 pub mod laws;
 mod lease;
 mod limit;
+mod origin;
 mod room;
 mod seats;
 mod serving;
