@@ -13,11 +13,12 @@ use Rattle.bundle.specs.declared.answers.Back.{Back}
 use Rattle.bundle.specs.declared.answers.Back.TheVariants.{Spent, NoKeep, Again as KeepAgain, Strange}
 use Rattle.host_rules.specs.Calls.{Reply, starts, waits_on, no_room, again, acquired, spent, not_kept, keep_again, returned, becomes_idle, keep_as_told, after_give_back}
 use Rattle.host_rules.proofs.RepliesInKind.{IsReplyFor, reply_for}
+use Rattle.bundle.specs.Seats.{Tables}
 use Rattle.bundle.specs.Lease.{HostShown, Leasing, Ticketed}
 use Rattle.bundle.specs.Replies.{IsGot, IsFor, Acquires, IsBack, GivesBack, IsBackAs}
 
-abbrev waiting_for : ℕ → Want → ℕ → Ticketed
-waiting_for host want moment = record { site = host; wait = record { want = want; moment = moment } }
+abbrev waiting_for : Tables → ℕ → Want → ℕ → Ticketed
+waiting_for tables host want moment = record { site = host; wait = record { want = want; moment = moment }; tables = tables }
 
 module _ {S : Type 0} (host : ℕ) (want : Want) (moment : ℕ) where
   by_reply : (reply : Reply) (got : Got S) → IsGot host want reply got → IsReplyFor want moment reply → IsFor host want moment got
@@ -26,7 +27,7 @@ module _ {S : Type 0} (host : ℕ) (want : Want) (moment : ℕ) where
   by_reply (starts start) (NoRoom booking) is it = absurd is
   by_reply (starts start) (Again booking) is it = absurd is
   by_reply (waits_on wait) (Lease lease) is it = absurd is
-  by_reply (waits_on wait) (Wait ticket) is it = is ∙ ap (λ (w : Want). waiting_for host w wait.moment) it.0 ∙ ap (waiting_for host want) it.1
+  by_reply (waits_on wait) (Wait ticket) is it = is ∙ ap (λ (w : Want). waiting_for ticket.tables host w wait.moment) it.0 ∙ ap (waiting_for ticket.tables host want) it.1
   by_reply (waits_on wait) (NoRoom booking) is it = absurd is
   by_reply (waits_on wait) (Again booking) is it = absurd is
   by_reply no_room (Lease lease) is it = absurd is

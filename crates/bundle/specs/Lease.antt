@@ -43,10 +43,11 @@ new_use host number want moment = record { site = host; start = record { number 
 abbrev pub reuse_of : {S : Type 0} → ℕ → ℕ → Want → ℕ → S → Using S
 reuse_of host number want moment stream = record { site = host; start = record { number = number; want = want; moment = moment; reused = true }; stream = Some stream }
 
--- a ticket tells of its host's index and of its wait
+-- a ticket tells of its host's index and of its wait, and was made at its host's tables
 pub record Ticketed : Type 0 where
   pub site : ℕ
   pub wait : Wait
+  pub tables : Tables
 
 -- a booking tells of its host's index and of what its acquire, which is halfway, wants
 pub record Booked : Type 0 where

@@ -21,7 +21,7 @@ use Rattle.bundle.specs.Lease.{Leasing, Ticketed, Booked, HostShown}
 -- what an acquire gives, as its reply says: a lease of its start, a ticket of its wait, or its booking
 abbrev pub IsGot : {S : Type 0} → ℕ → Want → Reply → Got S → Type 0
 IsGot host want (starts start) (Lease lease) = (lease.site ≡ host) × (lease.start ≡ start)
-IsGot host want (waits_on wait) (Wait ticket) = ticket ≡ record { site = host; wait = wait }
+IsGot host want (waits_on wait) (Wait ticket) = ticket ≡ record { site = host; wait = wait; tables = ticket.tables }
 IsGot host want no_room (NoRoom booking) = booking ≡ record { site = host; want = want }
 IsGot host want again (Again booking) = booking ≡ record { site = host; want = want }
 IsGot host want reply got = ⊥
@@ -29,7 +29,7 @@ IsGot host want reply got = ⊥
 -- what an acquire gives is of this host and for that want; a lease and a ticket are of that moment
 abbrev pub IsFor : {S : Type 0} → ℕ → Want → ℕ → Got S → Type 0
 IsFor host want moment (Lease lease) = (lease.site ≡ host) × (lease.start.want ≡ want) × (lease.start.moment ≡ moment)
-IsFor host want moment (Wait ticket) = ticket ≡ record { site = host; wait = record { want = want; moment = moment } }
+IsFor host want moment (Wait ticket) = ticket ≡ record { site = host; wait = record { want = want; moment = moment }; tables = ticket.tables }
 IsFor host want moment (NoRoom booking) = booking ≡ record { site = host; want = want }
 IsFor host want moment (Again booking) = booking ≡ record { site = host; want = want }
 

@@ -1,7 +1,8 @@
 -- What a host counts beside its log: the starts, and who holds what. Two tables that leases have seats at count it: one
 -- has a seat for each start, the other for each pair of a connection and the transfer that holds it.
 use Rattle.std.specs.Prelude.{◌≡◌, ℕ, ◌+◌, ◌-◌, ◌≤◌, List, [], ◌∷◌, length, map, Option, None}
-use Rattle.atomic_table.specs.Seated.{TableId}
+use base.Stored.{Coded, coded×, coded_via}
+use Rattle.atomic_table.specs.Seated.{TableId, table_id_coded}
 use Rattle.budget.specs.Pairs.{Pair, pair_count, without_pair}
 use Rattle.conn_log.specs.declared.entry.Entry.{Entry}
 use Rattle.conn_log.specs.Connections.{held_number, open_connections, idle_connections}
@@ -14,6 +15,9 @@ use Rattle.host_rules.specs.Effects.{one_if}
 pub record Tables : Type 0 where
   pub starts : TableId
   pub pairs : TableId
+
+abbrev pub tables_coded : Coded Tables
+tables_coded = coded_via (coded× table_id_coded table_id_coded) (λ (t : Tables). (t.starts, t.pairs)) (λ x y e i. record { starts = (e i).0; pairs = (e i).1 })
 
 -- what the tables show: the pairs without a lease yet, those with one, the one that was taken back, the starts
 -- counted, and those that no seat was split off for yet

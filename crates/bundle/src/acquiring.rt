@@ -101,6 +101,8 @@ impl<S: Drop> Bundle<S> {
             IfGot result (IsFor self.old.host want moment) }
         ensures made_here { IfGot result (λ got. GivesLease got
             (λ lease. lease.tables ≡ self.old.tables)) }
+        ensures waits_here { IfGot result (λ got. GivesTicket got
+            (λ ticket. ticket.tables ≡ self.old.tables)) }
 
         // For those above: who has a lease or a ticket after the call, that the log only grew, and
         // that the host stays.
@@ -202,6 +204,7 @@ impl<S: Drop> Bundle<S> {
         ensures mark { let was = is_queued self.old.settings self.old.log in
             is_lent lobby.entry ≡ false → is_queued self.new.settings self.new.log ≡ was }
         ensures made_here { GivesLease result (λ lease. lease.tables ≡ self.old.tables) }
+        ensures waits_here { GivesTicket result (λ ticket. ticket.tables ≡ self.old.tables) }
         ensures gets_lease { let transfer = booking.want.transfer in
             GivesLease result
             (λ lease. GetsLease self.old self.new transfer lease.start.number) }
@@ -261,6 +264,7 @@ impl<S: Drop> Bundle<S> {
         ensures mark { let was = is_queued self.old.settings self.old.log in
             is_last ≡ false → is_queued self.new.settings self.new.log ≡ was }
         ensures made_here { GivesLease result (λ lease. lease.tables ≡ self.old.tables) }
+        ensures waits_here { GivesTicket result (λ ticket. ticket.tables ≡ self.old.tables) }
         ensures gets_lease { let transfer = booking.want.transfer in
             GivesLease result
             (λ lease. GetsLease self.old self.new transfer lease.start.number) }

@@ -284,9 +284,9 @@ impl<S: Drop> Lease<S> {
     }
 }
 
-/// What was not taken: it comes back, to be kept or scrapped. A refusal makes one, and of a ticket
-/// [`Ticket::into_stray`]. It does not show who refused: a ticket that another bundle than its own
-/// refused may be let go too.
+/// What was not taken: it comes back, to be kept or scrapped. Only a bundle's refusal makes one. It
+/// does not show which bundle refused: a ticket that another bundle than its own refused may be let
+/// go too.
 pub struct Stray<T> {
     value: T,
 }

@@ -12,6 +12,7 @@ mod host;
 pub mod laws;
 mod lease;
 mod limit;
+mod origin;
 mod room;
 mod seats;
 mod serving;

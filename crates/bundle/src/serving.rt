@@ -102,6 +102,7 @@ pub(crate) fn start_or_wait<S: Drop, P: Permits<Asker>>(
     ensures seated { IsSeated state.new.log seats.new }
     ensures granted { KeepsGranted seats.old seats.new }
     ensures made_here { GivesLease result (λ lease. lease.tables ≡ seats.old.tables) }
+    ensures waits_here { GivesTicket result (λ ticket. ticket.tables ≡ seats.old.tables) }
     ensures has_stream { GivesLease result (λ lease. is_some lease.stream ≡ lease.start.reused) }
     ensures stream { GivesLease result (HasItsStream state.old.streams) }
     ensures others { GivesLease result
@@ -118,7 +119,7 @@ pub(crate) fn start_or_wait<S: Drop, P: Permits<Asker>>(
     ensures same { IsSameHost state.old state.new }
 {
     if state.anyone_waits() {
-        return Got::Wait(wait_last(state, want, moment));
+        return Got::Wait(wait_last(state, seats, want, moment));
     }
     close_idle(state, &Closing::TooOld(want), moment, permits);
     // One more can be counted.
@@ -160,6 +161,7 @@ fn start_as_told<S: Drop, P: Permits<Asker>>(
     ensures seated { IsSeated state.new.log seats.new }
     ensures granted { KeepsGranted seats.old seats.new }
     ensures made_here { GivesLease result (λ lease. lease.tables ≡ seats.old.tables) }
+    ensures waits_here { GivesTicket result (λ ticket. ticket.tables ≡ seats.old.tables) }
     ensures no_stream { GivesLease result (λ lease. lease.stream ≡ None) }
     ensures not_reused { GivesLease result (λ lease. lease.start.reused ≡ false) }
     ensures streams { KeepsOpen state.old state.new }
@@ -220,6 +222,7 @@ fn start_in_place<S: Drop, P: Permits<Asker>>(
     ensures seated { IsSeated state.new.log seats.new }
     ensures granted { KeepsGranted seats.old seats.new }
     ensures made_here { GivesLease result (λ lease. lease.tables ≡ seats.old.tables) }
+    ensures waits_here { GivesTicket result (λ ticket. ticket.tables ≡ seats.old.tables) }
     ensures no_stream { GivesLease result (λ lease. lease.stream ≡ None) }
     ensures not_reused { GivesLease result (λ lease. lease.start.reused ≡ false) }
     ensures streams { KeepsOpen state.old state.new }
@@ -237,7 +240,7 @@ fn start_in_place<S: Drop, P: Permits<Asker>>(
     ensures same { IsSameHost state.old state.new }
 {
     if state.idle_len() == 0 {
-        return Got::Wait(wait_last(state, want, moment));
+        return Got::Wait(wait_last(state, seats, want, moment));
     }
     state.close_oldest(cause, moment);
     permits.release_kept();
@@ -252,7 +255,7 @@ fn start_in_place<S: Drop, P: Permits<Asker>>(
 
 // The transfer waits after all others.
 #[inline(always)]
-fn wait_last<S: Drop>(state: &mut State<S>, want: Want, moment: u64) -> Ticket
+fn wait_last<S: Drop>(state: &mut State<S>, seats: &Seats, want: Want, moment: u64) -> Ticket
     requires booked { 0 < state.old.booked }
     requires later { last_moment state.old.log ≤ moment }
     requires free { held_number state.old.log want.transfer ≡ None }
@@ -262,6 +265,7 @@ fn wait_last<S: Drop>(state: &mut State<S>, want: Want, moment: u64) -> Ticket
     ensures ticket { result ≡ record {
       site = state.old.host;
       wait = record { want = want; moment = moment };
+      tables = seats.now.tables;
     } }
     ensures streams { state.new.streams ≡ state.old.streams }
     ensures lengths { held_by state.new.log ≡ held_by state.old.log }
@@ -269,7 +273,7 @@ fn wait_last<S: Drop>(state: &mut State<S>, want: Want, moment: u64) -> Ticket
     ensures same { IsSameHost state.old state.new }
 {
     state.wait(want, moment);
-    Ticket::new(state.host(), want, moment)
+    Ticket::new(state.host(), want, moment, seats)
 }
 
 /// Opens a connection for the first transfer that waits, if one does, and grants it. The permit of

@@ -1,16 +1,18 @@
-ghost use Rattle.std.specs.Prelude.{◌≡◌, ◌≤◌};
+ghost use Rattle.std.specs.Prelude.{◌≡◌};
 ghost use Rattle.bundle.specs.Lease.{Ticketed};
 
-use crate::lease::Stray;
+use crate::origin::Origin;
+use crate::seats::Seats;
 use conn_log::Want;
 use std::marker::Model;
 
 /// What a transfer has that waits at a host. It has to be spent, claimed until it gives a lease or
-/// withdrawn, or let go as a stranger.
+/// withdrawn, or let go as a stranger. Contracts see the tables of the host that made it.
 pub struct Ticket {
     host: u32,
     wanted: Want,
     began: u64,
+    origin: Origin,
 }
 
 impl Model for Ticket {
@@ -21,18 +23,24 @@ impl Model for Ticket {
     ghost view = { λ ticket. record {
       site = ticket.host;
       wait = record { want = ticket.wanted; moment = ticket.began };
+      tables = ticket.origin.tables;
     } };
 }
 
 impl Ticket {
-    // The ticket of a wait that begins.
-    pub(crate) fn new(host: u32, want: Want, moment: u64) -> Self
-        ensures { result ≡ record { site = host; wait = record { want = want; moment = moment } } }
+    // The ticket of a wait that begins at the host with these seats.
+    pub(crate) fn new(host: u32, want: Want, moment: u64, seats: &Seats) -> Self
+        ensures { result ≡ record {
+          site = host;
+          wait = record { want = want; moment = moment };
+          tables = seats.now.tables;
+        } }
     {
         Ticket {
             host,
             wanted: want,
             began: moment,
+            origin: Origin::of(seats),
         }
     }
 
@@ -42,18 +50,8 @@ impl Ticket {
             host: _,
             wanted: _,
             began: _,
+            origin: _,
         } = self;
-    }
-
-    /// The ticket as a stranger, for a cache of so many hosts, which has no such site.
-    ///
-    /// Asked of the caller: the ticket's site is not below that number. Nothing ties it to a cache:
-    /// who names one that is too small lets go of a ticket that could be spent.
-    pub fn into_stray(self, hosts: usize) -> Stray<Ticket>
-        requires { hosts ≤ self.site }
-        ensures { result ≡ self }
-    {
-        Stray::new(self)
     }
 
     /// The index of its host.

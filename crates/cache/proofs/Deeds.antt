@@ -18,9 +18,9 @@ use Rattle.leasing.specs.Homes.{Gives, Claims}
 use Rattle.pool_rules.specs.Laws.{AnswersWant}
 use Rattle.pool_rules.specs.Calls.{after_acquire, reply_of, after_withdrawing}
 use Rattle.pool_rules.proofs.Replies.{acquire_starts_or_waits}
-use Rattle.cache.specs.Pools.{PoolShown, host_at, all_hosts, IsAcquired, IfAcquired, GivesLease, GivesTicket, IsMadeHere, StaysHost, StaysPool, KeepsOtherHosts, StreamsStay, OtherStreamsStay}
+use Rattle.cache.specs.Pools.{PoolShown, host_at, all_hosts, IsAcquired, IfAcquired, GivesLease, GivesTicket, IsMadeHere, IsTicketHere, StaysHost, StaysPool, KeepsOtherHosts, StreamsStay, OtherStreamsStay}
 use Rattle.cache.specs.Deeds.{home_of, IsCallAt, IsStrangeTicket, DidToPool}
-use Rattle.cache.proofs.Homes.{made_by}
+use Rattle.cache.proofs.Homes.{made_by, ticket_by}
 
 -- what an acquire gives is of its site and its want
 module _ {S : Type 0} where
@@ -46,7 +46,7 @@ module _ {S : Type 0} where
 
   -- a ticket is no stranger; and it comes back from a claim that changed nothing
   abbrev IsNoStranger : PoolShown S → Ticketed → Type 0
-  IsNoStranger pool ticket = (ticket.site < length pool.hosts) × (is_valid_ticket (host_at pool ticket.site) ticket.wait.want ≡ true)
+  IsNoStranger pool ticket = is_valid_ticket (host_at pool ticket.site) ticket.wait.want ≡ true
 
   abbrev StillHas : PoolShown S → PoolShown S → Ticketed → Ticketed → Type 0
   StillHas old new ticket same = (is_unclaimed (host_at old ticket.site) ticket.wait.want.transfer ≡ false) × (same ≡ ticket) × (new ≡ old)
@@ -58,10 +58,10 @@ module _ {S : Type 0} (old new : PoolShown S) where
   acquire_at (Ok acquired) site there host others stays = record { there = there; host = host; others = others; stays = stays }
   acquire_at (Err reason) site there host others stays = tt
 
-  pub ticket_at : {A E : Type 0} → (result : Result A E) (ticket : Ticketed) → OnOk result (IsNoStranger old ticket)
+  pub ticket_at : {A E : Type 0} → (result : Result A E) (ticket : Ticketed) → ticket.site < length old.hosts
       → OnOk result (StaysHost (host_at old ticket.site) (host_at new ticket.site)) → KeepsOtherHosts ticket.site old new → StaysPool old new → OnOk result (IsCallAt ticket.site old new)
-  ticket_at (Ok answer) ticket valid host others stays = record { there = valid.0; host = host; others = others; stays = stays }
-  ticket_at (Err stray) ticket valid host others stays = tt
+  ticket_at (Ok answer) ticket there host others stays = record { there = there; host = host; others = others; stays = stays }
+  ticket_at (Err stray) ticket there host others stays = tt
 
   -- what was replied, or granted, for a site and a want was so for those that are the same
   replied_as : (site same_site : ℕ) (want same_want : Want) (now : ℕ) (acquired : Acquired S) → same_site ≡ site → same_want ≡ want → IsAcquired site (reply_of old.limits site want now (all_hosts old)) acquired
@@ -82,15 +82,15 @@ module _ {S : Type 0} (old new : PoolShown S) where
     answers : AnswersWant want reply
     answers = acquire_starts_or_waits old.limits site want now (all_hosts old)
 
-    pub acquire_gives : (result : Result (Acquired S) Refusal) → IfAcquired result (IsAcquired site reply) → IfLease result (IsMadeHere new)
+    pub acquire_gives : (result : Result (Acquired S) Refusal) → IfAcquired result (IsAcquired site reply) → IfLease result (IsMadeHere new) → IfTicket result (IsTicketHere new)
         → IfLease result (λ (lease : Leasing S). is_some lease.stream ≡ lease.start.reused) → IfOk result (Gives (home_of new) site want)
-    acquire_gives (Ok (Lease lease)) is here wire =
+    acquire_gives (Ok (Lease lease)) is here waits_here wire =
         let its = lease_for site want reply lease answers is in
         record { here = made_by new lease here; site_is = its.0; want_is = its.1; wire = wire }
-    acquire_gives (Ok (Wait ticket)) is here wire =
+    acquire_gives (Ok (Wait ticket)) is here waits_here wire =
         let its = ticket_for S site want reply ticket answers is in
-        record { site_is = its.0; want_is = its.1 }
-    acquire_gives (Err reason) is here wire = tt
+        record { here = ticket_by new ticket waits_here; site_is = its.0; want_is = its.1 }
+    acquire_gives (Err reason) is here waits_here wire = tt
 
     pub acquire_did : (result : Result (Acquired S) Refusal) → OnOk result (IsCallAt site old new) → OnOk result (all_hosts new ≡ after_acquire old.limits site want now (all_hosts old))
         → IfAcquired result (IsAcquired site reply) → IfLease result (HasItsStream (host_at old site).streams)
@@ -147,13 +147,13 @@ module _ {S : Type 0} (old new : PoolShown S) where
     claim_gives (Ok (Still same)) here site want wire still = still.1
     claim_gives (Err stray) here site want wire still = tt
 
-    pub claim_did : {E : Type 0} → (result : Result (Claimed S) E) → OnOk result (IsCallAt ticket.site old new) → OnOk result (IsNoStranger old ticket)
+    pub claim_did : {E : Type 0} → (result : Result (Claimed S) E) → ticket.site < length old.hosts → OnOk result (IsCallAt ticket.site old new) → OnOk result (IsNoStranger old ticket)
         → all_hosts new ≡ all_hosts old → IfClaimed result (WasGranted (host_at old ticket.site) ticket.wait.want.transfer) → IfClaimed result (λ (lease : Leasing S). lease.site ≡ ticket.site)
         → IfClaimed result (λ (lease : Leasing S). lease.start.want ≡ ticket.wait.want) → IfClaimed result (HasItsStream (host_at old ticket.site).streams)
         → IfClaimed result (λ (lease : Leasing S). OtherStreamsStay lease.start.number (host_at old ticket.site) (host_at new ticket.site))
         → IfClaimed result (λ (lease : Leasing S). GetsLease (host_at old ticket.site) (host_at new ticket.site) ticket.wait.want.transfer lease.start.number)
         → IfStill result (StillHas old new ticket) → IfOk result (ClaimsBy (DidToPool old new))
-    claim_did (Ok (Granted lease)) call valid all granted site want stream streams gets still = record {
+    claim_did (Ok (Granted lease)) there call valid all granted site want stream streams gets still = record {
       at_site = rw site call;
       all = all;
       granted = granted_as ticket.site lease.site ticket.wait.want lease.start.want lease site want granted;
@@ -161,16 +161,16 @@ module _ {S : Type 0} (old new : PoolShown S) where
       streams = rw site streams;
       gets = rw (site, want) gets;
     }
-    claim_did (Ok (Still same)) call valid all granted site want stream streams gets still = rw still.1 (record { same = still.2; there = valid.0; valid = valid.1; none = still.0 })
-    claim_did (Err stray) call valid all granted site want stream streams gets still = tt
+    claim_did (Ok (Still same)) there call valid all granted site want stream streams gets still = rw still.1 (record { same = still.2; there = there; valid = valid; none = still.0 })
+    claim_did (Err stray) there call valid all granted site want stream streams gets still = tt
 
     -- a ticket that comes back from a claim or a withdrawal
-    pub finds_stranger : {A : Type 0} → (result : Result A Ticketed) → OnErr result (new ≡ old) → IfErr result (λ (stray : Ticketed). (stray ≡ ticket) × IsStrangeTicket old ticket) → OnErr result (DidToPool old new (finds_strange_ticket ticket))
+    pub finds_stranger : {A : Type 0} → (result : Result A Ticketed) → OnErr result (new ≡ old) → IfErr result (λ (stray : Ticketed). IsStrangeTicket old ticket × (stray ≡ ticket)) → OnErr result (DidToPool old new (finds_strange_ticket ticket))
     finds_stranger (Ok answer) same strange = tt
-    finds_stranger (Err stray) same strange = (same, strange.1)
+    finds_stranger (Err stray) same strange = (same, strange.0)
 
     pub withdraw_did : (now : ℕ) {E : Type 0} → (result : Result (Unit {0}) E) → OnOk result (IsCallAt ticket.site old new) → OnOk result (IsNoStranger old ticket)
         → OnOk result (all_hosts new ≡ after_withdrawing old.limits ticket.site ticket.wait.want.transfer now (all_hosts old)) → OnOk result (StreamsStay (host_at old ticket.site) (host_at new ticket.site))
         → OnOk result (Spends (host_at old ticket.site) (host_at new ticket.site) ticket.wait.want.transfer) → OnOk result (DidToPool old new (withdraws ticket now))
-    withdraw_did now (Ok done) call valid all streams spends = record { at_site = call; valid = valid.1; all = all; streams = streams; spends = spends }
+    withdraw_did now (Ok done) call valid all streams spends = record { at_site = call; valid = valid; all = all; streams = streams; spends = spends }
     withdraw_did now (Err stray) call valid all streams spends = tt

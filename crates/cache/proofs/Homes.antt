@@ -1,4 +1,4 @@
--- The tables of a pool's hosts tell which leases it has made, and no call changes them.
+-- The tables of a pool's hosts tell which leases and tickets it has made, and no call changes them.
 use Rattle.std.proofs.Common.{◌≡◌, ℕ, ◌<◌, length, slice_get, slice_index_or, Some, Result, Ok, Err, sym, ap, subst, ◌∙◌, inl, inr}
 use Rattle.std.specs.Prelude.{OnOk, OnErr, option_map}
 use Rattle.std.proofs.lemmas.Bool.Decides.{eqb_tells}
@@ -6,9 +6,9 @@ use Rattle.std.proofs.lemmas.List.{ext_get_or, length-map}
 use Rattle.std.proofs.lemmas.Option.{slice_get-map, slice_get-get_or, slice_get_within}
 use Rattle.std.proofs.Math.ListN.{get_or-map}
 use Rattle.bundle.specs.Seats.{Tables}
-use Rattle.bundle.specs.Lease.{HostShown, Leasing}
+use Rattle.bundle.specs.Lease.{HostShown, Leasing, Ticketed}
 use Rattle.leasing.specs.Homes.{IsMadeBy}
-use Rattle.cache.specs.Pools.{PoolShown, no_host, host_at, IsMadeHere}
+use Rattle.cache.specs.Pools.{PoolShown, no_host, host_at, IsMadeHere, IsTicketHere}
 use Rattle.cache.specs.Deeds.{home_of, IsCallAt}
 
 module _ {S : Type 0} where
@@ -26,6 +26,16 @@ module _ {S : Type 0} where
   made_here pool lease made =
       let there : lease.site < length pool.hosts = subst (λ (n : ℕ). lease.site < n) (length-map pool.hosts tables_of) (slice_get_within (home_of pool) lease.site lease.tables made) in
       let both : Some lease.tables ≡ Some (host_at pool lease.site).tables = sym made ∙ tables_at pool lease.site there in
+      record { there = there; tables = cc }
+
+  -- and so is a ticket
+  pub ticket_by : (pool : PoolShown S) (ticket : Ticketed) → IsTicketHere pool ticket → IsMadeBy (home_of pool) ticket.site ticket.tables
+  ticket_by pool ticket here = tables_at pool ticket.site here.there ∙ ap Some (sym here.tables)
+
+  pub ticket_here : (pool : PoolShown S) (ticket : Ticketed) → IsMadeBy (home_of pool) ticket.site ticket.tables → IsTicketHere pool ticket
+  ticket_here pool ticket made =
+      let there : ticket.site < length pool.hosts = subst (λ (n : ℕ). ticket.site < n) (length-map pool.hosts tables_of) (slice_get_within (home_of pool) ticket.site ticket.tables made) in
+      let both : Some ticket.tables ≡ Some (host_at pool ticket.site).tables = sym made ∙ tables_at pool ticket.site there in
       record { there = there; tables = cc }
 
   -- a call at one host leaves each the tables that it has

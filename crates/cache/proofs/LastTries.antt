@@ -70,7 +70,7 @@ module _ (S : Type 0) where
 
   pub wait_reply : (host site : ℕ) (want : Want) (reply : Reply) (ticket : Ticketed) → host ≡ site → IsGot {S = S} host want reply (GotWait ticket) → IsAcquired {S = S} site reply (Wait ticket)
   wait_reply host site want (starts s) ticket place is = absurd is
-  wait_reply host site want (waits_on w) ticket place is = is ∙ ap (λ (h : ℕ). record { site = h; wait = w }) place
+  wait_reply host site want (waits_on w) ticket place is = is ∙ ap (λ (h : ℕ). record { site = h; wait = w; tables = ticket.tables }) place
   wait_reply host site want no_room ticket place is = absurd is
   wait_reply host site want again ticket place is = absurd is
 

@@ -93,10 +93,10 @@ pub record WithdrawsTicket {S : Type 0} (old new : PoolShown S) (ticket : Ticket
   pub streams : StreamsStay (host_at old ticket.site) (host_at new ticket.site)
   pub spends : Spends (host_at old ticket.site) (host_at new ticket.site) ticket.wait.want.transfer
 
--- a ticket is a stranger: there is no such site, or its transfer neither waits there with its want nor was granted what
--- it has yet to claim for it
+-- a ticket is a stranger: its transfer neither waits at its site with its want nor was granted what it has yet to claim
+-- for it
 abbrev pub IsStrangeTicket : {S : Type 0} → PoolShown S → Ticketed → Type 0
-IsStrangeTicket pool ticket = (length pool.hosts ≤ ticket.site) ⊎ (is_valid_ticket (host_at pool ticket.site) ticket.wait.want ≡ false)
+IsStrangeTicket pool ticket = is_valid_ticket (host_at pool ticket.site) ticket.wait.want ≡ false
 
 -- from the one time to the other a pool did this; no lease is ever a stranger
 abbrev pub DidToPool : {S : Type 0} → PoolShown S → PoolShown S → Deed S → Type 0

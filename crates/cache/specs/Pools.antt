@@ -109,7 +109,7 @@ cut_at site pool = record pool { hosts = slice_set pool.hosts site (cut_host (ho
 -- what an acquire gives, as its reply says: a lease of its start, or the ticket of its wait
 abbrev pub IsAcquired : {S : Type 0} → ℕ → Reply → Acquired S → Type 0
 IsAcquired host (starts start) (Lease lease) = (lease.site ≡ host) × (lease.start ≡ start)
-IsAcquired host (waits_on wait) (Wait ticket) = ticket ≡ record { site = host; wait = wait }
+IsAcquired host (waits_on wait) (Wait ticket) = ticket ≡ record { site = host; wait = wait; tables = ticket.tables }
 IsAcquired host reply acquired = ⊥
 
 abbrev pub GivesLease : {S : Type 0} → Acquired S → (Leasing S → Type 0) → Type 0
@@ -128,6 +128,11 @@ IfAcquired (Err e) P = Unit {0}
 pub record IsMadeHere {S : Type 0} (pool : PoolShown S) (lease : Leasing S) : Type 0 where
   pub there : lease.site < length pool.hosts
   pub tables : lease.tables ≡ (host_at pool lease.site).tables
+
+-- a ticket that was made here: its host is here, and it was made at that host's tables
+pub record IsTicketHere {S : Type 0} (pool : PoolShown S) (ticket : Ticketed) : Type 0 where
+  pub there : ticket.site < length pool.hosts
+  pub tables : ticket.tables ≡ (host_at pool ticket.site).tables
 
 -- what a pool keeps of a host: its place and its terms; that its log is sound, and quiet with its mark, and the queue
 -- has it exactly where it is queued; that as many leases were spent with the pool's pass as starts are gone; and that

@@ -29,6 +29,8 @@ impl<S: Drop> Hosts<S> {
             (IsAcquired site (reply_of self.old.limits site want now (all_hosts self.old))) }
         ensures made_here { IfAcquired result (λ got. GivesLease got
             (λ lease. lease.tables ≡ (host_at self.old site).tables)) }
+        ensures waits_here { IfAcquired result (λ got. GivesTicket got
+            (λ ticket. ticket.tables ≡ (host_at self.old site).tables)) }
         ensures has_stream { IfAcquired result (λ got. GivesLease got
             (λ lease. is_some lease.stream ≡ lease.start.reused)) }
         ensures stream { let streams = (host_at self.old site).streams in
@@ -85,6 +87,8 @@ impl<S: Drop> Hosts<S> {
             IsAcquired booking.site started.reply result }
         ensures made_here { GivesLease result
             (λ lease. lease.tables ≡ (host_at self.old booking.site).tables) }
+        ensures waits_here { GivesTicket result
+            (λ ticket. ticket.tables ≡ (host_at self.old booking.site).tables) }
         ensures has_stream { GivesLease result
             (λ lease. is_some lease.stream ≡ lease.start.reused) }
         ensures stream { GivesLease result (HasItsStream (host_at self.old booking.site).streams) }
@@ -128,6 +132,8 @@ impl<S: Drop> Hosts<S> {
             IsAcquired booking.site started.reply result }
         ensures made_here { GivesLease result
             (λ lease. lease.tables ≡ (host_at self.old booking.site).tables) }
+        ensures waits_here { GivesTicket result
+            (λ ticket. ticket.tables ≡ (host_at self.old booking.site).tables) }
         ensures has_stream { GivesLease result
             (λ lease. is_some lease.stream ≡ lease.start.reused) }
         ensures stream { GivesLease result (HasItsStream (host_at self.old booking.site).streams) }

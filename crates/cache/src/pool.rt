@@ -17,7 +17,7 @@ ghost use Rattle.pool_rules.specs.Calls.{after_limit_of};
 ghost use Rattle.bundle.specs.Lease.{HasItsStreams, UnclaimedAreStarts, IsPartOf, cut_refusal};
 ghost use Rattle.cache.specs.Pools.{AreInPlace, GivesLease, GivesTicket, StaysHost, StaysPool};
 ghost use Rattle.cache.specs.Pools.{IsNewPool, host_at, all_hosts, IsAcquired, IfAcquired};
-ghost use Rattle.cache.specs.Pools.{KeepsHosts, KeepsOtherHosts, IsMadeHere, cut_at};
+ghost use Rattle.cache.specs.Pools.{KeepsHosts, KeepsOtherHosts, IsMadeHere, IsTicketHere, cut_at};
 ghost use Rattle.cache.specs.Pools.{StreamsStay, OtherStreamsStay};
 
 use crate::hosts::Hosts;
@@ -162,6 +162,7 @@ impl<S: Drop> Pool<S> {
             IfErr result (λ reason. (due ≡ Some reason) ⊎ (reason ≡ Refusal.Memory)) }
         ensures err { OnErr result (self.new ≡ self.old) }
         ensures made_here { IfAcquired result (λ got. GivesLease got (IsMadeHere self.new)) }
+        ensures waits_here { IfAcquired result (λ got. GivesTicket got (IsTicketHere self.new)) }
         ensures has_stream { IfAcquired result (λ got. GivesLease got
             (λ lease. is_some lease.stream ≡ lease.start.reused)) }
         ensures stream { let streams = (host_at self.old site).streams in
@@ -206,15 +207,17 @@ impl<S: Drop> Pool<S> {
     /// its number where it was not opened for it; where it still waits, its ticket. No event is
     /// logged.
     ///
-    /// A ticket comes back in a [`Stray`] where there is no such site, and where its transfer
-    /// neither waits there with its want nor has yet to claim what it was granted for that want.
+    /// A ticket comes back in a [`Stray`] where its transfer neither waits there with its want nor
+    /// has yet to claim what it was granted for that want.
+    ///
+    /// Asked of the caller: the ticket was made here.
     pub fn claim(&mut self, ticket: Ticket) -> Result<Claimed<S>, Stray<Ticket>>
+        requires here { IsTicketHere self.old ticket }
         ensures ok { let host = host_at self.old ticket.site in
-            OnOk result ((ticket.site < length self.old.hosts)
-            × (is_valid_ticket host ticket.wait.want ≡ true)) }
+            OnOk result (is_valid_ticket host ticket.wait.want ≡ true) }
         ensures strange { let host = host_at self.old ticket.site in
-            IfErr result (λ stray. (stray ≡ ticket) × ((length self.old.hosts ≤ ticket.site)
-            ⊎ (is_valid_ticket host ticket.wait.want ≡ false))) }
+            IfErr result (λ stray.
+            (is_valid_ticket host ticket.wait.want ≡ false) × (stray ≡ ticket)) }
         ensures all { all_hosts self.new ≡ all_hosts self.old }
         ensures lease { let host = host_at self.old ticket.site in
             IfClaimed result (WasGranted host ticket.wait.want.transfer) }
@@ -240,9 +243,6 @@ impl<S: Drop> Pool<S> {
         ensures others { KeepsOtherHosts ticket.site self.old self.new }
         ensures stays { StaysPool self.old self.new }
     {
-        if ticket.site() as usize >= self.hosts.len() {
-            return Err(ticket.into_stray(self.hosts.len()));
-        }
         self.hosts.claim(ticket)
     }
 
@@ -305,15 +305,17 @@ impl<S: Drop> Pool<S> {
     /// closed, and one is opened for the first transfer that waits at its host. Then hosts that are
     /// queued take turns. `now` is in seconds. It takes no memory.
     ///
-    /// A ticket comes back in a [`Stray`] where there is no such site, and where its transfer
-    /// neither waits there with its want nor has yet to claim what it was granted for that want.
+    /// A ticket comes back in a [`Stray`] where its transfer neither waits there with its want nor
+    /// has yet to claim what it was granted for that want; nothing changed then.
+    ///
+    /// Asked of the caller: the ticket was made here.
     pub fn withdraw(&mut self, ticket: Ticket, now: u64) -> Result<(), Stray<Ticket>>
+        requires here { IsTicketHere self.old ticket }
         ensures ok { let host = host_at self.old ticket.site in
-            OnOk result ((ticket.site < length self.old.hosts)
-            × (is_valid_ticket host ticket.wait.want ≡ true)) }
+            OnOk result (is_valid_ticket host ticket.wait.want ≡ true) }
         ensures strange { let host = host_at self.old ticket.site in
-            IfErr result (λ stray. (stray ≡ ticket) × ((length self.old.hosts ≤ ticket.site)
-            ⊎ (is_valid_ticket host ticket.wait.want ≡ false))) }
+            IfErr result (λ stray.
+            (is_valid_ticket host ticket.wait.want ≡ false) × (stray ≡ ticket)) }
         ensures all { let transfer = ticket.wait.want.transfer in OnOk result (all_hosts self.new
             ≡ after_withdrawing self.old.limits ticket.site transfer now (all_hosts self.old)) }
         ensures err { OnErr result (self.new ≡ self.old) }
@@ -328,9 +330,6 @@ impl<S: Drop> Pool<S> {
         ensures others { KeepsOtherHosts ticket.site self.old self.new }
         ensures stays { StaysPool self.old self.new }
     {
-        if ticket.site() as usize >= self.hosts.len() {
-            return Err(ticket.into_stray(self.hosts.len()));
-        }
         self.hosts.withdraw(ticket, now)?;
         self.hosts.serve(now);
         Ok(())

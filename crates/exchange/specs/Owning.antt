@@ -1,7 +1,7 @@
 -- What a transfer has where it stands: it was made by the cache that it is lent, and can be used there.
 use Rattle.std.specs.Prelude.{◌≡◌, ◌<◌, false, length, List, None, Option, IsSome, IsSomeAnd}
 use Rattle.bundle.specs.Seats.{Tables}
-use Rattle.bundle.specs.Lease.{Leasing}
+use Rattle.bundle.specs.Lease.{Leasing, Ticketed}
 use Rattle.leasing.specs.Homes.{IsMadeBy}
 use Rattle.exchange.specs.declared.job.Prepared.{Prepared}
 use Rattle.exchange.specs.declared.state.State.{State}
@@ -17,7 +17,11 @@ pub record IsReady (p : Prepared) : Type 0 where
 abbrev pub OwnsLease : {W : Type 0} → List Tables → Leasing W → Type 0
 OwnsLease home lease = IsMadeBy home lease.site lease.tables
 
--- and it has its wire
+-- a ticket was made there
+abbrev pub OwnsTicket : List Tables → Ticketed → Type 0
+OwnsTicket home ticket = IsMadeBy home ticket.site ticket.tables
+
+-- a lease was made there, and it has its wire
 abbrev pub OwnsWire : {W : Type 0} → List Tables → Leasing W → Type 0
 OwnsWire home lease = OwnsLease home lease × (IsSome lease.stream)
 
@@ -28,7 +32,7 @@ ReaderGoesOn p = p.reader.ended ≡ false
 -- what it has was made there, and the next step can be taken
 abbrev pub OwnsAt : {W : Type 0} → List Tables → Prepared → State W → Type 0
 OwnsAt home p Asking = ReaderGoesOn p
-OwnsAt home p (Waiting ticket) = (ticket.wait.want.transfer ≡ p.want.transfer) × ReaderGoesOn p
+OwnsAt home p (Waiting ticket) = OwnsTicket home ticket × ((ticket.wait.want.transfer ≡ p.want.transfer) × ReaderGoesOn p)
 OwnsAt home p (Dialling lease) = OwnsLease home lease × ((lease.stream ≡ None) × ((lease.start.reused ≡ false) × ((lease.start.want.transfer ≡ p.want.transfer) × ReaderGoesOn p)))
 OwnsAt home p (Sending lease sent) = OwnsWire home lease × ((sent < length (text_of p)) × ReaderGoesOn p)
 OwnsAt home p (Reading lease) = OwnsWire home lease × ReaderGoesOn p

@@ -7,7 +7,7 @@ ghost use Rattle.exchange.specs.Standing.{GoesOn};
 ghost use Rattle.exchange.specs.Steps.{Begins, DialFails, Opens, DialsAlone};
 ghost use Rattle.exchange.specs.Waiting.{AtStep, StepLeaves};
 ghost use Rattle.exchange.specs.Stepping.{StepsOn, StepIs};
-ghost use Rattle.exchange.specs.Owning.{OwnsLease, OwnsAt, ReaderGoesOn};
+ghost use Rattle.exchange.specs.Owning.{OwnsLease, OwnsTicket, OwnsAt, ReaderGoesOn};
 ghost use Rattle.exchange.specs.declared.state.State.TheVariants as at;
 
 use crate::done::{Done, Fault};
@@ -77,6 +77,7 @@ pub(crate) fn claim<W: Wire, C: Cache<W>, D: Dial<W>, K: Clock>(
     ticket: Ticket,
     cx: &mut Context<'_>,
 ) -> Step<W>
+    requires here { OwnsTicket (C.home cache.old) ticket }
     requires its { ticket.wait.want.transfer ≡ parts.now.want.transfer }
     requires text { 0 < length (text_of parts.now) }
     requires reading { ReaderGoesOn parts.now }

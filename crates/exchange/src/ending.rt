@@ -8,7 +8,7 @@ ghost use Rattle.exchange.specs.Worlds.{world_of};
 ghost use Rattle.exchange.specs.Steps.{IsGivenBack, LeadsOn, IsRetriable, FailsSo, IsAtEnd};
 ghost use Rattle.exchange.specs.Steps.{CanSettle, IsWireFault, HasNoDialFault, OpensNoMore};
 ghost use Rattle.exchange.specs.Stepping.{IsLeft};
-ghost use Rattle.exchange.specs.Owning.{IsReady, OwnsLease, OwnsWire, OwnsAt};
+ghost use Rattle.exchange.specs.Owning.{IsReady, OwnsLease, OwnsTicket, OwnsWire, OwnsAt};
 ghost use Rattle.exchange.specs.declared.state.State.TheVariants as at;
 
 use crate::done::{Answer, Done, Fault};
@@ -54,6 +54,7 @@ pub(crate) fn abandon<W: Wire, C: Cache<W>>(cache: &mut C, lease: Lease<W>, now:
 
 // Withdraws a ticket; a stranger is scrapped.
 pub(crate) fn withdraw<W: Wire, C: Cache<W>>(cache: &mut C, ticket: Ticket, now: u64)
+    requires here { OwnsTicket (C.home cache.old) ticket }
     ensures stays { C.home cache.new ≡ C.home cache.old }
     ensures done { WithdrawsBy (C.did cache.old cache.new) ticket now }
 {

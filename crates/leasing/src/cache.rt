@@ -9,7 +9,7 @@ use persistence::Facts;
 /// may use one.
 ///
 /// The ghost members tell contracts the tables that the cache's hosts have, by site, from which its
-/// leases are known (no call changes them), and what was done from one time to another.
+/// leases and tickets are known (no call changes them), and what was done from one time to another.
 pub trait Cache<S: Drop> {
     ghost use Rattle.std.specs.Prelude.{◌≡◌, List, IsSome, IfOk, IfErr, OnOk, OnErr};
     ghost use Rattle.bundle.specs.Seats.{Tables};
@@ -34,6 +34,7 @@ pub trait Cache<S: Drop> {
 
     /// Gives the lease that the ticket was granted, or the ticket while it still waits.
     fn claim(&mut self, ticket: Ticket) -> Result<Claimed<S>, Stray<Ticket>>
+        requires here { IsMadeBy (home self.old) ticket.site ticket.tables }
         ensures claimed { IfOk result (Claims (home self.new) ticket) }
         ensures done { IfOk result (ClaimsBy (did self.old self.new)) }
         ensures strange { OnErr result (did self.old self.new (finds_strange_ticket ticket)) }
@@ -56,6 +57,7 @@ pub trait Cache<S: Drop> {
 
     /// Ends a wait.
     fn withdraw(&mut self, ticket: Ticket, now: u64) -> Result<(), Stray<Ticket>>
+        requires here { IsMadeBy (home self.old) ticket.site ticket.tables }
         ensures ok { OnOk result (did self.old self.new (withdraws ticket now)) }
         ensures strange { OnErr result (did self.old self.new (finds_strange_ticket ticket)) }
         ensures stays { home self.new ≡ home self.old };

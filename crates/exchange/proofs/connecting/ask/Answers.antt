@@ -23,7 +23,7 @@ returns-in-Ok-Wait-clause-story g c =
     let now = c.acquire.new.self in
     let ticket = c.in-Ok-Wait.ticket in
     let did : g.C.Cache.did c.args.cache.now now (begins_wait ticket c.args.now) = search rules in
-    let given : IsTicketFor p.site (wanted p) ticket = search rules in
+    let given : IsTicketFor (g.C.Cache.home now) p.site (wanted p) ticket = search rules in
     asks_waits g.C.Cache.did (world_of g.W.Wire.untouched g.W.Wire.happened (g.K.Clock.tells c.args._clock.now)) p c.args.cache.now now c.args.now c.requires.told ticket did given.site_is given.want_is
 
 pub returns-in-Err-clause-story : goal.returns-in-Err-clause-story

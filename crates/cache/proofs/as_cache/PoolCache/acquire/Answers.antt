@@ -5,7 +5,7 @@ use Rattle.cache.proofs.as_cache.PoolCache.acquire.Goals as goal
 pub returns-clause-given : goal.returns-clause-given
 returns-clause-given g c =
     let done = c.acquire.ensures in
-    acquire_gives c.args.self.now c.acquire.new.self c.args.site c.args.want c.args.now c.acquire.result done.reply done.made_here done.has_stream
+    acquire_gives c.args.self.now c.acquire.new.self c.args.site c.args.want c.args.now c.acquire.result done.reply done.made_here done.waits_here done.has_stream
 
 pub returns-clause-done : goal.returns-clause-done
 returns-clause-done g c =

@@ -1,11 +1,12 @@
-use Rattle.cache.proofs.Homes.{home_kept}
+use Rattle.cache.proofs.Homes.{ticket_here, home_kept}
 use Rattle.cache.proofs.Deeds.{ticket_at, withdraw_did, finds_stranger}
 use Rattle.cache.proofs.as_cache.PoolCache.withdraw.Goals as goal
 
 pub returns-clause-ok : goal.returns-clause-ok
 returns-clause-ok g c =
     let done = c.withdraw.ensures in
-    let call = ticket_at c.args.self.now c.withdraw.new.self c.withdraw.result c.args.ticket done.ok done.site done.others done.stays in
+    let here = ticket_here c.args.self.now c.args.ticket c.requires.here in
+    let call = ticket_at c.args.self.now c.withdraw.new.self c.withdraw.result c.args.ticket here.there done.site done.others done.stays in
     withdraw_did c.args.self.now c.withdraw.new.self c.args.ticket c.args.now c.withdraw.result call done.ok done.all done.streams done.spends
 
 pub returns-clause-strange : goal.returns-clause-strange
@@ -15,5 +16,6 @@ returns-clause-strange g c =
 pub returns-clause-stays : goal.returns-clause-stays
 returns-clause-stays g c =
     let done = c.withdraw.ensures in
-    let call = ticket_at c.args.self.now c.withdraw.new.self c.withdraw.result c.args.ticket done.ok done.site done.others done.stays in
+    let here = ticket_here c.args.self.now c.args.ticket c.requires.here in
+    let call = ticket_at c.args.self.now c.withdraw.new.self c.withdraw.result c.args.ticket here.there done.site done.others done.stays in
     home_kept c.withdraw.result c.args.ticket.site c.args.self.now c.withdraw.new.self call done.err

@@ -6,5 +6,4 @@ pub returns-clause-made_here : goal.returns-clause-made_here
 returns-clause-made_here g c =
     let site = c.args.ticket.site in
     let done = c.claim.ensures in
-    let there = rw (c.site.ensures, c.len.ensures.count) at c.if-site-len.false in
-    claimed_here c.claim.result c.self.inside.hosts c.claim.new.self site (still_there c.self.inside.hosts c.claim.new.self site done.stays there) done.site.same.tables done.made_at done.made_here
+    claimed_here c.claim.result c.self.inside.hosts c.claim.new.self site (still_there c.self.inside.hosts c.claim.new.self site done.stays (rw c.self.view_is c.requires.here.there)) done.site.same.tables done.made_at done.made_here

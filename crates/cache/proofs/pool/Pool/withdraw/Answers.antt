@@ -5,8 +5,7 @@ use Rattle.cache.proofs.pool.Pool.withdraw.Goals as goal
 pub returns-clause-site : goal.returns-clause-site
 returns-clause-site g c =
     let site = c.args.ticket.site in
-    let there = rw (c.site.ensures, c.len.ensures.count) at c.if-site-len.false in
-    rw (sym c.self.view_is) (site_on c.self.inside.hosts c.withdraw.new.self c.serve.new.self site c.withdraw.ensures.stays there c.withdraw.ensures.site c.serve.ensures.keeps)
+    rw (sym c.self.view_is) (site_on c.self.inside.hosts c.withdraw.new.self c.serve.new.self site c.withdraw.ensures.stays (rw c.self.view_is c.requires.here.there) c.withdraw.ensures.site c.serve.ensures.keeps)
 
 pub returns-clause-others : goal.returns-clause-others
 returns-clause-others g c =
@@ -15,5 +14,4 @@ returns-clause-others g c =
 pub returns-clause-streams : goal.returns-clause-streams
 returns-clause-streams g c =
     let site = c.args.ticket.site in
-    let there = rw (c.site.ensures, c.len.ensures.count) at c.if-site-len.false in
-    rw (sym c.self.view_is) (all_streams_at c.self.inside.hosts c.withdraw.new.self c.serve.new.self site c.withdraw.ensures.stays there c.withdraw.ensures.site c.in_ok-withdraw.ensures.streams c.serve.ensures.keeps)
+    rw (sym c.self.view_is) (all_streams_at c.self.inside.hosts c.withdraw.new.self c.serve.new.self site c.withdraw.ensures.stays (rw c.self.view_is c.requires.here.there) c.withdraw.ensures.site c.in_ok-withdraw.ensures.streams c.serve.ensures.keeps)
