@@ -3,7 +3,8 @@
 They are the edits in crates/CRATE/found, of the form of those in wrong-bodies, with a first line `found by: TEST`:
 `reference` for the scripts of tools/reference.py, which `measures script` carries out with a shared cache, or a crate
 of tests. Each is put into a copy of the sources, where `rt try` compiles and runs its test, unproved. The test has to
-fail there; it has to pass without an edit, which is tried first.
+fail there; it has to pass without an edit, which is tried first. A script that is not answered within SCRIPT_SECONDS,
+or a test that does not end within TEST_SECONDS, has failed: so a body that hangs is found too.
 """
 import concurrent.futures
 import os
@@ -23,8 +24,8 @@ FOUND_BY, FILE, OLD, NEW = "found by: ", "file: ", "old: ", "new: "
 REFERENCE = "reference"
 # random scripts, of few hosts and of many: rt try takes half a second for each script
 FEW, MANY = 20, 10
-# for each script, and each crate of tests
-SECONDS = 120
+# for each script, which takes half a second, and each test
+SCRIPT_SECONDS, TEST_SECONDS = 30, 120
 # the last line of rt try with --cases, and those of its cases that ended with a status
 CASES = re.compile(r"cases=(\d+) ended=(\d+) fault=(\d+) differs=(\d+) no-answer=(\d+)")
 TESTS = re.compile(r"test result: (?:ok|FAILED)\. (\d+) passed; (\d+) failed")
@@ -113,8 +114,9 @@ class Trial:
                     return None, str(bad)
             is_reference = test == REFERENCE
             words = ["--cases", self.cases, "--", "script"] if is_reference else ["--test"]
+            seconds = SCRIPT_SECONDS if is_reference else TEST_SECONDS
             folder = os.path.join(top, "crates", "measures" if is_reference else test)
-            run = self.children.start(["try", "--seconds", str(SECONDS), *words], folder)
+            run = self.children.start(["try", "--seconds", str(seconds), *words], folder)
             if run is None:
                 return None, "stopped"
             threading.Thread(target=end_check_of_names, args=(run,), daemon=True).start()

@@ -12,3 +12,5 @@ mod memory;
 mod rows;
 #[cfg(test)]
 mod running;
+#[cfg(test)]
+mod sites;

@@ -35,6 +35,8 @@ pub(crate) enum Next {
 /// A connection that a peer has opened.
 #[derive(Drop)]
 pub(crate) struct Connection {
+    /// The site at whose port it came.
+    site: usize,
     stream: TcpStream,
     received: Received,
     /// How many bytes of an answer are still to be sent.
@@ -45,14 +47,15 @@ pub(crate) struct Connection {
 }
 
 impl Connection {
-    /// A connection over that socket. The registry tells under the token when the socket becomes
-    /// ready.
+    /// A connection over that socket, which came at that site's port. The registry tells under the
+    /// token when the socket becomes ready.
     ///
     /// # Errors
     ///
     /// There is no memory for it, or the system refuses to tell, or to send small answers at once.
     pub(crate) fn new(
         alloc: Global,
+        site: usize,
         mut stream: TcpStream,
         registry: &Registry,
         token: Token,
@@ -61,6 +64,7 @@ impl Connection {
         stream.set_nodelay(true)?;
         registry.register(&mut stream, token, Interest::READABLE | Interest::WRITABLE)?;
         Ok(Connection {
+            site,
             stream,
             received,
             unsent: 0,
@@ -78,10 +82,16 @@ impl Connection {
         registry.reregister(&mut self.stream, token, both)
     }
 
-    /// Answers the requests that have come, in order, until its socket is not ready.
-    pub(crate) fn advance(&mut self, spans: &mut [HeaderSpan]) -> Next {
+    /// The site at whose port it came.
+    pub(crate) fn site(&self) -> usize {
+        self.site
+    }
+
+    /// Answers the requests that have come, in order, until its socket is not ready, and adds to
+    /// `requests` how many it begins to answer.
+    pub(crate) fn advance(&mut self, spans: &mut [HeaderSpan], requests: &mut u64) -> Next {
         for _ in 0..MOST_STEPS {
-            let next = self.step(spans);
+            let next = self.step(spans, requests);
             if next != Next::More {
                 return next;
             }
@@ -90,7 +100,7 @@ impl Connection {
     }
 
     // Sends what is left of an answer, begins the next one, or reads.
-    fn step(&mut self, spans: &mut [HeaderSpan]) -> Next {
+    fn step(&mut self, spans: &mut [HeaderSpan], requests: &mut u64) -> Next {
         if self.unsent > 0 {
             return self.send();
         }
@@ -99,6 +109,7 @@ impl Connection {
         }
         match front_of(self.received.as_slice(), spans) {
             Front::Request { len, is_last } => {
+                *requests = requests.saturating_add(1);
                 self.received.drop_front(len);
                 self.unsent = ANSWER_LEN;
                 self.is_last = is_last;

@@ -20,6 +20,8 @@ pub(crate) struct Connections {
     slab: Slab<Connection>,
     // Where the fields of a head are written.
     spans: Vec<HeaderSpan>,
+    // How many requests came at the port of each site.
+    requests: Vec<u64>,
 }
 
 impl Connections {
@@ -34,6 +36,7 @@ impl Connections {
             listeners,
             slab: Slab::new(alloc),
             spans: vec![in alloc; EMPTY_HEADER_SPAN; MOST_FIELDS]?,
+            requests: vec![in alloc; 0u64; listeners]?,
         })
     }
 
@@ -53,7 +56,7 @@ impl Connections {
         for _ in 0..MOST_TAKEN {
             match listener.accept() {
                 Ok((stream, _)) => {
-                    let _ = self.add(stream, registry);
+                    let _ = self.add(token.0, stream, registry);
                 }
                 Err(error) => match error.kind() {
                     ErrorKind::WouldBlock => break,
@@ -66,13 +69,13 @@ impl Connections {
         registry.reregister(listener, token, Interest::READABLE)
     }
 
-    // Adds a connection.
-    fn add(&mut self, stream: TcpStream, registry: &Registry) -> io::Result<()> {
+    // Adds a connection, which came at that site's port.
+    fn add(&mut self, site: usize, stream: TcpStream, registry: &Registry) -> io::Result<()> {
         self.slab.reserve(1)?;
         let Some(token) = self.slab.vacant_key().checked_add(self.listeners) else {
             return Err(AllocError.into());
         };
-        let connection = Connection::new(self.alloc, stream, registry, Token(token))?;
+        let connection = Connection::new(self.alloc, site, stream, registry, Token(token))?;
         self.slab.insert_reserved(connection);
         Ok(())
     }
@@ -85,7 +88,10 @@ impl Connections {
         let Some(connection) = self.slab.get_mut(key) else {
             return;
         };
-        let is_open = match connection.advance(self.spans.as_mut_slice()) {
+        let Some(requests) = self.requests.get_mut(connection.site()) else {
+            return;
+        };
+        let is_open = match connection.advance(self.spans.as_mut_slice(), requests) {
             Next::Waits => true,
             Next::More => connection.reregister(registry, token).is_ok(),
             Next::Ends => false,
@@ -93,5 +99,16 @@ impl Connections {
         if !is_open {
             let _ = self.slab.try_remove(key);
         }
+    }
+    /// How many requests came at the port of each site. All connections are closed.
+    pub(crate) fn into_requests(self) -> Vec<u64> {
+        let Connections {
+            alloc: _,
+            listeners: _,
+            slab: _,
+            spans: _,
+            requests,
+        } = self;
+        requests
     }
 }

@@ -80,20 +80,28 @@ impl Server {
     }
 
     /// Serves until `ended` is true, which it sees within about ten milliseconds, and closes all
-    /// connections and ports then. Want of memory for a connection closes that one alone.
+    /// connections and ports then. An allocation failure closes the connection that it was for, and
+    /// no other. It answers how many requests came at the port of each site.
     ///
     /// # Errors
     ///
     /// The system refuses to tell which sockets are ready, or gives no connection though one waits,
     /// as where descriptors run out. All is closed then as well.
-    pub fn serve<R: Wait>(mut self, rt: &R, ended: &AtomicBool) -> io::Result<()> {
+    pub fn serve<R: Wait>(mut self, rt: &R, ended: &AtomicBool) -> io::Result<Vec<u64>> {
         for _ in rt.forever() {
             if ended.load(Ordering::SeqCst) {
                 break;
             }
             self.turn()?;
         }
-        Ok(())
+        let Server {
+            poll: _,
+            events: _,
+            ports: _,
+            listeners: _,
+            connections,
+        } = self;
+        Ok(connections.into_requests())
     }
 
     // Waits until a socket is ready, for at most ten milliseconds, and does what can be done.

@@ -19,6 +19,11 @@ impl<S: Drop, N: Names> SharedCache<S, N> {
     /// the total too; where the total has none for one of them, the host is queued. Then hosts that
     /// are queued take turns. `now` is in seconds.
     ///
+    /// If another thread changed the total meanwhile, it tries again, and hosts that are queued
+    /// take turns before that too. A call that serves ends after 4,096 turns; the next one goes on.
+    /// The search for the least recently returned connection takes the last two moments,
+    /// 2^64 - 2 and 2^64 - 1, as one; below them there is no such exception.
+    ///
     /// Refused, in this order, with [`Refusal::BadSite`] where there is no such site, with
     /// [`Refusal::BadLimit`] above 65,535, with [`Refusal::Busy`] where more connections than that
     /// are held there, and with [`Refusal::Memory`] where memory runs out.

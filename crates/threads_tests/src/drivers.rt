@@ -2,8 +2,10 @@
 //! in the end.
 
 mod cancels;
+mod events;
 mod gates;
 mod jobs;
+mod logs;
 mod memory;
 mod orders;
 mod peers;

@@ -98,7 +98,7 @@ fn load_beside<R: Threads + Wait + RandomSource + AllocGlobal + Sync>(
             let loaded = load_under(rt, system, alloc, sites, jobs, options);
             ended.store(true, Ordering::SeqCst);
             match serving.join(rt) {
-                Ok(()) => loaded,
+                Ok(_requests) => loaded,
                 Err(error) => Err(fault_of(&error, LoadFault::Poll)),
             }
         },

@@ -2,6 +2,7 @@
 
 use crate::drivers::gates::{StopsAt, StopsWaiting};
 use crate::drivers::jobs::{JOBS, SETUP, Setup};
+use crate::drivers::logs::check_cancelled_logs;
 use crate::drivers::peers::Peer;
 use crate::drivers::whole::{Whole, whole_run};
 use crate::making::{plan_of, push};
@@ -87,6 +88,7 @@ fn each_job_is_cancelled(rt: HostRuntime) {
         let whole = whole_run::<Brand, StopsAt, HostRuntime>(&rt, plan, &setup, &gate);
         let name = row.name;
         check_cancelled(&rt, whole.results(&rt, setup.workers, name), name);
+        check_cancelled_logs(&rt, &whole.logs, name);
         let counts = (whole.all.reused, whole.all.opened == 0);
         assert_eq!(rt; counts, (0, row.opens_none), "{name}");
     }

@@ -1,6 +1,7 @@
 //! Runs whose jobs all end alike, and what each result tells.
 
 use crate::drivers::jobs::{SETUP, Setup};
+use crate::drivers::logs::check_logs;
 use crate::drivers::peers::Peer;
 use crate::drivers::whole::whole_run;
 use crate::making::plan_of;
@@ -101,6 +102,7 @@ fn each_job_has_its_result(rt: HostRuntime) {
         let plan = plan_of(&rt, 0, setup.total, setup.hosts);
         let whole = whole_run::<Brand, NoGate, HostRuntime>(&rt, plan, setup, &NoGate);
         check_results(&rt, row, whole.results(&rt, setup.workers, name));
+        check_logs(&rt, &whole.logs, setup.peer, name);
         let opened = whole.all.opened;
         let counts = (opened.saturating_add(whole.all.reused), opened);
         let expected = (row.starts, row.opened.unwrap_or(opened));

@@ -5,13 +5,14 @@ ghost use Rattle.std.specs.List.{All};
 ghost use Rattle.shared_cache.specs.Passes.{IsPassOf};
 
 use crate::drivers::jobs::{Setup, dials_of, jobs_of};
+use crate::drivers::logs::{HostLog, logs_of};
 use crate::drivers::peers::PeerWire;
 use crate::making::{cache_of, gathered_with, pass_of, push};
 use budget::{Pass, Refusal};
 use bundle::Did;
 use cache_report::totals;
 use driver::{DriverFault, Gate, RunReport, run};
-use exchange::Done;
+use exchange::{Done, Job};
 use exchange_memory::FixedClock;
 use shared_cache::{Gathered, HostCount, Names, Plan, SharedCache};
 use std::alloc::AllocGlobal;
@@ -23,12 +24,16 @@ use std::thread::Threads;
 // What a run answers.
 type Ran = Result<RunReport, (DriverFault, Vec<Pass<Did>>)>;
 
-/// What a run left: how the jobs ended, or why there are no results; how many passes came back; and
-/// what happened at all hosts.
+/// The moment that the clock of each run tells.
+const NOW: u64 = 7;
+
+/// What a run left: how the jobs ended, or why there are no results; how many passes came back; the
+/// log of each host; and what happened at all hosts once what was idle had been closed.
 #[derive(Drop)]
 pub(crate) struct Whole {
     pub(crate) ended: Result<Vec<Done>, DriverFault>,
     pub(crate) passes: usize,
+    pub(crate) logs: Vec<HostLog>,
     pub(crate) hosts: Vec<HostCount>,
     pub(crate) all: HostCount,
 }
@@ -70,10 +75,12 @@ pub(crate) fn whole_run<
     requires { plan ≡ N.names }
 {
     let cache = cache_of::<PeerWire, N, R>(rt, plan);
-    let (ended, mut passes) = carry_out(rt, &cache, setup, gate);
+    let jobs = jobs_of(rt, setup.jobs, setup.hosts, setup.for_bytes);
+    let (ended, mut passes) = carry_out(rt, &cache, &jobs, setup, gate);
+    let logs = logs_of(rt, &cache, &jobs, NOW);
     let number = passes.len();
     let mut pass = pass_of(rt, &cache);
-    let _closed = cache.prune(rt, 1, 0, 0, &mut pass);
+    let _closed = cache.prune(rt, NOW + 1, 0, 0, &mut pass);
     put_by::<N>(rt, &mut passes, pass);
     let gathered = gathered_of(rt, cache, passes);
     let all = totals(&gathered.hosts);
@@ -82,6 +89,7 @@ pub(crate) fn whole_run<
     Whole {
         ended,
         passes: number,
+        logs,
         hosts: gathered.hosts,
         all,
     }
@@ -96,15 +104,15 @@ fn carry_out<
 >(
     rt: &R,
     cache: &SharedCache<PeerWire, N>,
+    jobs: &[Job],
     setup: &Setup,
     gate: &G,
 ) -> (Result<Vec<Done>, DriverFault>, Vec<Pass<Did>>)
     ensures { All (IsPassOf N.names) result.1.items }
 {
-    let jobs = jobs_of(rt, setup.jobs, setup.hosts, setup.for_bytes);
     let mut dials = dials_of(rt, setup);
-    let clock = FixedClock { now: 0 };
-    let ran = run(rt, rt.alloc(), cache, &jobs, &mut dials, &clock, gate);
+    let clock = FixedClock { now: NOW };
+    let ran = run(rt, rt.alloc(), cache, jobs, &mut dials, &clock, gate);
     parts_of::<N>(ran)
 }
 
