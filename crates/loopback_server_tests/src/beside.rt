@@ -30,7 +30,7 @@ pub(crate) fn beside<R: Threads + Wait + Sync, T: Drop, F: FnOnce() -> io::Resul
             let serving = Builder::new().spawn_scoped(scope, || server.serve(rt, &ended))?;
             let got = client();
             ended.store(true, Ordering::SeqCst);
-            serving.join(rt)?;
+            let _requests = serving.join(rt)?;
             got
         },
     )
