@@ -6,8 +6,8 @@ use std::sync::atomic::{AtomicBool, Ordering};
 use std::thread::{Builder, Threads, scope_env};
 use std::{io, thread};
 
-/// What the client returns, beside which the server serves on a thread of its own, and how many
-/// requests came at each port. The server is told to end after the client.
+/// What the client returns, beside which the server serves on a thread of its own. The server is
+/// told to end after it.
 ///
 /// # Errors
 ///
@@ -17,21 +17,21 @@ pub(crate) fn beside<R: Threads + Wait + Sync, T: Drop, F: FnOnce() -> io::Resul
     rt: &R,
     server: Server,
     client: F,
-) -> io::Result<(T, Vec<u64>)>
+) -> io::Result<T>
     requires { F.pre client }
 {
     let ended = AtomicBool::new(false);
     thread::scope(
         scope_env(),
         rt,
-        |scope| -> io::Result<(T, Vec<u64>)>
+        |scope| -> io::Result<T>
             requires { F.pre client }
         {
             let serving = Builder::new().spawn_scoped(scope, || server.serve(rt, &ended))?;
             let got = client();
             ended.store(true, Ordering::SeqCst);
-            let requests = serving.join(rt)?;
-            Ok((got?, requests))
+            let _requests = serving.join(rt)?;
+            got
         },
     )
 }

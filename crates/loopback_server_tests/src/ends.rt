@@ -27,7 +27,7 @@ fn what_a_peer_asked_before_its_end_is_answered(rt: HostRuntime) -> Result<(), F
 fn the_server_ends_with_its_connections(rt: HostRuntime) -> Result<(), Fail> {
     let server = Server::listen(&rt, rt.alloc(), 2)?;
     let port = server.ports()[1];
-    let (client, _requests) = beside(&rt, server, || -> io::Result<Connection> {
+    let client = beside(&rt, server, || -> io::Result<Connection> {
         let client = Connection::connect(&rt, port)?;
         client.send(REQUEST, 100)?;
         assert_eq!(rt; client.answers(1), 1);

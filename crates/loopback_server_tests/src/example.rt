@@ -90,10 +90,9 @@ mod tests {
             format!(in rt.alloc(); "http://127.0.0.1:{port}/b?c")?,
             format!(in rt.alloc(); "http://127.0.0.1:{other}/a")?,
         ];
-        let (ends, _requests) = beside(&rt, server, || -> io::Result<anyhow::Result<Vec<Done>>> {
+        let ends = beside(&rt, server, || -> io::Result<anyhow::Result<Vec<Done>>> {
             Ok(fetch_all(&rt, &urls))
-        })?;
-        let ends = ends?;
+        })??;
         assert_eq!(rt; ends.len(), 3);
         for (end, &reused) in ends.iter().zip(REUSED.iter()) {
             let Done::Good(answer) = end else {

@@ -21,7 +21,7 @@ fn many_connections_are_answered(rt: HostRuntime) -> Result<(), Fail> {
     let mut ports = Vec::new(rt.alloc());
     ports.extend_from_slice(server.ports())?;
     assert_eq!(rt; ports.len(), 8);
-    let ((), requests) = beside(&rt, server, || -> io::Result<()> {
+    beside(&rt, server, || -> io::Result<()> {
         let mut clients = Vec::new(rt.alloc());
         for _ in 0..EACH {
             for port in ports.as_slice() {
@@ -38,11 +38,6 @@ fn many_connections_are_answered(rt: HostRuntime) -> Result<(), Fail> {
         }
         Ok(())
     })?;
-    assert_eq!(rt;
-        requests.as_slice(),
-        [96u64; 8].as_slice(),
-        "3 on each of 32 connections"
-    );
     Ok(())
 }
 
