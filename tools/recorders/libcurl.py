@@ -9,12 +9,14 @@ from ctypes import CFUNCTYPE, POINTER, Structure, c_char_p, c_int, c_long, c_siz
 # options of a transfer
 WRITE_DATA, URL, PROXY, DEBUG_DATA, PREREQ_DATA, OPEN_DATA = 10_001, 10_002, 10_004, 10_095, 10_313, 10_164
 WRITE_FUNCTION, DEBUG_FUNCTION, OPEN_FUNCTION, CLOSE_FUNCTION, PREREQ_FUNCTION = 20_011, 20_094, 20_163, 20_208, 20_312
-VERBOSE, HTTP_VERSION, NO_SIGNAL, TIMEOUT_MILLISECONDS = 41, 84, 99, 155
+VERBOSE, HTTP_VERSION, NO_SIGNAL, TIMEOUT_MILLISECONDS, MAX_AGE = 41, 84, 99, 155, 288
 HTTP_1_1 = 2
 # options of a multi handle
 MAX_CONNECTS, MAX_HOST_CONNECTIONS, MAX_TOTAL_CONNECTIONS = 6, 7, 13
 INFO_TEXT = 0
 GLOBAL_ALL = 3
+# it tells the port of a connection before a request is sent
+FIRST_WITH_PREREQ = [7, 80]
 
 
 class Address(Structure):
@@ -49,6 +51,8 @@ def library():
     except (OSError, AttributeError) as error:
         raise MissingLibrary(str(error)) from None
     curl.curl_version.restype = c_char_p
+    if numbers_of(version_of(curl)) < FIRST_WITH_PREREQ:
+        raise MissingLibrary(f"{version_of(curl)} is too old")
     curl.curl_easy_init.restype = curl.curl_multi_init.restype = c_void_p
     curl.curl_easy_cleanup.argtypes = curl.curl_multi_cleanup.argtypes = [c_void_p]
     curl.curl_multi_add_handle.argtypes = curl.curl_multi_remove_handle.argtypes = [c_void_p, c_void_p]
@@ -72,10 +76,14 @@ def text(value):
     return c_char_p(value.encode())
 
 
-def version():
+def version_of(curl):
     """The version of the library, such as 7.88.1."""
-    return library().curl_version().decode().split()[0].removeprefix("libcurl/")
+    return curl.curl_version().decode().split()[0].removeprefix("libcurl/")
+
+
+def numbers_of(version):
+    return [int(number) for number in version.split("-")[0].split(".")]
 
 
 if __name__ == "__main__":
-    print(version())
+    print(version_of(library()))

@@ -1,9 +1,9 @@
 #!/usr/bin/env python3
 """Records what libcurl's multi interface does: libcurl_multi.py PLAN [closes|ages].
 
-One multi handle in one thread keeps the connections of all hosts. A connection is opened when libcurl asks for a socket,
-and closed when it gives the socket back. Before a request is sent, libcurl tells the local port of its connection: one
-that is known is reused. A return and the beginning of a wait are told by libcurl's texts alone.
+One multi handle in one thread keeps the connections of all hosts. A connection is opened when libcurl asks for a
+socket, and closed when it gives the socket back. Before a request is sent, libcurl tells the local port of its
+connection: one that is known is reused. A return and the beginning of a wait are told by libcurl's texts alone.
 """
 import ctypes
 import os
@@ -32,8 +32,10 @@ class Connection:
 class Recorder:
     """A multi handle, and what is known of its transfers and connections."""
 
-    def __init__(self, curl, trace):
+    def __init__(self, curl, trace, age):
         self.curl, self.trace, self.multi = curl, trace, curl.curl_multi_init()
+        # the most seconds that libcurl is told to keep an idle connection, if it is told
+        self.age = age
         # by number
         self.requests, self.waiting = {}, set()
         # by the transfer that has it, by its descriptor, and by its local port
@@ -98,6 +100,8 @@ class Recorder:
                    libcurl.HTTP_VERSION: number(libcurl.HTTP_1_1),
                    libcurl.TIMEOUT_MILLISECONDS: number(MILLISECONDS), libcurl.DEBUG_DATA: pointer(transfer),
                    libcurl.OPEN_DATA: pointer(transfer), libcurl.PREREQ_DATA: pointer(transfer), **self.functions}
+        if self.age is not None:
+            options[libcurl.MAX_AGE] = number(self.age)
         for option, value in options.items():
             self.curl.curl_easy_setopt(pointer(easy), option, value)
         self.curl.curl_multi_add_handle(self.multi, easy)
@@ -118,8 +122,8 @@ class Recorder:
 def main():
     told, wrong = plan.read(sys.argv[1]), sys.argv[2:3]
     limits = MOST_OF_A_HOST, MOST_IN_TOTAL, MOST_KEPT
-    trace = Trace(limits, told["ports"], plan.SHORT_AGE if wrong == ["ages"] else None)
-    recorder = Recorder(libcurl.library(), trace)
+    trace = Trace(limits, told["ports"], plan.AGE_IN_TRACE)
+    recorder = Recorder(libcurl.library(), trace, None if wrong == ["ages"] else plan.AGE)
     for place, batch in enumerate(told["batches"]):
         if place == len(told["batches"]) - 1:
             time.sleep(told["pause"])

@@ -8,7 +8,9 @@ const fs = require('node:fs');
 const http = require('node:http');
 
 const LIMITS = { maxSockets: 2, maxTotalSockets: 4, maxFreeSockets: 2 };
-const SHORT_AGE = 1, MILLISECONDS = 1000;
+const MILLISECONDS = 1000;
+// the most seconds that a socket is kept idle, and what the trace says of that: moments are whole seconds
+const AGE = 1, AGE_IN_TRACE = 2;
 const [, , path, wrong] = process.argv;
 const plan = JSON.parse(fs.readFileSync(path, 'utf8'));
 const began = process.hrtime.bigint();
@@ -29,7 +31,8 @@ function kindInTrace(kind) {
   return kind === 'both' ? 'close' : kind;
 }
 
-const agent = new http.Agent({ keepAlive: true, ...LIMITS });
+const aging = wrong === 'ages' ? {} : { timeout: AGE * MILLISECONDS };
+const agent = new http.Agent({ keepAlive: true, ...LIMITS, ...aging });
 
 // What a request begins with: it is handed a new socket, or one that is reused.
 const onSocket = http.ClientRequest.prototype.onSocket;
@@ -72,7 +75,7 @@ agent.prependListener('free', (socket) => {
 const addRequest = agent.addRequest;
 agent.addRequest = function (request, ...others) {
   const { host, number } = request.planned;
-  say(`get ${number} ${host} 0`, wrong === 'ages' ? ` age ${SHORT_AGE}` : '');
+  say(`get ${number} ${host} 0`, ` age ${AGE_IN_TRACE}`);
   addRequest.call(this, request, ...others);
   if (!request.planned.isStarted) {
     say(`waits ${number} host ${host}`);
@@ -87,8 +90,8 @@ function forgetClose(request) {
 // http.request hands the request to the agent at once, so what is planned has to be known by then.
 class PlannedRequest extends http.ClientRequest {
   constructor(planned, done) {
-    super({ host: '127.0.0.1', port: plan.ports[planned.host], path: `/${planned.number}`, agent: new Handing(planned) },
-      done);
+    const port = plan.ports[planned.host];
+    super({ host: '127.0.0.1', port, path: `/${planned.number}`, agent: new Handing(planned) }, done);
   }
 }
 

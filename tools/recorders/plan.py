@@ -13,19 +13,23 @@ from real_servers.servers import SURPLUS, body_of, chunk_of, counted, head_of
 KINDS = {"keep": 12, "close": 2, "old": 1, "old-keep": 1, "eof": 1, "cut": 1, "surplus": 1, "both": 1}
 HOSTS, BATCHES, REQUESTS, PAUSE = 3, 12, 24, 3
 SEED = 11
-# what is wrong on purpose: connections are reused after a response with close, or past the age that is asked for
+# the most seconds that a pool is told to keep an idle connection, and what its trace says of that: moments are whole
+# seconds, so that two may differ by one second more than passed between them
+AGE, AGE_IN_TRACE = 1, 2
+# what is wrong on purpose: connections are reused after a response with close, or past the age, of which the pool isn't
+# told
 WRONG = ("closes", "ages")
-SHORT_AGE = 1
 
 
 def plan_of(ports):
     """The plan for servers at these ports."""
     rng, number, batches = random.Random(SEED), 0, []
-    for _ in range(BATCHES):
+    for place in range(BATCHES):
         batch = []
         for _ in range(REQUESTS):
             number += 1
-            kind = rng.choices(list(KINDS), KINDS.values())[0]
+            # before the pause, so that connections are idle in it
+            kind = "keep" if place == BATCHES - 2 else rng.choices(list(KINDS), KINDS.values())[0]
             # the first host is asked most
             batch.append({"host": min(rng.randrange(len(ports) + 2), len(ports) - 1) if rng.random() < 0.6 else 0,
                           "number": number, "kind": kind})

@@ -2,8 +2,9 @@
 """Records what the pools of urllib3 do: urllib3_pool.py PLAN [closes|ages].
 
 Threads send the requests of a plan through one pool for each host, which has at most two connections and lets threads
-wait for them. The pool keeps connections and free places in a queue. Starts and returns are recorded by the queue, under
-its own lock, so that nothing happens between the two; waits by its condition.
+wait for them. A pool has no age at which it closes idle connections. It keeps connections and free places in a queue.
+Starts and returns are recorded by the queue, under its own lock, so that nothing happens between the two; waits by its
+condition.
 """
 import concurrent.futures
 import http.client
@@ -122,7 +123,7 @@ def send(pool, request):
 
 def main():
     told, wrong = plan.read(sys.argv[1]), sys.argv[2:3]
-    trace = Trace(LIMITS, told["ports"], plan.SHORT_AGE if wrong == ["ages"] else None)
+    trace = Trace(LIMITS, told["ports"], plan.AGE_IN_TRACE if wrong == ["ages"] else None)
     kind_of_pool, pools = ForgetfulPool if wrong == ["closes"] else RecordedPool, []
     for host, port in enumerate(told["ports"]):
         pools.append(kind_of_pool("127.0.0.1", port, maxsize=MOST_OF_A_HOST, block=True))

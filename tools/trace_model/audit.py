@@ -142,7 +142,7 @@ class Audit:
         if self.is_held_back(case):
             self.hold_back(case, place)
         else:
-            broken = rules.first_broken(case)
+            broken = self.first_broken(case)
             if not broken:
                 self.take(case, place)
             else:
@@ -151,6 +151,9 @@ class Audit:
                 self.tell(*broken, place, host)
                 return
         self.last, self.last_host = place, host
+
+    def first_broken(self, case):
+        return rules.first_broken(case)
 
     def host_of(self, event):
         if isinstance(event, lines.NewLimit) and event.limit > MOST_LIMIT:
@@ -284,7 +287,12 @@ def state_of(host):
 
 def audit(stream, tells_all=False):
     """The report on the trace that a stream of bytes has."""
-    run, number = Audit(tells_all), 0
+    return report_of(Audit(tells_all), stream)
+
+
+def report_of(run, stream):
+    """The report of an audit on the trace that a stream of bytes has."""
+    number = 0
     try:
         for number, text in enumerate(lines_of(stream), 1):
             run.read(number, text)

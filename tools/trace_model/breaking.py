@@ -180,7 +180,8 @@ def idle_too_long(site):
     if not idle:
         return None
     age = site.rng.choice((0, 1, 5, 118))
-    moment = max(site.host.moment, idle.since + age + site.rng.choice((1, 1, 2)))
+    # now and then at the bound itself, which is lawful
+    moment = max(site.host.moment, idle.since + age + site.rng.choice((0, 1, 1, 1, 2)))
     options = "" if age == 118 else f"age {age}"
     return [site.get(transfer, idle.lane, options), site.leased(idle.number, transfer, moment)]
 
@@ -190,7 +191,7 @@ def open_too_long(site):
     if not idle:
         return None
     life = site.rng.choice((1, 2, 10))
-    moment = max(site.host.moment, idle.born + life + 1)
+    moment = max(site.host.moment, idle.born + life + site.rng.choice((0, 1, 1, 1, 2)))
     options = f"life {life} age {moment}"
     return [site.get(transfer, idle.lane, options), site.leased(idle.number, transfer, moment)]
 
@@ -241,7 +242,7 @@ def not_waiting(site):
 
 def below_open(site):
     count = len(site.host.connections)
-    return [site.limit(site.rng.randint(1, count - 1))] if count > 1 else None
+    return [site.limit(site.rng.choice((*range(1, count), *range(1, count), count)))] if count > 1 else None
 
 
 def total(site):

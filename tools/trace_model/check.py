@@ -1,12 +1,13 @@
 #!/usr/bin/env python3
 """Checks the model of `curlpool audit`, or a program beside it.
 
-    tools/trace_model/check.py [--drawn COUNT] [--scripts COUNT] [--beside PROGRAM]
+    tools/trace_model/check.py [--drawn COUNT] [--scripts COUNT] [--logs COUNT] [--beside PROGRAM]
 
 Each file worked/NAME.trace has the answer of worked/NAME.answer, whose first line has the options and the status. Those
 named for a rule break it alone, and no line of theirs can be left out. The scripts of `examples/` with their
 transcripts, and random scripts with what they caused, are lawful traces. Of random traces half and more break a rule,
-each rule in one of 100. With PROGRAM, `PROGRAM audit` has to give the model's answers to all of these.
+each rule in one of 100, and some are judged a second time, by searches of each host's log. With PROGRAM, `PROGRAM
+audit` has to give the model's answers to the worked traces and to the random ones.
 
 Each finding has a line. The last line is `N passed, M failed`; the status is 0 if nothing failed.
 """
@@ -27,7 +28,8 @@ TOOLS = os.path.dirname(os.path.dirname(os.path.abspath(__file__)))
 sys.path.insert(0, TOOLS)
 from script_model.model import transcript
 from trace_model import answers, rules
-from trace_model.audit import audit
+from trace_model.audit import audit, report_of
+from trace_model.by_log import Disagreement, DoubleAudit
 from trace_model.drawn import draw, scripted
 from trace_model.scripted import trace_of
 
@@ -79,9 +81,17 @@ def worked():
         yield name, read(WORKED, f"{name}.trace"), words.split()[1:], answer
 
 
+def as_model_writes(answer):
+    """The answer with its JSON as the model writes it, which has a space after each comma and colon."""
+    with contextlib.suppress(ValueError):
+        return answer._replace(output=json.dumps(json.loads(answer.output)) + "\n")
+    return answer
+
+
 def check_worked(answer_to):
     for name, trace, options, wanted in worked():
         found = answer_to(trace, options)
+        found = as_model_writes(found) if "--json" in options else found
         yield f"worked {name}", None if found == wanted else f"{found} in place of {wanted}"
 
 
@@ -144,14 +154,28 @@ def check_drawn(traces):
         yield f"drawn {rule}", f"{found[rule]} of {len(traces)} break it" if few else None
 
 
+def check_by_logs(traces):
+    """Whether each verdict is that of the hosts' logs."""
+    for number, trace in enumerate(traces):
+        try:
+            report_of(DoubleAudit(), io.BytesIO(trace))
+        except Disagreement as difference:
+            yield f"by logs {number}", str(difference)
+        else:
+            yield f"by logs {number}", None
+
+
 def check_beside(program, traces):
-    """Whether the program answers as the model does: the first violation as text, and all as JSON."""
+    """Whether the program answers as the model does: the first violation as text, all as JSON, and all as text if no
+    other connection may be named."""
     for number, trace in enumerate(traces):
         found = answer_of(program, trace)
-        if found not in possible_answers(trace):
-            yield f"beside {number}", f"{found} in place of {answer_of_model(trace)}"
-            continue
-        complaint = complaint_of_all(trace, answer_of(program, trace, ["--all", "--json"]))
+        complaint = None if found in possible_answers(trace) else f"{found} in place of {answer_of_model(trace)}"
+        report = audit(io.BytesIO(trace), tells_all=True)
+        complaint = complaint or complaint_of_all(trace, report, answer_of(program, trace, ["--all", "--json"]))
+        if not complaint and not any(violation.finding.others for violation in report.violations):
+            found, wanted = answer_of(program, trace, ["--all"]), answer_of_model(trace, ["--all"])
+            complaint = None if found == wanted else f"{found} in place of {wanted}"
         yield f"beside {number}", complaint
 
 
@@ -166,9 +190,9 @@ def possible_answers(trace):
             yield first._replace(output="".join(f"{line}\n" for line in lines))
 
 
-def complaint_of_all(trace, found):
+def complaint_of_all(trace, report, found):
     """What is wrong with the violations as JSON, or nothing."""
-    wanted, report = answer_of_model(trace, ["--all", "--json"]), audit(io.BytesIO(trace), tells_all=True)
+    wanted = answer_of_model(trace, ["--all", "--json"])
     if (found.status, found.errors) != (wanted.status, wanted.errors) or report.fault:
         return None if found == wanted else f"{found} in place of {wanted}"
     with contextlib.suppress(ValueError):
@@ -190,6 +214,7 @@ def findings(options):
     rng = random.Random(SEED)
     traces = [draw(rng, number).text for number in range(options.drawn)]
     yield from check_drawn(traces)
+    yield from check_by_logs(traces[:options.logs])
     if options.beside:
         yield from check_worked(lambda trace, words: answer_of(options.beside, trace, words))
         yield from check_beside(options.beside, traces)
@@ -199,6 +224,7 @@ def main():
     parser = argparse.ArgumentParser(description=__doc__, formatter_class=argparse.RawDescriptionHelpFormatter)
     parser.add_argument("--drawn", type=int, default=2_000, metavar="COUNT", help="how many random traces")
     parser.add_argument("--scripts", type=int, default=1_000, metavar="COUNT", help="how many random scripts")
+    parser.add_argument("--logs", type=int, default=500, metavar="COUNT", help="how many of them by logs too")
     parser.add_argument("--beside", metavar="PROGRAM", help="a program with the command audit")
     options = parser.parse_args()
     counts = collections.Counter()
