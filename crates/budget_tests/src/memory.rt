@@ -2,8 +2,9 @@
 //! of these tests passes whichever allocation fails: the refusal says so, and the call succeeds when
 //! it comes again.
 
+use crate::permits::held_of;
 use budget::{
-    Held, Holders, Limits, Link, Lobby, Pass, Permits, PlainBudget, Refusal, Seen, Tally,
+    BudgetSeat, Held, Holders, Limits, Link, Lobby, Pass, PlainBudget, Refusal, Seen, Tally,
     WordBudget,
 };
 use std::alloc::AllocGlobal;
@@ -28,7 +29,7 @@ fn check_plain_budget<R: Abort + AllocGlobal>(rt: &R) {
             PlainBudget::new(rt.alloc(), limits, 9).expect(rt, "memory")
         }
     };
-    assert_eq!(rt; budget.at(8).held(), Held { alive: 0, kept: 0 });
+    assert_eq!(rt; held_of(&budget.at(8)), Held { alive: 0, kept: 0 });
 }
 
 fn check_lobby<R: Abort + AllocGlobal>(rt: &R) {
@@ -63,7 +64,7 @@ fn want_of_memory_refuses_what_one_thread_counts(rt: HostRuntime) {
 
 fn check_words<R: Abort + AllocGlobal>(rt: &R) {
     let limits = limits_of(rt);
-    let (budget, seat) = match WordBudget::new(rt.alloc(), limits) {
+    let (budget, seat): (WordBudget<()>, BudgetSeat<()>) = match WordBudget::new(rt.alloc(), limits) {
         Ok(made) => made,
         Err(refusal) => {
             check_memory(rt, refusal);

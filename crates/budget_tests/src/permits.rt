@@ -10,6 +10,9 @@ use budget::{
 };
 use std::thread::{Threads, join};
 
+// Who may ask here needs no key.
+const FREELY: () = ();
+
 // How often each thread asks.
 const ROUNDS: u32 = 2_000;
 
@@ -32,15 +35,22 @@ fn limits_are_kept_as_numbers_from_1_to_65535(rt: HostRuntime) {
     }
 }
 
+// What a part holds.
+pub(crate) fn held_of<P: Permits<()>>(part: &P) -> Held
+    requires { P.stands part.now }
+{
+    part.held()
+}
+
 // Takes both permits where they are given, and gives back what it took.
-fn take_and_give_back<P: Permits>(permits: &mut P) -> (Try, Try)
+fn take_and_give_back<P: Permits<()>>(permits: &mut P) -> (Try, Try)
     requires { P.stands permits.old }
     ensures stands { P.stands permits.new }
     ensures stays { P.stays permits.old permits.new }
     ensures held { P.held permits.new ≡ P.held permits.old }
 {
-    let open = permits.reserve_open();
-    let keep = permits.reserve_kept();
+    let open = permits.reserve_open(&FREELY);
+    let keep = permits.reserve_kept(&FREELY);
     if keep == Try::Got {
         permits.release_kept();
     }
@@ -56,8 +66,8 @@ fn open_at(budget: &mut PlainBudget, host: u32) -> (Try, Held)
     ensures { length budget.new.hosts ≡ length budget.old.hosts }
 {
     let mut part = budget.at(host);
-    let answer = part.reserve_open();
-    (answer, part.held())
+    let answer = part.reserve_open(&FREELY);
+    (answer, held_of(&part))
 }
 
 #[test]
@@ -71,13 +81,13 @@ fn a_plain_budget_sums_over_hosts(rt: HostRuntime) {
     assert_eq!(rt; open_at(&mut budget, 1), (Try::Got, one));
     assert_eq!(rt; open_at(&mut budget, 1), (Try::Full, one));
     let mut first = budget.at(0);
-    assert_eq!(rt; first.reserve_kept(), Try::Got);
-    assert_eq!(rt; first.reserve_kept(), Try::Full);
-    assert_eq!(rt; first.held(), Held { alive: 1, kept: 1 });
+    assert_eq!(rt; first.reserve_kept(&FREELY), Try::Got);
+    assert_eq!(rt; first.reserve_kept(&FREELY), Try::Full);
+    assert_eq!(rt; held_of(&first), Held { alive: 1, kept: 1 });
     assert_eq!(rt; take_and_give_back(&mut first), (Try::Full, Try::Full));
     let mut second = budget.at(1);
-    assert_eq!(rt; second.reserve_kept(), Try::Full);
-    assert_eq!(rt; second.held(), one);
+    assert_eq!(rt; second.reserve_kept(&FREELY), Try::Full);
+    assert_eq!(rt; held_of(&second), one);
 }
 
 #[test]
@@ -108,21 +118,21 @@ fn two_seats_share_one_permit(rt: HostRuntime) {
     };
     let mut b = budget.split(&mut a);
     assert_eq!(rt; budget.seen(&b), Seen { total: 0, kept: 0 });
-    let Try::Got = budget.try_open(&mut a) else {
+    let Try::Got = budget.try_open(&mut a, &FREELY) else {
         panic!(rt; "a could not open");
     };
-    assert_eq!(rt; budget.try_open(&mut b), Try::Full);
+    assert_eq!(rt; budget.try_open(&mut b, &FREELY), Try::Full);
     assert_eq!(rt; budget.seen(&b).total, 1);
     budget.free_open(&mut a);
-    let Try::Got = budget.try_open(&mut b) else {
+    let Try::Got = budget.try_open(&mut b, &FREELY) else {
         panic!(rt; "b could not open");
     };
     assert!(rt; !budget.keeps_any());
-    let Try::Got = budget.try_keep(&mut b) else {
+    let Try::Got = budget.try_keep(&mut b, &FREELY) else {
         panic!(rt; "b could not keep");
     };
     assert!(rt; budget.keeps_any());
-    assert_eq!(rt; budget.try_keep(&mut a), Try::Full);
+    assert_eq!(rt; budget.try_keep(&mut a, &FREELY), Try::Full);
     assert_eq!(rt; b.held(), Held { alive: 1, kept: 1 });
     budget.free_keep(&mut b);
     budget.free_open(&mut b);
@@ -136,7 +146,7 @@ fn two_seats_share_one_permit(rt: HostRuntime) {
 
 // Asks for two permits and gives them back, again and again. It answers the greatest total seen,
 // and how often it got the first.
-fn hammer(budget: &WordBudget, mut seat: BudgetSeat) -> (u64, u64, BudgetSeat)
+fn hammer(budget: &WordBudget<()>, mut seat: BudgetSeat<()>) -> (u64, u64, BudgetSeat<()>)
     requires { seat.table ≡ budget.now.table }
     ensures table { result.2.table ≡ seat.table }
     ensures share { result.2.view.share ≡ seat.view.share }
@@ -144,9 +154,9 @@ fn hammer(budget: &WordBudget, mut seat: BudgetSeat) -> (u64, u64, BudgetSeat)
     let mut most = 0u64;
     let mut got = 0u64;
     for _ in 0..ROUNDS {
-        let first = budget.try_open(&mut seat);
+        let first = budget.try_open(&mut seat, &FREELY);
         most = budget.seen(&seat).total.max(most);
-        let second = budget.try_open(&mut seat);
+        let second = budget.try_open(&mut seat, &FREELY);
         most = budget.seen(&seat).total.max(most);
         if first == Try::Got {
             got = got.wrapping_add(1);
@@ -162,21 +172,21 @@ fn hammer(budget: &WordBudget, mut seat: BudgetSeat) -> (u64, u64, BudgetSeat)
 // Two threads hammer.
 fn hammer_by_two<R: Threads + Sync>(
     rt: &R,
-    budget: &WordBudget,
-    one: BudgetSeat,
-    two: BudgetSeat,
-) -> (u64, u64, BudgetSeat)
+    budget: &WordBudget<()>,
+    one: BudgetSeat<()>,
+    two: BudgetSeat<()>,
+) -> (u64, u64, BudgetSeat<()>)
     requires { (one.table ≡ budget.now.table) × (two.table ≡ budget.now.table) }
     ensures table { result.2.table ≡ one.table }
     ensures share { result.2.view.share ≡ one.view.share + two.view.share }
 {
     let (one, two) = join(
         rt,
-        || -> (u64, u64, BudgetSeat)
+        || -> (u64, u64, BudgetSeat<()>)
             requires { one.table ≡ budget.now.table }
             ensures { (result.2.table ≡ one.table) × (result.2.view.share ≡ one.view.share) }
         { hammer(budget, one) },
-        || -> (u64, u64, BudgetSeat)
+        || -> (u64, u64, BudgetSeat<()>)
             requires { two.table ≡ budget.now.table }
             ensures { (result.2.table ≡ two.table) × (result.2.view.share ≡ two.view.share) }
         { hammer(budget, two) },
@@ -190,8 +200,8 @@ fn hammer_by_two<R: Threads + Sync>(
 // Four threads hammer one budget, which is finished at the end.
 fn hammer_by_four<R: Threads + Sync>(
     rt: &R,
-    budget: WordBudget,
-    mut a: BudgetSeat,
+    budget: WordBudget<()>,
+    mut a: BudgetSeat<()>,
 ) -> (u64, u64, Words)
     requires table { a.table ≡ budget.table }
     requires all { a.view.share ≡ whole }
@@ -202,12 +212,12 @@ fn hammer_by_four<R: Threads + Sync>(
     let shared = &budget;
     let (first, second) = join(
         rt,
-        || -> (u64, u64, BudgetSeat)
+        || -> (u64, u64, BudgetSeat<()>)
             requires { IsSync R.row × (a.table ≡ shared.now.table) × (b.table ≡ shared.now.table) }
             ensures table { result.2.table ≡ a.table }
             ensures share { result.2.view.share ≡ a.view.share + b.view.share }
         { hammer_by_two(rt, shared, a, b) },
-        || -> (u64, u64, BudgetSeat)
+        || -> (u64, u64, BudgetSeat<()>)
             requires { IsSync R.row × (c.table ≡ shared.now.table) × (d.table ≡ shared.now.table) }
             ensures table { result.2.table ≡ c.table }
             ensures share { result.2.view.share ≡ c.view.share + d.view.share }

@@ -13,7 +13,7 @@ ghost use Rattle.bundle.specs.Passes.{tells, spends, acquire_did, claim_did};
 ghost use Rattle.bundle.specs.Replies.{OnSpent, UnlessSpent};
 
 use budget::{Pass, Permits, Refusal, Tally};
-use bundle::{Back, Bundle, Claimed, Did, Got, Lease, Stray, Ticket};
+use bundle::{Asker, Back, Bundle, Claimed, Did, Got, Lease, Stray, Ticket};
 use conn_log::Want;
 use persistence::Facts;
 
@@ -29,7 +29,7 @@ pub fn enrol<S: Drop>(bundle: &mut Bundle<S>, pass: &mut Pass<Did>, _own: &mut T
 }
 
 /// Acquires a connection. `now` is in seconds. Refused as [`Bundle::acquire`] is.
-pub fn acquire<S: Drop, P: Permits>(
+pub fn acquire<S: Drop, P: Permits<Asker>>(
     bundle: &mut Bundle<S>,
     want: Want,
     now: u64,
@@ -47,7 +47,7 @@ pub fn acquire<S: Drop, P: Permits>(
 }
 
 /// Gives a lease back at a host that is not queued. `now` is in seconds.
-pub fn give_back<S: Drop, P: Permits>(
+pub fn give_back<S: Drop, P: Permits<Asker>>(
     bundle: &mut Bundle<S>,
     lease: Lease<S>,
     facts: Facts,

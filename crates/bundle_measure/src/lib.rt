@@ -251,7 +251,11 @@ fn lease_of(host: &mut Host, got: Got<()>, moment: u64) -> Option<Lease<()>>
     ensures tables { host.new.tables ≡ host.old.tables }
 {
     let got = match got {
-        Got::NoRoom(booking) | Got::Again(booking) => retry(host, booking, moment),
+        Got::NoRoom(no_room) => {
+            let (booking, _short) = no_room.part();
+            retry(host, booking, moment)
+        }
+        Got::Again(booking) => retry(host, booking, moment),
         got => got,
     };
     match got {
@@ -260,7 +264,8 @@ fn lease_of(host: &mut Host, got: Got<()>, moment: u64) -> Option<Lease<()>>
             leave(host, ticket, moment);
             None
         }
-        Got::NoRoom(_booking) | Got::Again(_booking) => unreachable!(),
+        Got::NoRoom(_no_room) => unreachable!(),
+        Got::Again(_booking) => unreachable!(),
     }
 }
 
@@ -318,7 +323,11 @@ fn spend_rest(host: &mut Host, back: Back<()>, moment: u64)
     match back {
         Back::Spent { freed: _ } => {}
         Back::Strange(stray) => stray.scrap(),
-        Back::NoKeep(lease) | Back::Again(lease) => abandon(host, lease, moment),
+        Back::NoKeep(no_keep) => {
+            let (lease, _short) = no_keep.part();
+            abandon(host, lease, moment);
+        }
+        Back::Again(lease) => abandon(host, lease, moment),
     }
 }
 

@@ -70,7 +70,7 @@ after_unmarked old new other before start end entry exit index lobby lent left t
 
 is_given : Served → Bool
 is_given Given = true
-is_given Full = false
+is_given (Full short) = false
 is_given Contended = false
 
 -- and as a turn leaves it
@@ -78,7 +78,7 @@ pub after_turned : {S : Type 0} (result : Served) (old new other : HostShown S) 
 unfolding is_given
 after_turned Given old new other before start end entry exit index was now pass tells found begins at stays keeps part same turned unchanged =
     after_call old new other before start end entry exit index was now pass pass tells found begins at stays keeps part same turned.lists (lists_other_after_turn old.host other.host _ _ was now (differ old.host other.host tells.two) turned tells.lists_other) (λ h t seat. seat)
-after_turned {S} Full old new other before start end entry exit index was now pass tells found begins at stays keeps part same turned unchanged =
+after_turned {S} (Full short) old new other before start end entry exit index was now pass tells found begins at stays keeps part same turned unchanged =
     rw turned (after_unmarked old new other before start end entry exit index was pass pass tells found begins at stays keeps part same (ap (λ (v : HostShown S). is_queued v.settings v.log) (unchanged (λ e. false≢true (ap is_given e)))) (λ h t seat. seat))
 after_turned {S} Contended old new other before start end entry exit index was now pass tells found begins at stays keeps part same turned unchanged =
     rw turned (after_unmarked old new other before start end entry exit index was pass pass tells found begins at stays keeps part same (ap (λ (v : HostShown S). is_queued v.settings v.log) (unchanged (λ e. false≢true (ap is_given e)))) (λ h t seat. seat))

@@ -4,7 +4,6 @@
 use crate::desk::{Desk, WANT};
 use crate::keeper::{Row, Said, Step, run};
 use budget::{Refusal, Try};
-use bundle::Served;
 use conn_log::{Cause, Want};
 use std::test::Fail;
 
@@ -46,11 +45,11 @@ const TOTALS: [Row; 8] = [
             (Step::Get(2, 1), Said::Refused(Refusal::TransferBusy)),
             (Step::LastTry(1), Said::Waits),
             (Step::Lobby, Said::Lobby(true, Some(3))),
-            (Step::Serve(2), Said::Turn(Some(Served::Full))),
+            (Step::Serve(2), Said::Turn(Some(Try::Full))),
             (Step::Other, Said::Done),
             (Step::Drop(1, 3), Said::Freed(true)),
             (Step::Other, Said::Done),
-            (Step::Serve(3), Said::Turn(Some(Served::Given))),
+            (Step::Serve(3), Said::Turn(Some(Try::Got))),
             (Step::Lobby, Said::Lobby(false, None)),
             (Step::Claim(2), Said::Opened(1, 3)),
             (Step::Drop(2, 4), Said::Freed(true)),
@@ -82,7 +81,7 @@ const TOTALS: [Row; 8] = [
             (Step::Lobby, Said::Lobby(false, Some(3))),
             (Step::Leave(6, 7), Said::Freed(true)),
             (Step::Other, Said::Done),
-            (Step::Serve(7), Said::Turn(Some(Served::Given))),
+            (Step::Serve(7), Said::Turn(Some(Try::Got))),
             (Step::Lobby, Said::Lobby(true, Some(3))),
             (Step::Leave(3, 8), Said::Freed(false)),
             (Step::Listed(3), Said::Was(true)),
@@ -110,7 +109,7 @@ const TOTALS: [Row; 8] = [
             (Step::Lobby, Said::Lobby(true, Some(7))),
             (Step::CloseElsewhere, Said::Done),
             (Step::Other, Said::Done),
-            (Step::Serve(2), Said::Turn(Some(Served::Given))),
+            (Step::Serve(2), Said::Turn(Some(Try::Got))),
             (Step::Lobby, Said::Lobby(true, Some(3))),
             (Step::Listed(7), Said::Was(true)),
             (Step::Look, Said::Look(1, 0, 1, 1, true)),
@@ -119,7 +118,7 @@ const TOTALS: [Row; 8] = [
             (Step::Listed(7), Said::Was(false)),
             (Step::Leave(3, 4), Said::Freed(true)),
             (Step::Other, Said::Done),
-            (Step::Serve(5), Said::Turn(Some(Served::Given))),
+            (Step::Serve(5), Said::Turn(Some(Try::Got))),
             (Step::Lobby, Said::Lobby(false, None)),
             (Step::Claim(4), Said::Opened(1, 5)),
             (Step::Back(4, 6), Said::Freed(false)),
@@ -212,6 +211,8 @@ const KEPT: [Row; 6] = [
             (Step::Get(1, 0), Said::Opened(1, 0)),
             (Step::Get(2, 0), Said::Opened(2, 0)),
             (Step::Back(1, 4), Said::Freed(false)),
+            (Step::Back(2, 5), Said::NotKept),
+            (Step::Back(2, 5), Said::NotKept),
             (Step::Back(2, 5), Said::NotKept),
             (Step::Length, Said::Length(3)),
             (Step::Evict(5, 1, 5), Said::Was(false)),

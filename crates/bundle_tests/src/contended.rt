@@ -6,10 +6,10 @@ ghost use Rattle.bundle.specs.Replies.{IfBack, IfGot, GivesLease};
 
 use crate::desk::{
     KEEP, Stream, accept, again_of, attach_new, booked, booking_of, lease_of, spent, ticket_of,
-    want_of, with_stream,
+    told_at_turn, want_of, with_stream,
 };
 use budget::{Held, Lobby, Pass, Permits, Refusal, Try};
-use bundle::{Back, Booking, Bundle, Changed, Did, Got, Lease, Served, Ticket};
+use bundle::{Asker, Back, Booking, Bundle, Changed, Did, Got, Lease, Served, Ticket};
 use std::alloc::Global;
 use std::marker::Model;
 use std::process::Abort;
@@ -22,7 +22,7 @@ struct Told {
     answer: Try,
 }
 
-impl Permits for Told {
+impl Permits<Asker> for Told {
     ghost use Rattle.std.specs.Prelude.{◌≡◌, refl};
 
     ghost stands = { λ part. Unit {0} };
@@ -45,7 +45,7 @@ impl Permits for Told {
 
     ghost same_kept = { λ x y. Unit {0} };
 
-    fn reserve_open(&mut self) -> Try {
+    fn reserve_open(&mut self, _key: &Asker) -> Try {
         if self.answer != Try::Got || self.held.alive == u32::MAX {
             return if self.answer == Try::Got {
                 Try::Full
@@ -57,7 +57,7 @@ impl Permits for Told {
         Try::Got
     }
 
-    fn reserve_kept(&mut self) -> Try {
+    fn reserve_kept(&mut self, _key: &Asker) -> Try {
         if self.answer != Try::Got || self.held.kept == u32::MAX {
             return if self.answer == Try::Got {
                 Try::Full
@@ -325,14 +325,12 @@ fn a_turn_and_a_new_limit_come_again(rt: HostRuntime) -> Result<(), Fail> {
     let booking = booking_of(&rt, got);
     let first = ticket_of(&rt, host.retry_at_last(&rt, booking, 0));
     host.answer(Try::Contended);
-    let turn = host.serve_queued(1);
-    assert_eq!(rt;
-        (turn, host.lobby.first()),
-        (Some(Served::Contended), Some(0))
-    );
+    let turn = told_at_turn(host.serve_queued(1));
+    let first_in_lobby = host.lobby.first();
+    assert_eq!(rt; (turn, first_in_lobby), (Some(Try::Contended), Some(0)));
     host.answer(Try::Got);
-    let turn = host.serve_queued(2);
-    assert_eq!(rt; (turn, host.lobby.first()), (Some(Served::Given), None));
+    let turn = told_at_turn(host.serve_queued(2));
+    assert_eq!(rt; (turn, host.lobby.first()), (Some(Try::Got), None));
     let got = host.acquire(2, 3);
     let second = ticket_of(&rt, got.expect(&rt, "an answer"));
     host.answer(Try::Contended);
@@ -352,7 +350,7 @@ fn a_turn_and_a_new_limit_come_again(rt: HostRuntime) -> Result<(), Fail> {
 }
 
 #[test]
-fn a_booking_that_is_not_its_hosts_can_be_let_go(rt: HostRuntime) -> Result<(), Fail> {
+fn a_booking_is_tried_again_at_its_own_host(rt: HostRuntime) -> Result<(), Fail> {
     let mut host = ToldHost::new(rt.alloc(), 4, Try::Contended)?;
     let other = ToldHost::new(rt.alloc(), 4, Try::Got)?;
     let got = host.acquire(1, 0)?;
@@ -361,10 +359,13 @@ fn a_booking_that_is_not_its_hosts_can_be_let_go(rt: HostRuntime) -> Result<(), 
     if other.bundle.has_booked(&booking) {
         panic!(rt; "it is booked where it was not made");
     }
-    other.bundle.scrap_stranger(booking);
     match host.acquire(1, 1) {
         Ok(_got) => panic!(rt; "its transfer is booked no more"),
         Err(refusal) => assert_eq!(rt; refusal, Refusal::TransferBusy),
     }
+    host.answer(Try::Got);
+    let lease = lease_of(&rt, host.retry(&rt, booking, 2));
+    assert_eq!(rt; (lease.transfer(), lease.moment()), (1, 2));
+    assert_eq!(rt; host.abandon(&rt, lease, 3), true);
     Ok(())
 }

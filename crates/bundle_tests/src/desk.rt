@@ -7,8 +7,10 @@ ghost use Rattle.bundle.specs.Lease.{IsBookedHere, IsMadeAt, IsNewHost};
 ghost use Rattle.bundle.specs.Replies.{IfBack, IfClaimed, IfGot, GivesLease};
 
 use budget::{Limits, Lobby, Pass, Permits, PlainBudget, Refusal, Try};
-use bundle::{Back, Booking, Bundle, Changed, Claimed, Did, Got, Lease, Served, Stray, Ticket};
-use conn_log::{Cause, Entry, Event, Stamp, Want};
+use bundle::{
+    Back, Booking, Bundle, Changed, Claimed, Did, Got, Lease, Served, Shortage, Stray, Ticket,
+};
+use conn_log::{Entry, Event, Stamp, Want};
 use persistence::{Facts, Framing, Version};
 use std::alloc::Global;
 use std::marker::Model;
@@ -170,7 +172,7 @@ impl<S: Drop> Desk<S> {
         ensures same { self.new ≡ self.old }
     {
         let host = elsewhere(self.bundle.host(), self.other.host());
-        self.budget.at(host).reserve_open()
+        self.budget.at(host).reserve_open(&())
     }
 
     /// And one is closed there.
@@ -268,12 +270,11 @@ impl<S: Drop> Desk<S> {
         Some(self.bundle.serve_queued(now, &mut permits, lobby))
     }
 
-    pub fn evict_oldest(&mut self, stamp: Stamp, now: u64) -> bool
+    pub fn evict_oldest(&mut self, stamp: Stamp, short: Shortage, now: u64) -> bool
         ensures same { self.new ≡ self.old }
     {
         let mut permits = self.budget.at(self.bundle.host());
-        self.bundle
-            .evict_oldest(stamp, Cause::CacheFull, now, &mut permits)
+        self.bundle.evict_oldest(stamp, short, now, &mut permits)
     }
 
     pub fn prune(&mut self, now: u64, max_age: u64, max_life: u64) -> u32
@@ -359,7 +360,7 @@ fn elsewhere(here: u32, there: u32) -> u32
 }
 
 // Gives back the permit of an open connection, where there is one.
-fn close_one<P: Permits>(permits: &mut P)
+fn close_one<P: Permits<()>>(permits: &mut P)
     requires stands { P.stands permits.old }
     ensures stands { P.stands permits.new }
     ensures stays { P.stays permits.old permits.new }
@@ -440,7 +441,10 @@ pub(crate) fn ticket_of<S: Drop>(rt: &impl Abort, got: Got<S>) -> Ticket {
 /// The booking that an acquire has to give for want of room.
 pub(crate) fn booking_of<S: Drop>(rt: &impl Abort, got: Got<S>) -> Booking {
     match got {
-        Got::NoRoom(booking) => booking,
+        Got::NoRoom(no_room) => {
+            let (booking, _short) = no_room.part();
+            booking
+        }
         _got => panic!(rt; "no booking"),
     }
 }
@@ -450,6 +454,16 @@ pub(crate) fn again_of<S: Drop>(rt: &impl Abort, got: Got<S>) -> Booking {
     match got {
         Got::Again(booking) => booking,
         _got => panic!(rt; "not to be tried again"),
+    }
+}
+
+/// What the budget answered at a turn, if there was one.
+pub(crate) fn told_at_turn(served: Option<Served>) -> Option<Try> {
+    match served {
+        None => None,
+        Some(Served::Given) => Some(Try::Got),
+        Some(Served::Full(_short)) => Some(Try::Full),
+        Some(Served::Contended) => Some(Try::Contended),
     }
 }
 
@@ -495,7 +509,8 @@ pub(crate) fn accept<S: Drop>(rt: &impl Abort, answer: Result<bool, Stray<Lease<
 pub(crate) fn spent<S: Drop>(rt: &impl Abort, back: Back<S>) -> bool {
     match back {
         Back::Spent { freed } => freed,
-        Back::NoKeep(_lease) | Back::Again(_lease) => panic!(rt; "the lease came back"),
+        Back::NoKeep(_no_keep) => panic!(rt; "the lease came back"),
+        Back::Again(_lease) => panic!(rt; "the lease came back"),
         Back::Strange(_stray) => panic!(rt; "the lease is a stranger"),
     }
 }

@@ -5,9 +5,9 @@ ghost use Rattle.std.specs.Prelude.{◌≡◌, ◌++◌, ◌∷◌, []};
 ghost use Rattle.bundle.specs.Lease.{IsMadeAt};
 ghost use Rattle.bundle.specs.Replies.{GivesLease, IfBack};
 
-use crate::desk::{Desk, KEEP, Stream, attach_new, stream_of, told, want_of};
+use crate::desk::{Desk, KEEP, Stream, attach_new, stream_of, told, told_at_turn, want_of};
 use budget::{Refusal, Try};
-use bundle::{Back, Booking, Changed, Claimed, Did, Got, Lease, Served, Snapshot, Ticket};
+use bundle::{Back, Booking, Changed, Claimed, Did, Got, Lease, Shortage, Snapshot, Ticket};
 use conn_key::Key;
 use conn_log::{Cause, Entry, Event, Stamp, Want};
 use persistence::Facts;
@@ -39,8 +39,8 @@ pub(crate) enum Step {
     Limit(u32, u64),
     /// The moment, the most seconds idle, and the most seconds open.
     Prune(u64, u64, u64),
-    /// The connection that is idle since then, of that number, is closed for room among those that
-    /// are kept, if it is the oldest; and the moment.
+    /// The connection that is idle since then, of that number, is closed for want of the room that
+    /// the last answer told of, if it is the oldest; and the moment.
     Evict(u64, u32, u64),
     /// The host's turn, if it is queued and first.
     Serve(u64),
@@ -81,8 +81,8 @@ pub(crate) enum Said {
     NotKept,
     Was(bool),
     Pruned(u32),
-    /// A turn came to this; none if the host has no turn.
-    Turn(Option<Served>),
+    /// What the budget answered at a turn; none if the host has no turn.
+    Turn(Option<Try>),
     Elsewhere(Try),
     Done,
     /// How many are open, idle and leased, how many transfers wait, and whether the host is queued.
@@ -121,6 +121,8 @@ struct Keeper {
     others: Vec<Lease<Stream>>,
     tickets: Vec<Ticket>,
     bookings: Vec<Booking>,
+    // One of each answer that told of no room, and was not spent yet.
+    shortages: Vec<Shortage>,
 }
 
 impl Model for Keeper {
@@ -146,6 +148,7 @@ impl Keeper {
             others: Vec::new(alloc),
             tickets: Vec::new(alloc),
             bookings: Vec::new(alloc),
+            shortages: Vec::new(alloc),
         }
     }
 
@@ -157,6 +160,7 @@ impl Keeper {
             others,
             tickets,
             bookings,
+            shortages: _,
         } = self;
         destroy(rt, leases);
         destroy(rt, others);
@@ -194,9 +198,13 @@ impl Keeper {
                     host,
                     number,
                 };
-                Said::Was(self.desk.evict_oldest(stamp, now))
+                let short = self
+                    .shortages
+                    .pop()
+                    .expect(rt, "an answer that told of no room");
+                Said::Was(self.desk.evict_oldest(stamp, short, now))
             }
-            Step::Serve(now) => Said::Turn(self.desk.serve_queued(now)),
+            Step::Serve(now) => Said::Turn(told_at_turn(self.desk.serve_queued(now))),
             Step::Other => self.turn_to_other(),
             Step::OpenElsewhere => Said::Elsewhere(self.desk.open_elsewhere()),
             Step::CloseElsewhere => {
@@ -252,7 +260,9 @@ impl Keeper {
                 keep(rt, &mut self.tickets, ticket);
                 Said::Waits
             }
-            Got::NoRoom(booking) => {
+            Got::NoRoom(no_room) => {
+                let (booking, short) = no_room.part();
+                keep(rt, &mut self.shortages, short);
                 let site = self.desk.bundle.host();
                 let found = (booking.site(), booking.transfer());
                 assert_eq!(rt; found, (site, want.transfer));
@@ -348,7 +358,9 @@ impl Keeper {
     {
         match back {
             Back::Spent { freed } => Said::Freed(freed),
-            Back::NoKeep(lease) => {
+            Back::NoKeep(no_keep) => {
+                let (lease, short) = no_keep.part();
+                keep(rt, &mut self.shortages, short);
                 assert!(rt; lease.has_stream());
                 self.keep_lease(rt, lease);
                 Said::NotKept

@@ -4,7 +4,6 @@
 use crate::desk::Desk;
 use crate::keeper::{Row, Said, Step, run};
 use budget::{Refusal, Try};
-use bundle::Served;
 use conn_log::Cause;
 use std::test::Fail;
 
@@ -141,7 +140,7 @@ const ROWS: [Row; 9] = [
             (Step::CloseElsewhere, Said::Done),
             (Step::Limit(3, 1), Said::Freed(false)),
             (Step::Look, Said::Look(0, 0, 0, 1, true)),
-            (Step::Serve(2), Said::Turn(Some(Served::Given))),
+            (Step::Serve(2), Said::Turn(Some(Try::Got))),
             (Step::Claim(1), Said::Opened(1, 2)),
             (Step::Drop(1, 3), Said::Freed(true)),
         ],

@@ -42,12 +42,12 @@ static FORMS: [(&str, Form); 9] = [
 ];
 
 // Asks for one more open connection and gives it back.
-fn open_pairs(budget: &WordBudget, mut seat: BudgetSeat, rounds: u64) -> u64
+fn open_pairs(budget: &WordBudget<()>, mut seat: BudgetSeat<()>, rounds: u64) -> u64
     requires { seat.table ≡ budget.now.table }
 {
     let mut pairs = 0u64;
     for _ in 0..rounds {
-        if budget.try_open(&mut seat) == Try::Got {
+        if budget.try_open(&mut seat, &()) == Try::Got {
             pairs = pairs.wrapping_add(1);
             budget.free_open(&mut seat);
         }
@@ -56,12 +56,12 @@ fn open_pairs(budget: &WordBudget, mut seat: BudgetSeat, rounds: u64) -> u64
 }
 
 // The same for one more kept.
-fn keep_pairs(budget: &WordBudget, mut seat: BudgetSeat, rounds: u64) -> u64
+fn keep_pairs(budget: &WordBudget<()>, mut seat: BudgetSeat<()>, rounds: u64) -> u64
     requires { seat.table ≡ budget.now.table }
 {
     let mut pairs = 0u64;
     for _ in 0..rounds {
-        if budget.try_keep(&mut seat) == Try::Got {
+        if budget.try_keep(&mut seat, &()) == Try::Got {
             pairs = pairs.wrapping_add(1);
             budget.free_keep(&mut seat);
         }
@@ -70,12 +70,12 @@ fn keep_pairs(budget: &WordBudget, mut seat: BudgetSeat, rounds: u64) -> u64
 }
 
 // Asks for one more open connection, and gives none back.
-fn opens(budget: &WordBudget, mut seat: BudgetSeat, rounds: u64) -> u64
+fn opens(budget: &WordBudget<()>, mut seat: BudgetSeat<()>, rounds: u64) -> u64
     requires { seat.table ≡ budget.now.table }
 {
     let mut got = 0u64;
     for _ in 0..rounds {
-        if budget.try_open(&mut seat) == Try::Got {
+        if budget.try_open(&mut seat, &()) == Try::Got {
             got = got.wrapping_add(1);
         }
     }
@@ -84,12 +84,12 @@ fn opens(budget: &WordBudget, mut seat: BudgetSeat, rounds: u64) -> u64
 
 // One connection that was kept is used again, and kept again, with the budget of one thread.
 #[inline(never)]
-fn reuse<P: Permits>(part: &mut P) -> Try
+fn reuse<P: Permits<()>>(part: &mut P) -> Try
     requires { P.stands part.old }
     ensures stands { P.stands part.new }
     ensures stays { P.stays part.old part.new }
 {
-    let answer = part.reserve_kept();
+    let answer = part.reserve_kept(&());
     if answer == Try::Got {
         part.release_kept();
     }
@@ -112,9 +112,9 @@ fn reuses(budget: &mut PlainBudget, rounds: u64) -> u64
 // Two threads.
 fn both<R: Threads + Sync>(
     rt: &R,
-    budget: &WordBudget,
-    one: BudgetSeat,
-    two: BudgetSeat,
+    budget: &WordBudget<()>,
+    one: BudgetSeat<()>,
+    two: BudgetSeat<()>,
     rounds: u64,
 ) -> u64
     requires one { one.table ≡ budget.now.table }
@@ -133,7 +133,12 @@ fn both<R: Threads + Sync>(
 }
 
 // Four threads.
-fn by_four<R: Threads + Sync>(rt: &R, budget: &WordBudget, mut one: BudgetSeat, rounds: u64) -> u64
+fn by_four<R: Threads + Sync>(
+    rt: &R,
+    budget: &WordBudget<()>,
+    mut one: BudgetSeat<()>,
+    rounds: u64,
+) -> u64
     requires table { one.table ≡ budget.now.table }
     requires share { 3 < one.view.share }
 {
