@@ -26,6 +26,7 @@ fn lease_for<C: Cache<u32>>(rt: &impl Abort, cache: &mut C, transfer: u64, now: 
 
 // The ticket with which it waits there.
 fn ticket_for<C: Cache<u32>>(rt: &impl Abort, cache: &mut C, transfer: u64, now: u64) -> Ticket
+    ensures here { IsMadeBy (C.home cache.new) result.site result.tables }
     ensures stays { C.home cache.new ≡ C.home cache.old }
 {
     match cache.acquire(0, want_of(transfer), now) {
@@ -37,6 +38,8 @@ fn ticket_for<C: Cache<u32>>(rt: &impl Abort, cache: &mut C, transfer: u64, now:
 
 // The ticket, for which nothing was granted yet.
 fn still<C: Cache<u32>>(rt: &impl Abort, cache: &mut C, ticket: Ticket) -> Ticket
+    requires here { IsMadeBy (C.home cache.old) ticket.site ticket.tables }
+    ensures here { IsMadeBy (C.home cache.new) result.site result.tables }
     ensures stays { C.home cache.new ≡ C.home cache.old }
 {
     match cache.claim(ticket) {
@@ -48,6 +51,7 @@ fn still<C: Cache<u32>>(rt: &impl Abort, cache: &mut C, ticket: Ticket) -> Ticke
 
 // The lease that was granted for the ticket.
 fn granted<C: Cache<u32>>(rt: &impl Abort, cache: &mut C, ticket: Ticket) -> Lease<u32>
+    requires here { IsMadeBy (C.home cache.old) ticket.site ticket.tables }
     ensures here { IsMadeBy (C.home cache.new) result.site result.tables }
     ensures stream { is_some result.stream ≡ result.start.reused }
 {

@@ -1,7 +1,7 @@
-//! What no script shows of a pool (`worked_scripts` runs those): how many were pruned, what is
-//! refused at a site that is not there, and strangers.
+//! What no script shows of a pool (`worked_scripts` runs those): how many were pruned, and what is
+//! refused at a site that is not there.
 
-use crate::desk::{Desk, check_log, closed, limited, opened, returned, strange, want_of};
+use crate::desk::{Desk, check_log, closed, limited, opened, returned, want_of};
 use budget::{Limits, Refusal};
 use cache::Pool;
 use conn_log::Cause;
@@ -68,22 +68,5 @@ fn a_prune_is_of_all_hosts(rt: HostRuntime) -> Result<(), Fail> {
     assert_eq!(rt; desk.prune(14, 118, 14), 1);
     assert_eq!(rt; desk.prune(100, 0, 0), 0);
     desk.close(&rt, 16);
-    Ok(())
-}
-
-#[test]
-fn a_site_that_is_not_there_is_a_stranger(rt: HostRuntime) -> Result<(), Fail> {
-    let mut small: Pool<()> = Pool::new(rt.alloc(), Limits::new(1, 0, 4)?, 7)?;
-    let mut large = Desk::new(rt.alloc(), (1, 0, 4), 8)?;
-    large.get(&rt, 1, 7, 0);
-    large.get(&rt, 2, 7, 1);
-    let ticket = large.tickets.pop().expect(&rt, "a ticket");
-    let Err(stray) = small.withdraw(ticket, 2) else {
-        panic!(rt; "the ticket was taken");
-    };
-    let ticket = strange(&rt, &mut small, stray.keep());
-    assert_eq!(rt; (ticket.site(), ticket.transfer()), (7, 2));
-    large.withdraw(&rt, ticket, 2);
-    large.close(&rt, 3);
     Ok(())
 }

@@ -2,6 +2,7 @@
 //! `uses_often` and of `opens_often`, in the order of the tables (docs/measurements.md).
 
 ghost use Rattle.std.specs.Prelude.{◌≡◌, IsSome};
+ghost use Rattle.cache.specs.Pools.{IsTicketHere};
 
 use crate::desk::{KEEP, want_of};
 use budget::{GREATEST_LIMIT, Limits, Refusal};
@@ -44,7 +45,9 @@ fn with_stream(lease: Lease<()>) -> Lease<()>
 /// Withdraws a ticket. Inlined, so that the room for what it moves is cleared here, and not before
 /// each acquire.
 #[inline(always)]
-fn leave(pool: &mut Pool<()>, ticket: Ticket, now: u64) {
+fn leave(pool: &mut Pool<()>, ticket: Ticket, now: u64)
+    requires { IsTicketHere pool.old ticket }
+{
     if let Err(stray) = pool.withdraw(ticket, now) {
         stray.scrap();
     }

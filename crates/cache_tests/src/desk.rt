@@ -3,8 +3,9 @@
 
 ghost use Rattle.std.specs.Prelude.{◌≡◌, IsSome};
 ghost use Rattle.std.specs.List.{All};
-ghost use Rattle.bundle.specs.Replies.{IfClaimed};
-ghost use Rattle.cache.specs.Pools.{IsMadeHere, IfAcquired, GivesLease, StaysHosts, StaysPool};
+ghost use Rattle.bundle.specs.Replies.{IfClaimed, IfStill};
+ghost use Rattle.cache.specs.Pools.{IsMadeHere, IsTicketHere, IfAcquired, GivesLease, GivesTicket};
+ghost use Rattle.cache.specs.Pools.{StaysHosts, StaysPool};
 
 use budget::{Limits, Refusal};
 use bundle::{Acquired, Claimed, Lease, Stray, Ticket};
@@ -84,13 +85,16 @@ pub(crate) struct Desk {
 
 impl Model for Desk {
     ghost use Rattle.std.specs.List.{All};
-    ghost use Rattle.cache.specs.Pools.{PoolShown, IsMadeHere};
+    ghost use Rattle.cache.specs.Pools.{PoolShown, IsMadeHere, IsTicketHere};
 
     ghost Value = { PoolShown (Unit {0}) };
 
     ghost view = { λ desk. desk.pool };
 
-    ghost invariant = { λ desk. All (IsMadeHere desk.pool) desk.leases.items };
+    ghost invariant = { λ desk. record {
+      leases : All (IsMadeHere desk.pool) desk.leases.items;
+      tickets : All (IsTicketHere desk.pool) desk.tickets.items;
+    } };
 }
 
 impl Desk {
@@ -149,17 +153,13 @@ impl Desk {
 
     /// Withdraws the transfer's ticket.
     pub fn leave(&mut self, rt: &impl Abort, transfer: u64, now: u64) {
-        let place = place_of_ticket(&self.tickets, transfer);
-        assert!(rt; place < self.tickets.len());
-        let ticket = self.tickets.remove(place);
+        let ticket = self.take_ticket(rt, transfer);
         self.withdraw(rt, ticket, now);
     }
 
     /// Claims what the transfer was granted; whether it was granted anything.
     pub fn claim(&mut self, rt: &impl Abort, transfer: u64) -> bool {
-        let place = place_of_ticket(&self.tickets, transfer);
-        assert!(rt; place < self.tickets.len());
-        let ticket = self.tickets.remove(place);
+        let ticket = self.take_ticket(rt, transfer);
         match self.redeem(ticket) {
             Ok(Claimed::Lease(lease)) => {
                 self.keep(rt, lease);
@@ -197,18 +197,23 @@ impl Desk {
         self.pool.set_host_limit(site, limit, now)
     }
 
-    pub fn withdraw(&mut self, rt: &impl Abort, ticket: Ticket, now: u64) {
+    pub fn withdraw(&mut self, rt: &impl Abort, ticket: Ticket, now: u64)
+        requires here { IsTicketHere self.old ticket }
+    {
         withdraw(rt, &mut self.pool, ticket, now);
     }
 
     fn acquire(&mut self, want: Want, site: u32, now: u64) -> Result<Acquired<()>, Refusal>
-        ensures { IfAcquired result (λ got. GivesLease got (IsMadeHere self.new)) }
+        ensures lease { IfAcquired result (λ got. GivesLease got (IsMadeHere self.new)) }
+        ensures ticket { IfAcquired result (λ got. GivesTicket got (IsTicketHere self.new)) }
     {
         self.pool.acquire(site, want, now)
     }
 
     fn redeem(&mut self, ticket: Ticket) -> Result<Claimed<()>, Stray<Ticket>>
-        ensures { IfClaimed result (IsMadeHere self.new) }
+        requires here { IsTicketHere self.old ticket }
+        ensures lease { IfClaimed result (IsMadeHere self.new) }
+        ensures still { IfStill result (IsTicketHere self.new) }
     {
         self.pool.claim(ticket)
     }
@@ -222,7 +227,9 @@ impl Desk {
         }
     }
 
-    fn keep_ticket(&mut self, rt: &impl Abort, ticket: Ticket) {
+    fn keep_ticket(&mut self, rt: &impl Abort, ticket: Ticket)
+        requires here { IsTicketHere self.old ticket }
+    {
         if let Err(failed) = self.tickets.push(ticket) {
             self.withdraw(rt, failed.value, 0);
             panic!(rt; "out of memory");
@@ -236,6 +243,14 @@ impl Desk {
         assert!(rt; place < self.leases.len());
         self.leases.remove(place)
     }
+
+    fn take_ticket(&mut self, rt: &impl Abort, transfer: u64) -> Ticket
+        ensures here { IsTicketHere self.new result }
+    {
+        let place = place_of_ticket(&self.tickets, transfer);
+        assert!(rt; place < self.tickets.len());
+        self.tickets.remove(place)
+    }
 }
 
 fn abandon_all(pool: &mut Pool<()>, leases: Vec<Lease<()>>, now: u64)
@@ -248,7 +263,9 @@ fn abandon_all(pool: &mut Pool<()>, leases: Vec<Lease<()>>, now: u64)
     leases.destroy_empty();
 }
 
-fn withdraw_all(rt: &impl Abort, pool: &mut Pool<()>, tickets: Vec<Ticket>, now: u64) {
+fn withdraw_all(rt: &impl Abort, pool: &mut Pool<()>, tickets: Vec<Ticket>, now: u64)
+    requires here { All (IsTicketHere pool.old) tickets.items }
+{
     let mut tickets = tickets;
     while let Some(ticket) = tickets.pop() {
         withdraw(rt, pool, ticket, now);
@@ -258,6 +275,7 @@ fn withdraw_all(rt: &impl Abort, pool: &mut Pool<()>, tickets: Vec<Ticket>, now:
 
 // Withdraws a ticket that has to be known.
 fn withdraw(rt: &impl Abort, pool: &mut Pool<()>, ticket: Ticket, now: u64)
+    requires here { IsTicketHere pool.old ticket }
     ensures hosts { StaysHosts pool.old pool.new }
     ensures stays { StaysPool pool.old pool.new }
 {
@@ -298,18 +316,6 @@ fn with_stream(lease: Lease<()>) -> Lease<()>
         lease.attach(());
     }
     lease
-}
-
-/// The ticket, which has to be a stranger to the pool.
-pub(crate) fn strange(rt: &impl Abort, pool: &mut Pool<()>, ticket: Ticket) -> Ticket {
-    match pool.claim(ticket) {
-        Err(stray) => stray.keep(),
-        Ok(Claimed::Still(_ticket)) => panic!(rt; "the ticket is no stranger"),
-        Ok(Claimed::Lease(lease)) => {
-            pool.abandon(lease, 0);
-            panic!(rt; "the ticket was taken");
-        }
-    }
 }
 
 /// The host's log has to have these entries, and no other.

@@ -6,7 +6,6 @@ use Rattle.conn_log.specs.declared.entry.Event.TheVariants.{Returned, Closed}
 use Rattle.budget.specs.declared.refusal.Refusal.{Refusal}
 use Rattle.budget.specs.declared.refusal.Refusal.TheVariants.{BadSite}
 use Rattle.host_rules.specs.Calls.{start_entry, wait_entry}
-use Rattle.bundle.specs.Lease.{Ticketed}
 use Rattle.bundle.specs.Passes.{Accounts, tells, refusal_did}
 use Rattle.bundle.specs.declared.did.Did.{Did}
 use Rattle.bundle.specs.declared.did.Did.TheVariants.{Wrote, Claimed, Still, Stranger}
@@ -25,12 +24,6 @@ TellsAt names site did old new = (site < length names.hosts) × (new ≡ tells s
 abbrev pub IsRefusalAt : CacheNames → ℕ → Refusal → Type 0
 IsRefusalAt names site reason = ((length names.hosts ≤ site) × (reason ≡ BadSite)) ⊎ ((site < length names.hosts) × IsAgainstAcquire reason)
 
--- a ticket is a stranger: there is no such site, and the pass is told nothing; or it is told so
-abbrev pub FindsStrange : CacheNames → Ticketed → Accounts → Accounts → Type 0
-FindsStrange names ticket old new =
-    ((length names.hosts ≤ ticket.site) × (new ≡ old))
-    ⊎ TellsAt names ticket.site (Stranger ticket.wait.want.transfer) old new
-
 -- From the one time to the other a pass was told this: the start of the lease that was given, or the wait of the ticket,
 -- of a moment that is not before the one handed in; why an acquire was refused; that a ticket has its lease, or waits on;
 -- the return of a lease with the facts handed in; its closing, as dropped; the end of a wait; or that a ticket is a
@@ -45,7 +38,7 @@ ToldOf names old new (gives_back lease facts now) = SpendsAs lease.site now (Ret
 ToldOf names old new (abandons lease now) = SpendsAs lease.site now (Closed lease.start.number Dropped) old new
 ToldOf names old new (withdraws ticket now) = (ticket.site < length names.hosts) × WithdrawsAs ticket.site now ticket.wait.want.transfer old new
 ToldOf names old new (finds_strange_lease lease) = ⊥
-ToldOf names old new (finds_strange_ticket ticket) = FindsStrange names ticket old new
+ToldOf names old new (finds_strange_ticket ticket) = TellsAt names ticket.site (Stranger ticket.wait.want.transfer) old new
 
 -- the stream of the connection that went back last, once this was done too
 abbrev pub wire_after : {S : Type 0} → Deed S → Option S → Option S

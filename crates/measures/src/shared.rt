@@ -1,6 +1,7 @@
 //! What a shared cache costs: threads acquire connections and give them back.
 
 ghost use Rattle.std.specs.Prelude.{◌≡◌, ◌≤◌, IsSome};
+ghost use Rattle.shared_cache.specs.Calls.{IsTicketOf};
 ghost use Rattle.shared_cache.specs.Passes.{IsPassOf};
 
 use crate::counts::{Counts, MeasureError};
@@ -227,7 +228,8 @@ fn leave<N: Names, R: Wait>(
     now: u64,
     pass: &mut Pass<Did>,
 )
-    requires { IsPassOf N.names pass.old }
+    requires made { IsTicketOf N.names ticket }
+    requires pass { IsPassOf N.names pass.old }
     ensures { IsPassOf N.names pass.new }
 {
     if let Err(stray) = cache.withdraw(rt, ticket, now, pass) {

@@ -13,7 +13,7 @@ use Rattle.bundle.specs.Lease.{HostShown, Leasing, Ticketed, is_unclaimed, lease
 use Rattle.pool_rules.specs.AllHosts.{AllHosts, log_at, terms, IsAtRest}
 use Rattle.pool_rules.specs.Calls.{after_acquire, reply_of, after_abandoning, after_withdrawing}
 use Rattle.bundle.specs.declared.answers.Acquired.TheVariants as gives
-use Rattle.cache.specs.Pools.{PoolShown, host_at, all_hosts, IsAcquired, AreInPlace, StaysHost, StaysPool, KeepsOtherHosts}
+use Rattle.cache.specs.Pools.{PoolShown, host_at, all_hosts, IsAcquired, IsTicketHere, AreInPlace, StaysHost, StaysPool, KeepsOtherHosts}
 use Rattle.cache.proofs.OneHost.{log_is}
 use Rattle.cache.proofs.Keeping.{stays_host_on, keeps_others_on}
 use Rattle.script_text.specs.declared.command.Action.{Action}
@@ -287,6 +287,10 @@ still-waits pool new site transfer ticket again place due still =
       unclaimed = subst (λ s. is_unclaimed (host_at pool s) transfer ≡ false) here (subst (λ t. is_unclaimed (host_at pool ticket.site) t ≡ false) due.own still.0);
     }
 
+-- it is of that pool as before
+pub still-here : {S : Type 0} (pool new : PoolShown S) (ticket again : Ticketed) → IsTicketHere pool ticket → again ≡ ticket → new ≡ pool → IsTicketHere new again
+still-here {S} pool new ticket again made same is = subst (λ (p : PoolShown S). IsTicketHere p again) (sym is) (subst (λ (t : Ticketed). IsTicketHere pool t) (sym same) made)
+
 module _ {S : Type 0} (pool new : PoolShown S) (site transfer : ℕ) (ticket : Ticketed) (still : StillWaits pool new site transfer ticket) where
   still-asks : (P : HostShown S → ℕ → Type 0) → P (host_at pool site) transfer → P (host_at new ticket.site) ticket.wait.want.transfer
   still-asks P p =
@@ -320,10 +324,9 @@ still-due pool new final site transfer ticket still stays kept due tickets after
     (subst (λ s. KeepsTickets (tickets_of (host_at final s)) (get nat_cmp tickets)) still.here after) ordered
 
 -- a ticket that is kept of a site is no stranger there
-pub no-stray : {S : Type 0} (pool : PoolShown S) (site transfer : ℕ) (ticket : Ticketed) → site < length pool.hosts → (host_at pool site).host ≡ site → IsTicketFor (host_at pool site) transfer ticket
-    → (length pool.hosts ≤ ticket.site) ⊎ (is_valid_ticket (host_at pool ticket.site) ticket.wait.want ≡ false) → ⊥
-no-stray pool site transfer ticket there place due (inl past) = let here : ticket.site ≡ site = due.site ∙ place in omega (arith, there, past, here)
-no-stray pool site transfer ticket there place due (inr strange) =
+pub no-stray : {S : Type 0} (pool : PoolShown S) (site transfer : ℕ) (ticket : Ticketed) → (host_at pool site).host ≡ site → IsTicketFor (host_at pool site) transfer ticket
+    → is_valid_ticket (host_at pool ticket.site) ticket.wait.want ≡ false → ⊥
+no-stray pool site transfer ticket place due strange =
     let here : ticket.site ≡ site = due.site ∙ place in
     let valid = kept-valid (host_at pool site) transfer ticket.wait.want due.wants due.own in
     let both : true ≡ false = sym valid ∙ subst (λ s. is_valid_ticket (host_at pool s) ticket.wait.want ≡ false) here strange in

@@ -22,7 +22,8 @@ use Rattle.bundle.specs.Lease.{HostShown, StaysThere, is_unclaimed, lease_number
 use Rattle.host_rules.specs.Grants.{granted_want}
 use Rattle.pool_rules.specs.AllHosts.{log_at}
 use Rattle.script_rules.specs.Meaning.{AtSite, claimed_number}
-use Rattle.script_engine.specs.Hosted.{whereabouts, kept_facts, leases_of, wanted_at, tickets_of, due_others}
+use Rattle.bundle.specs.Seats.{Tables}
+use Rattle.script_engine.specs.Hosted.{whereabouts, kept_facts, leases_of, TicketFacts, wanted_at, tickets_of, due_others}
 use Rattle.script_engine.proofs.Tickets.{at-key}
 
 pub itself : (c : ℕ) → (c == c) ≡ true
@@ -219,12 +220,9 @@ none-stays t due other none left q = by_key (t == q) refl (left q)
     by_key true is e = e ∙ sym none ∙ ap due (eqb-true t q is)
     by_key false is e = e
 
--- where leases are made stays, and so do the sites of tickets
+-- where leases and tickets are made stays
 pub same-whereabouts : {S : Type 0} (old new : HostShown S) → StaysThere old new → whereabouts new ≡ whereabouts old
 same-whereabouts old new stays = ap (λ host. (host, new.tables)) stays.host ∙ ap (λ tables. (old.host, tables)) stays.tables
-
-pub same-site : {S : Type 0} (old new : HostShown S) → whereabouts new ≡ whereabouts old → new.host ≡ old.host
-same-site old new here = ap (λ made. made.0) here
 
 -- the leases and tickets that are due, by the numbers that are leased and by the wants of tickets
 module _ {S : Type 0} (old new : HostShown S) (here : whereabouts new ≡ whereabouts old) (t : ℕ) where
@@ -248,30 +246,30 @@ module _ {S : Type 0} (old new : HostShown S) (here : whereabouts new ≡ wherea
   pub leases-same : ((q : ℕ) → lease_number new q ≡ lease_number old q) → (q : ℕ) → leases_of new q ≡ leases_of old q
   leases-same same q = lease_facts-there q ∙ ap (option_map (kept_facts (whereabouts old) q)) (same q)
 
-  tickets-there : (q : ℕ) → tickets_of new q ≡ option_map (wanted_at old.host) (ticket_want new q)
-  tickets-there q = ap (λ site. option_map (wanted_at site) (ticket_want new q)) (same-site old new here)
+  tickets-there : (q : ℕ) → tickets_of new q ≡ option_map (wanted_at (whereabouts old)) (ticket_want new q)
+  tickets-there q = ap (λ made. option_map (wanted_at made) (ticket_want new q)) here
 
   pub tickets-left : ((q : ℕ) → ticket_want new q ≡ cond (t == q) None (ticket_want old q)) → (q : ℕ) → tickets_of new q ≡ due_others t (tickets_of old) q
-  tickets-left left q = tickets-there q ∙ ap (option_map (wanted_at old.host)) (left q) ∙ by_key (t == q)
+  tickets-left left q = tickets-there q ∙ ap (option_map (wanted_at (whereabouts old))) (left q) ∙ by_key (t == q)
     where
-      by_key : (at : Bool) → option_map (wanted_at old.host) (cond at None (ticket_want old q)) ≡ cond at None (tickets_of old q)
+      by_key : (at : Bool) → option_map (wanted_at (whereabouts old)) (cond at None (ticket_want old q)) ≡ cond at None (tickets_of old q)
       by_key true = refl
       by_key false = refl
 
-  pub tickets-started : (want : Want) → ((q : ℕ) → ticket_want new q ≡ cond (t == q) (Some want) (ticket_want old q)) → (q : ℕ) → tickets_of new q ≡ cond (t == q) (Some (old.host, want)) (tickets_of old q)
-  tickets-started want started q = tickets-there q ∙ ap (option_map (wanted_at old.host)) (started q) ∙ by_key (t == q)
+  pub tickets-started : (want : Want) → ((q : ℕ) → ticket_want new q ≡ cond (t == q) (Some want) (ticket_want old q)) → (q : ℕ) → tickets_of new q ≡ cond (t == q) (Some (whereabouts old, want)) (tickets_of old q)
+  tickets-started want started q = tickets-there q ∙ ap (option_map (wanted_at (whereabouts old))) (started q) ∙ by_key (t == q)
     where
-      by_key : (at : Bool) → option_map (wanted_at old.host) (cond at (Some want) (ticket_want old q)) ≡ cond at (Some (old.host, want)) (tickets_of old q)
+      by_key : (at : Bool) → option_map (wanted_at (whereabouts old)) (cond at (Some want) (ticket_want old q)) ≡ cond at (Some (whereabouts old, want)) (tickets_of old q)
       by_key true = refl
       by_key false = refl
 
   pub tickets-same : ((q : ℕ) → ticket_want new q ≡ ticket_want old q) → (q : ℕ) → tickets_of new q ≡ tickets_of old q
-  tickets-same same q = tickets-there q ∙ ap (option_map (wanted_at old.host)) (same q)
+  tickets-same same q = tickets-there q ∙ ap (option_map (wanted_at (whereabouts old))) (same q)
 
--- a ticket that is due is of the host, and of its transfer's want
-pub due-ticket : {S : Type 0} (host : HostShown S) (t site : ℕ) (w : Want) → tickets_of host t ≡ Some (site, w) → (ticket_want host t ≡ Some w) × (site ≡ host.host)
-due-ticket host t site w e = by_want (ticket_want host t) e
+-- a ticket that is due was made at the host, and is of its transfer's want
+pub due-ticket : {S : Type 0} (host : HostShown S) (t : ℕ) (made : ℕ × Tables) (w : Want) → tickets_of host t ≡ Some (made, w) → (ticket_want host t ≡ Some w) × (made ≡ whereabouts host)
+due-ticket host t made w e = by_want (ticket_want host t) e
   where
-    by_want : (want : Option Want) → option_map (wanted_at host.host) want ≡ Some (site, w) → (want ≡ Some w) × (site ≡ host.host)
+    by_want : (want : Option Want) → option_map (wanted_at (whereabouts host)) want ≡ Some (made, w) → (want ≡ Some w) × (made ≡ whereabouts host)
     by_want None e' = absurd (cc)
-    by_want (Some v) e' = let same : wanted_at host.host v ≡ wanted_at site w = cc in (ap (λ (p : ℕ × Want). Some p.1) same, sym (ap (λ (p : ℕ × Want). p.0) same))
+    by_want (Some v) e' = let same : wanted_at (whereabouts host) v ≡ wanted_at made w = cc in (ap (λ (p : TicketFacts). Some p.1) same, sym (ap (λ (p : TicketFacts). p.0) same))

@@ -10,7 +10,8 @@ use Rattle.conn_log.specs.Sound.{IsSound}
 use Rattle.std.proofs.lemmas.List.{length-map}
 use Rattle.bundle.specs.Lease.{HostShown, Leasing, Ticketed, lease_number, ticket_want, Spends, GetsLease, GetsTicket, KeepsAll}
 use Rattle.pool_rules.specs.AllHosts.{AllHosts, log_at, terms, IsAtRest}
-use Rattle.cache.specs.Pools.{PoolShown, host_at, all_hosts, AreInPlace, IsMadeHere, KeepsHost}
+use Rattle.bundle.specs.Seats.{Tables}
+use Rattle.cache.specs.Pools.{PoolShown, host_at, all_hosts, AreInPlace, IsMadeHere, IsTicketHere, KeepsHost}
 use Rattle.cache.proofs.OneHost.{log_is}
 use Rattle.script_engine.specs.declared.kept.Kept.{Kept}
 use Rattle.script_rules.specs.Meaning.{claimed_number}
@@ -76,6 +77,14 @@ pub record IsTicketFor {S : Type 0} (host : HostShown S) (transfer : ℕ) (ticke
   pub wants : ticket_want host transfer ≡ Some ticket.wait.want
   pub own : ticket.wait.want.transfer ≡ transfer
   pub site : ticket.site ≡ host.host
+  pub tables : ticket.tables ≡ host.tables
+
+-- that of a host in its place was made there, in that pool
+pub ticket-made : {S : Type 0} (pool : PoolShown S) (site transfer : ℕ) (ticket : Ticketed) → site < length pool.hosts → (host_at pool site).host ≡ site → IsTicketFor (host_at pool site) transfer ticket
+    → IsTicketHere pool ticket
+ticket-made pool site transfer ticket there place kept =
+    let same : ticket.site ≡ site = kept.site ∙ place in
+    record { there = subst (λ s. s < length pool.hosts) (sym same) there; tables = kept.tables ∙ ap (λ s. (host_at pool s).tables) (sym same) }
 
 module _ {S : Type 0} (host : HostShown S) (sound : IsSound host.settings host.log) where
   -- the connection of a kept lease is held by its transfer
@@ -90,7 +99,7 @@ module _ {S : Type 0} (host : HostShown S) (sound : IsSound host.settings host.l
       by_ticket None = refl
       by_ticket (Some ticket) = refl
 
-      by_want : (want : Option Want) → is_some (option_map (wanted_at host.host) want) ≡ is_some want
+      by_want : (want : Option Want) → is_some (option_map (wanted_at (whereabouts host)) want) ≡ is_some want
       by_want None = refl
       by_want (Some want) = refl
 
@@ -103,8 +112,8 @@ module _ {S : Type 0} (host : HostShown S) (sound : IsSound host.settings host.l
   pub kept-ticket : (entries : List (ℕ × Ticketed)) (transfer : ℕ) (ticket : Ticketed) → KeepsTickets (tickets_of host) (λ t. lookup (is_at (nat_cmp t)) entries)
       → Some ticket ≡ lookup (is_at (nat_cmp transfer)) entries → IsTicketFor host transfer ticket
   kept-ticket entries transfer ticket keeps there =
-      let due = due-ticket host transfer ticket.site ticket.wait.want (sym (keeps transfer) ∙ ap (option_map wanted) (sym there)) in
-      record { wants = due.0; own = own-ticket host sound transfer ticket.wait.want due.0; site = due.1 }
+      let due = due-ticket host transfer (ticket.site, ticket.tables) ticket.wait.want (sym (keeps transfer) ∙ ap (option_map wanted) (sym there)) in
+      record { wants = due.0; own = own-ticket host sound transfer ticket.wait.want due.0; site = ap (λ (made : ℕ × Tables). made.0) due.1; tables = ap (λ (made : ℕ × Tables). made.1) due.1 }
 
 module _ {S : Type 0} (old new : HostShown S) (here : whereabouts new ≡ whereabouts old) (sound : IsSound old.settings old.log) (transfer : ℕ) where
   -- the lease of the transfer was spent
@@ -145,7 +154,7 @@ module _ {S : Type 0} (old new : HostShown S) (here : whereabouts new ≡ wherea
   pub ticket-awaits : (want : Want) (tickets : ℕ → Option Ticketed) → KeepsTickets (tickets_of old) tickets → ticket_want old want.transfer ≡ None → GetsTicket old new want
       → KeepsTickets (due_others want.transfer (tickets_of new)) tickets
   ticket-awaits want tickets keeps none gets =
-      kept-awaits wanted want.transfer (Some (old.host, want)) (tickets_of old) (tickets_of new) tickets keeps (ap (option_map (wanted_at old.host)) none) (tickets-started old new here want.transfer want gets.tickets)
+      kept-awaits wanted want.transfer (Some (whereabouts old, want)) (tickets_of old) (tickets_of new) tickets keeps (ap (option_map (wanted_at (whereabouts old))) none) (tickets-started old new here want.transfer want gets.tickets)
 
 module _ {S : Type 0} (old new : HostShown S) where
   pub lease-own : (transfer c : ℕ) → GetsLease old new transfer c → lease_number new transfer ≡ Some c

@@ -14,7 +14,7 @@ use Rattle.conn_log.specs.Sound.{IsSound}
 use Rattle.bundle.specs.Lease.{HostShown, Leasing, Ticketed, lease_number, is_valid_ticket, Spends}
 use Rattle.pool_rules.specs.AllHosts.{AllHosts, terms, log_at, IsAtRest}
 use Rattle.pool_rules.specs.Calls.{after_giving_back, after_abandoning, after_withdrawing}
-use Rattle.cache.specs.Pools.{PoolShown, host_at, all_hosts, AreInPlace, StaysHost, KeepsOtherHosts, StaysPool, IsMadeHere, logs_of}
+use Rattle.cache.specs.Pools.{PoolShown, host_at, all_hosts, AreInPlace, StaysHost, KeepsOtherHosts, StaysPool, IsMadeHere, IsTicketHere, logs_of}
 use Rattle.cache.proofs.OneHost.{log_is}
 use Rattle.script_text.specs.declared.command.Action.{Action}
 use Rattle.script_text.specs.declared.command.Ending.{Ending}
@@ -27,7 +27,7 @@ use Rattle.script_rules.specs.Meaning.{AtSite, act_at, claimed_number, back_at, 
 use Rattle.script_engine.proofs.Tickets.{among-keys, keys-removed}
 use Rattle.script_engine.proofs.Leases.{leased-held, same-whereabouts, kept-valid}
 use Rattle.script_engine.proofs.GrowthOfAll.{given-back-grow, abandoned-grow, withdrawn-grow}
-use Rattle.script_engine.proofs.Spending.{IsKeptFor, IsTicketFor, kept-lease, kept-none, kept-ticket, ticketed, leased-by-keys, lease-spent, ticket-spent}
+use Rattle.script_engine.proofs.Spending.{IsKeptFor, IsTicketFor, kept-lease, kept-none, kept-ticket, ticket-made, ticketed, leased-by-keys, lease-spent, ticket-spent}
 use Rattle.script_engine.proofs.Answering.{gives-answer, gives-grown, back-taken, back-stranger, drop-taken, drop-stranger, leave-taken, leave-stranger}
 use Rattle.script_engine.proofs.PooledSites.{none-cut, shown, kept-there, due-after, gives-at, told-before, text-of-growth}
 
@@ -139,8 +139,8 @@ module _ (pool : PoolShown (Unit {0})) (rest : IsAtRest pool.limits (all_hosts p
     pub ticket-at : ticket.site ≡ site
     ticket-at = ticket-kept.site ∙ (places site there).place
 
-    pub ticket-there : ticket.site < length pool.hosts
-    ticket-there = subst (λ (at : ℕ). at < length pool.hosts) (sym ticket-at) there
+    pub ticket-here : IsTicketHere pool ticket
+    ticket-here = ticket-made pool site transfer ticket there (places site there).place ticket-kept
 
     pub ticket-valid : is_valid_ticket (host_at pool ticket.site) ticket.wait.want ≡ true
     ticket-valid = subst (λ (at : ℕ). is_valid_ticket (host_at pool at) ticket.wait.want ≡ true) (sym ticket-at) (kept-valid (host_at pool site) transfer ticket.wait.want ticket-kept.wants ticket-kept.own)

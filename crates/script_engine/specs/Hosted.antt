@@ -67,7 +67,7 @@ AnswersAsked bytes old answer (Err kind) new = (kind ≡ Memory) × (new.limits 
 abbrev pub kept_at : {S : Type 0} → PoolShown S → Kept → AtSite
 kept_at pool kept = record { all = all_hosts pool; tickets = keys kept.tickets }
 
--- where a lease is made: the host's index, and its tables
+-- where a lease or a ticket is made: the host's index, and its tables
 abbrev pub whereabouts : {S : Type 0} → HostShown S → ℕ × Tables
 whereabouts host = (host.host, host.tables)
 
@@ -86,22 +86,25 @@ kept_facts made transfer c = (c, transfer, true, made)
 abbrev pub leases_of : {S : Type 0} → HostShown S → ℕ → Option LeaseFacts
 leases_of host transfer = option_map (kept_facts (whereabouts host) transfer) (lease_number host transfer)
 
--- a ticket's host, and what it was given for
-abbrev pub wanted : Ticketed → ℕ × Want
-wanted ticket = (ticket.site, ticket.wait.want)
+-- where a ticket was made, and what it was given for
+abbrev pub TicketFacts : Type 0
+TicketFacts = (ℕ × Tables) × Want
 
-abbrev pub wanted_at : ℕ → Want → ℕ × Want
-wanted_at site want = (site, want)
+abbrev pub wanted : Ticketed → TicketFacts
+wanted ticket = ((ticket.site, ticket.tables), ticket.wait.want)
+
+abbrev pub wanted_at : ℕ × Tables → Want → TicketFacts
+wanted_at made want = (made, want)
 
 -- of each transfer that has a ticket, the ticket that is due
-abbrev pub tickets_of : {S : Type 0} → HostShown S → ℕ → Option (ℕ × Want)
-tickets_of host transfer = option_map (wanted_at host.host) (ticket_want host transfer)
+abbrev pub tickets_of : {S : Type 0} → HostShown S → ℕ → Option TicketFacts
+tickets_of host transfer = option_map (wanted_at (whereabouts host)) (ticket_want host transfer)
 
 -- each transfer that has a lease has it kept, which was made at the host, and no other is; and so with tickets
 abbrev pub KeepsLeases : {S : Type 0} → (ℕ → Option LeaseFacts) → (ℕ → Option (Leasing S)) → Type 0
 KeepsLeases due lease_of = (t : ℕ) → option_map lease_facts (lease_of t) ≡ due t
 
-abbrev pub KeepsTickets : (ℕ → Option (ℕ × Want)) → (ℕ → Option Ticketed) → Type 0
+abbrev pub KeepsTickets : (ℕ → Option TicketFacts) → (ℕ → Option Ticketed) → Type 0
 KeepsTickets due ticket_of = (t : ℕ) → option_map wanted (ticket_of t) ≡ due t
 
 pub record Keeps {S : Type 0} (host : HostShown S) (lease_of : ℕ → Option (Leasing S)) (ticket_of : ℕ → Option Ticketed) : Type 0 where

@@ -11,7 +11,7 @@ ghost use Rattle.bundle.specs.Lease.{lease_number, ticket_want, is_valid_ticket,
 ghost use Rattle.pool_rules.specs.AllHosts.{terms, log_at};
 ghost use Rattle.pool_rules.specs.Calls.{after_abandoning, after_withdrawing};
 ghost use Rattle.cache.specs.Pools.{all_hosts, host_at, StaysHost, StaysPool, KeepsOtherHosts};
-ghost use Rattle.cache.specs.Pools.{IsMadeHere};
+ghost use Rattle.cache.specs.Pools.{IsMadeHere, IsTicketHere};
 ghost use Rattle.script_text.specs.declared.command.Action.TheVariants as actions;
 ghost use Rattle.script_rules.specs.Meaning.{facts_of_ending, with_ticket, get_at, back_at};
 ghost use Rattle.script_rules.specs.Meaning.{drop_at, leave_at, grown, stranger};
@@ -286,7 +286,7 @@ impl Kept {
 
 /// Withdraws a ticket of the pool's own.
 fn withdraw_ticket(pool: &mut Pool<()>, ticket: Ticket, moment: u64)
-    requires there { ticket.site < length pool.old.hosts }
+    requires here { IsTicketHere pool.old ticket }
     requires own { is_valid_ticket (host_at pool.old ticket.site) ticket.wait.want ≡ true }
     ensures all { all_hosts pool.new ≡ after_withdrawing pool.old.limits ticket.site
         ticket.wait.want.transfer moment (all_hosts pool.old) }
@@ -367,7 +367,7 @@ fn keep_ticket(
     tickets: &mut BTreeMap<u64, Ticket>,
     ticket: Ticket,
 ) -> Result<(), Refusal>
-    requires there { ticket.site < length pool.old.hosts }
+    requires here { IsTicketHere pool.old ticket }
     requires place { (host_at pool.old ticket.site).host ≡ ticket.site }
     requires own { ticket_want (host_at pool.old ticket.site) ticket.wait.want.transfer
         ≡ Some ticket.wait.want }

@@ -15,6 +15,10 @@ use Rattle.shared_cache.specs.Names.{CacheNames, HasTables}
 abbrev pub IsMadeBy : {S : Type 0} → CacheNames → Leasing S → Type 0
 IsMadeBy names lease = HasTables names lease.site lease.tables
 
+-- and so was the ticket
+abbrev pub IsTicketOf : CacheNames → Ticketed → Type 0
+IsTicketOf names ticket = HasTables names ticket.site ticket.tables
+
 -- a lease of that site for that want, made there; its moment is not before the one handed in, and it has a stream if its
 -- connection is reused
 pub record IsLeaseFor {S : Type 0} (names : CacheNames) (site : ℕ) (want : Want) (now : ℕ) (lease : Leasing S) : Type 0 where
@@ -24,21 +28,22 @@ pub record IsLeaseFor {S : Type 0} (names : CacheNames) (site : ℕ) (want : Wan
   pub later : now ≤ lease.start.moment
   pub has_stream : is_some lease.stream ≡ lease.start.reused
 
--- a ticket of that site for that want, of a moment that is not before the one handed in
-pub record IsTicketFor (site : ℕ) (want : Want) (now : ℕ) (ticket : Ticketed) : Type 0 where
+-- a ticket of that site for that want, made there, of a moment that is not before the one handed in
+pub record IsTicketFor (names : CacheNames) (site : ℕ) (want : Want) (now : ℕ) (ticket : Ticketed) : Type 0 where
   pub place : ticket.site ≡ site
+  pub made : IsTicketOf names ticket
   pub wanted : ticket.wait.want ≡ want
   pub later : now ≤ ticket.wait.moment
 
 -- what an acquire gives is of the site, the want and the moment that were handed in
 abbrev pub IsAcquiredFor : {S : Type 0} → CacheNames → ℕ → Want → ℕ → Acquired S → Type 0
 IsAcquiredFor names site want now (Lease lease) = IsLeaseFor names site want now lease
-IsAcquiredFor names site want now (Wait ticket) = IsTicketFor site want now ticket
+IsAcquiredFor names site want now (Wait ticket) = IsTicketFor names site want now ticket
 
 -- the same of one try
 abbrev pub IsGotFor : {S : Type 0} → CacheNames → ℕ → Want → ℕ → Got S → Type 0
 IsGotFor names site want now (GotLease lease) = IsLeaseFor names site want now lease
-IsGotFor names site want now (GotWait ticket) = IsTicketFor site want now ticket
+IsGotFor names site want now (GotWait ticket) = IsTicketFor names site want now ticket
 IsGotFor names site want now (NoRoom booking) = booking ≡ record { site = site; want = want }
 IsGotFor names site want now (Again booking) = booking ≡ record { site = site; want = want }
 

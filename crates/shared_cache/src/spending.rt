@@ -1,12 +1,12 @@
 //! How a lease or a ticket ends.
 
-ghost use Rattle.std.specs.Prelude.{◌≡◌, ◌<◌, ◌≤◌, length, Some, IfErr, OnOk, OnErr, IsSome};
+ghost use Rattle.std.specs.Prelude.{◌≡◌, ◌<◌, length, Some, IfErr, OnOk, OnErr, IsSome};
 ghost use Rattle.conn_log.specs.declared.entry.Cause.TheVariants.{Dropped};
 ghost use Rattle.conn_log.specs.declared.entry.Event.TheVariants.{Returned, Closed};
 ghost use Rattle.bundle.specs.Replies.{IfClaimed, IfStill, IsBackAs, OnSpent, UnlessSpent};
 ghost use Rattle.bundle.specs.Passes.{tells, claim_did};
 ghost use Rattle.bundle.specs.declared.did.Did.TheVariants.{Stranger};
-ghost use Rattle.shared_cache.specs.Calls.{IsMadeBy, IsClaimedFor};
+ghost use Rattle.shared_cache.specs.Calls.{IsMadeBy, IsTicketOf, IsClaimedFor};
 ghost use Rattle.shared_cache.specs.Passes.{IsPassOf, SpendsAs, WithdrawsAs};
 
 use crate::cache::SharedCache;
@@ -22,29 +22,24 @@ impl<S: Drop, N: Names> SharedCache<S, N> {
     /// event is logged, and no memory is taken.
     ///
     /// A ticket comes back in a [`Stray`] where its transfer neither waits with its want nor has
-    /// yet to claim what it was granted for that want, or where its site isn't there. The pass is
-    /// told which of the three it is; nothing where the site isn't there.
+    /// yet to claim what it was granted for that want. The pass is told which of the three it is.
     ///
-    /// Asked of the caller: the pass is this cache's.
+    /// Asked of the caller: the ticket was made by this cache; the pass is this cache's.
     pub fn claim<R: Wait>(
         &self,
         rt: &R,
         ticket: Ticket,
         pass: &mut Pass<Did>,
     ) -> Result<Claimed<S>, Stray<Ticket>>
-        requires { IsPassOf N.names pass.old }
+        requires made { IsTicketOf N.names ticket }
+        requires pass { IsPassOf N.names pass.old }
         ensures lease { IfClaimed result (IsClaimedFor N.names ticket) }
         ensures still { IfStill result (λ same. same ≡ ticket) }
         ensures strange { IfErr result (λ stray. stray ≡ ticket) }
-        ensures there { OnOk result (ticket.site < length N.names.hosts) }
-        ensures tells { ticket.site < length N.names.hosts → pass.new
+        ensures tells { pass.new
             ≡ tells ticket.site (claim_did ticket.wait.want.transfer result) pass.old }
-        ensures untold { length N.names.hosts ≤ ticket.site → pass.new ≡ pass.old }
         ensures pass { IsPassOf N.names pass.new }
     {
-        if !self.has(ticket.site()) {
-            return Err(ticket.into_stray(self.hosts.len()));
-        }
         let mut host = self.at(rt, ticket.site());
         host.claim(ticket, pass)
     }
@@ -282,14 +277,12 @@ impl<S: Drop, N: Names> SharedCache<S, N> {
     /// queued take turns. `now` is in seconds. It takes no memory.
     ///
     /// A ticket comes back in a [`Stray`] where its transfer neither waits with its want nor has
-    /// yet to claim what it was granted for that want, or where its site isn't there; nothing
-    /// changed then.
+    /// yet to claim what it was granted for that want; nothing changed then.
     ///
     /// The pass is told the entry with which the transfer leaves; or what was granted is spent with
-    /// it, and it is told the entry of the closing; or that the ticket is a stranger. It is told
-    /// nothing where the site isn't there.
+    /// it, and it is told the entry of the closing; or that the ticket is a stranger.
     ///
-    /// Asked of the caller: the pass is this cache's.
+    /// Asked of the caller: the ticket was made by this cache; the pass is this cache's.
     pub fn withdraw<R: Wait>(
         &self,
         rt: &R,
@@ -297,20 +290,15 @@ impl<S: Drop, N: Names> SharedCache<S, N> {
         now: u64,
         pass: &mut Pass<Did>,
     ) -> Result<(), Stray<Ticket>>
-        requires { IsPassOf N.names pass.old }
+        requires made { IsTicketOf N.names ticket }
+        requires pass { IsPassOf N.names pass.old }
         ensures ok { let transfer = ticket.wait.want.transfer in
             OnOk result (WithdrawsAs ticket.site now transfer pass.old pass.new) }
-        ensures there { OnOk result (ticket.site < length N.names.hosts) }
         ensures strange { IfErr result (λ stray. stray ≡ ticket) }
         ensures err { let stranger = Stranger ticket.wait.want.transfer in
-            ticket.site < length N.names.hosts →
             OnErr result (pass.new ≡ tells ticket.site (Some stranger) pass.old) }
-        ensures untold { length N.names.hosts ≤ ticket.site → pass.new ≡ pass.old }
         ensures pass { IsPassOf N.names pass.new }
     {
-        if !self.has(ticket.site()) {
-            return Err(ticket.into_stray(self.hosts.len()));
-        }
         let withdrawn = self.end_wait(rt, ticket, now, pass);
         match withdrawn {
             Ok(_freed) => {

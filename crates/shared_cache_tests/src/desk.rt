@@ -2,7 +2,7 @@
 //! tickets of its transfers, and what its calls are answered.
 
 ghost use Rattle.std.specs.Prelude.{◌≡◌, IsSome};
-ghost use Rattle.shared_cache.specs.Calls.{IsMadeBy};
+ghost use Rattle.shared_cache.specs.Calls.{IsMadeBy, IsTicketOf};
 ghost use Rattle.shared_cache.specs.Passes.{IsPassOf};
 
 use crate::making::{new_pass, push};
@@ -86,7 +86,7 @@ pub(crate) enum Said {
 }
 
 /// One thread's pass, with the leases and tickets that its transfers have; a transfer has one at
-/// most. Each lease was made by the cache of those names.
+/// most. Each lease and each ticket was made by the cache of those names.
 pub(crate) struct Desk<N: Names> {
     pass: Pass<Did>,
     leases: Vec<Lease<Stream>>,
@@ -96,7 +96,7 @@ pub(crate) struct Desk<N: Names> {
 
 impl<N: Names> Model for Desk<N> {
     ghost use Rattle.std.specs.List.{All};
-    ghost use Rattle.shared_cache.specs.Calls.{IsMadeBy};
+    ghost use Rattle.shared_cache.specs.Calls.{IsMadeBy, IsTicketOf};
     ghost use Rattle.shared_cache.specs.Passes.{IsPassOf};
 
     ghost Value = { Unit {0} };
@@ -106,6 +106,7 @@ impl<N: Names> Model for Desk<N> {
     ghost invariant = { λ desk. record {
       pass : IsPassOf N.names desk.pass;
       made : All (IsMadeBy N.names) desk.leases.items;
+      waiting : All (IsTicketOf N.names) desk.tickets.items;
     } };
 }
 
@@ -272,13 +273,17 @@ impl<N: Names> Desk<N> {
         Said::Told(pass.last(host), pass.calls(host), pass.spent(host))
     }
 
-    /// Keeps a ticket.
-    pub fn keep_ticket(&mut self, rt: &impl Abort, ticket: Ticket) {
+    // Keeps a ticket.
+    fn keep_ticket(&mut self, rt: &impl Abort, ticket: Ticket)
+        requires { IsTicketOf N.names ticket }
+    {
         push(rt, &mut self.tickets, ticket);
     }
 
-    /// Takes the transfer's ticket away.
-    pub fn take_ticket(&mut self, rt: &impl Abort, transfer: u64) -> Ticket {
+    // Takes the transfer's ticket away.
+    fn take_ticket(&mut self, rt: &impl Abort, transfer: u64) -> Ticket
+        ensures { IsTicketOf N.names result }
+    {
         let place = place_of_ticket(&self.tickets, transfer);
         assert!(rt; place < self.tickets.len(), "no ticket of {transfer}");
         self.tickets.remove(place)

@@ -2,7 +2,6 @@
 
 ghost use Rattle.std.specs.Prelude.{◌≡◌};
 
-use crate::abroad::ticket_of_a_larger_cache;
 use crate::desk::{CLOSE, Desk, KEEP, Said, Stream, entry_said, look_said, want_of};
 use crate::gathering::{Account, Passes, check_account};
 use crate::making::{new_cache, new_plan};
@@ -33,8 +32,6 @@ pub(crate) enum Step {
     /// The moment, the most seconds idle, and the most seconds open.
     Prune(u64, u64, u64),
     Upkeep,
-    /// The transfer waits at that site of a larger cache.
-    WaitAbroad(u64, u32),
     Look(u32),
     /// The entry of that place in the log of that site.
     Entry(u32, usize),
@@ -110,11 +107,6 @@ impl<N: Names> Keeper<N> {
     fn rest(&mut self, rt: &(impl Wait + Abort), alloc: Global, step: Step) -> Said {
         match step {
             Step::Upkeep => Said::Number(self.cache.upkeep()),
-            Step::WaitAbroad(transfer, site) => {
-                let ticket = ticket_of_a_larger_cache(rt, alloc, transfer, site);
-                self.desk.keep_ticket(rt, ticket);
-                Said::Waits
-            }
             Step::Look(site) => look_said(rt, &self.cache, site),
             Step::Entry(site, place) => entry_said(rt, &self.cache, site, place),
             Step::Told(site) => self.desk.told(rt, site),

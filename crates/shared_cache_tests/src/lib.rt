@@ -2,8 +2,6 @@
 #![tactic(auto)]
 
 #[cfg(test)]
-mod abroad;
-#[cfg(test)]
 mod cuts;
 #[cfg(test)]
 mod desk;

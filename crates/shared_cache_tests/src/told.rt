@@ -191,21 +191,6 @@ static ROWS: [Row; 5] = [
         ],
         account: Some((1, 1, &[(1, 1, 1, 0, 0), (0, 0, 0, 0, 0), (1, 0, 0, 0, 1)])),
     },
-    // a ticket of another cache, of a site that is there
-    Row {
-        name: "a stranger is told of",
-        limits: (0, 0, 4),
-        hosts: 2,
-        steps: &[
-            (Step::WaitAbroad(1, 1), Said::Waits),
-            (Step::Claim(1), Said::Stranger),
-            (Step::Told(1), Said::Told(Some(Did::Stranger(1)), 1, 0)),
-            (Step::Leave(1, 1), Said::Stranger),
-            (Step::Told(1), Said::Told(Some(Did::Stranger(1)), 2, 0)),
-            (Step::Told(0), Said::Told(None, 0, 0)),
-        ],
-        account: Some((0, 0, &[])),
-    },
 ];
 
 #[test]

@@ -1,7 +1,6 @@
-//! Tests of `desk`: exchanges over a shared cache, what cancels leave there, and strange tickets.
+//! Tests of `desk`: exchanges over a shared cache, and what cancels leave there.
 
 mod cancels;
 mod connections;
 mod driving;
 mod exchanges;
-mod strangers;

@@ -2,7 +2,7 @@
 //! with which they call it.
 
 ghost use Rattle.std.specs.Prelude.{◌≡◌, IsSome};
-ghost use Rattle.shared_cache.specs.Calls.{IsMadeBy};
+ghost use Rattle.shared_cache.specs.Calls.{IsMadeBy, IsTicketOf};
 ghost use Rattle.shared_cache.specs.Passes.{IsPassOf};
 
 use budget::{Pass, Refusal};
@@ -66,6 +66,47 @@ impl<N: Names> OwnLease<N> {
     }
 }
 
+/// A ticket that the cache that `N` names has made.
+struct OwnTicket<N: Names> {
+    ticket: Ticket,
+    of: PhantomData<N>,
+}
+
+impl<N: Names> Model for OwnTicket<N> {
+    ghost use Rattle.shared_cache.specs.Calls.{IsTicketOf};
+
+    ghost Value = { Unit {0} };
+
+    ghost view = { λ own. tt };
+
+    ghost invariant = { λ own. IsTicketOf N.names own.ticket };
+}
+
+impl<N: Names> OwnTicket<N> {
+    /// That ticket.
+    fn new(ticket: Ticket) -> Self
+        requires { IsTicketOf N.names ticket }
+    {
+        OwnTicket {
+            ticket,
+            of: PhantomData,
+        }
+    }
+
+    /// The ticket.
+    fn into_ticket(self) -> Ticket
+        ensures { IsTicketOf N.names result }
+    {
+        let OwnTicket { ticket, of: _ } = self;
+        ticket
+    }
+
+    /// Whether the transfer has it, of that site.
+    fn is_of(&self, site: u32, transfer: u64) -> bool {
+        self.ticket.site() == site && self.ticket.transfer() == transfer
+    }
+}
+
 /// The lease with a stream.
 fn with_stream(lease: Lease<NoStream>) -> Lease<NoStream>
     ensures site { result.site ≡ lease.site }
@@ -84,7 +125,7 @@ fn with_stream(lease: Lease<NoStream>) -> Lease<NoStream>
 pub(super) struct Kept<N: Names> {
     pass: Pass<Did>,
     leases: Vec<OwnLease<N>>,
-    tickets: Vec<Ticket>,
+    tickets: Vec<OwnTicket<N>>,
 }
 
 impl<N: Names> Model for Kept<N> {
@@ -137,10 +178,10 @@ impl<N: Names> Kept<N> {
         site: u32,
         transfer: u64,
     ) -> Result<String, FaultKind> {
-        let Some(ticket) = self.take_ticket(site, transfer) else {
+        let Some(own) = self.take_ticket(site, transfer) else {
             return reply(alloc, "stranger");
         };
-        match cache.claim(rt, ticket, &mut self.pass) {
+        match cache.claim(rt, own.into_ticket(), &mut self.pass) {
             Ok(Claimed::Lease(lease)) => {
                 let number = lease.number();
                 match self.keep_lease(rt, cache, lease) {
@@ -208,8 +249,8 @@ impl<N: Names> Kept<N> {
         now: u64,
     ) -> bool {
         match self.take_ticket(site, transfer) {
-            Some(ticket) => {
-                leave(rt, cache, ticket, now, &mut self.pass);
+            Some(own) => {
+                leave(rt, cache, own.into_ticket(), now, &mut self.pass);
                 true
             }
             None => false,
@@ -280,11 +321,13 @@ impl<N: Names> Kept<N> {
         rt: &R,
         cache: &SharedCache<NoStream, N>,
         ticket: Ticket,
-    ) -> Result<(), Refusal> {
-        match self.tickets.push(ticket) {
+    ) -> Result<(), Refusal>
+        requires { IsTicketOf N.names ticket }
+    {
+        match self.tickets.push(OwnTicket::new(ticket)) {
             Ok(()) => Ok(()),
             Err(failed) => {
-                leave(rt, cache, failed.value, 0, &mut self.pass);
+                leave(rt, cache, failed.value.into_ticket(), 0, &mut self.pass);
                 Err(Refusal::Memory)
             }
         }
@@ -301,7 +344,7 @@ impl<N: Names> Kept<N> {
     }
 
     /// Takes the ticket that the transfer has of the site.
-    fn take_ticket(&mut self, site: u32, transfer: u64) -> Option<Ticket> {
+    fn take_ticket(&mut self, site: u32, transfer: u64) -> Option<OwnTicket<N>> {
         let place = place_of_ticket(&self.tickets, site, transfer);
         if place < self.tickets.len() {
             Some(self.tickets.remove(place))
@@ -322,10 +365,9 @@ fn place_of_lease<N: Names>(leases: &[OwnLease<N>], site: u32, transfer: u64) ->
 }
 
 /// The same of its ticket.
-fn place_of_ticket(tickets: &[Ticket], site: u32, transfer: u64) -> usize {
+fn place_of_ticket<N: Names>(tickets: &[OwnTicket<N>], site: u32, transfer: u64) -> usize {
     for place in 0..tickets.len() {
-        let ticket = &tickets[place];
-        if ticket.site() == site && ticket.transfer() == transfer {
+        if tickets[place].is_of(site, transfer) {
             return place;
         }
     }
@@ -353,15 +395,15 @@ fn abandon_all<N: Names, R: Wait>(
 fn leave_all<N: Names, R: Wait>(
     rt: &R,
     cache: &SharedCache<NoStream, N>,
-    tickets: Vec<Ticket>,
+    tickets: Vec<OwnTicket<N>>,
     pass: &mut Pass<Did>,
 )
     requires { IsPassOf N.names pass.old }
     ensures { IsPassOf N.names pass.new }
 {
     let mut tickets = tickets;
-    while let Some(ticket) = tickets.pop() {
-        leave(rt, cache, ticket, 0, pass);
+    while let Some(own) = tickets.pop() {
+        leave(rt, cache, own.into_ticket(), 0, pass);
     }
     tickets.destroy_empty();
 }
@@ -374,7 +416,8 @@ fn leave<N: Names, R: Wait>(
     now: u64,
     pass: &mut Pass<Did>,
 )
-    requires { IsPassOf N.names pass.old }
+    requires made { IsTicketOf N.names ticket }
+    requires pass { IsPassOf N.names pass.old }
     ensures { IsPassOf N.names pass.new }
 {
     if let Err(stray) = cache.withdraw(rt, ticket, now, pass) {

@@ -48,6 +48,9 @@ keep_lease-requires-clause-others c =
     let none = has-none pool c.args.site c.requires.there rest.places c.args.want (sound-at pool c.args.site c.requires.there rest.at_rest rest.places) only in
     got-others pool new c.args.site c.args.want.transfer c.in-Lease.lease got (get nat_cmp c.args.self.now.leases) c.requires.keeps.keeps.leases none.0
 
+pub keep_ticket-requires-clause-here : goal.keep_ticket-requires-clause-here
+keep_ticket-requires-clause-here c = rw c.in-Wait.is at c.in_ok-lease.ensures.waits_here
+
 pub keep_ticket-requires-clause-own : goal.keep_ticket-requires-clause-own
 keep_ticket-requires-clause-own c =
     let pool = c.args.pool.now in

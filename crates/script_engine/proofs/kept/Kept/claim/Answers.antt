@@ -12,9 +12,9 @@ use Rattle.script_rules.specs.Meaning.{AtSite, replied, with_ticket, without_tic
 use Rattle.script_engine.specs.Hosted.{Gives, kept_at, tickets_of, wanted}
 use Rattle.script_engine.proofs.Tickets.{at-key, among-keys, keys-removed, put-back}
 use Rattle.script_engine.proofs.Leases.{itself, kept-removed, ticket-no-lease}
-use Rattle.script_engine.proofs.Spending.{sound-at}
+use Rattle.script_engine.proofs.Spending.{sound-at, ticket-made}
 use Rattle.script_engine.proofs.Answering.{gives-answer, claim-stranger, claim-still, claim-granted}
-use Rattle.script_engine.proofs.GivingUp.{ticket-kept, kept-among, granted-lease, got-others, got-held, lease-stays, lease-others, claimed-due, still-waits, still-unleased, still-others, still-held, still-others-keep, still-due, claim-unleased, claim-unticketed, no-stray}
+use Rattle.script_engine.proofs.GivingUp.{ticket-kept, kept-among, granted-lease, got-others, got-held, lease-stays, lease-others, claimed-due, still-waits, still-here, still-unleased, still-others, still-held, still-others-keep, still-due, claim-unleased, claim-unticketed, no-stray}
 use Rattle.script_engine.proofs.kept.Kept.claim.Goals as goal
 
 -- at a site so many transfers have tickets
@@ -32,6 +32,14 @@ returns-in_default-clause-answer c =
     subst (λ (tickets : List ℕ). Gives string_bytes pool.limits site old (actions.Claim transfer) c.reply.result (with_tickets (all_hosts pool) tickets)) (sym same)
     (gives-answer string_bytes pool.limits site old (actions.Claim transfer) old _ c.reply.result (claim-stranger site transfer old among) c.reply.ensures)
 
+pub claim-requires : goal.claim-requires
+claim-requires c =
+    let pool = c.args.pool.now in
+    let site = c.args.site in
+    let rest = c.log-log.ensures in
+    let due = ticket-kept pool site c.requires.there rest.at_rest rest.places c.args.self.now c.requires.keeps c.args.transfer c.in-Some.ticket (sym c.in-Some.is ∙ c.remove.ensures.value) in
+    record { here = ticket-made pool site c.args.transfer c.in-Some.ticket c.requires.there (rest.places site c.requires.there).place due }
+
 pub keep_lease-requires-clause-others : goal.keep_lease-requires-clause-others
 keep_lease-requires-clause-others c =
     let pool = c.args.pool.now in
@@ -43,6 +51,15 @@ keep_lease-requires-clause-others c =
     let did = c.in-Ok-Lease.ensures in
     let got = granted-lease pool new site c.args.transfer c.in-Some.ticket lease (rest.places site c.requires.there).place due (rw c.in-Ok-Lease.field-0-is at did.lease) (rw c.in-Ok-Lease.field-0-is at did.want) (rw c.in-Ok-Lease.field-0-is at did.gets_lease) did.site in
     got-others pool new site c.args.transfer lease got (get nat_cmp c.args.self.now.leases) c.requires.keeps.keeps.leases (ticket-no-lease (host_at pool site) (sound-at pool site c.requires.there rest.at_rest rest.places) c.args.transfer c.in-Some.ticket.wait.want due.wants)
+
+pub keep_ticket-requires-clause-here : goal.keep_ticket-requires-clause-here
+keep_ticket-requires-clause-here c =
+    let pool = c.args.pool.now in
+    let site = c.args.site in
+    let rest = c.log-log.ensures in
+    let due = ticket-kept pool site c.requires.there rest.at_rest rest.places c.args.self.now c.requires.keeps c.args.transfer c.in-Some.ticket (sym c.in-Some.is ∙ c.remove.ensures.value) in
+    let still = rw c.in-Ok-Still.field-0-is at c.in-Ok-Still.ensures.still in
+    still-here pool c.claim.new.self c.in-Some.ticket c.in-Ok-Still.ticket (ticket-made pool site c.args.transfer c.in-Some.ticket c.requires.there (rest.places site c.requires.there).place due) still.1 still.2
 
 pub keep_ticket-requires-clause-unleased : goal.keep_ticket-requires-clause-unleased
 keep_ticket-requires-clause-unleased c =
@@ -289,7 +306,7 @@ returns-in-Err-clause-answer c =
     let site = c.args.site in
     let rest = c.log-log.ensures in
     let due = ticket-kept pool site c.requires.there rest.at_rest rest.places c.args.self.now c.requires.keeps c.args.transfer c.in-Some.ticket (sym c.in-Some.is ∙ c.remove.ensures.value) in
-    absurd (no-stray pool site c.args.transfer c.in-Some.ticket c.requires.there (rest.places site c.requires.there).place due c.in-Err.ensures.strange.1)
+    absurd (no-stray pool site c.args.transfer c.in-Some.ticket (rest.places site c.requires.there).place due c.in-Err.ensures.strange.0)
 
 pub returns-in-Err-clause-keeps : goal.returns-in-Err-clause-keeps
 returns-in-Err-clause-keeps c =
@@ -297,4 +314,4 @@ returns-in-Err-clause-keeps c =
     let site = c.args.site in
     let rest = c.log-log.ensures in
     let due = ticket-kept pool site c.requires.there rest.at_rest rest.places c.args.self.now c.requires.keeps c.args.transfer c.in-Some.ticket (sym c.in-Some.is ∙ c.remove.ensures.value) in
-    absurd (no-stray pool site c.args.transfer c.in-Some.ticket c.requires.there (rest.places site c.requires.there).place due c.in-Err.ensures.strange.1)
+    absurd (no-stray pool site c.args.transfer c.in-Some.ticket (rest.places site c.requires.there).place due c.in-Err.ensures.strange.0)

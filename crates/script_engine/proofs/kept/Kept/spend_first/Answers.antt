@@ -13,7 +13,7 @@ use Rattle.script_engine.specs.Hosted.{kept_at, lease_facts}
 use Rattle.script_rules.specs.Meaning.{without_ticket}
 use Rattle.script_rules.specs.Ending.{after_dropping}
 use Rattle.script_engine.proofs.Leases.{itself, kept-valid, leased-held, leased-no-ticket, same-whereabouts}
-use Rattle.script_engine.proofs.Spending.{sound-at, kept-lease, kept-made, ticketed, kept-ticket, ticket-spent, lease-spent}
+use Rattle.script_engine.proofs.Spending.{sound-at, kept-lease, kept-made, ticketed, kept-ticket, ticket-made, ticket-spent, lease-spent}
 use Rattle.script_engine.proofs.Ending.{waiter-first, holder-first, none-at-all, gave-up-ticket, gave-up-lease}
 use Rattle.script_engine.proofs.kept.Kept.spend_first.Goals as goal
 
@@ -27,6 +27,15 @@ withdraw_ticket-requires-clause-own c =
     let kept = kept-ticket host sound c.args.self.now.tickets.entries t ticket c.requires.keeps.keeps.tickets (sym c.in_ok-transfer.ensures.value) in
     let same : ticket.site ≡ c.args.site = kept.site ∙ (c.log-log.ensures.places c.args.site c.requires.there).place in
     ap (λ s. is_valid_ticket (host_at pool s) ticket.wait.want) same ∙ kept-valid host t ticket.wait.want kept.wants kept.own
+
+pub withdraw_ticket-requires-clause-here : goal.withdraw_ticket-requires-clause-here
+withdraw_ticket-requires-clause-here c =
+    let pool = c.args.pool.now in
+    let t = c.in_ok-transfer.transfer in
+    let ticket = c.in_ok-transfer.first in
+    let sound = sound-at pool c.args.site c.requires.there c.log-log.ensures.at_rest c.log-log.ensures.places in
+    let kept = kept-ticket (host_at pool c.args.site) sound c.args.self.now.tickets.entries t ticket c.requires.keeps.keeps.tickets (sym c.in_ok-transfer.ensures.value) in
+    ticket-made pool c.args.site t ticket c.requires.there (c.log-log.ensures.places c.args.site c.requires.there).place kept
 
 pub returns-in_ok-transfer-clause-first : goal.returns-in_ok-transfer-clause-first
 returns-in_ok-transfer-clause-first c =

@@ -1,11 +1,11 @@
 use Rattle.std.proofs.Common.{sym, ◌∙◌}
 use Rattle.cache.specs.Pools.{all_hosts}
-use Rattle.script_engine.proofs.SpentAtSite.{others-at, leave-unticketed, ticket-at, ticket-there, ticket-valid, keeps-ticket-spent, leave-spent, leave-grow}
+use Rattle.script_engine.proofs.SpentAtSite.{others-at, leave-unticketed, ticket-at, ticket-here, ticket-valid, keeps-ticket-spent, leave-spent, leave-grow}
 use Rattle.script_engine.proofs.kept.Kept.withdraw.Goals as goal
 
-pub withdraw_ticket-requires-clause-there : goal.withdraw_ticket-requires-clause-there
-withdraw_ticket-requires-clause-there c =
-    ticket-there c.args.pool.now c.log-log.ensures.at_rest c.log-log.ensures.places c.args.site c.requires.there c.args.self.now c.requires.keeps c.args.transfer c.in-Some.ticket (sym c.remove.ensures.value ∙ c.in-Some.is)
+pub withdraw_ticket-requires-clause-here : goal.withdraw_ticket-requires-clause-here
+withdraw_ticket-requires-clause-here c =
+    ticket-here c.args.pool.now c.log-log.ensures.at_rest c.log-log.ensures.places c.args.site c.requires.there c.args.self.now c.requires.keeps c.args.transfer c.in-Some.ticket (sym c.remove.ensures.value ∙ c.in-Some.is)
 
 pub withdraw_ticket-requires-clause-own : goal.withdraw_ticket-requires-clause-own
 withdraw_ticket-requires-clause-own c =
