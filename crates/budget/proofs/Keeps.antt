@@ -125,11 +125,13 @@ module _ (limits : Bounds) where
         let fits = word.fits s r in
         (omega arith, omega arith)
 
-    pub looks : (slots seat : ℕ) (me : Sitter) → 0 < me.0.share → Allows (Rule limits) slots seat me word.index (λ n. n) (Looks word.on (λ (v : SeatView). (word.word_of v).held) me)
-    looks slots seat me some_share s r _ at _ =
+    pub looks : (slots seat : ℕ) (me : Sitter) (limit : ℕ) → word.limit ≡ limit → 0 < me.0.share → Allows (Rule limits) slots seat me word.index (λ n. n) (Looks limit word.on (λ (v : SeatView). (word.word_of v).held) me)
+    looks slots seat me limit is some_share s r _ at _ =
         let n : ℕ = get_or s.words word.index 0 in
         let part = held_within s r seat me.0 at in
-        (word.on (noted n) me.0, keeps, tt, word.steps s r seat me.0 (noted n) n me.1 at some_share refl (word.within s r), (refl, part.0, part.1))
+        let most = word.within s r in
+        let fits = word.fits s r in
+        (word.on (noted n) me.0, keeps, tt, word.steps s r seat me.0 (noted n) n me.1 at some_share refl most, (refl, part.0, omega (arith, most, is), omega (arith, fits, is)))
 
     pub compares : (slots seat : ℕ) (me : Sitter) → 0 < me.0.share → Allows (Rule limits) slots seat me word.index (λ n. n) (Compares word.on (λ (v : SeatView). (word.word_of v).held) me)
     compares slots seat me some_share s r _ at _ =

@@ -89,9 +89,10 @@ pub record Rule (limits : Bounds) (s : Words) : Type 0 where
 abbrev pub Sitter : Type 0
 Sitter = Me (Unit {0}) SeatView
 
--- What a load tells: the seat notes what was read, which is no less than what the seat itself holds.
-abbrev pub Looks : ((WordView → WordView) → SeatView → SeatView) → (SeatView → ℕ) → Sitter → ℕ → Sitter → Type 0
-Looks on held_of me found after = (after ≡ (on (noted found) me.0, me.1)) × (held_of me.0 ≤ found) × (found ≤ 65535)
+-- What a load tells: the seat notes what was read, which is no less than what the seat itself holds, and no more than the
+-- word's limit.
+abbrev pub Looks : ℕ → ((WordView → WordView) → SeatView → SeatView) → (SeatView → ℕ) → Sitter → ℕ → Sitter → Type 0
+Looks limit on held_of me found after = (after ≡ (on (noted found) me.0, me.1)) × (held_of me.0 ≤ found) × (found ≤ limit) × (limit ≤ 65535)
 
 -- What the loads after a join tell, whose value the view does not note: the word is no less than what the
 -- seat holds.
@@ -125,14 +126,14 @@ seated place v = record { table = place.table; number = place.number; view = v }
 abbrev pub held_by : SeatShown → Held
 held_by place = held place.view.total.held place.view.kept.held
 
--- What asking for a permit does to the seat's view of the word: one load, and then
+-- What asking for a permit does to the seat's view of the word: one load, which read no more than the limit, and then
 --   Full: nothing more, and the load read the limit;
---   Got: one exchange, which took the permit;
---   Contended: one exchange, which found another value.
+--   Got: one exchange, which took the permit, and the load read less than the limit;
+--   Contended: one exchange, which found another value, and the load read less than the limit.
 abbrev pub Tries : ℕ → WordView → Try → WordView → Type 0
 Tries limit old Full new = (new ≡ noted new.seen old) × (new.seen ≡ limit)
-Tries limit old Got new = new ≡ one_more (noted new.seen old)
-Tries limit old Contended new = new ≡ missed (noted new.seen old)
+Tries limit old Got new = (new ≡ one_more (noted new.seen old)) × (new.seen < limit)
+Tries limit old Contended new = (new ≡ missed (noted new.seen old)) × (new.seen < limit)
 
 pub record TriesOpen (limit : ℕ) (old : SeatShown) (answer : Try) (new : SeatShown) : Type 0 where
   pub total : Tries limit old.view.total answer new.view.total

@@ -73,12 +73,14 @@ impl<D: Copy + Drop> Pass<D> {
         self.accounts.len()
     }
 
-    /// Whether it has a seat at this host's tally.
+    /// Whether it has a seat at this host's tally; false if there is no such host.
     pub fn is_enrolled(&self, host: usize) -> bool
-        requires { host < length self.now }
         ensures { IsTrue result ↔ IsSome (account_at self.now host).seat }
     {
-        self.accounts[host].seat.is_some()
+        if host < self.accounts.len() {
+            return self.accounts[host].seat.is_some();
+        }
+        false
     }
 
     /// Takes the seat at the host's tally, where it has none yet.
@@ -94,31 +96,38 @@ impl<D: Copy + Drop> Pass<D> {
         self.accounts[host].seat = Some(seat);
     }
 
-    /// How many leases were spent with it at this host.
+    /// How many leases were spent with it at this host; 0 if there is no such host.
     pub fn spent(&self, host: usize) -> u64
-        requires { host < length self.now }
         ensures { result ≡ spent_at self.now host }
     {
-        match &self.accounts[host].seat {
-            Some(seat) => seat.spent(),
-            None => 0,
+        if host < self.accounts.len() {
+            return match &self.accounts[host].seat {
+                Some(seat) => seat.spent(),
+                None => 0,
+            };
         }
+        0
     }
 
-    /// What the pass was told last at this host.
+    /// What the pass was told last at this host; `None` if there is no such host.
     pub fn last(&self, host: usize) -> Option<D>
-        requires { host < length self.now }
         ensures { result ≡ (account_at self.now host).last }
     {
-        self.accounts[host].last
+        if host < self.accounts.len() {
+            return self.accounts[host].last;
+        }
+        None
     }
 
-    /// How often it was told something at this host; this stays at its greatest value.
+    /// How often it was told something at this host; this stays at its greatest value. It is 0 if
+    /// there is no such host.
     pub fn calls(&self, host: usize) -> u64
-        requires { host < length self.now }
         ensures { result ≡ (account_at self.now host).calls }
     {
-        self.accounts[host].calls
+        if host < self.accounts.len() {
+            return self.accounts[host].calls;
+        }
+        0
     }
 
     /// Remembers what a call at this host answers. It asks for the tally at which the pass is

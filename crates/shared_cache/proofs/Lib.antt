@@ -10,3 +10,5 @@ pub mod QueuedHosts
 pub mod NewPasses
 -- a limit is changed at a moment that is not before the one handed in
 pub mod ChangedLimits
+-- a host is listed exactly if a transfer waits there beside room
+pub mod ListedHosts

@@ -6,3 +6,4 @@ pub mod Calls
 pub mod Inspecting
 pub mod Counting
 pub mod Gathering
+pub mod Laws

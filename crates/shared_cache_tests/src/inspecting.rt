@@ -8,7 +8,7 @@ use crate::gathering::{Account, Passes, check_account};
 use crate::making::{new_cache, new_plan};
 use budget::Refusal;
 use bundle::Bundle;
-use shared_cache::{Names, Plan, SharedCache};
+use shared_cache::{Names, Plan, SharedCache, the_lobby_lists_who_waits_beside_room};
 use std::alloc::Global;
 use std::marker::Brand;
 use std::process::Abort;
@@ -99,6 +99,7 @@ fn both<N: Names + Send + Sync, R: Threads + Wait + Abort + Sync>(
 
 #[test]
 fn one_looks_while_another_acquires_elsewhere(rt: HostRuntime) {
+    the_lobby_lists_who_waits_beside_room::<Stream>();
     let plan = new_plan(&rt, rt.alloc(), (0, 0, 4), 2);
     both::<Brand, HostRuntime>(&rt, rt.alloc(), plan);
 }

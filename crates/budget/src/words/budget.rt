@@ -2,18 +2,19 @@ ghost use Rattle.std.specs.Prelude.{◌≡◌, ℕ, ◌+◌, ◌<◌, ◌≤◌,
 ghost use Rattle.budget.specs.Words.{empty_seat, one_less, on_total, on_kept, after_split};
 ghost use Rattle.budget.specs.Words.{joined_and_compared, whole};
 ghost use Rattle.budget.specs.Words.{seated, held_by, TriesOpen, TriesKept};
+ghost use Rattle.budget.specs.Words.{Looks, total_of, kept_of};
 
 use crate::limits::Limits;
 use crate::permits::{Held, Try};
 use crate::refusal::Refusal;
 use crate::words::rule::{
-    BudgetRule, ComparesKept, ComparesTotal, GivesKept, GivesOpen, Joins, LooksAtKept,
+    BudgetRule, ComparesKept, ComparesTotal, GivesKept, GivesOpen, Joins, Limited, LooksAtKept,
     LooksAtTotal, Parts, TakesKept, TakesOpen,
 };
 use crate::words::view::SeatView;
 use atomic_table::{Seat, Table};
 use std::alloc::Global;
-use std::marker::{Model, PhantomData};
+use std::marker::{Brand, Model, PhantomData};
 
 // The word that counts open connections, and the one that counts kept ones.
 const TOTAL: usize = 0;
@@ -131,7 +132,7 @@ impl<K> WordBudget<K> {
         ensures { TriesOpen self.now.limits.total seat.old result seat.new }
     {
         let table = &self.table.shared;
-        let total = table.load::<LooksAtTotal>(&mut seat.seat, TOTAL);
+        let total = load_total::<Brand>(&self.table, &mut seat.seat);
         seat.seen.total = total;
         if total == u64::from(self.limits.total()) {
             return Try::Full;
@@ -165,7 +166,7 @@ impl<K> WordBudget<K> {
         ensures { TriesKept self.now.limits.connects seat.old result seat.new }
     {
         let table = &self.table.shared;
-        let kept = table.load::<LooksAtKept>(&mut seat.seat, KEPT);
+        let kept = load_kept::<Brand>(&self.table, &mut seat.seat);
         seat.seen.kept = kept;
         if kept == u64::from(self.limits.connects()) {
             return Try::Full;
@@ -299,4 +300,36 @@ impl<K> BudgetSeat<K> {
             kept: self.kept,
         }
     }
+}
+
+// Loads the total, whose limit L names.
+#[inline(always)]
+fn load_total<L: Limited>(
+    table: &Table<(), SeatView, Limits, BudgetRule, Global>,
+    seat: &mut Seat<(), SeatView>,
+) -> u64
+    requires table { seat.old.table_id ≡ table.now.shared.table_id }
+    requires words { table.now.shared.table_id.words ≡ 2 }
+    requires limit { table.now.shared.key.total ≡ L.limit }
+    requires share { 0 < seat.old.me.0.share }
+    ensures same { (seat.new.table_id ≡ seat.old.table_id) × (seat.new.id ≡ seat.old.id) }
+    ensures looks { Looks L.limit on_total total_of seat.old.me result seat.new.me }
+{
+    table.shared.load::<LooksAtTotal<L>>(seat, TOTAL)
+}
+
+// Loads the number kept, whose limit L names.
+#[inline(always)]
+fn load_kept<L: Limited>(
+    table: &Table<(), SeatView, Limits, BudgetRule, Global>,
+    seat: &mut Seat<(), SeatView>,
+) -> u64
+    requires table { seat.old.table_id ≡ table.now.shared.table_id }
+    requires words { table.now.shared.table_id.words ≡ 2 }
+    requires limit { table.now.shared.key.connects ≡ L.limit }
+    requires share { 0 < seat.old.me.0.share }
+    ensures same { (seat.new.table_id ≡ seat.old.table_id) × (seat.new.id ≡ seat.old.id) }
+    ensures looks { Looks L.limit on_kept kept_of seat.old.me result seat.new.me }
+{
+    table.shared.load::<LooksAtKept<L>>(seat, KEPT)
 }

@@ -3,6 +3,7 @@
 use crate::limits::Limits;
 use crate::words::view::SeatView;
 use atomic_table::{Join, Play, Split, TableRule};
+use std::marker::{Brand, PhantomData};
 
 /// The rule of the two words.
 pub struct BudgetRule;
@@ -15,22 +16,37 @@ impl TableRule<(), SeatView, Limits> for BudgetRule {
     ghost first = { λ _. empty_seat whole };
 }
 
-/// A load of the total.
-pub struct LooksAtTotal;
+/// Names the limit of the word that is loaded. Each call of a load picks it.
+pub trait Limited {
+    ghost use Rattle.std.specs.Prelude.{ℕ};
 
-impl Play<(), SeatView> for LooksAtTotal {
+    ghost limit: { ℕ };
+}
+
+impl Limited for Brand {
+    ghost limit = { 0 };
+}
+
+/// A load of the total.
+pub struct LooksAtTotal<L> {
+    limit: PhantomData<L>,
+}
+
+impl<L: Limited> Play<(), SeatView> for LooksAtTotal<L> {
     ghost use Rattle.budget.specs.Words.{Looks, on_total, total_of};
 
-    ghost then = { λ _. Looks on_total total_of };
+    ghost then = { λ _. Looks L.limit on_total total_of };
 }
 
 /// A load of the number kept.
-pub struct LooksAtKept;
+pub struct LooksAtKept<L> {
+    limit: PhantomData<L>,
+}
 
-impl Play<(), SeatView> for LooksAtKept {
+impl<L: Limited> Play<(), SeatView> for LooksAtKept<L> {
     ghost use Rattle.budget.specs.Words.{Looks, on_kept, kept_of};
 
-    ghost then = { λ _. Looks on_kept kept_of };
+    ghost then = { λ _. Looks L.limit on_kept kept_of };
 }
 
 /// A load of the total after a join, whose value the seat does not note.
