@@ -1,7 +1,6 @@
 -- The results of workers, put in the order of their jobs one worker after another.
 use Rattle.std.proofs.Common.{◌≡◌, refl, sym, subst, ap, ◌∙◌, ℕ, zero, suc, set, take, get_or, ◌+◌, ◌<◌, ◌==◌, ◌⊎◌, inl, inr, List, [], ◌∷◌, ◌++◌, length, map, Option, Some, None, IsSomeAnd, arith}
-use Rattle.std.specs.Prelude.{slice_get, IfNone, IfSome, IsSome}
-use Rattle.std.specs.Option.{option_or}
+use Rattle.std.specs.Prelude.{slice_get, IfNone, IsSome}
 use Rattle.std.specs.List.{All, Contains}
 use Rattle.std.proofs.lemmas.List.{append-nil, map-append, length-append, length-set, take_more}
 use Rattle.std.proofs.lemmas.List.Elements.{All-append, All-push, All-nil, All-pop, All-contains, All-weaker, Contains-append_left, Contains-append_right, Contains-push}
@@ -19,8 +18,9 @@ use Rattle.exchange.specs.Worlds.{World}
 use Rattle.bundle.specs.Passes.{Accounts}
 use Rattle.shared_cache.specs.Names.{CacheNames}
 use Rattle.shared_cache.specs.Passes.{IsPassOf}
-use Rattle.driver.specs.declared.fault.DriverFault.{DriverFault}
-use Rattle.driver.specs.Faults.{IsWorkerFault}
+use Rattle.driver.specs.declared.quit.Quit.{Quit}
+use Rattle.driver.specs.declared.quit.Quit.TheVariants.{Memory, Poll, Told}
+use Rattle.driver.specs.Quits.{first_quit}
 use Rattle.driver.specs.Results.{IsResultOf, IsResultAt}
 use Rattle.driver.specs.Workers.{WorkerShown, left_with, AreResults, numbers_of}
 use Rattle.driver.specs.Running.{Work, IsWork, results_of, results_of_all, pass_of}
@@ -181,16 +181,15 @@ module _ {W : Type 0} (world : World W) (may_stop : ℕ → Type 0) (names : Cac
 
 -- how far the end of a run is: some workers have left, with their seats, their passes and their results
 module _ {W : Type 0} (world : World W) (may_stop : ℕ → Type 0) (names : CacheNames) (jobs : List Job) (claim : Jobs) (all : ℕ) where
-  pub record IsGoing (seat : Drawn) (workers : List WorkerShown) (results : List Done) (passes : List Accounts) (fault : Option DriverFault) : Type 0 where
+  pub record IsGoing (seat : Drawn) (workers : List WorkerShown) (results : List Done) (passes : List Accounts) (quit : Option Quit) : Type 0 where
     pub claim_is : seat.claim ≡ claim
     pub share : seat.share + length workers ≡ whole
     pub number : length results ≡ length jobs
     pub worked : All (HasWorked world may_stop names claim jobs) workers
     pub passes_of : All (IsPassOf names) passes
     pub passes_number : length passes + length workers ≡ all
-    pub past : IfNone fault ((length workers ≡ all) ⊎ (0 < seat.past))
-    pub met : IfSome fault IsWorkerFault
-    pub collected : IfNone fault (IsCollected world may_stop names jobs seat results passes)
+    pub past : IfNone quit ((length workers ≡ all) ⊎ (0 < seat.past))
+    pub collected : IfNone quit (IsCollected world may_stop names jobs seat results passes)
 
   pub none_left_yet : (seat : Drawn) (workers : List WorkerShown) (results : List Done) → seat ≡ record (first_seat claim) { share = seat.share } → seat.share + length workers ≡ whole → length results ≡ length jobs
       → All (HasWorked world may_stop names claim jobs) workers → length workers ≡ all → IsGoing seat workers results [] None
@@ -202,7 +201,6 @@ module _ {W : Type 0} (world : World W) (may_stop : ℕ → Type 0) (names : Cac
     passes_of = All-nil (IsPassOf names);
     passes_number = omega (arith, count);
     past = inl count;
-    met = tt;
     collected = none_collected world may_stop names jobs seat results (ap (λ (s : Drawn). s.drawn) is);
   }
 
@@ -210,29 +208,32 @@ module _ {W : Type 0} (world : World W) (may_stop : ℕ → Type 0) (names : Cac
   pub last_worked : (workers rest : List WorkerShown) (worker : WorkerShown) → workers ≡ rest ++ worker ∷ [] → All (HasWorked world may_stop names claim jobs) workers → HasWorked world may_stop names claim jobs worker
   last_worked workers rest worker is worked = (All-pop (HasWorked world may_stop names claim jobs) workers rest (Some worker) is worked).1
 
-  next_past : (seat other : Drawn) (met fault : Option DriverFault) (rest : List WorkerShown) → IfNone met (0 < other.past) → IfNone (option_or met fault) ((length rest ≡ all) ⊎ (0 < (together seat other).past))
-  next_past seat other (Some one) fault rest past = tt
+  -- nothing is asked where one has given up
+  has_quit : {P : Type 0} (quit : Quit) (earlier : Option Quit) → IfNone (first_quit (Some quit) earlier) P
+  has_quit Memory earlier = tt
+  has_quit Poll earlier = tt
+  has_quit Told None = tt
+  has_quit Told (Some quit) = tt
+
+  next_past : (seat other : Drawn) (met quit : Option Quit) (rest : List WorkerShown) → IfNone met (0 < other.past) → IfNone (first_quit met quit) ((length rest ≡ all) ⊎ (0 < (together seat other).past))
+  next_past seat other (Some one) quit rest past = has_quit one quit
   next_past seat other None (Some one) rest past = tt
   next_past seat other None None rest past = inr (omega (arith, past))
 
-  next_met : (met fault : Option DriverFault) → IfSome met IsWorkerFault → IfSome fault IsWorkerFault → IfSome (option_or met fault) IsWorkerFault
-  next_met (Some one) fault is other = is
-  next_met None fault is other = other
-
-  next_collected : (opened : ℕ) (seat other : Drawn) (results placed : List Done) (passes : List Accounts) (pass : Accounts) (own : List Result) (met fault : Option DriverFault)
-      → HasWorked world may_stop names claim jobs (left_with opened other pass own met) → IsPlaced own results placed → IfNone fault (IsCollected world may_stop names jobs seat results passes)
-      → IfNone (option_or met fault) (IsCollected world may_stop names jobs (together seat other) placed (passes ++ pass ∷ []))
-  next_collected opened seat other results placed passes pass own (Some one) fault has put so_far = tt
-  next_collected opened seat other results placed passes pass own None (Some one) has put so_far = tt
-  next_collected opened seat other results placed passes pass own None None has put so_far =
+  next_collected : (opened failed : ℕ) (seat other : Drawn) (results placed : List Done) (passes : List Accounts) (pass : Accounts) (own : List Result) (met quit : Option Quit)
+      → HasWorked world may_stop names claim jobs (left_with opened failed other pass own met) → IsPlaced own results placed → IfNone quit (IsCollected world may_stop names jobs seat results passes)
+      → IfNone (first_quit met quit) (IsCollected world may_stop names jobs (together seat other) placed (passes ++ pass ∷ []))
+  next_collected opened failed seat other results placed passes pass own (Some one) quit has put so_far = has_quit one quit
+  next_collected opened failed seat other results placed passes pass own None (Some one) has put so_far = tt
+  next_collected opened failed seat other results placed passes pass own None None has put so_far =
       collected_more world may_stop names jobs seat other results placed passes (record { results = own; pass = pass }) so_far has.work has.drawn has.fit put
 
   -- one worker more has left
-  pub next_going : (opened : ℕ) (seat other : Drawn) (workers rest : List WorkerShown) (results placed : List Done) (passes : List Accounts) (pass : Accounts) (own : List Result) (met fault : Option DriverFault)
-      → workers ≡ rest ++ left_with opened other pass own met ∷ [] → IsPlaced own results placed → IsGoing seat workers results passes fault → IsGoing (together seat other) rest placed (passes ++ pass ∷ []) (option_or met fault)
-  next_going opened seat other workers rest results placed passes pass own met fault is put going =
-      let has = last_worked workers rest (left_with opened other pass own met) is going.worked in
-      let fewer = ap (λ (some : List WorkerShown). length some) is ∙ length-append rest (left_with opened other pass own met ∷ []) in
+  pub next_going : (opened failed : ℕ) (seat other : Drawn) (workers rest : List WorkerShown) (results placed : List Done) (passes : List Accounts) (pass : Accounts) (own : List Result) (met quit : Option Quit)
+      → workers ≡ rest ++ left_with opened failed other pass own met ∷ [] → IsPlaced own results placed → IsGoing seat workers results passes quit → IsGoing (together seat other) rest placed (passes ++ pass ∷ []) (first_quit met quit)
+  next_going opened failed seat other workers rest results placed passes pass own met quit is put going =
+      let has = last_worked workers rest (left_with opened failed other pass own met) is going.worked in
+      let fewer = ap (λ (some : List WorkerShown). length some) is ∙ length-append rest (left_with opened failed other pass own met ∷ []) in
       let more = length-append passes (pass ∷ []) in
       let share = going.share in
       let one = has.share_is in
@@ -241,22 +242,21 @@ module _ {W : Type 0} (world : World W) (may_stop : ℕ → Type 0) (names : Cac
         claim_is = going.claim_is;
         share = omega (arith, fewer, share, one);
         number = put.number ∙ going.number;
-        worked = (All-pop (HasWorked world may_stop names claim jobs) workers rest (Some (left_with opened other pass own met)) is going.worked).0;
+        worked = (All-pop (HasWorked world may_stop names claim jobs) workers rest (Some (left_with opened failed other pass own met)) is going.worked).0;
         passes_of = All-push (IsPassOf names) passes pass going.passes_of has.pass_is;
         passes_number = omega (arith, fewer, more, count);
-        past = next_past seat other met fault rest has.past;
-        met = next_met met fault has.met going.met;
-        collected = next_collected opened seat other results placed passes pass own met fault has put going.collected;
+        past = next_past seat other met quit rest has.past;
+        collected = next_collected opened failed seat other results placed passes pass own met quit has put going.collected;
       }
 
   -- with what a call says of each part
-  pub same_going : (seat same_seat : Drawn) (workers : List WorkerShown) (results same_results : List Done) (passes same_passes : List Accounts) (fault same_fault : Option DriverFault)
-      → same_seat ≡ seat → same_results ≡ results → same_passes ≡ passes → same_fault ≡ fault → IsGoing seat workers results passes fault → IsGoing same_seat workers same_results same_passes same_fault
-  same_going seat same_seat workers results same_results passes same_passes fault same_fault seats_are results_are passes_are faults_are going =
-      subst (λ (s : Drawn). IsGoing s workers same_results same_passes same_fault) (sym seats_are)
-      (subst (λ (r : List Done). IsGoing seat workers r same_passes same_fault) (sym results_are)
-      (subst (λ (p : List Accounts). IsGoing seat workers results p same_fault) (sym passes_are)
-      (subst (λ (f : Option DriverFault). IsGoing seat workers results passes f) (sym faults_are) going)))
+  pub same_going : (seat same_seat : Drawn) (workers : List WorkerShown) (results same_results : List Done) (passes same_passes : List Accounts) (quit same_quit : Option Quit)
+      → same_seat ≡ seat → same_results ≡ results → same_passes ≡ passes → same_quit ≡ quit → IsGoing seat workers results passes quit → IsGoing same_seat workers same_results same_passes same_quit
+  same_going seat same_seat workers results same_results passes same_passes quit same_quit seats_are results_are passes_are quits_are going =
+      subst (λ (s : Drawn). IsGoing s workers same_results same_passes same_quit) (sym seats_are)
+      (subst (λ (r : List Done). IsGoing seat workers r same_passes same_quit) (sym results_are)
+      (subst (λ (p : List Accounts). IsGoing seat workers results p same_quit) (sym passes_are)
+      (subst (λ (q : Option Quit). IsGoing seat workers results passes q) (sym quits_are) going)))
 
   -- once all have left, at least one of them drew a number past the jobs
   pub drew_past : (seat : Drawn) (workers : List WorkerShown) → length workers ≡ 0 → 0 < all → (length workers ≡ all) ⊎ (0 < seat.past) → 0 < seat.past

@@ -7,7 +7,7 @@ use Rattle.shared_cache.specs.Passes.{IsPassOf, IsNewPass}
 use Rattle.driver.specs.Workers.{WorkerShown}
 use Rattle.driver.specs.Hiring.{IsHired}
 
-pub hired_with : (names : CacheNames) (claim : Jobs) (worker : WorkerShown) (pass : Accounts) → worker.pass ≡ Some pass → worker.seat ≡ new_seat claim → worker.results ≡ [] → worker.fault ≡ None
+pub hired_with : (names : CacheNames) (claim : Jobs) (worker : WorkerShown) (pass : Accounts) → worker.pass ≡ Some pass → worker.seat ≡ new_seat claim → worker.results ≡ [] → worker.quit ≡ None
     → IsPassOf names pass → IsNewPass pass → IsHired names claim worker
 hired_with names claim worker pass passed seat results well its its_new = record {
   pass_is = subst (λ (given : Option Accounts). IsSomeAnd given (IsPassOf names)) (sym passed) its;

@@ -1,3 +1,4 @@
 pub mod Carried
 pub mod Collected
 pub mod Hired
+pub mod Turned

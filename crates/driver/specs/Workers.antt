@@ -7,22 +7,22 @@ use Rattle.claim.specs.Draws.{Drawn}
 use Rattle.exchange.specs.declared.job.Job.{Job}
 use Rattle.exchange.specs.declared.done.Done.{Done}
 use Rattle.exchange.specs.Worlds.{World}
-use Rattle.driver.specs.declared.fault.DriverFault.{DriverFault}
-use Rattle.driver.specs.Faults.{IsWorkerFault}
+use Rattle.driver.specs.declared.quit.Quit.{Quit}
 use Rattle.driver.specs.Results.{IsResultAt, CarriesOutAt}
 
--- a worker: how many connections its dial has opened, its seat, its pass unless a desk has it, how the jobs that it drew
--- ended, each with its number, and why it gave up, if it did
+-- a worker: how many connections its dial has opened, how many turns of its dial failed, its seat, its pass unless a desk
+-- has it, how the jobs that it drew ended, each with its number, and why it gave up, if it did
 pub record WorkerShown : Type 0 where
   pub opened : ℕ
+  pub failed : ℕ
   pub seat : Drawn
   pub pass : Option Accounts
   pub results : List (ℕ × Done)
-  pub fault : Option DriverFault
+  pub quit : Option Quit
 
--- a worker whose dial has opened so many, that leaves its seat, its pass, its results and its fault so
-abbrev pub left_with : ℕ → Drawn → Accounts → List (ℕ × Done) → Option DriverFault → WorkerShown
-left_with opened seat pass results fault = record { opened = opened; seat = seat; pass = Some pass; results = results; fault = fault }
+-- a worker whose dial has opened so many and failed so often, that leaves its seat, its pass, its results and its reason so
+abbrev pub left_with : ℕ → ℕ → Drawn → Accounts → List (ℕ × Done) → Option Quit → WorkerShown
+left_with opened failed seat pass results quit = record { opened = opened; failed = failed; seat = seat; pass = Some pass; results = results; quit = quit }
 
 -- the numbers of the jobs of these results
 abbrev pub numbers_of : List (ℕ × Done) → List ℕ
@@ -47,8 +47,8 @@ pub record DrawsNone {C : Type 0} (before after : C) (seat next : Drawn) (result
   pub none_added : more ≡ results
   pub nothing : after ≡ before
 
--- whether there was a job, or why the worker gave up
-abbrev pub Goes : {C W : Type 0} → (C → C → Deed W → Type 0) → World W → (ℕ → Type 0) → List Job → C → C → Drawn → Drawn → List (ℕ × Done) → List (ℕ × Done) → Result Bool DriverFault → Type 0
+-- whether there was a job; nothing is said of a worker that gives up
+abbrev pub Goes : {C W : Type 0} → (C → C → Deed W → Type 0) → World W → (ℕ → Type 0) → List Job → C → C → Drawn → Drawn → List (ℕ × Done) → List (ℕ × Done) → Result Bool Quit → Type 0
 Goes did world may_stop jobs before after seat next results more (Ok true) = DrawsOne did world may_stop jobs before after seat next results more
 Goes did world may_stop jobs before after seat next results more (Ok false) = DrawsNone before after seat next results more
-Goes did world may_stop jobs before after seat next results more (Err fault) = IsWorkerFault fault
+Goes did world may_stop jobs before after seat next results more (Err quit) = Unit {0}

@@ -1,6 +1,6 @@
 //! What carries out one job at a time.
 
-ghost use Rattle.std.specs.Prelude.{◌≡◌, ℕ, ◌+◌, ◌<◌, ◌≤◌, ◌⊎◌, length, IfOk, IfErr};
+ghost use Rattle.std.specs.Prelude.{◌≡◌, ℕ, ◌+◌, ◌<◌, ◌≤◌, ◌⊎◌, length, IfOk};
 ghost use Rattle.std.specs.Prelude.{slice_get, IsSomeAnd};
 ghost use Rattle.std.specs.Option.{ForSome};
 ghost use Rattle.exchange.specs.Answers.{IsPrepared, IsSameJob};
@@ -9,10 +9,10 @@ ghost use Rattle.exchange.specs.Owning.{IsReady, Owns};
 ghost use Rattle.exchange.specs.Exchanging.{Continues, IsFinished, OpensFew, DialsItsOwn};
 ghost use Rattle.exchange.specs.Carrying.{EndsItsDials};
 ghost use Rattle.driver.specs.Results.{IsResultAt, CarriesOutAt};
-ghost use Rattle.driver.specs.Faults.{IsWorkerFault};
+ghost use Rattle.driver.specs.Quits.{QuitsOn};
 
-use crate::fault::DriverFault;
 use crate::gate::Gate;
+use crate::quit::Quit;
 use crate::shared::Shared;
 use exchange::{Clock, Dial, Done, Job, Prepared, Stage, Transfer, Turned, Wire};
 use futures::task::Solo;
@@ -33,7 +33,9 @@ pub(crate) struct Carrier<'d, W: Wire, D: Dial<W>> {
 }
 
 impl<'d, W: Wire, D: Dial<W>> Carrier<'d, W, D> {
-    pub(crate) fn new(alloc: Global, dial: &'d mut D, task: Solo) -> Self {
+    pub(crate) fn new(alloc: Global, dial: &'d mut D, task: Solo) -> Self
+        ensures { result.dial.now ≡ dial.old }
+    {
         Carrier {
             alloc,
             dial,
@@ -50,15 +52,16 @@ impl<'d, W: Wire, D: Dial<W>> Carrier<'d, W, D> {
         shared: &Shared<'_, K, G>,
         cache: &mut C,
         number: u64,
-    ) -> Result<Done, DriverFault>
+    ) -> Result<Done, Quit>
         requires there { number < length shared.now.jobs.now }
         ensures ok { IfOk result (IsResultAt (world_of W.untouched W.happened (K.tells
             shared.now.clock.now)) (G.may_stop shared.now.gate.now) shared.now.jobs.now number) }
         ensures carried { IfOk result (CarriesOutAt C.did (world_of W.untouched W.happened
             (K.tells shared.now.clock.now)) shared.now.jobs.now number cache.old cache.new) }
-        ensures err { IfErr result IsWorkerFault }
         ensures home { C.home cache.new ≡ C.home cache.old }
         ensures opens { D.opened self.new.dial.now ≤ D.opened self.old.dial.now + 1 }
+        ensures turns { QuitsOn result (D.turn_failures self.old.dial.now)
+            (D.turn_failures self.new.dial.now) }
         ensures begun { IsSomeAnd (slice_get shared.now.jobs.now number) (λ job.
             EndsItsDials (D.begun self.old.dial.now) (D.begun self.new.dial.now)
             job.want.transfer) }
@@ -77,10 +80,11 @@ impl<'d, W: Wire, D: Dial<W>> Carrier<'d, W, D> {
     }
 
     // The job with the memory for it, that of the last one where there was one.
-    fn prepared(&mut self, job: &Job) -> Result<Prepared, DriverFault>
+    fn prepared(&mut self, job: &Job) -> Result<Prepared, Quit>
         ensures ok { IfOk result (IsPrepared job.now) }
-        ensures err { IfErr result IsWorkerFault }
         ensures dial { self.new.dial.now ≡ self.old.dial.now }
+        ensures turns { QuitsOn result (D.turn_failures self.old.dial.now)
+            (D.turn_failures self.new.dial.now) }
     {
         let prepared = match self.spare.take() {
             None => Prepared::new(self.alloc, job),
@@ -94,11 +98,11 @@ impl<'d, W: Wire, D: Dial<W>> Carrier<'d, W, D> {
         };
         match prepared {
             Ok(parts) => Ok(parts),
-            Err(_error) => Err(DriverFault::Memory),
+            Err(_error) => Err(Quit::Memory),
         }
     }
 
-    // Polls a transfer until it has ended, the gate ends it, or a worker has met a fault.
+    // Polls a transfer until it has ended, the gate ends it, or a worker gives up.
     fn poll_to_its_end<C: Cache<W>, K: Clock, G: Gate, R: Wait>(
         &mut self,
         rt: &R,
@@ -106,12 +110,11 @@ impl<'d, W: Wire, D: Dial<W>> Carrier<'d, W, D> {
         cache: &mut C,
         number: u64,
         transfer: &mut Transfer<W>,
-    ) -> Result<(), DriverFault>
+    ) -> Result<(), Quit>
         requires owns { Owns (C.home cache.old) transfer.old.parts transfer.old.state }
         requires ready { IsReady transfer.old.parts }
         ensures ok { IfOk result (λ it. IsFinished transfer.new.state
             ⊎ G.may_stop shared.now.gate.now number) }
-        ensures err { IfErr result IsWorkerFault }
         ensures home { C.home cache.new ≡ C.home cache.old }
         ensures owns { Owns (C.home cache.new) transfer.new.parts transfer.new.state }
         ensures ready { IsReady transfer.new.parts }
@@ -121,6 +124,8 @@ impl<'d, W: Wire, D: Dial<W>> Carrier<'d, W, D> {
             transfer.old.state transfer.new.state }
         ensures opens { OpensFew transfer.old.parts transfer.new.parts transfer.old.state
             transfer.new.state (D.opened self.old.dial.now) (D.opened self.new.dial.now) }
+        ensures turns { QuitsOn result (D.turn_failures self.old.dial.now)
+            (D.turn_failures self.new.dial.now) }
         ensures begun { DialsItsOwn (D.begun self.old.dial.now) (D.begun self.new.dial.now)
             transfer.old.parts.want.transfer transfer.old.state transfer.new.state }
     {
@@ -128,8 +133,8 @@ impl<'d, W: Wire, D: Dial<W>> Carrier<'d, W, D> {
             if shared.gate.stop(number) {
                 return Ok(());
             }
-            if let Some(fault) = shared.faults.met() {
-                return Err(fault);
+            if shared.faults.met() {
+                return Err(Quit::Told);
             }
             let rings = shared.bell.rings();
             let mut context = self.task.begin();
@@ -152,9 +157,10 @@ impl<'d, W: Wire, D: Dial<W>> Carrier<'d, W, D> {
         shared: &Shared<'_, K, G>,
         stage: Stage,
         rings: u64,
-    ) -> Result<bool, DriverFault>
-        ensures err { IfErr result IsWorkerFault }
+    ) -> Result<bool, Quit>
         ensures opens { D.opened self.new.dial.now ≡ D.opened self.old.dial.now }
+        ensures turns { QuitsOn result (D.turn_failures self.old.dial.now)
+            (D.turn_failures self.new.dial.now) }
         ensures begun { (other : ℕ) →
             D.begun self.new.dial.now other → D.begun self.old.dial.now other }
         ensures kept { (other : ℕ) →
@@ -168,7 +174,7 @@ impl<'d, W: Wire, D: Dial<W>> Carrier<'d, W, D> {
             }
             Stage::Dialling | Stage::Sending | Stage::Reading => match self.dial.turn() {
                 Turned::Done => Ok(true),
-                Turned::Fault => Err(DriverFault::Poll),
+                Turned::Fault => Err(Quit::Poll),
             },
         }
     }

@@ -1,8 +1,8 @@
 //! The end of a run: the results in the order of the jobs, and the passes.
 
-ghost use Rattle.std.specs.Prelude.{◌≡◌, ◌+◌, ◌<◌, ◌≤◌, length, IfOk, IfErr, []};
+ghost use Rattle.std.specs.Prelude.{◌≡◌, ◌+◌, ◌<◌, ◌≤◌, List, length, IfOk, IfErr, []};
 ghost use Rattle.std.specs.Prelude.{vec_len, vec_capacity};
-ghost use Rattle.std.specs.List.{All};
+ghost use Rattle.std.specs.List.{All, sum_by};
 ghost use Rattle.budget.specs.Words.{whole};
 ghost use Rattle.claim.specs.Draws.{first_seat};
 ghost use Rattle.exchange.specs.Worlds.{world_of};
@@ -10,9 +10,11 @@ ghost use Rattle.shared_cache.specs.Passes.{IsPassOf};
 ghost use Rattle.driver.specs.Faults.{IsWorkerFault};
 ghost use Rattle.driver.specs.Running.{IsRun};
 ghost use Rattle.driver.specs.Hiring.{HasWorked, IsPlaced};
+ghost use Rattle.driver.specs.Turns.{TurnedTogether, DialsTurned};
 
 use crate::fault::DriverFault;
 use crate::gate::Gate;
+use crate::quit::first_of;
 use crate::running::RunReport;
 use crate::shared::Shared;
 use crate::worker::{Left, Worker};
@@ -45,27 +47,31 @@ pub(crate) fn collect<W: Wire, N: Names, D: Dial<W>, K: Clock, G: Gate>(
         (vec_len workers.entry)) }
     ensures err { IfErr result (λ refused. IsWorkerFault refused.0) }
     ensures passes { IfErr result (λ refused. All (IsPassOf N.names) refused.1.items) }
+    ensures come_back { IfErr result (λ refused. vec_len refused.1 ≡ vec_len workers.entry) }
+    ensures turns { (dials : List D) → length dials ≡ vec_len workers.entry →
+        TurnedTogether (sum_by D.turn_failures dials) workers.entry.items →
+        DialsTurned D.turn_failures dials result }
 {
     let mut seat = seat;
     let mut workers = workers;
     let mut results = results;
     let mut passes = passes;
-    let mut fault = None;
+    let mut quit = None;
     while let Some(worker) = workers.pop() {
         let Left {
             seat: other,
             pass,
             results: own,
-            fault: met,
+            quit: met,
         } = worker.leave();
         shared.claim.join(&mut seat, other);
         place(&mut results, &own);
         passes.push_reserved(pass);
-        fault = met.or(fault);
+        quit = first_of(met, quit);
     }
     workers.destroy_empty();
-    if let Some(fault) = fault {
-        return Err((fault, passes));
+    if let Some(quit) = quit {
+        return Err((quit.fault(), passes));
     }
     let _drawn = shared.claim.load(&mut seat);
     Ok(RunReport { results, passes })

@@ -7,6 +7,7 @@ mod collecting;
 mod fault;
 mod faults;
 mod gate;
+mod quit;
 mod room;
 mod running;
 mod shared;

@@ -2,11 +2,12 @@
 
 ghost use Rattle.std.specs.Prelude.{◌≡◌, ◌+◌, ◌≤◌, length, IfOk, IfErr, []};
 ghost use Rattle.std.specs.Prelude.{vec_len, vec_capacity};
-ghost use Rattle.std.specs.List.{All};
+ghost use Rattle.std.specs.List.{All, sum_by};
 ghost use Rattle.budget.specs.Words.{whole};
 ghost use Rattle.claim.specs.Draws.{first_seat};
 ghost use Rattle.shared_cache.specs.Passes.{IsPassOf, IsNewPass};
 ghost use Rattle.driver.specs.Hiring.{IsHired};
+ghost use Rattle.driver.specs.Turns.{failed_of};
 
 use crate::carrier::Carrier;
 use crate::fault::DriverFault;
@@ -100,6 +101,7 @@ pub(crate) fn passes_for<S: Drop, N: Names, R: Wait>(
     ensures new_passes { IfOk result (λ passes. All IsNewPass passes.items) }
     ensures err { IfErr result (λ refused. (refused.0 ≡ DriverFault.Memory)
         × All (IsPassOf N.names) refused.1.items) }
+    ensures fewer { IfErr result (λ refused. vec_len refused.1 ≤ count) }
 {
     let Ok(passes) = Vec::with_capacity(alloc, count) else {
         return Err((DriverFault::Memory, Vec::new(alloc)));
@@ -135,6 +137,7 @@ pub(crate) fn hire<'d, W: Wire, N: Names, D: Dial<W>>(
     requires room { length dials.old ≤ vec_capacity workers.old }
     ensures workers { All (IsHired N.names claim.now) workers.new.items }
     ensures number { vec_len workers.new ≡ length dials.old }
+    ensures turns { sum_by failed_of workers.new.items ≡ sum_by D.turn_failures dials.old }
     ensures seat { seat.new ≡ record (first_seat claim.now) { share = seat.new.share } }
     ensures share { seat.new.share + length dials.old ≡ whole }
     ensures none { result.items ≡ [] }

@@ -2,12 +2,14 @@
 
 ghost use Rattle.std.specs.Prelude.{◌≡◌, ◌<◌, length, IfOk, IfErr, IsErrAnd, [], true};
 ghost use Rattle.std.specs.Prelude.{vec_len};
-ghost use Rattle.std.specs.List.{All};
+ghost use Rattle.std.specs.List.{All, sum_by};
 ghost use Rattle.exchange.specs.Worlds.{world_of};
 ghost use Rattle.shared_cache.specs.Passes.{IsPassOf};
-ghost use Rattle.driver.specs.Faults.{are_bad_workers};
+ghost use Rattle.driver.specs.Faults.{are_bad_workers, ComeBack};
+ghost use Rattle.driver.specs.Quits.{QuitsSo};
 ghost use Rattle.driver.specs.Running.{IsRun, IsRefusedFor};
 ghost use Rattle.driver.specs.Hiring.{IsHired, HasWorked};
+ghost use Rattle.driver.specs.Turns.{failed_of, TurnedTogether, DialsTurned};
 
 use crate::bell::Bell;
 use crate::collecting::collect;
@@ -47,8 +49,8 @@ pub struct RunReport {
 /// [`DriverFault::BadWorkers`] where there are no dials, or more than 64. [`DriverFault::Memory`]
 /// where there is no memory for what the run keeps or to prepare a job, or the system gives no
 /// random number, and [`DriverFault::Poll`] where a turn of a dial failed: then each worker cancels
-/// what it holds and takes no more jobs. The passes made so far come back. What jobs did at the
-/// cache stays.
+/// what it holds and takes no more jobs. At `Poll` as many passes come back as there are dials, at
+/// `Memory` those made so far. What jobs did at the cache stays.
 pub fn run<
     W: Wire + Send,
     N: Names + Send + Sync,
@@ -71,6 +73,9 @@ pub fn run<
         (refused.0 ≡ DriverFault.BadWorkers) × (refused.1.items ≡ [])) }
     ensures err { IfErr result (λ refused. IsRefusedFor (length dials.old) refused.0) }
     ensures passes { IfErr result (λ refused. All (IsPassOf N.names) refused.1.items) }
+    ensures come_back { IfErr result (λ refused.
+        ComeBack refused.0 (vec_len refused.1) (length dials.old)) }
+    ensures turns { DialsTurned D.turn_failures dials.old result }
 {
     let count = dials.len();
     if count == 0 || count > MOST_WORKERS {
@@ -116,6 +121,7 @@ fn work_at_once<
         shared.now.clock.now)) (G.may_stop shared.now.gate.now) N.names shared.now.claim.now
         shared.now.jobs.now) workers.new.items }
     ensures number { vec_len workers.new ≡ vec_len workers.old }
+    ensures turns { TurnedTogether (sum_by failed_of workers.old.items) workers.new.items }
 {
     let threads = workers.len();
     for_each_mut(
@@ -127,7 +133,8 @@ fn work_at_once<
                 × IsHired N.names shared.now.claim.now worker.now }
             ensures { HasWorked (world_of W.untouched W.happened (K.tells
                 shared.entry.now.clock.now)) (G.may_stop shared.entry.now.gate.now) N.names
-                shared.entry.now.claim.now shared.entry.now.jobs.now worker.exit.now }
+                shared.entry.now.claim.now shared.entry.now.jobs.now worker.exit.now
+                × QuitsSo worker.exit.now.quit worker.entry.now.failed worker.exit.now.failed }
         { work(rt, cache, shared, worker) },
     );
 }
@@ -141,9 +148,10 @@ fn work<W: Wire, N: Names, D: Dial<W>, K: Clock, G: Gate, R: Wait>(
 )
     requires jobs { shared.now.claim.now.jobs ≡ length shared.now.jobs.now }
     requires hired { IsHired N.names shared.now.claim.now worker.old }
-    ensures { HasWorked (world_of W.untouched W.happened (K.tells shared.now.clock.now))
-        (G.may_stop shared.now.gate.now) N.names shared.now.claim.now shared.now.jobs.now
-        worker.new }
+    ensures worked { HasWorked (world_of W.untouched W.happened (K.tells
+        shared.now.clock.now)) (G.may_stop shared.now.gate.now) N.names shared.now.claim.now
+        shared.now.jobs.now worker.new }
+    ensures turns { QuitsSo worker.new.quit worker.old.failed worker.new.failed }
 {
     let mut desk = Desk::new(cache, rt, worker.take_pass());
     worker.draw_all(rt, shared, &mut desk);

@@ -1,15 +1,15 @@
 //! A worker, which draws jobs and carries out one after another.
 
-ghost use Rattle.std.specs.Prelude.{◌≡◌, ◌+◌, ◌<◌, ◌≤◌, length, IfSome, IfNone, IsSome, OnErr};
+ghost use Rattle.std.specs.Prelude.{◌≡◌, ◌+◌, ◌<◌, ◌≤◌, length, IfNone, IsSome, OnErr};
 ghost use Rattle.std.specs.Prelude.{Some, None, []};
 ghost use Rattle.exchange.specs.Worlds.{world_of};
-ghost use Rattle.driver.specs.Faults.{IsWorkerFault};
+ghost use Rattle.driver.specs.Quits.{QuitsOn, QuitsSo};
 ghost use Rattle.driver.specs.Results.{CarriesOutAll};
 ghost use Rattle.driver.specs.Workers.{AreResults, numbers_of, Goes, left_with};
 
 use crate::carrier::Carrier;
-use crate::fault::DriverFault;
 use crate::gate::Gate;
+use crate::quit::Quit;
 use crate::shared::Shared;
 use budget::Pass;
 use bundle::Did;
@@ -30,7 +30,7 @@ pub(crate) struct Worker<'d, W: Wire, D: Dial<W>> {
     pass: Option<Pass<Did>>,
     // Each with the number of its job.
     results: Vec<(u64, Done)>,
-    fault: Option<DriverFault>,
+    quit: Option<Quit>,
 }
 
 impl<'d, W: Wire, D: Dial<W>> Model for Worker<'d, W, D> {
@@ -40,10 +40,11 @@ impl<'d, W: Wire, D: Dial<W>> Model for Worker<'d, W, D> {
 
     ghost view = { λ worker. record {
       opened = D.opened worker.carrier.dial.now;
+      failed = D.turn_failures worker.carrier.dial.now;
       seat = worker.seat;
       pass = worker.pass;
       results = worker.results.items;
-      fault = worker.fault;
+      quit = worker.quit;
     } };
 }
 
@@ -52,7 +53,7 @@ pub(crate) struct Left {
     pub(crate) seat: ClaimSeat,
     pub(crate) pass: Pass<Did>,
     pub(crate) results: Vec<(u64, Done)>,
-    pub(crate) fault: Option<DriverFault>,
+    pub(crate) quit: Option<Quit>,
 }
 
 impl<'d, W: Wire, D: Dial<W>> Worker<'d, W, D> {
@@ -66,14 +67,15 @@ impl<'d, W: Wire, D: Dial<W>> Worker<'d, W, D> {
         ensures seat { result.seat ≡ seat }
         ensures pass { result.pass ≡ Some pass }
         ensures no_results { result.results ≡ [] }
-        ensures well { result.fault ≡ None }
+        ensures well { result.quit ≡ None }
+        ensures turns { result.failed ≡ D.turn_failures carrier.entry.dial.now }
     {
         Worker {
             carrier,
             seat,
             pass: Some(pass),
             results: Vec::new(alloc),
-            fault: None,
+            quit: None,
         }
     }
 
@@ -100,29 +102,30 @@ impl<'d, W: Wire, D: Dial<W>> Worker<'d, W, D> {
         }
     }
 
-    /// Ends it, once it has its pass again.
+    /// Ends it, once it has its pass again. Its dial is where its turns are counted.
     pub(crate) fn leave(self) -> Left
         requires { IsSome self.pass }
-        ensures { self.entry ≡ left_with self.entry.opened result.seat result.pass
-            result.results.items result.fault }
+        ensures left { self.entry ≡ left_with self.entry.opened self.entry.failed result.seat
+            result.pass result.results.items result.quit }
+        ensures dial { (dial : D) × (D.turn_failures dial ≡ self.entry.failed) }
     {
         let Worker {
             carrier: _,
             seat,
             pass,
             results,
-            fault,
+            quit,
         } = self;
         let Some(pass) = pass else { unreachable!() };
         Left {
             seat,
             pass,
             results,
-            fault,
+            quit,
         }
     }
 
-    /// Draws jobs and carries them out, until none is left or any worker has met a fault.
+    /// Draws jobs and carries them out, until none is left or any worker gives up.
     pub(crate) fn draw_all<C: Cache<W>, K: Clock, G: Gate, R: Wait>(
         &mut self,
         rt: &R,
@@ -134,20 +137,20 @@ impl<'d, W: Wire, D: Dial<W>> Worker<'d, W, D> {
         requires not_past { self.old.seat.past ≡ 0 }
         requires no_draws { self.old.seat.drawn ≡ [] }
         requires no_results { self.old.results ≡ [] }
-        requires well { self.old.fault ≡ None }
+        requires well { self.old.quit ≡ None }
         ensures home { C.home cache.new ≡ C.home cache.old }
-        ensures carried { IfNone self.new.fault (CarriesOutAll C.did (world_of W.untouched
+        ensures carried { IfNone self.new.quit (CarriesOutAll C.did (world_of W.untouched
             W.happened (K.tells shared.now.clock.now)) shared.now.jobs.now cache.old cache.new
             self.new.results) }
         ensures claim { self.new.seat.claim ≡ self.old.seat.claim }
         ensures share { self.new.seat.share ≡ self.old.seat.share }
-        ensures drawn { IfNone self.new.fault (
+        ensures drawn { IfNone self.new.quit (
             self.new.seat.drawn ≡ numbers_of self.new.results) }
-        ensures past { IfNone self.new.fault (0 < self.new.seat.past) }
+        ensures past { IfNone self.new.quit (0 < self.new.seat.past) }
         ensures results { AreResults (world_of W.untouched W.happened (K.tells
             shared.now.clock.now)) (G.may_stop shared.now.gate.now) shared.now.jobs.now
             self.new.results }
-        ensures fault { IfSome self.new.fault IsWorkerFault }
+        ensures turns { QuitsSo self.new.quit self.old.failed self.new.failed }
         ensures opens { self.new.opened ≤ self.old.opened + length self.new.results + 1 }
         ensures pass { self.new.pass ≡ self.old.pass }
     {
@@ -155,9 +158,9 @@ impl<'d, W: Wire, D: Dial<W>> Worker<'d, W, D> {
             match self.draw(rt, shared, cache) {
                 Ok(true) => {}
                 Ok(false) => return,
-                Err(fault) => {
-                    shared.faults.meet(fault);
-                    self.fault = Some(fault);
+                Err(quit) => {
+                    shared.faults.meet();
+                    self.quit = Some(quit);
                     return;
                 }
             }
@@ -171,7 +174,7 @@ impl<'d, W: Wire, D: Dial<W>> Worker<'d, W, D> {
         rt: &R,
         shared: &Shared<'_, K, G>,
         cache: &mut C,
-    ) -> Result<bool, DriverFault>
+    ) -> Result<bool, Quit>
         requires claim { self.old.seat.claim ≡ shared.now.claim.now }
         requires jobs { shared.now.claim.now.jobs ≡ length shared.now.jobs.now }
         requires not_past { self.old.seat.past ≡ 0 }
@@ -183,15 +186,16 @@ impl<'d, W: Wire, D: Dial<W>> Worker<'d, W, D> {
         ensures home { C.home cache.new ≡ C.home cache.old }
         ensures claim { self.new.seat.claim ≡ self.old.seat.claim }
         ensures share { self.new.seat.share ≡ self.old.seat.share }
-        ensures fault { self.new.fault ≡ self.old.fault }
+        ensures quit { self.new.quit ≡ self.old.quit }
         ensures opens { self.new.opened ≤ self.old.opened + 1 }
+        ensures turns { QuitsOn result self.old.failed self.new.failed }
         ensures pass { self.new.pass ≡ self.old.pass }
     {
-        if let Some(fault) = shared.faults.met() {
-            return Err(fault);
+        if shared.faults.met() {
+            return Err(Quit::Told);
         }
         let Ok(()) = self.results.reserve(1) else {
-            return Err(DriverFault::Memory);
+            return Err(Quit::Memory);
         };
         let Some(number) = shared.claim.draw(&mut self.seat) else {
             return Ok(false);

@@ -6,6 +6,7 @@ use Rattle.claim.specs.Draws.{new_seat}
 use Rattle.shared_cache.specs.Passes.{IsPassOf, IsNewPass}
 use Rattle.driver.specs.Hiring.{IsHired}
 use Rattle.driver.proofs.Hired.{hired_with}
+use Rattle.driver.proofs.Turned.{one_hired}
 use Rattle.driver.proofs.room.hire.Goals as goal
 
 pub loop-dial-preserved : goal.loop-dial-preserved
@@ -32,4 +33,5 @@ loop-dial-preserved g c =
       room_left = search rules;
       seat = search rules;
       share = search rules;
+      turns = one_hired g.D.Dial.turn_failures c.loop-dial.workers.items c.push_reserved.new.self.items c.new.result c.args.dials.now c.loop-dial.dial-index c.loop-dial-item.result pushed (search rules) c.loop-dial-item.is (search rules) c.loop-dial.invariant.turns;
     }

@@ -1,9 +1,10 @@
-use Rattle.std.proofs.Common.{◌≡◌, ◌+◌, ◌≤◌, length, vec_len, vec_capacity}
-use Rattle.std.specs.List.{All}
+use Rattle.std.proofs.Common.{◌≡◌, ◌+◌, ◌≤◌, length, take, vec_len, vec_capacity}
+use Rattle.std.specs.List.{All, sum_by}
 use Rattle.budget.specs.Words.{whole}
 use Rattle.claim.specs.Draws.{first_seat}
 use Rattle.shared_cache.specs.Passes.{IsPassOf, IsNewPass}
 use Rattle.driver.specs.Hiring.{IsHired}
+use Rattle.driver.specs.Turns.{failed_of}
 use Rattle.driver.proofs.room.hire.Given as goal
 
 abbrev pub invariant-loop-dial : goal.invariant-loop-dial
@@ -18,4 +19,5 @@ invariant-loop-dial g l = record {
   room_left : length l.fn.dials ≤ vec_capacity l.passes;
   seat : l.seat ≡ record (first_seat l.claim) { share = l.seat.share };
   share : l.seat.share + l.dial-index ≡ whole;
+  turns : sum_by failed_of l.workers.items ≡ sum_by g.D.Dial.turn_failures (take l.dial-index l.fn.dials);
 }

@@ -4,8 +4,8 @@ use Rattle.driver.specs.Hiring.{HasWorked}
 use Rattle.driver.proofs.Carried.{if_none}
 use Rattle.driver.proofs.running.work.Goals as goal
 
-pub returns : goal.returns
-returns g c =
+pub returns-clause-worked : goal.returns-clause-worked
+returns-clause-worked g c =
     let after = c.draw_all.new.self in
     let pass = c.into_pass.result in
     let put : c.put_pass.new.self ≡ record after { pass = Some pass } = search rules in
@@ -14,7 +14,7 @@ returns g c =
       claim_is = search rules;
       share_is = search rules;
       fit = c.draw_all.ensures.results;
-      work = if_none after.fault (λ carried. record {
+      work = if_none after.quit (λ carried. record {
         before = c.new-desk.result;
         after = c.draw_all.new.cache;
         new_pass = search rules;
@@ -23,5 +23,4 @@ returns g c =
       }) c.draw_all.ensures.carried;
       drawn = c.draw_all.ensures.drawn;
       past = c.draw_all.ensures.past;
-      met = c.draw_all.ensures.fault;
     })

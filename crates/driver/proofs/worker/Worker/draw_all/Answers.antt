@@ -32,5 +32,6 @@ loop-preserved g c =
       results = subst (AreResults world may_stop jobs) (sym one.added) (All-push (λ (result : ℕ × Done). IsResultAt world may_stop jobs result.0 result.1) before.results (one.number, one.done) c.loop.invariant.results one.result_is);
       well = search rules;
       opens = omega (arith, added, so_far, more);
+      turns = search rules;
       pass = search rules;
     }

@@ -13,7 +13,8 @@ invariant-loop g l = record {
   not_past : l.self.seat.past ≡ 0;
   drawn : l.self.seat.drawn ≡ numbers_of l.self.results;
   results : AreResults (world_of g.W.Wire.untouched g.W.Wire.happened (g.K.Clock.tells l.fn.shared.clock.now)) (g.G.Gate.may_stop l.fn.shared.gate.now) l.fn.shared.jobs.now l.self.results;
-  well : l.self.fault ≡ None;
+  well : l.self.quit ≡ None;
   opens : l.self.opened ≤ l.fn.self.opened + length l.self.results;
+  turns : l.self.failed ≡ l.fn.self.failed;
   pass : l.self.pass ≡ l.fn.self.pass;
 }
