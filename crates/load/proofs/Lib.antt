@@ -1,2 +1,3 @@
 pub mod WhatIsLoaded
 pub mod Refusals
+pub mod SiteAddresses

@@ -1,6 +1,8 @@
 //! What the threads of a load open connections with.
 
 ghost use Rattle.std.specs.Prelude.{◌≡◌, ℕ, IfOk, IfErr, vec_len};
+ghost use Rattle.std.specs.List.{All};
+ghost use Rattle.load.specs.Dials.{AreOfSites};
 ghost use Rattle.load.specs.Loading.{IsLoadRefusedFor};
 
 use crate::error::LoadError;
@@ -10,7 +12,7 @@ use std::alloc::{AllocError, Global};
 use std::io::ErrorKind;
 use std::net::SocketAddr;
 
-/// A dial for each of so many workers, which knows the addresses of all sites.
+/// A dial for each of so many workers, which knows the address of each site.
 pub(crate) fn dials_for<'n>(
     system: &'n HostRuntime,
     alloc: Global,
@@ -18,6 +20,8 @@ pub(crate) fn dials_for<'n>(
     workers: u32,
 ) -> Result<Vec<WaitingDial<'n, HostRuntime>>, LoadError>
     ensures number { IfOk result (λ dials. vec_len dials ≡ workers) }
+    ensures addresses { IfOk result (λ dials. All (λ dial.
+        AreOfSites sites.now dial.connector.addresses.hosts.items) dials.items) }
     ensures refused { IfErr result (IsLoadRefusedFor workers) }
 {
     let Ok(dials) = Vec::with_capacity(alloc, workers as usize) else {
@@ -37,7 +41,9 @@ fn dial_for<'n>(
     alloc: Global,
     sites: &[SocketAddr],
 ) -> Result<WaitingDial<'n, HostRuntime>, LoadError>
-    ensures { (workers : ℕ) → IfErr result (IsLoadRefusedFor workers) }
+    ensures addresses { IfOk result (λ dial.
+        AreOfSites sites.now dial.connector.addresses.hosts.items) }
+    ensures refused { (workers : ℕ) → IfErr result (IsLoadRefusedFor workers) }
 {
     let Ok(addresses) = addresses_of(alloc, sites) else {
         return Err(LoadError::Run(DriverFault::Memory));
@@ -52,7 +58,9 @@ fn dial_for<'n>(
 }
 
 // The addresses of the sites, one for each.
-fn addresses_of(alloc: Global, sites: &[SocketAddr]) -> Result<Addresses, AllocError> {
+fn addresses_of(alloc: Global, sites: &[SocketAddr]) -> Result<Addresses, AllocError>
+    ensures { IfOk result (λ addresses. AreOfSites sites.now addresses.hosts.items) }
+{
     let mut addresses = Addresses::new(alloc);
     for site in sites {
         let one = vec![in alloc; *site; 1]?;
