@@ -57,24 +57,28 @@ pub record ToldAnswer (p : Prepared) (answer : Answer) : Type 0 where
   pub len : TellsLength p.reader.method p.reader.bytes answer.body_len
   pub retried : answer.retried ≡ p.retried
 
--- that is told of what the wire received
-is_answer : (p : Prepared) (answer : Answer) (reused : Bool) → ToldAnswer p answer → (c : Carried) → CanSettle p reused c → IsAnswer p answer c
-is_answer p answer reused told c can = record {
-  sent = can.sent;
-  unfailed = can.unfailed;
-  faultless = rw (← can.fed.method, ← can.fed.bytes) (faultless_so p.reader can.fed.faultless told.facts.shown);
-  facts = rw (← can.fed.method, ← can.fed.close, ← can.fed.bytes, ← can.ended) (told.facts.told can.fed.faultless);
-  whole = told.whole;
-  status = rw (← can.fed.bytes) told.status;
-  len = rw (← can.fed.method, ← can.fed.bytes) told.len;
-  retried = told.retried;
-}
-
 -- where the response was whole, it was on the wire
 is_whole : (p : Prepared) (facts : Facts) (reused : Bool) → ToldFacts p facts → facts.whole ≡ true → (c : Carried) → CanSettle p reused c → IsWhole p c
 is_whole p facts reused told whole c can =
     let split : (parts : Parts) × IsSplit p.reader.method p.reader.bytes p.reader.ended parts = (told.whole can.fed.faultless).yes whole in
     record { parts = split.0; sent = can.sent; unfailed = can.unfailed; split = rw (← can.fed.method, ← can.fed.bytes, ← can.ended) split.1 }
+
+-- that is told of what the wire received
+is_answer : (p : Prepared) (answer : Answer) (reused : Bool) → ToldAnswer p answer → (c : Carried) → CanSettle p reused c → IsAnswer p answer c
+is_answer p answer reused told c can =
+    let response = is_whole p answer.facts reused told.facts told.whole c can in
+    record {
+      parts = response.parts;
+      sent = can.sent;
+      unfailed = can.unfailed;
+      split = response.split;
+      faultless = rw (← can.fed.method, ← can.fed.bytes) (faultless_so p.reader can.fed.faultless told.facts.shown);
+      facts = rw (← can.fed.method, ← can.fed.close, ← can.fed.bytes, ← can.ended) (told.facts.told can.fed.faultless);
+      whole = told.whole;
+      status = rw (← can.fed.bytes) told.status;
+      len = rw (← can.fed.method, ← can.fed.bytes) told.len;
+      retried = told.retried;
+    }
 
 -- where it was not, the wire has ended, and what its reader told is told of what the wire received
 is_cut : (p : Prepared) (facts : Facts) (reused : Bool) → ToldFacts p facts → (p.reader.fault ≡ None → facts.whole ≡ false) → (c : Carried) → CanSettle p reused c → IsFinal p (IsCut p facts) reused c

@@ -79,10 +79,13 @@ pub record ReadsWire (p : Prepared) (wire : Carried) : Type 0 where
   pub method : p.reader.method ≡ p.method
   pub close : p.reader.request_close ≡ p.want.forbid_reuse
 
--- a whole response: its facts, status and length are those of exactly the bytes that the wire received
+-- a whole response: exactly the bytes that the wire received are its parts, one after another, and its facts, status and
+-- length are those of these bytes
 pub record IsAnswer (p : Prepared) (answer : Answer) (wire : Carried) : Type 0 where
+  pub parts : Parts
   pub sent : wire.sent ≡ text_of p
   pub unfailed : NoneFailed wire
+  pub split : IsSplit p.method wire.received wire.ended parts
   pub faultless : IsFaultless p.method wire.received
   pub facts : TellsFacts p.method p.want.forbid_reuse wire.received wire.ended answer.facts
   pub whole : answer.facts.whole ≡ true

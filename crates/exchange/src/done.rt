@@ -9,17 +9,20 @@ pub enum Fault {
     /// There is no memory. A poll never gives it, since it takes none itself: what its cache lacks
     /// is a refusal.
     Memory,
-    /// The connection could not be opened. It was abandoned.
+    /// The connection could not be opened. Its lease was abandoned, or let go if the cache took it
+    /// for a stranger.
     Dial,
-    /// A read failed. The connection was abandoned.
+    /// A read failed. The connection's lease was abandoned, or let go if the cache took it for a
+    /// stranger.
     Read,
-    /// A write failed. The connection was abandoned.
+    /// A write failed. The connection's lease was abandoned, or let go if the cache took it for a
+    /// stranger.
     Write,
-    /// The bytes that came are no response that can be read. The connection was given back with
-    /// the facts of these bytes.
+    /// The bytes that came are no response that can be read. The connection's lease was given back
+    /// with the facts of these bytes, or let go if the cache took it for a stranger.
     BadResponse,
-    /// The connection ended before the response was whole. It was given back with the facts of the
-    /// bytes that came.
+    /// The connection ended before the response was whole. Its lease was given back with the facts
+    /// of the bytes that came, or let go if the cache took it for a stranger.
     Cut,
     /// The cache refused to give a connection, or took a lease or a ticket for a stranger, which
     /// was let go.

@@ -108,6 +108,14 @@ impl Prepared {
         self.want.transfer
     }
 
+    /// Whether a new connection was asked for, to try its request once more: the first was reused,
+    /// and failed or was ended before any byte of a response.
+    pub fn retried(&self) -> bool
+        ensures { result ≡ self.now.retried }
+    {
+        self.retried
+    }
+
     // What the transfer wants of the cache: once the request is sent again, a new connection.
     pub(crate) fn wanted(&self) -> Want
         ensures { result ≡ wanted self.now }
