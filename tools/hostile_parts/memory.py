@@ -35,7 +35,7 @@ WORDS = (
     ("load", "--jobs", "0"), ("load", "--sites", "9"), ("get", "--timeout", "0", "http://127.0.0.1/"),
     ("get", "ftp://a/"), ("get", "http://a.test/"), ("--help",),
 )
-FAULT = re.compile(r"(?:Memory|Refused|Dial) (\S+)\n")
+FAULT = re.compile(r"(?:Memory|Refused|Dial)(?: retried)? (\S+)\n")
 ALLOCATIONS = re.compile(r"\b(\d+) allocations", re.MULTILINE)
 REFUSED = re.compile(r"^refused: (\d+) alone, (\d+) for good$", re.MULTILINE)
 

@@ -7,7 +7,8 @@ What has to come follows from these rules. A connection is reused after a respon
 after it in the same read, that said where it ends by one length or has no body, without the option close, and in
 HTTP/1.1 or with the option keep-alive. It is looked at before it is used again: where its server ended it, or sent
 anything since, it is not used. A request whose reused connection is unfit or fails, or is ended, before any byte of a
-response is sent once more, on a new one. Any other failure is a fault.
+response is sent once more, on a new one, and its line says `retried`, whatever comes of that. Any other failure is a
+fault.
 """
 import dataclasses
 import itertools
@@ -117,8 +118,8 @@ CASES = [
     Case("reset in place of the first answer", (servers.resets_at(1),), "Read or Write", 300, opened=300, failed=300),
     Case("reset in place of the second answer", (servers.resets_at(2),), "new, then new retried", 300,
          opened=300, retried=299),
-    Case("reset in place of the second answer, and once more", (servers.resets_twice,), "new, Read or Write", 300,
-         opened=300, failed=150),
+    Case("reset in place of the second answer, and once more", (servers.resets_twice,),
+         "new, Read retried or Write retried", 300, opened=300, failed=150),
     Case("half a body of each second, and then nothing", (servers.stalls,), "new, Cancelled", 4,
          opened=2, failed=2, limit=3),
     Case("both lengths", (servers.gives_both_lengths,), "new", 300, opened=300),
@@ -160,4 +161,6 @@ GET_CASES = [
     # whole seconds are counted: after 3 a connection was idle for more than 1
     Case("idle for too long", (servers.lasts, servers.takes(3)), "3 new", 3, opened=3, options=("--max-age", "1")),
     UNASKED,
+    Case("reset in place of the second answer, and once more", (servers.resets_twice,),
+         "new, Read retried or Write retried", 4, opened=4, failed=2),
 ]

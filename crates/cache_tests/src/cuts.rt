@@ -4,6 +4,7 @@
 use crate::desk::Desk;
 use crate::drawn::{Draws, do_one};
 use cache::Pool;
+use cache_report::count_part;
 use conn_log::{Counts, Entry};
 use std::process::Abort;
 use std::test::Fail;
@@ -32,7 +33,7 @@ impl Parts {
 
     // The same with one part more.
     fn and(self, part: &[Entry]) -> Parts {
-        let more = Counts::of(part);
+        let more = count_part(part);
         Parts {
             counts: Counts {
                 opened: self.counts.opened.saturating_add(more.opened),
@@ -119,7 +120,7 @@ fn what_happened_is_counted_and_let_go(rt: HostRuntime) -> Result<(), Fail> {
     let mut opened = 0_u64;
     for site in 0..pool.hosts() {
         let part = pool.cut(site)?;
-        opened = opened.saturating_add(Counts::of(&part).opened);
+        opened = opened.saturating_add(count_part(&part).opened);
     }
     assert_eq!(rt; opened, 2);
     Ok(())

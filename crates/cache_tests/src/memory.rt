@@ -1,11 +1,11 @@
 //! What want of memory leaves of a pool. The tests pass whichever allocation fails. In one of them
-//! the refusal says so and changes nothing, and the call succeeds when it comes again. In the other
+//! the refusal says so and changes nothing, and the call succeeds when it comes again. In the others
 //! all memory may be refused from some moment on.
 
 use crate::desk::{Desk, want_of};
 use budget::Refusal;
 use bundle::Snapshot;
-use conn_log::Entry;
+use conn_log::{Cause, Entry, Event};
 use std::alloc::Global;
 use std::process::Abort;
 use std::test::Fail;
@@ -96,23 +96,27 @@ fn want_of_memory_changes_no_pool(rt: HostRuntime) -> Result<(), Fail> {
     Ok(())
 }
 
-/// How many transfers ask for a connection.
-const ASKING: u64 = 6;
+/// Six transfers ask for a connection of one host, or three for one of a host each.
+const ONE_HOST: [u32; 6] = [0; 6];
+
+const EACH_HOST: [u32; 3] = [0, 1, 2];
 
 /// How many entries the log has at the end where so many of them were answered. The first one's
 /// connection is opened, and comes back; it is pruned, or goes to the second one, which abandons
 /// it. For each of the others, which waits as the second does, one is opened and withdrawn.
 const ENTRIES: [usize; 7] = [0, 3, 5, 8, 11, 14, 17];
 
-// Transfers ask until one is refused; how many were answered.
-fn ask_until_refused(rt: &impl Abort, desk: &mut Desk) -> u64 {
-    for transfer in 0..ASKING {
-        if let Some(refusal) = desk.ask(rt, want_of(transfer), 0, 0) {
+// The transfers 0, 1 and so on ask, each at its site, until one is refused; how many were answered.
+fn ask_until_refused(rt: &impl Abort, desk: &mut Desk, sites: &[u32]) -> u64 {
+    let mut answered: u64 = 0;
+    for &site in sites {
+        if let Some(refusal) = desk.ask(rt, want_of(answered), site, 0) {
             assert_eq!(rt; refusal, Refusal::Memory);
-            return transfer;
+            return answered;
         }
+        answered = answered.saturating_add(1);
     }
-    ASKING
+    answered
 }
 
 // From the refusal on there may be no memory at all: each lease and each ticket ends as it does
@@ -122,7 +126,7 @@ fn want_of_memory_for_good_keeps_each_promise(rt: HostRuntime) {
     let Ok(mut desk) = Desk::new(rt.alloc(), (1, 0, 4), 1) else {
         return;
     };
-    let answered = ask_until_refused(&rt, &mut desk);
+    let answered = ask_until_refused(&rt, &mut desk, &ONE_HOST);
     if answered >= 1 {
         desk.back(&rt, 0, 1);
     }
@@ -146,4 +150,80 @@ fn want_of_memory_for_good_keeps_each_promise(rt: HostRuntime) {
     assert_eq!(rt; seen, Ok(nothing));
     assert_eq!(rt; ENTRIES.get(answered as usize).copied(), Some(entries));
     let _ = desk.close(&rt, 9);
+}
+
+/// Limits, and how the transfers of three hosts end under them: each gives its connection back in
+/// turn, once it has claimed it if it had to wait.
+struct Serving {
+    limits: (u32, u32, u32),
+    // How many transfers get a connection at once.
+    at_once: u64,
+    // Why the connection of each host is closed in the end, by how many transfers were answered.
+    causes: [&'static [Cause]; 4],
+}
+
+static SERVING: [Serving; 2] = [
+    // what comes back makes room for the head of the next host in turn
+    Serving {
+        limits: (0, 1, 4),
+        at_once: 1,
+        causes: [
+            &[],
+            &[Cause::Pruned],
+            &[Cause::TotalRoom, Cause::Pruned],
+            &[Cause::TotalRoom, Cause::TotalRoom, Cause::Pruned],
+        ],
+    },
+    // one connection alone is kept
+    Serving {
+        limits: (0, 2, 1),
+        at_once: 2,
+        causes: [
+            &[],
+            &[Cause::Pruned],
+            &[Cause::CacheFull, Cause::Pruned],
+            &[Cause::TotalRoom, Cause::CacheFull, Cause::Pruned],
+        ],
+    },
+];
+
+// The host's log has so many entries, of which the last closes its only connection for that cause.
+fn check_closed(rt: &impl Abort, desk: &Desk, site: u32, entries: usize, cause: Cause) {
+    let log = desk.pool.log(site).expect(rt, "a host");
+    assert_eq!(rt; log.len(), entries, "entries of host {site}");
+    let last = log.get(entries.saturating_sub(1)).map(|entry| entry.event);
+    let closed = Event::Closed {
+        connection: 1,
+        cause,
+    };
+    assert_eq!(rt; last, Some(closed), "host {site}");
+}
+
+// Three hosts are served under the limits of a row. From the refusal on there may be no memory.
+fn serve_all(rt: &impl Abort, alloc: Global, row: &Serving) {
+    let Ok(mut desk) = Desk::new(alloc, row.limits, 3) else {
+        return;
+    };
+    let answered = ask_until_refused(rt, &mut desk, &EACH_HOST);
+    for transfer in 0..answered {
+        if transfer >= row.at_once {
+            assert!(rt; desk.claim(rt, transfer));
+        }
+        desk.back(rt, transfer, transfer.saturating_add(1));
+    }
+    assert_eq!(rt; u64::from(desk.prune(9, 0, 0)), answered.min(1));
+    let causes = row.causes.get(answered as usize).copied().unwrap_or(&[]);
+    assert_eq!(rt; causes.len() as u64, answered);
+    for (&site, &cause) in EACH_HOST.iter().zip(causes) {
+        let has_waited = u64::from(site) >= row.at_once;
+        check_closed(rt, &desk, site, 3 + has_waited as usize, cause);
+    }
+    let _ = desk.close(rt, 9);
+}
+
+#[test]
+fn want_of_memory_for_good_serves_three_hosts(rt: HostRuntime) {
+    for row in &SERVING {
+        serve_all(&rt, rt.alloc(), row);
+    }
 }

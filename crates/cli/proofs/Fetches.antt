@@ -5,26 +5,26 @@ use Rattle.std.specs.Io.KnownBytes.{Appends}
 use Rattle.std.proofs.lemmas.List.Sums.{sum_by_push}
 use Rattle.std.proofs.lemmas.List.{length-append}
 use Rattle.std.proofs.KnownBytes.{Appends-nil, Appends-trans}
-use Rattle.exchange.specs.declared.done.Done.{Done}
+use Rattle.client.specs.declared.fetched.Fetched.{Fetched}
 use Rattle.script_text.specs.declared.fault.FaultKind.{FaultKind}
 use Rattle.cli.specs.Fetching.{AreFetched, Carrying, Fetches, LineFails, WritesLines, lines_of}
-use Rattle.cli.specs.GetLines.{is_bad, line_of}
+use Rattle.cli.specs.GetLines.{has_failed, line_of}
 use Rattle.script_run.specs.Streams.{Stream, SameFailures}
 use Rattle.cli.specs.declared.get.plan.UrlJob.{UrlJob}
 
 -- so many of the jobs are carried out and told, and so many of these failed
 pub record FetchedSoFar {F : Type 0} (Fetched : Carrying F) (first mid : F) (jobs : List UrlJob) (count : ℕ) (old new : Stream) (failed : ℕ) : Type 0 where
-  pub dones : List Done
+  pub dones : List Fetched
   pub count_is : length dones ≡ count
   pub fetched : AreFetched Fetched first mid jobs dones
   pub written : WritesLines jobs dones old new
-  pub failed_is : failed ≡ count_by is_bad dones
+  pub failed_is : failed ≡ count_by has_failed dones
 
 pub none-fetched : {F : Type 0} (Fetched : Carrying F) (first : F) (jobs : List UrlJob) (old : Stream) → FetchedSoFar Fetched first first jobs 0 old old 0
 none-fetched Fetched first jobs old = record { dones = []; count_is = refl; fetched = refl; written = (Appends-nil old.bytes, refl); failed_is = refl }
 
 -- one more is carried out
-pub fetched-more : {F : Type 0} (Fetched : Carrying F) (first mid last : F) (jobs : List UrlJob) (dones : List Done) (given : UrlJob) (done : Done)
+pub fetched-more : {F : Type 0} (Fetched : Carrying F) (first mid last : F) (jobs : List UrlJob) (dones : List Fetched) (given : UrlJob) (done : Fetched)
     → AreFetched Fetched first mid jobs dones → length dones < length jobs → given ≡ get_or jobs (length dones) given → Fetched mid last given.job done
     → AreFetched Fetched first last jobs (dones ++ done ∷ [])
 fetched-more Fetched first mid last [] dones given done so_far below at one = absurd (omega arith)
@@ -34,7 +34,7 @@ fetched-more Fetched first mid last (j ∷ jobs) (d ∷ dones) given done so_far
     (so_far.0, so_far.1, fetched-more Fetched so_far.0 mid last jobs dones given done so_far.2 (omega arith) at one)
 
 -- the lines of one more
-pub lines-more : (jobs : List UrlJob) (dones : List Done) (given : UrlJob) (done : Done) → length dones < length jobs → given ≡ get_or jobs (length dones) given
+pub lines-more : (jobs : List UrlJob) (dones : List Fetched) (given : UrlJob) (done : Fetched) → length dones < length jobs → given ≡ get_or jobs (length dones) given
     → lines_of jobs (dones ++ done ∷ []) ≡ lines_of jobs dones ++ line_of (string_bytes given.url) done
 lines-more [] dones given done below at = absurd (omega arith)
 lines-more (j ∷ jobs) [] given done below at = append-nil (line_of (string_bytes j.url) done) ∙ ap (λ (g : UrlJob). line_of (string_bytes g.url) done) (sym at)
@@ -43,9 +43,9 @@ lines-more (j ∷ jobs) (d ∷ dones) given done below at =
     ∙ sym (append_assoc (line_of (string_bytes j.url) d) (lines_of jobs dones) (line_of (string_bytes given.url) done))
 
 -- one more is carried out and told
-pub fetched-next : {F : Type 0} (Fetched : Carrying F) (first mid last : F) (jobs : List UrlJob) (count : ℕ) (old between new : Stream) (failed : ℕ) (given : UrlJob) (done : Done) (now : ℕ)
+pub fetched-next : {F : Type 0} (Fetched : Carrying F) (first mid last : F) (jobs : List UrlJob) (count : ℕ) (old between new : Stream) (failed : ℕ) (given : UrlJob) (done : Fetched) (now : ℕ)
     → FetchedSoFar Fetched first mid jobs count old between failed → count < length jobs → given ≡ get_or jobs count given → Fetched mid last given.job done
-    → Appends between.bytes new.bytes (line_of (string_bytes given.url) done) → SameFailures between new → now ≡ failed + cond (is_bad done) 1 0
+    → Appends between.bytes new.bytes (line_of (string_bytes given.url) done) → SameFailures between new → now ≡ failed + cond (has_failed done) 1 0
     → FetchedSoFar Fetched first last jobs (count + 1) old new now
 fetched-next Fetched first mid last jobs count old between new failed given done now so_far below at one told same more =
     let below' : length so_far.dones < length jobs = subst (λ n. n < length jobs) (sym so_far.count_is) below in
@@ -60,11 +60,11 @@ fetched-next Fetched first mid last jobs count old between new failed given done
             (Appends-trans old.bytes between.bytes new.bytes (lines_of jobs so_far.dones) line so_far.written.0 told),
         same ∙ so_far.written.1,
       );
-      failed_is = more ∙ ap (λ n. n + cond (is_bad done) 1 0) so_far.failed_is ∙ sym (sum_by_push (λ (d : Done). cond (is_bad d) 1 0) so_far.dones done);
+      failed_is = more ∙ ap (λ n. n + cond (has_failed done) 1 0) so_far.failed_is ∙ sym (sum_by_push (λ (d : Fetched). cond (has_failed d) 1 0) so_far.dones done);
     }
 
 -- one more is carried out, and not told whole
-pub fetched-stops : {F : Type 0} (Fetched : Carrying F) (first mid last : F) (jobs : List UrlJob) (count : ℕ) (old between new : Stream) (failed : ℕ) (given : UrlJob) (done : Done) (kind : FaultKind)
+pub fetched-stops : {F : Type 0} (Fetched : Carrying F) (first mid last : F) (jobs : List UrlJob) (count : ℕ) (old between new : Stream) (failed : ℕ) (given : UrlJob) (done : Fetched) (kind : FaultKind)
     → FetchedSoFar Fetched first mid jobs count old between failed → count < length jobs → given ≡ get_or jobs count given → Fetched mid last given.job done
     → LineFails between new (line_of (string_bytes given.url) done) kind → Fetches Fetched first last jobs old new (Err kind)
 fetched-stops Fetched first mid last jobs count old between new failed given done kind so_far below at one fails =

@@ -2,12 +2,12 @@
 use Rattle.std.specs.Prelude.{◌≡◌, ◌==◌, ℕ, List, [], ◌∷◌, ◌++◌, length, string_bytes, count_by, if◌then◌else◌, Result, Ok, Err}
 use Rattle.std.specs.Io.KnownBytes.{Appends}
 use Rattle.clap.specs.Words.{Text}
-use Rattle.exchange.specs.declared.done.Done.{Done}
+use Rattle.client.specs.declared.fetched.Fetched.{Fetched}
 use Rattle.exchange.specs.declared.job.Job.{Job}
 use Rattle.script_text.specs.declared.fault.FaultKind.{FaultKind}
 use Rattle.script_text.specs.declared.fault.FaultKind.TheVariants.{Memory, Write}
 use Rattle.socket.specs.declared.addresses.Addresses.{Addresses}
-use Rattle.cli.specs.GetLines.{is_bad, line_of}
+use Rattle.cli.specs.GetLines.{has_failed, line_of}
 use Rattle.script_run.specs.Streams.{Stream, PutsFront, SameFailures, OneMoreFailed}
 use Rattle.cli.specs.declared.get.fetching.NetworkFault.{NetworkFault}
 use Rattle.cli.specs.declared.get.plan.GetPlan.{GetPlan}
@@ -15,16 +15,16 @@ use Rattle.cli.specs.declared.get.plan.UrlJob.{UrlJob}
 
 -- from the one time to the other a job was carried out, and this came of it
 abbrev pub Carrying : Type 0 → Type 1
-Carrying F = F → F → Job → Done → Type 0
+Carrying F = F → F → Job → Fetched → Type 0
 
 -- the first of the jobs were carried out, one after another, from the one time to the other, and these came of them
-abbrev pub AreFetched : {F : Type 0} → Carrying F → F → F → List UrlJob → List Done → Type 0
+abbrev pub AreFetched : {F : Type 0} → Carrying F → F → F → List UrlJob → List Fetched → Type 0
 AreFetched Fetched first last jobs [] = last ≡ first
 AreFetched Fetched first last [] (done ∷ others) = ⊥
 AreFetched {F} Fetched first last (given ∷ jobs) (done ∷ others) = (next : F) × Fetched first next given.job done × AreFetched Fetched next last jobs others
 
 -- the lines of these
-abbrev pub lines_of : List UrlJob → List Done → Text
+abbrev pub lines_of : List UrlJob → List Fetched → Text
 lines_of jobs [] = []
 lines_of [] (done ∷ others) = []
 lines_of (given ∷ jobs) (done ∷ others) = line_of (string_bytes given.url) done ++ lines_of jobs others
@@ -40,13 +40,13 @@ PutsLine old new line (Ok done) = Appends old.bytes new.bytes line × SameFailur
 PutsLine old new line (Err kind) = LineFails old new line kind
 
 -- the lines of these are written
-abbrev pub WritesLines : List UrlJob → List Done → Stream → Stream → Type 0
+abbrev pub WritesLines : List UrlJob → List Fetched → Stream → Stream → Type 0
 WritesLines jobs dones old new = Appends old.bytes new.bytes (lines_of jobs dones) × SameFailures old new
 
 -- the line of the last is not written whole, those of the others are
-pub record StopsAtLine (jobs : List UrlJob) (dones : List Done) (old new : Stream) (kind : FaultKind) : Type 0 where
-  pub before : List Done
-  pub last : Done
+pub record StopsAtLine (jobs : List UrlJob) (dones : List Fetched) (old new : Stream) (kind : FaultKind) : Type 0 where
+  pub before : List Fetched
+  pub last : Fetched
   pub dones_are : dones ≡ before ++ (last ∷ [])
   pub url : Text
   pub mid : Stream
@@ -55,12 +55,12 @@ pub record StopsAtLine (jobs : List UrlJob) (dones : List Done) (old new : Strea
   pub fails : LineFails mid new (line_of url last) kind
 
 -- all were carried out and told, and so many failed; or a line could not be written, after which none was carried out
-abbrev pub EndsFetching : List UrlJob → List Done → Stream → Stream → Result ℕ FaultKind → Type 0
-EndsFetching jobs dones old new (Ok failed) = (length dones ≡ length jobs) × WritesLines jobs dones old new × (failed ≡ count_by is_bad dones)
+abbrev pub EndsFetching : List UrlJob → List Fetched → Stream → Stream → Result ℕ FaultKind → Type 0
+EndsFetching jobs dones old new (Ok failed) = (length dones ≡ length jobs) × WritesLines jobs dones old new × (failed ≡ count_by has_failed dones)
 EndsFetching jobs dones old new (Err kind) = StopsAtLine jobs dones old new kind
 
 pub record Fetches {F : Type 0} (Fetched : Carrying F) (first last : F) (jobs : List UrlJob) (old new : Stream) (result : Result ℕ FaultKind) : Type 0 where
-  pub dones : List Done
+  pub dones : List Fetched
   pub fetched : AreFetched Fetched first last jobs dones
   pub ends : EndsFetching jobs dones old new result
 

@@ -3,6 +3,7 @@ use Rattle.std.specs.Prelude.{◌≡◌, Bool, true, false, codes, if◌then◌e
 use Rattle.std.specs.Fmt.{decimal}
 use Rattle.clap.specs.Words.{Text}
 use Rattle.persistence.specs.declared.facts.Facts.{Facts}
+use Rattle.client.specs.declared.fetched.Fetched.{Fetched}
 use Rattle.exchange.specs.declared.done.Done.{Done}
 use Rattle.exchange.specs.declared.done.Done.TheVariants.{Good, Bad}
 use Rattle.exchange.specs.declared.done.Fault.{Fault}
@@ -26,24 +27,31 @@ reuse_word reused = if reused then codes "reused" else codes "new"
 abbrev pub retry_word : Bool → Text
 retry_word retried = if retried then codes " retried" else codes ""
 
--- how a transfer ended: its status, the bytes of its body, the words; or the name of its fault
+-- how a transfer ended: its status, the bytes of its body, the word of its connection; or the name of its fault
 abbrev pub end_text : Done → Text
-end_text (Good answer) = decimal answer.status ++ (codes " " ++ (decimal answer.body_len ++ (codes " " ++ (reuse_word answer.reused ++ retry_word answer.retried))))
+end_text (Good answer) = decimal answer.status ++ (codes " " ++ (decimal answer.body_len ++ (codes " " ++ reuse_word answer.reused)))
 end_text (Bad fault) = fault_name fault
 
-abbrev pub line_of : Text → Done → Text
-line_of url done = end_text done ++ (codes " " ++ (url ++ codes "\n"))
+-- the line of a fetch: how its transfer ended, whether the request was sent once more, and the URL
+abbrev pub line_of : Text → Fetched → Text
+line_of url fetched = end_text fetched.done ++ (retry_word fetched.retried ++ (codes " " ++ (url ++ codes "\n")))
 
 -- a transfer has no good response
 abbrev pub is_bad : Done → Bool
 is_bad (Good answer) = false
 is_bad (Bad fault) = true
 
+abbrev pub has_failed : Fetched → Bool
+has_failed fetched = is_bad fetched.done
+
 -- small lines
 abbrev pub TellsResponses : Type 0
 TellsResponses = (facts : Facts)
-    → (line_of (codes "http://[::1]/") (Good (record { status = 200; body_len = 1048576; facts = facts; reused = false; retried = false })) ≡ codes "200 1048576 new http://[::1]/\n")
-    × (line_of (codes "http://[::1]/") (Good (record { status = 404; body_len = 0; facts = facts; reused = true; retried = true })) ≡ codes "404 0 reused retried http://[::1]/\n")
+    → (line_of (codes "http://[::1]/") (record { done = Good (record { status = 200; body_len = 1048576; facts = facts; reused = false; retried = false }); retried = false }) ≡ codes "200 1048576 new http://[::1]/\n")
+    × (line_of (codes "http://[::1]/") (record { done = Good (record { status = 404; body_len = 0; facts = facts; reused = true; retried = true }); retried = true }) ≡ codes "404 0 reused retried http://[::1]/\n")
 
 abbrev pub TellsFaults : Type 0
-TellsFaults = (line_of (codes "http://127.0.0.1:9/") (Bad Dial) ≡ codes "Dial http://127.0.0.1:9/\n") × (line_of (codes "HTTP://Localhost") (Bad Cancelled) ≡ codes "Cancelled HTTP://Localhost\n")
+TellsFaults =
+    (line_of (codes "http://127.0.0.1:9/") (record { done = Bad Dial; retried = false }) ≡ codes "Dial http://127.0.0.1:9/\n")
+    × (line_of (codes "HTTP://Localhost") (record { done = Bad Cancelled; retried = false }) ≡ codes "Cancelled HTTP://Localhost\n")
+    × (line_of (codes "http://[::1]/a") (record { done = Bad Cut; retried = true }) ≡ codes "Cut retried http://[::1]/a\n")

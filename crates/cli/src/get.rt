@@ -12,6 +12,7 @@ pub(crate) mod planning;
 pub(crate) mod system_network;
 pub(crate) mod words;
 
+use client::Fetched;
 use exchange::Done;
 use fetching::{Fetcher, Network};
 use line::line_text;
@@ -77,11 +78,11 @@ fn fetch_all<F: Fetcher, W: Sink>(
 {
     let mut failed = 0;
     for given in jobs {
-        let done = fetcher.fetch(&given.job);
-        if let Err(kind) = put_line(alloc, given.url.as_str(), done, output) {
+        let fetched = fetcher.fetch(&given.job);
+        if let Err(kind) = put_line(alloc, given.url.as_str(), fetched, output) {
             return Err(kind);
         }
-        if is_bad(done) {
+        if is_bad(fetched.done) {
             failed += 1;
         }
     }
@@ -103,11 +104,16 @@ fn is_bad(done: Done) -> bool
 /// # Errors
 ///
 /// `Write` if a write failed, `Memory` if there was no memory for the line.
-fn put_line<W: Sink>(alloc: Global, url: &str, done: Done, output: &mut W) -> Result<(), FaultKind>
+fn put_line<W: Sink>(
+    alloc: Global,
+    url: &str,
+    fetched: Fetched,
+    output: &mut W,
+) -> Result<(), FaultKind>
     requires { CanCount (W.sink output.old) }
-    ensures { PutsLine (W.sink output.old) (W.sink output.new) (line_of url.now done) result }
+    ensures { PutsLine (W.sink output.old) (W.sink output.new) (line_of url.now fetched) result }
 {
-    match line_text(alloc, url, done) {
+    match line_text(alloc, url, fetched) {
         Ok(text) => output.put(text.as_bytes()),
         Err(_) => Err(FaultKind::Memory),
     }

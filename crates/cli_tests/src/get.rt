@@ -69,7 +69,7 @@ fn lines_tell_of_responses(rt: HostRuntime) {
 }
 
 /// Words of two transfers of which the first has no good response, and their lines.
-static FAULTS: [(&str, &str); 8] = [
+static FAULTS: [(&str, &str); 11] = [
     (
         "get http://127.0.0.1/memory http://127.0.0.1/",
         "Memory http://127.0.0.1/memory\n200 1 new http://127.0.0.1/\n",
@@ -101,6 +101,18 @@ static FAULTS: [(&str, &str); 8] = [
     (
         "get http://127.0.0.1/cancelled http://127.0.0.1/",
         "Cancelled http://127.0.0.1/cancelled\n200 1 new http://127.0.0.1/\n",
+    ),
+    (
+        "get http://127.0.0.1/again/dial http://127.0.0.1/",
+        "Dial retried http://127.0.0.1/again/dial\n200 1 new http://127.0.0.1/\n",
+    ),
+    (
+        "get http://127.0.0.1/again/refused http://127.0.0.1/",
+        "Refused retried http://127.0.0.1/again/refused\n200 1 new http://127.0.0.1/\n",
+    ),
+    (
+        "get http://127.0.0.1/again/cancelled http://127.0.0.1/",
+        "Cancelled retried http://127.0.0.1/again/cancelled\n200 1 new http://127.0.0.1/\n",
     ),
 ];
 

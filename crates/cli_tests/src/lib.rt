@@ -10,6 +10,8 @@ mod load_rows;
 #[cfg(test)]
 mod loads;
 #[cfg(test)]
+mod machine;
+#[cfg(test)]
 mod networks;
 #[cfg(test)]
 mod running;

@@ -4,21 +4,26 @@ ghost use Rattle.std.specs.Prelude.{◌≡◌, ⊤};
 
 use budget::Refusal;
 use cli::{Fetcher, Network, NetworkFault};
+use client::Fetched;
 use exchange::{Answer, Done, Fault, Job};
 use persistence::{Facts, Framing, Method, Version};
 use socket::Addresses;
 use std::alloc::Global;
 
-/// The paths of transfers that fail, each with its fault.
-static FAULTS: [(&str, Fault); 8] = [
-    ("/memory", Fault::Memory),
-    ("/dial", Fault::Dial),
-    ("/read", Fault::Read),
-    ("/write", Fault::Write),
-    ("/bad", Fault::BadResponse),
-    ("/cut", Fault::Cut),
-    ("/refused", Fault::Refused(Refusal::Exhausted)),
-    ("/cancelled", Fault::Cancelled),
+/// The paths of transfers that fail, each with its fault, and whether its request was tried once
+/// more.
+static FAULTS: [(&str, Fault, bool); 11] = [
+    ("/memory", Fault::Memory, false),
+    ("/dial", Fault::Dial, false),
+    ("/read", Fault::Read, false),
+    ("/write", Fault::Write, false),
+    ("/bad", Fault::BadResponse, false),
+    ("/cut", Fault::Cut, false),
+    ("/refused", Fault::Refused(Refusal::Exhausted), false),
+    ("/cancelled", Fault::Cancelled, false),
+    ("/again/dial", Fault::Dial, true),
+    ("/again/refused", Fault::Refused(Refusal::Memory), true),
+    ("/again/cancelled", Fault::Cancelled, true),
 ];
 
 /// The facts of each response, of which no line tells.
@@ -101,12 +106,15 @@ pub struct FakeFetcher {
 impl Fetcher for FakeFetcher {
     ghost fetched = { λ _ _ _ _. ⊤ };
 
-    fn fetch(&mut self, job: &Job) -> Done {
+    fn fetch(&mut self, job: &Job) -> Fetched {
         self.fetches = self.fetches.saturating_add(1);
         let path = job.target.path.as_str();
         for row in &FAULTS {
             if row.0 == path {
-                return Done::Bad(row.1);
+                return Fetched {
+                    done: Done::Bad(row.1),
+                    retried: row.2,
+                };
             }
         }
         let site = job.site as usize;
@@ -118,12 +126,14 @@ impl Fetcher for FakeFetcher {
             Method::Get => path.len() as u64,
             Method::Head => 0,
         };
-        Done::Good(Answer {
+        let retried = path == "/again";
+        let done = Done::Good(Answer {
             status: 200,
             body_len,
             facts: FACTS,
             reused,
-            retried: path == "/again",
-        })
+            retried,
+        });
+        Fetched { done, retried }
     }
 }

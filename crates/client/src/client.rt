@@ -10,6 +10,7 @@ ghost use Rattle.exchange.specs.Exchanging.{Continues, OpensFew, DialsItsOwn};
 ghost use Rattle.exchange.specs.Carrying.{EndsItsDials};
 ghost use Rattle.client.specs.Fetching.{Fetches};
 
+use crate::fetched::Fetched;
 use cache::Pool;
 use exchange::{Clock, Dial, Done, Fault, Job, Prepared, Stage, Transfer, Turned, Wire};
 use futures::task::{Doorbell, Solo};
@@ -19,8 +20,8 @@ use std::random::RandomSource;
 use std::time::Duration;
 use std::{io, time};
 
-/// What sends one request after another over a pool's connections, and gives each back as its
-/// response says. The memory of one request serves the next.
+/// A client of one thread: sends one request after another over a pool's connections, and gives
+/// each connection back as its response says. The memory of one request serves the next.
 #[derive(Drop)]
 pub struct Client<'c, W: Wire, D: Dial<W> + Drop, C: time::Clock> {
     alloc: Global,
@@ -59,10 +60,10 @@ impl<'c, W: Wire, D: Dial<W> + Drop, C: time::Clock> Client<'c, W, D, C> {
         })
     }
 
-    /// Sends the job's request and reads its response. After that long it is cancelled, and also
-    /// where the dial's event loop or the system's clock fails. What there is no memory for is not
-    /// sent, and ends with the fault `Memory`. It opens one connection at most.
-    pub fn fetch(&mut self, job: &Job, limit: Duration) -> Done
+    /// Sends the job's request and reads its response. The transfer is cancelled after that long,
+    /// or if the dial's event loop or the system's clock fails. A request that there is no memory
+    /// for is not sent, and ends with the fault `Memory`. A fetch opens one connection at most.
+    pub fn fetch(&mut self, job: &Job, limit: Duration) -> Fetched
         ensures fetches { Fetches DidToPool (world_of W.untouched W.happened (λ moment. ⊤)) job.now
             self.old.pool self.new.pool result }
         ensures opens { D.opened self.new.dial ≤ D.opened self.old.dial + 1 }
@@ -70,17 +71,21 @@ impl<'c, W: Wire, D: Dial<W> + Drop, C: time::Clock> Client<'c, W, D, C> {
             job.now.want.transfer }
     {
         let Some(parts) = self.prepared(job) else {
-            return Done::Bad(Fault::Memory);
+            return Fetched {
+                done: Done::Bad(Fault::Memory),
+                retried: false,
+            };
         };
         let mut transfer = Transfer::new(parts);
         self.poll_to_its_end(&mut transfer, limit);
         let now = self.clock.now();
         let (done, used) = transfer.close(now, &mut self.pool, &mut self.dial);
+        let retried = used.retried();
         self.spare = Some(used);
-        done
+        Fetched { done, retried }
     }
 
-    /// What opens its connections.
+    /// The dial that opens its connections.
     pub fn dial(&self) -> &D
         ensures { result.now ≡ self.now.dial }
     {

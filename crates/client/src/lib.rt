@@ -2,5 +2,7 @@
 #![tactic(auto)]
 
 mod client;
+mod fetched;
 
 pub use client::Client;
+pub use fetched::Fetched;

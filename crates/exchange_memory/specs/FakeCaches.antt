@@ -1,18 +1,30 @@
 -- What a fake cache knows of its pool, and what it did.
-use Rattle.std.specs.Prelude.{◌≡◌, ℕ, ◌+◌, ◌-◌, ◌<◌, true, false, length, min, Option, Some}
-use Rattle.bundle.specs.Lease.{Ticketed, is_unclaimed, is_valid_ticket}
+use Rattle.std.specs.Prelude.{◌≡◌, ◌⊎◌, ℕ, ◌+◌, ◌-◌, ◌<◌, true, false, length, min, Option, Some, None}
+use Rattle.std.specs.declared.snapshot.Snapshot.{Snapshot}
+use Rattle.budget.specs.declared.refusal.Refusal.{Refusal}
+use Rattle.bundle.specs.Lease.{Leasing, Ticketed, is_unclaimed, is_valid_ticket}
 use Rattle.leasing.specs.Deeds.{Deed}
-use Rattle.leasing.specs.Deeds.Deed.{leases, begins_wait, grants, keeps_waiting, gives_back, abandons, withdraws, finds_strange_lease, finds_strange_ticket}
+use Rattle.leasing.specs.Deeds.Deed.{leases, begins_wait, refuses, grants, keeps_waiting, gives_back, abandons, withdraws, finds_strange_lease, finds_strange_ticket}
 use Rattle.cache.specs.Pools.{PoolShown, StaysPool, StaysHosts, host_at}
 use Rattle.cache.specs.Deeds.{DidToPool}
+use Rattle.exchange_memory.specs.declared.calls.Calls.{Calls}
 use Rattle.exchange_memory.specs.declared.returned.Returned.{Returned}
+use Rattle.exchange_memory.specs.Halts.{HaltsWith}
 
--- a fake cache: its pool, how many leases and tickets of transfers are out, and what was given back last
+-- a fake cache: its pool, at which acquire it refuses, how many leases and tickets of transfers are out, what was given back last, and the wire of
+-- that, as it then was
 pub record FakeShown (S : Type 0) : Type 0 where
   pub pool : PoolShown S
+  pub acquires : Calls Refusal
   pub leases : ℕ
   pub tickets : ℕ
   pub last : Option Returned
+  pub wire : Option S
+
+-- the wire of the lease that was given back last, if one was
+abbrev pub wire_of : {S : Type 0} → Option (Snapshot (Leasing S)) → Option S
+wire_of None = None
+wire_of (Some lease) = lease.value.stream
 
 -- one more, up to the greatest number that a count can say
 abbrev pub one_more : ℕ → ℕ
@@ -40,11 +52,17 @@ abbrev pub last_after : {S : Type 0} → Deed S → Option Returned → Option R
 last_after (gives_back lease facts now) last = Some (record { site = lease.site; facts = facts })
 last_after _ last = last
 
+-- and its wire
+abbrev pub wire_after : {S : Type 0} → Deed S → Option S → Option S
+wire_after (gives_back lease facts now) wire = lease.stream
+wire_after _ wire = wire
+
 -- that is noted
 pub record IsNoted {S : Type 0} (deed : Deed S) (old new : FakeShown S) : Type 0 where
   pub leases_are : new.leases ≡ leases_after deed old.leases
   pub tickets_are : new.tickets ≡ tickets_after deed old.tickets
   pub last_is : new.last ≡ last_after deed old.last
+  pub wire_is : new.wire ≡ wire_after deed old.wire
 
 -- the ticket is no stranger, and its transfer has no grant yet; meanwhile another transfer may give its connection back
 pub record StillWaits {S : Type 0} (old new : PoolShown S) (ticket : Ticketed) : Type 0 where
@@ -54,11 +72,17 @@ pub record StillWaits {S : Type 0} (old new : PoolShown S) (ticket : Ticketed) :
   pub hosts : StaysHosts old new
   pub stays : StaysPool old new
 
--- what was done at its pool
-abbrev pub DidAtPool : {S : Type 0} → PoolShown S → PoolShown S → Deed S → Type 0
-DidAtPool old new (keeps_waiting ticket) = StillWaits old new ticket
-DidAtPool old new deed = DidToPool old new deed
+-- this acquire is the one that it was told to refuse so; its pool was not asked
+pub record WasToldToRefuse {S : Type 0} (old new : FakeShown S) (refusal : Refusal) : Type 0 where
+  pub told : HaltsWith new.acquires refusal
+  pub same : new.pool ≡ old.pool
+
+-- what was done at its pool, or that it refused in the place of its pool
+abbrev pub DidAtPool : {S : Type 0} → FakeShown S → FakeShown S → Deed S → Type 0
+DidAtPool old new (keeps_waiting ticket) = StillWaits old.pool new.pool ticket
+DidAtPool old new (refuses site want now refusal) = DidToPool old.pool new.pool (refuses site want now refusal) ⊎ WasToldToRefuse old new refusal
+DidAtPool old new deed = DidToPool old.pool new.pool deed
 
 -- from the one time to the other this was done, and noted
 abbrev pub DidToFake : {S : Type 0} → FakeShown S → FakeShown S → Deed S → Type 0
-DidToFake old new deed = DidAtPool old.pool new.pool deed × IsNoted deed old new
+DidToFake old new deed = DidAtPool old new deed × IsNoted deed old new

@@ -1,13 +1,19 @@
 -- What happens on a connection in memory.
-use Rattle.std.specs.Prelude.{◌≡◌, ℕ, List, [], ◌++◌, take}
+use Rattle.std.specs.Prelude.{◌≡◌, ◌⊎◌, ℕ, List, [], ◌++◌, length, take}
 use Rattle.conn_key.specs.Wants.{Rises}
+use Rattle.exchange_memory.specs.declared.calls.Halt.TheVariants.{End}
 use Rattle.exchange_memory.specs.declared.memory_wire.MemoryWire.{MemoryWire}
+use Rattle.exchange_memory.specs.Halts.{HaltsWith}
 use Rattle.exchange.specs.Wires.{Happening}
 use Rattle.exchange.specs.Wires.Happening.{nothing, is_adopted, takes, gives, ends, fails_to_read, fails_to_write}
 
 -- what its peer has answered of its script
 abbrev pub answered : MemoryWire → List ℕ
 answered wire = take wire.place wire.response.items
+
+-- its peer has ended it: all bytes of its script were answered, or its last read is the one that tells of an end
+abbrev pub HasEnded : MemoryWire → Type 0
+HasEnded wire = (wire.place ≡ length wire.response.items) ⊎ HaltsWith wire.reads End
 
 -- it has sent nothing, and its peer has answered nothing
 pub record IsUntouched (wire : MemoryWire) : Type 0 where
@@ -35,6 +41,6 @@ HappenedTo old new nothing = CarriesWell [] [] old new
 HappenedTo old new is_adopted = CarriesWell [] [] old new
 HappenedTo old new (takes bytes) = CarriesWell bytes [] old new
 HappenedTo old new (gives bytes) = CarriesWell [] bytes old new
-HappenedTo old new ends = CarriesWell [] [] old new
+HappenedTo old new ends = CarriesWell [] [] old new × HasEnded new
 HappenedTo old new fails_to_read = Breaks old new
 HappenedTo old new fails_to_write = Breaks old new

@@ -5,6 +5,7 @@ ghost use Rattle.leasing.specs.Homes.{IsMadeBy};
 ghost use Rattle.cache.specs.Pools.{IsNewPool, StaysHosts, StaysPool};
 ghost use Rattle.cache.specs.Deeds.{home_of};
 
+use crate::calls::{Calls, NEVER};
 use crate::returned::Returned;
 use budget::{Limits, Refusal};
 use bundle::{Acquired, Claimed, Lease, Stray, Ticket};
@@ -14,6 +15,7 @@ use leasing::Cache;
 use persistence::Facts;
 use std::alloc::Global;
 use std::marker::Model;
+use std::snapshot::Snapshot;
 
 // A lease of another transfer, which will be given back with these facts at that moment.
 struct Other<W> {
@@ -22,31 +24,37 @@ struct Other<W> {
     now: u64,
 }
 
-/// A pool that counts the leases and tickets that are out, and notes what was given back last. One
-/// transfer beside them may have a lease meanwhile. It has to be closed.
+/// A pool that counts the leases and tickets that are out, and notes what was given back last.
+/// Contracts see the wire of that, too, as it then was. One transfer beside them may have a lease
+/// meanwhile. It has to be closed.
 pub struct FakeCache<W: Drop> {
     pool: Pool<W>,
+    acquires: Calls<Refusal>,
     other: Option<Other<W>>,
     // The claims that have still to wait before the other lease is given back; 0 where it is kept.
     waits: u32,
     leases: u64,
     tickets: u64,
     last: Option<Returned>,
+    // The lease that was given back last, as it then was: contracts alone see it.
+    returned: Option<Snapshot<Lease<W>>>,
 }
 
 impl<W: Drop> Model for FakeCache<W> {
     ghost use Rattle.std.specs.Prelude.{IsSome, IfSome};
     ghost use Rattle.leasing.specs.Homes.{IsMadeBy};
     ghost use Rattle.cache.specs.Deeds.{home_of};
-    ghost use Rattle.exchange_memory.specs.FakeCaches.{FakeShown};
+    ghost use Rattle.exchange_memory.specs.FakeCaches.{FakeShown, wire_of};
 
     ghost Value = { FakeShown W };
 
     ghost view = { λ cache. record {
       pool = cache.pool;
+      acquires = cache.acquires;
       leases = cache.leases;
       tickets = cache.tickets;
       last = cache.last;
+      wire = wire_of cache.returned;
     } };
 
     ghost invariant = { λ cache. record {
@@ -65,7 +73,7 @@ impl<W: Drop> FakeCache<W> {
     pub fn new(alloc: Global, limits: Limits, hosts: u32) -> Result<FakeCache<W>, Refusal>
         ensures pool { IfOk result (λ cache. IsNewPool limits hosts cache.pool) }
         ensures none { IfOk result (λ cache. (cache.leases ≡ 0) × (cache.tickets ≡ 0)) }
-        ensures last { IfOk result (λ cache. cache.last ≡ None) }
+        ensures last { IfOk result (λ cache. (cache.last ≡ None) × (cache.wire ≡ None)) }
         ensures err { IfErr result (λ refusal. refusal
             ≡ (if nat_lt 1024 hosts then Refusal.BadSite else Refusal.Memory)) }
     {
@@ -77,15 +85,17 @@ impl<W: Drop> FakeCache<W> {
     pub fn over(pool: Pool<W>) -> FakeCache<W>
         ensures pool { result.pool ≡ pool }
         ensures none { (result.leases ≡ 0) × (result.tickets ≡ 0) }
-        ensures last { result.last ≡ None }
+        ensures last { (result.last ≡ None) × (result.wire ≡ None) }
     {
         FakeCache {
             pool,
+            acquires: Calls::with_halt(NEVER, Refusal::Memory),
             other: None,
             waits: 0,
             leases: 0,
             tickets: 0,
             last: None,
+            returned: None,
         }
     }
 
@@ -96,15 +106,17 @@ impl<W: Drop> FakeCache<W> {
         requires stream { IsSome lease.stream }
         ensures pool { result.pool ≡ pool }
         ensures none { (result.leases ≡ 0) × (result.tickets ≡ 0) }
-        ensures last { result.last ≡ None }
+        ensures last { (result.last ≡ None) × (result.wire ≡ None) }
     {
         FakeCache {
             pool,
+            acquires: Calls::with_halt(NEVER, Refusal::Memory),
             other: Some(Other { lease, facts, now }),
             waits: 0,
             leases: 0,
             tickets: 0,
             last: None,
+            returned: None,
         }
     }
 
@@ -114,6 +126,15 @@ impl<W: Drop> FakeCache<W> {
         ensures { self.new ≡ self.old }
     {
         self.waits = claims.max(1);
+    }
+
+    /// At that acquire, counted from one, the cache answers this refusal, and its pool isn't asked.
+    pub fn refuse_acquire(&mut self, nth: u64, refusal: Refusal)
+        ensures { self.new ≡ record self.old {
+          acquires = record { count = 0; halts_at = nth; halt = refusal };
+        } }
+    {
+        self.acquires = Calls::with_halt(nth, refusal);
     }
 
     /// Its pool, whose logs tell what happened.
@@ -151,11 +172,13 @@ impl<W: Drop> FakeCache<W> {
     {
         let FakeCache {
             mut pool,
+            acquires: _,
             other,
             waits: _,
             leases: _,
             tickets: _,
             last: _,
+            returned: _,
         } = self;
         release(&mut pool, other);
         pool
@@ -163,9 +186,11 @@ impl<W: Drop> FakeCache<W> {
 
     // Counts a claim that has still to wait.
     fn count_wait(&mut self)
+        ensures acquires { self.new.acquires ≡ self.old.acquires }
         ensures leases { self.new.leases ≡ self.old.leases }
         ensures tickets { self.new.tickets ≡ self.old.tickets }
         ensures last { self.new.last ≡ self.old.last }
+        ensures wire { self.new.wire ≡ self.old.wire }
         ensures hosts { StaysHosts self.old.pool self.new.pool }
         ensures stays { StaysPool self.old.pool self.new.pool }
     {
@@ -201,6 +226,9 @@ impl<W: Drop> Cache<W> for FakeCache<W> {
     ghost did = { DidToFake };
 
     fn acquire(&mut self, site: u32, want: Want, now: u64) -> Result<Acquired<W>, Refusal> {
+        if let Some(refusal) = self.acquires.next() {
+            return Err(refusal);
+        }
         match Cache::acquire(&mut self.pool, site, want, now) {
             Ok(Acquired::Lease(lease)) => {
                 self.leases = self.leases.saturating_add(1);
@@ -244,6 +272,7 @@ impl<W: Drop> Cache<W> for FakeCache<W> {
             site: lease.site(),
             facts,
         });
+        self.returned = Some(Snapshot::of(&lease));
         Cache::give_back(&mut self.pool, lease, facts, now)
     }
 

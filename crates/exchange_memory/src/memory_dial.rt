@@ -3,7 +3,7 @@
 ghost use Rattle.std.specs.Prelude.{◌≡◌, ℕ, [], ◌∷◌, ◌++◌, length, None, Some, OnOk, OnErr};
 ghost use Rattle.conn_key.specs.Wants.{Rises};
 
-use crate::calls::{Calls, Halt};
+use crate::calls::{Calls, Halt, NEVER};
 use crate::memory_wire::MemoryWire;
 use bundle::Lease;
 use exchange::{Dial, Dialled, Turned};
@@ -15,8 +15,8 @@ use std::alloc::{AllocError, Global};
 #[derive(Drop)]
 pub struct MemoryDial {
     wires: Vec<MemoryWire>,
-    dials: Calls,
-    turns: Calls,
+    dials: Calls<Halt>,
+    turns: Calls<Halt>,
     opened: u64,
     failures: u64,
     turn_failures: u64,
@@ -34,8 +34,8 @@ impl MemoryDial {
     {
         MemoryDial {
             wires: Vec::new(alloc),
-            dials: Calls::new(),
-            turns: Calls::new(),
+            dials: Calls::with_halt(NEVER, Halt::Fault),
+            turns: Calls::with_halt(NEVER, Halt::Fault),
             opened: 0,
             failures: 0,
             turn_failures: 0,

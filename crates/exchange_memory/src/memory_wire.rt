@@ -1,9 +1,9 @@
 //! A connection in memory.
 
-ghost use Rattle.std.specs.Prelude.{◌≡◌, ◌+◌, ◌≤◌, ℕ, length, max, IfOk};
+ghost use Rattle.std.specs.Prelude.{◌≡◌, ◌+◌, ◌<◌, ◌≤◌, ℕ, length, max, IfOk};
 ghost use Rattle.conn_key.specs.Wants.{Rises};
 
-use crate::calls::{Calls, Halt};
+use crate::calls::{Calls, Halt, NEVER};
 use exchange::{Read, Wire, Written};
 use futures::task::Source;
 use std::alloc::{AllocError, Global};
@@ -16,13 +16,14 @@ pub struct MemoryWire {
     // How many bytes of the response were read.
     place: usize,
     most_read: usize,
-    reads: Calls,
+    reads: Calls<Halt>,
     sent: Vec<u8>,
     most_written: usize,
-    writes: Calls,
+    writes: Calls<Halt>,
     failures: u64,
     source: Source,
     ghost in_range: { place ≤ length response.items },
+    ghost reads_some: { 0 < most_read },
 }
 
 impl MemoryWire {
@@ -44,10 +45,10 @@ impl MemoryWire {
             response,
             place: 0,
             most_read: usize::MAX,
-            reads: Calls::new(),
+            reads: Calls::with_halt(NEVER, Halt::Fault),
             sent,
             most_written: usize::MAX,
-            writes: Calls::new(),
+            writes: Calls::with_halt(NEVER, Halt::Fault),
             failures: 0,
             source: Source::new(),
         })
@@ -144,10 +145,11 @@ impl Wire for MemoryWire {
             }
             None => {}
         }
-        let count = self.unread().min(self.most_read).min(buffer.len());
-        if count == 0 {
+        let unread = self.unread();
+        if unread == 0 {
             return Read::End;
         }
+        let count = unread.min(self.most_read).min(buffer.len());
         let end = self.place + count;
         buffer[..count].copy_from_slice(&self.response[self.place..end]);
         self.place = end;

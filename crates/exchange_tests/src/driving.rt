@@ -199,15 +199,24 @@ pub(crate) fn abandon(pool: &mut Pool<MemoryWire>, lease: Lease<MemoryWire>)
     }
 }
 
+/// A pool of one host, which may have so many connections, with an idle one that has that wire.
+pub(crate) fn pool_with_idle<R: Abort + AllocGlobal>(
+    rt: &R,
+    most: u32,
+    wire: MemoryWire,
+) -> Pool<MemoryWire> {
+    let mut pool = pool_of(rt, most);
+    let lease = lease_with(rt, &mut pool, wire);
+    give_back(&mut pool, lease);
+    pool
+}
+
 /// A cache of one host, with an idle connection that has that wire.
 pub(crate) fn cache_with_idle<R: Abort + AllocGlobal>(
     rt: &R,
     wire: MemoryWire,
 ) -> FakeCache<MemoryWire> {
-    let mut pool = pool_of(rt, 0);
-    let lease = lease_with(rt, &mut pool, wire);
-    give_back(&mut pool, lease);
-    FakeCache::over(pool)
+    FakeCache::over(pool_with_idle(rt, 0, wire))
 }
 
 /// A cache of one host, which may have so many connections, where another transfer has one with

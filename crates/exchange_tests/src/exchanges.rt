@@ -208,7 +208,7 @@ fn a_pending_exchange_goes_on(rt: HostRuntime) {
     run_rows(&rt, &PENDING, 1);
 }
 
-static CONNECTIONS: [Row; 6] = [
+static CONNECTIONS: [Row; 9] = [
     Row {
         name: "a dial fails",
         start: Start::Unreachable,
@@ -239,6 +239,44 @@ static CONNECTIONS: [Row; 6] = [
         answer: NOTHING,
         done: RETRIED,
         log: TRIED_AGAIN,
+        ..GET
+    },
+    Row {
+        name: "a reused connection had ended, and a new one answers HEAD",
+        start: Start::Idle(Some(b"HTTP/1.1 200 OK\r\nContent-Length: 2\r\n\r\n")),
+        method: Method::Head,
+        answer: NOTHING,
+        done: Done::Good(Answer {
+            body_len: 0,
+            facts: NO_BODY,
+            retried: true,
+            ..GOOD
+        }),
+        log: &[
+            OPENED_BEFORE,
+            RETURNED_BEFORE,
+            LEASED,
+            DROPPED,
+            OPENED_AGAIN,
+            returned!(2, NO_BODY, NOW),
+        ],
+        ..GET
+    },
+    Row {
+        name: "a reused connection had ended, and the cache has no memory for a new one",
+        start: Start::Idle(Some(OK)),
+        answer: NOTHING,
+        refused: Some((2, Refusal::Memory)),
+        done: Done::Bad(Fault::Refused(Refusal::Memory)),
+        log: &[OPENED_BEFORE, RETURNED_BEFORE, LEASED, DROPPED],
+        left: 1,
+        ..GET
+    },
+    Row {
+        name: "the cache has no number left for a connection",
+        refused: Some((1, Refusal::Exhausted)),
+        done: Done::Bad(Fault::Refused(Refusal::Exhausted)),
+        left: 1,
         ..GET
     },
     Row {

@@ -20,6 +20,8 @@ mod memory;
 #[cfg(test)]
 mod requests;
 #[cfg(test)]
+mod retries;
+#[cfg(test)]
 mod rows;
 #[cfg(test)]
 mod thousand;

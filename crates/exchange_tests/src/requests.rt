@@ -36,6 +36,18 @@ fn a_request_has_its_text(rt: HostRuntime) {
             "GET /a?b=1 HTTP/1.1\r\nHost: example.com:8080\r\n\r\n",
         ),
         (
+            Method::Get,
+            "http://[::1]/",
+            false,
+            "GET / HTTP/1.1\r\nHost: [::1]\r\n\r\n",
+        ),
+        (
+            Method::Get,
+            "http://[2001:DB8::1]:8080/",
+            false,
+            "GET / HTTP/1.1\r\nHost: [2001:db8::1]:8080\r\n\r\n",
+        ),
+        (
             Method::Head,
             plain,
             false,

@@ -4,6 +4,7 @@ use crate::driving::{
     GOOD, NOW, OK, WANT, cache_of, cache_with_idle, cache_with_other, check_front, check_last,
     check_log, close, dial_of, prepared_at, run, wire_of,
 };
+use budget::Refusal;
 use conn_log::{Entry, Want};
 use exchange::{Done, Stage};
 use exchange_memory::{FakeCache, Halt, MemoryDial, MemoryWire};
@@ -62,6 +63,8 @@ pub(crate) struct Row {
     pub(crate) most_read: usize,
     pub(crate) most_written: usize,
     pub(crate) halted: Halted,
+    /// What the cache refuses, at its acquire of that number, counted from one.
+    pub(crate) refused: Option<(u64, Refusal)>,
     /// What it waits for whenever it is pending.
     pub(crate) waits_on: Stage,
     /// How often it is pending, if that is looked at.
@@ -88,6 +91,7 @@ pub(crate) const GET: Row = Row {
     most_read: usize::MAX,
     most_written: usize::MAX,
     halted: Halted::Nothing,
+    refused: None,
     waits_on: Stage::Turn,
     pending: Some(0),
     done: Done::Good(GOOD),
@@ -143,6 +147,9 @@ pub(crate) fn run_row<R: Abort + AllocGlobal + RandomSource>(
     let (mut cache, mut dial) = started(rt, row.start, wire);
     if let Halted::Dial(halt) = row.halted {
         dial.halt_dial(nth, halt);
+    }
+    if let Some((nth, refusal)) = row.refused {
+        cache.refuse_acquire(nth, refusal);
     }
     let parts = prepared_at(rt, row.site, row.method, "http://example.com/", row.want);
     let (done, pending) = run(rt, parts, &mut cache, &mut dial, row.waits_on);

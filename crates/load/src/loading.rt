@@ -34,11 +34,11 @@ pub struct Loaded {
 /// Carries out the jobs by so many threads, which share one cache under these limits, cuts the log
 /// of every host, and gathers the cache: its account is of all that happened, though no log has
 /// entries left. There are at most 1,024 sites, and connections to each are opened to its address;
-/// a read or a write waits ten milliseconds at most.
+/// a read or a write waits ten milliseconds at most. Its clock tells 0 if the system tells no time.
 ///
 /// # Errors
 ///
-/// What [`run`] refuses; also [`DriverFault::Poll`] if the system gives no poller or no time, and
+/// What [`run`] refuses; also [`DriverFault::Poll`] if the system gives no poller, and
 /// [`DriverFault::Memory`] if memory runs out before or after the run. With bad workers these may
 /// come first, since dials are made before the run. [`LoadError::Gather`] is not expected, though
 /// no clause rules it out.
@@ -89,9 +89,7 @@ fn load_by<N: Names + Send + Sync, R: Threads + Wait + RandomSource + AllocGloba
         return Err(LoadError::Run(DriverFault::Memory));
     };
     let mut dials = dials_for(system, alloc, sites, workers)?;
-    let Ok(clock) = SystemClock::new(system) else {
-        return Err(LoadError::Run(DriverFault::Poll));
-    };
+    let clock = SystemClock::or_still(system);
     match run(rt, alloc, &cache, jobs, &mut dials, &clock, &NoGate) {
         Ok(report) => account_of(rt, alloc, cache, report),
         Err((fault, passes)) => {

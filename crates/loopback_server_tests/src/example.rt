@@ -52,7 +52,7 @@ fn fetch_all(rt: &HostRuntime, urls: &[String]) -> anyhow::Result<Vec<Done>> {
     let mut client = Client::new(rt, rt.alloc(), pool, dial, SystemClock::new(rt)?)?;
     let mut ends = Vec::new(rt.alloc());
     for job in &jobs {
-        ends.push(client.fetch(job, Duration::from_secs(30)))?;
+        ends.push(client.fetch(job, Duration::from_secs(30)).done)?;
     }
     Ok(ends)
 }

@@ -1,9 +1,10 @@
 //! Jobs, and the line that tells how one ended.
 
 use cli::line_text;
+use client::Fetched;
 use conn_key::Target;
 use conn_log::Want;
-use exchange::{Done, Job};
+use exchange::Job;
 use persistence::Method;
 use std::io::Write;
 
@@ -28,7 +29,7 @@ pub(crate) fn job_of(site: u32, transfer: u64, target: Target) -> Job {
 }
 
 /// Prints how a job ended, as `curlpool get` does for a URL. None if it can't.
-pub(crate) fn print_line(rt: &HostRuntime, name: &str, done: Done) -> Option<()> {
-    let line = line_text(rt.alloc(), name, done).ok()?;
+pub(crate) fn print_line(rt: &HostRuntime, name: &str, fetched: Fetched) -> Option<()> {
+    let line = line_text(rt.alloc(), name, fetched).ok()?;
     print!(rt; "{line}").ok()
 }

@@ -9,6 +9,7 @@ use crate::tally::Tally;
 use budget::Limits;
 use cache_report::totals;
 use cli::{load_jobs, sites_at};
+use client::Fetched;
 use exchange::Done;
 use load::{Loaded, load};
 use shared_cache::HostCount;
@@ -67,11 +68,20 @@ fn print_loaded(rt: &HostRuntime, loaded: &Loaded, has_lines: bool) -> Option<bo
     print_tally(rt, &tally, totals(&loaded.gathered.hosts))
 }
 
-// Prints a line for each job, with its path.
+// Prints a line for each job, with its path. The result of a run does not tell whether a request
+// without a good answer was tried once more.
 fn print_lines(rt: &HostRuntime, results: &[Done]) -> Option<()> {
     for (number, done) in results.iter().enumerate() {
         let path = format!(in rt.alloc(); "/{number}").ok()?;
-        print_line(rt, path.as_str(), *done)?;
+        let retried = match done {
+            Done::Good(answer) => answer.retried,
+            Done::Bad(_) => false,
+        };
+        let fetched = Fetched {
+            done: *done,
+            retried,
+        };
+        print_line(rt, path.as_str(), fetched)?;
     }
     Some(())
 }

@@ -92,10 +92,10 @@ fn request_each<W: Wire, D: Dial<W> + Drop>(
 ) -> Option<()> {
     let limit = Duration::from_secs(task.limit);
     for (job, url) in task.jobs.iter().zip(task.urls.iter()) {
-        let done = client.fetch(job, limit);
-        tally.add(&done);
+        let fetched = client.fetch(job, limit);
+        tally.add(&fetched.done);
         if task.rounds == 1 {
-            print_line(rt, url.as_str(), done)?;
+            print_line(rt, url.as_str(), fetched)?;
         }
         if task.pause > 0 {
             thread::sleep(rt, Duration::from_millis(task.pause));

@@ -82,8 +82,12 @@ fn run_engine<W: Sink>(alloc: Global, script: &[u8], writer: &mut W) -> Result<(
     result
 }
 
-/// Runs the lines of a script, one after another.
-fn run_lines<M: Machine, W: Sink>(
+/// Runs the lines of a script on that machine, one after another, as [`run_script`] does on an
+/// engine of its own. The fault is at no line if the machine refuses what is due at the script's
+/// end.
+///
+/// Asked of the caller: the script has at most 1,048,576 bytes.
+pub fn run_lines<M: Machine, W: Sink>(
     alloc: Global,
     machine: &mut M,
     script: &[u8],

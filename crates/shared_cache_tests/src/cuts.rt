@@ -9,6 +9,7 @@ use crate::making::{new_cache, new_plan, push};
 use crate::workers::{Job, Worker};
 use budget::Refusal;
 use bundle::Bundle;
+use cache_report::count_part;
 use conn_log::{Counts, Entry};
 use shared_cache::{HostCount, Names, Plan, SharedCache};
 use std::alloc::Global;
@@ -23,41 +24,65 @@ const TRANSFERS: u64 = 100;
 
 const TURNS: u64 = 50;
 
-// No entry was handed out yet, of each host.
-fn none_yet(rt: &impl Abort, alloc: Global) -> Vec<Vec<Entry>> {
+/// The parts of a host's log that were handed out: their entries, and the sum of what each counts.
+#[derive(Drop)]
+struct Parts {
+    entries: Vec<Entry>,
+    counts: Counts,
+}
+
+impl Parts {
+    // Adds one part more.
+    fn add(&mut self, rt: &impl Abort, part: &[Entry]) {
+        let more = count_part(part);
+        self.counts = Counts {
+            opened: self.counts.opened.saturating_add(more.opened),
+            reused: self.counts.reused.saturating_add(more.reused),
+            closed: self.counts.closed.saturating_add(more.closed),
+            waited: self.counts.waited.saturating_add(more.waited),
+        };
+        self.entries.extend_from_slice(part).expect(rt, "memory");
+    }
+}
+
+// No part was handed out yet, of each host.
+fn none_yet(rt: &impl Abort, alloc: Global) -> Vec<Parts> {
     let mut parts = Vec::new(alloc);
     for _ in 0..HOSTS {
-        push(rt, &mut parts, Vec::new(alloc));
+        let none = Parts {
+            entries: Vec::new(alloc),
+            counts: count_part(&[]),
+        };
+        push(rt, &mut parts, none);
     }
     parts
 }
 
-// Cuts the log of one host, and adds what is handed out to the entries of its other parts.
+// Cuts the log of one host, and adds what is handed out to its other parts.
 fn cut<N: Names>(
     rt: &(impl Wait + Abort),
     cache: &SharedCache<Stream, N>,
-    parts: &mut [Vec<Entry>],
+    parts: &mut [Parts],
     site: u32,
 ) {
     let part = cache.cut(rt, site).expect(rt, "memory");
     let place = site as usize;
     assert!(rt; place < parts.len());
-    parts[place].extend_from_slice(&part).expect(rt, "memory");
+    parts[place].add(rt, &part);
 }
 
 // Cuts the log of each host, and looks at what it counts.
 fn cut_all<N: Names>(
     rt: &(impl Wait + Abort),
     cache: &SharedCache<Stream, N>,
-    parts: &mut [Vec<Entry>],
+    parts: &mut [Parts],
 ) {
     for site in 0..HOSTS {
         cut(rt, cache, parts, site);
         let counted = cache.inspect(rt, site, |bundle: &Bundle<Stream>| bundle.log().counts());
         let place = site as usize;
         assert!(rt; place < parts.len());
-        let counts = Counts::of(&parts[place]);
-        assert_eq!(rt; counted, Ok(counts), "host {site}");
+        assert_eq!(rt; counted, Ok(parts[place].counts), "host {site}");
     }
 }
 
@@ -68,7 +93,7 @@ fn history<N: Names>(
     alloc: Global,
     plan: Plan<Stream>,
     is_cut: bool,
-) -> Vec<Vec<Entry>>
+) -> Vec<Parts>
     requires { plan ≡ N.names }
 {
     let cache: SharedCache<Stream, N> = new_cache(rt, alloc, plan);
@@ -100,7 +125,7 @@ fn drawn(turn: u64) -> Job {
 }
 
 // The account of each host is what the parts of its log count.
-fn check_hosts(rt: &impl Abort, hosts: &[HostCount], parts: &[Vec<Entry>]) {
+fn check_hosts(rt: &impl Abort, hosts: &[HostCount], parts: &[Parts]) {
     assert_eq!(rt; hosts.len(), parts.len());
     for (host, parts) in hosts.iter().zip(parts) {
         let Counts {
@@ -108,14 +133,14 @@ fn check_hosts(rt: &impl Abort, hosts: &[HostCount], parts: &[Vec<Entry>]) {
             reused,
             closed,
             waited,
-        } = Counts::of(parts);
+        } = parts.counts;
         let counted = (host.opened, host.reused, host.closed, host.waited);
         assert_eq!(rt; counted, (opened, reused, closed, waited));
     }
 }
 
 // The same of a new cache.
-fn drawn_history(rt: &(impl Wait + Abort), alloc: Global, is_cut: bool) -> Vec<Vec<Entry>> {
+fn drawn_history(rt: &(impl Wait + Abort), alloc: Global, is_cut: bool) -> Vec<Parts> {
     let plan = new_plan(rt, alloc, (2, 5, 3), HOSTS);
     history::<Brand>(rt, alloc, plan, is_cut)
 }
@@ -125,6 +150,7 @@ fn parts_add_up_beside_a_cache_that_is_not_cut(rt: HostRuntime) {
     let cut = drawn_history(&rt, rt.alloc(), true);
     let uncut = drawn_history(&rt, rt.alloc(), false);
     for (parts, whole) in cut.iter().zip(&uncut) {
+        let (parts, whole) = (&parts.entries, &whole.entries);
         assert!(rt; !whole.is_empty());
         assert_eq!(rt; parts.len(), whole.len());
         assert!(rt; parts == whole);

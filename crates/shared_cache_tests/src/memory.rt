@@ -1,6 +1,6 @@
 //! What want of memory leaves. The tests pass whichever allocation fails. In one of them the refusal
 //! says so and changes nothing, the call succeeds when it comes again, and spending takes none. How
-//! plans, caches, passes and accounts come again is in `making` and `gathering`. In the other all
+//! plans, caches, passes and accounts come again is in `making` and `gathering`. In the others all
 //! memory may be refused from some moment on.
 
 ghost use Rattle.std.specs.Prelude.{◌≡◌};
@@ -10,6 +10,7 @@ use crate::gathering::{Account, Passes, check_account};
 use crate::making::{new_cache, new_plan};
 use budget::{Limits, Refusal};
 use bundle::Bundle;
+use conn_log::{Cause, Event};
 use shared_cache::{Names, Plan, SharedCache};
 use std::alloc::Global;
 use std::marker::Brand;
@@ -224,5 +225,121 @@ fn want_of_memory_for_good_keeps_each_promise(rt: HostRuntime) {
     let made: Result<Plan<Stream>, Refusal> = Plan::new(rt.alloc(), limits, 1);
     if let Ok(plan) = made {
         end_all::<Brand, HostRuntime>(&rt, rt.alloc(), plan);
+    }
+}
+
+/// How many hosts have a transfer that asks for a connection: transfer N at host N.
+const HOSTS: u32 = 3;
+
+/// Limits, and how the transfers of three hosts end under them: each gives its connection back in
+/// turn, once it has claimed it if it had to wait.
+struct Serving {
+    limits: (u32, u32, u32),
+    // How many transfers get a connection at once.
+    at_once: u32,
+    // Why the connection of each host is closed in the end, by how many transfers were answered.
+    causes: [&'static [Cause]; 4],
+}
+
+static SERVING: [Serving; 2] = [
+    // what comes back makes room for the head of the next host in turn
+    Serving {
+        limits: (0, 1, 4),
+        at_once: 1,
+        causes: [
+            &[],
+            &[Cause::Pruned],
+            &[Cause::TotalRoom, Cause::Pruned],
+            &[Cause::TotalRoom, Cause::TotalRoom, Cause::Pruned],
+        ],
+    },
+    // one connection alone is kept
+    Serving {
+        limits: (0, 2, 1),
+        at_once: 2,
+        causes: [
+            &[],
+            &[Cause::Pruned],
+            &[Cause::CacheFull, Cause::Pruned],
+            &[Cause::TotalRoom, Cause::CacheFull, Cause::Pruned],
+        ],
+    },
+];
+
+// The transfers ask, each at its host, until one is refused; how many were answered.
+fn ask_each_host<N: Names>(
+    rt: &(impl Wait + Abort),
+    cache: &SharedCache<Stream, N>,
+    desk: &mut Desk<N>,
+    at_once: u32,
+) -> u32 {
+    for site in 0..HOSTS {
+        let said = desk.acquire(rt, cache, site, want_of(u64::from(site)), 0);
+        if said == Said::Refused(Refusal::Memory) {
+            return site;
+        }
+        let answer = if site < at_once {
+            Said::Opened(1, 0)
+        } else {
+            Said::Waits
+        };
+        check_said(rt, said, answer);
+    }
+    HOSTS
+}
+
+// The only connection of each host is closed for its cause, at the end of its log.
+fn check_closings<N: Names>(rt: &(impl Wait + Abort), cache: &SharedCache<Stream, N>, causes: &[Cause]) {
+    let mut site: u32 = 0;
+    for &cause in causes {
+        let last = cache.inspect(rt, site, |bundle: &Bundle<Stream>| {
+            let log = bundle.log();
+            log.get(log.len().saturating_sub(1)).map(|entry| entry.event)
+        });
+        let closed = Event::Closed {
+            connection: 1,
+            cause,
+        };
+        assert_eq!(rt; last, Ok(Some(closed)), "host {site}");
+        site = site.saturating_add(1);
+    }
+}
+
+// A cache of that plan, whose hosts are served as the row says. From the refusal on there may be
+// no memory.
+fn serve_all<N: Names, R: Wait + Abort>(rt: &R, alloc: Global, plan: Plan<Stream>, row: &Serving)
+    requires { plan ≡ N.names }
+{
+    let made: Option<(SharedCache<Stream, N>, Desk<N>)> = cache_with_desk(rt, alloc, plan);
+    let Some((cache, mut desk)) = made else {
+        return;
+    };
+    let answered = ask_each_host(rt, &cache, &mut desk, row.at_once);
+    for site in 0..answered {
+        let transfer = u64::from(site);
+        if site >= row.at_once {
+            // each connection that comes back makes room for the next of those that wait
+            let opened = u64::from(site - row.at_once).saturating_add(1);
+            check_said(rt, desk.claim(rt, &cache, transfer), Said::Opened(1, opened));
+        }
+        desk.back(rt, &cache, transfer, KEEP, transfer.saturating_add(1));
+    }
+    let pruned = Said::Number(answered.min(1));
+    check_said(rt, desk.prune(rt, &cache, 9, 0, 0), pruned);
+    let causes = row.causes.get(answered as usize).copied().unwrap_or(&[]);
+    assert_eq!(rt; causes.len(), answered as usize);
+    check_closings(rt, &cache, causes);
+    desk.close(rt).discard();
+}
+
+#[test]
+fn want_of_memory_for_good_serves_three_hosts(rt: HostRuntime) {
+    for row in &SERVING {
+        let (host, total, connects) = row.limits;
+        let limits = Limits::new(host, total, connects).expect(&rt, "limits");
+        let made: Result<Plan<Stream>, Refusal> = Plan::new(rt.alloc(), limits, HOSTS);
+        if let Ok(plan) = made {
+            serve_all::<Brand, HostRuntime>(&rt, rt.alloc(), plan, row);
+        }
     }
 }

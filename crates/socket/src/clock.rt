@@ -6,11 +6,12 @@ use exchange::Clock;
 use std::time::{Duration, Instant};
 use std::{io, time};
 
-/// The time since it was made; as a clock it tells whole seconds, 0 where the system tells no time.
+/// The time since it was made; as a clock it tells whole seconds, 0 if the system tells no time.
 #[derive(Drop)]
 pub struct SystemClock<'c, C: time::Clock> {
     clock: &'c C,
-    start: Instant,
+    // None if the system told no time then.
+    start: Option<Instant>,
 }
 
 impl<'c, C: time::Clock> SystemClock<'c, C> {
@@ -22,16 +23,27 @@ impl<'c, C: time::Clock> SystemClock<'c, C> {
     pub fn new(clock: &'c C) -> io::Result<Self> {
         Ok(SystemClock {
             clock,
-            start: Instant::now(clock)?,
+            start: Some(Instant::now(clock)?),
         })
     }
 
-    /// How long ago it was made; none where the system tells no time.
-    pub fn elapsed(&self) -> Option<Duration> {
-        self.start.elapsed(self.clock).ok()
+    /// A clock that begins now, or stands still at 0 if the system tells no time.
+    pub fn or_still(clock: &'c C) -> Self {
+        SystemClock {
+            clock,
+            start: Instant::now(clock).ok(),
+        }
     }
 
-    /// Whether `limit` has passed since it told `since`; it has where the system tells no time.
+    /// How long ago it was made; none if the system tells no time.
+    pub fn elapsed(&self) -> Option<Duration> {
+        match self.start {
+            Some(start) => start.elapsed(self.clock).ok(),
+            None => None,
+        }
+    }
+
+    /// Whether `limit` has passed since it told `since`; it has if the system tells no time.
     pub fn is_past(&self, since: Option<Duration>, limit: Duration) -> bool {
         match (self.elapsed(), since) {
             (Some(now), Some(since)) => now.saturating_sub(since) >= limit,
@@ -44,9 +56,9 @@ impl<'c, C: time::Clock> Clock for SystemClock<'c, C> {
     ghost tells = { λ clock moment. ⊤ };
 
     fn now(&self) -> u64 {
-        match self.start.elapsed(self.clock) {
-            Ok(elapsed) => elapsed.as_secs(),
-            Err(_) => 0,
+        match self.elapsed() {
+            Some(elapsed) => elapsed.as_secs(),
+            None => 0,
         }
     }
 }

@@ -4,6 +4,8 @@
 #[cfg(test)]
 mod addresses;
 #[cfg(test)]
+mod clock;
+#[cfg(test)]
 mod descriptors;
 #[cfg(test)]
 mod leases;

@@ -141,8 +141,9 @@ STATUS LENGTH reused|new [retried] URL
                     The response's status, and the bytes of its body; whether
                     its connection had been used before; retried: an idle
                     connection had ended, failed or had unsolicited bytes, so a
-                    new one was used; the request may have been sent twice
-FAULT URL           There is no good response
+                    new one was asked for; the request may have been sent
+                    twice
+FAULT [retried] URL There is no good response
 
 FAULT               Why
 Memory              Memory ran out

@@ -1,20 +1,22 @@
 //! What carries out jobs, one after another, and the network that it works on.
 
-use exchange::{Done, Job};
+use client::Fetched;
+use exchange::Job;
 use socket::Addresses;
 use std::alloc::Global;
 use thiserror::Error;
 
 /// What sends one request after another, over connections that it keeps until it is closed.
 pub trait Fetcher {
-    ghost use Rattle.exchange.specs.declared.done.Done.{Done};
+    ghost use Rattle.client.specs.declared.fetched.Fetched.{Fetched};
     ghost use Rattle.exchange.specs.declared.job.Job.{Job};
 
     /// From the one time to the other it carried out that job, and this came of it.
-    ghost fetched: { Self → Self → Job → Done → Type 0 };
+    ghost fetched: { Self → Self → Job → Fetched → Type 0 };
 
-    /// Carries out a job, and answers how its transfer ended.
-    fn fetch(&mut self, job: &Job) -> Done
+    /// Carries out a job, and answers how its transfer ended, and whether its request was tried
+    /// once more.
+    fn fetch(&mut self, job: &Job) -> Fetched
         ensures { fetched self.old self.new job.now result };
 }
 

@@ -3,6 +3,7 @@
 ghost use Rattle.std.specs.Prelude.{◌≡◌, Some, IfOk, string_bytes};
 ghost use Rattle.cli.specs.GetLines.{end_text, fault_name, line_of, retry_word, reuse_word};
 
+use client::Fetched;
 use exchange::{Answer, Done, Fault};
 use std::alloc::{AllocError, Global};
 use std::fmt;
@@ -41,8 +42,7 @@ impl fmt::Display for EndText {
                 let status = answer.status;
                 let length = answer.body_len;
                 let reuse = reuse_word(answer.reused);
-                let retry = retry_word(answer.retried);
-                write!(f, "{status} {length} {reuse}{retry}")
+                write!(f, "{status} {length} {reuse}")
             }
             Done::Bad(fault) => {
                 let name = FaultName(fault);
@@ -66,14 +66,16 @@ fn retry_word(retried: bool) -> &'static str
     if retried { " retried" } else { "" }
 }
 
-/// The line that tells how the transfer of that URL ended, with the line feed at its end.
+/// The line that tells how the transfer of that URL ended, and whether its request was tried once
+/// more, with the line feed at its end.
 ///
 /// # Errors
 ///
 /// There is no memory for it.
-pub fn line_text(alloc: Global, url: &str, done: Done) -> Result<String, AllocError>
-    ensures { IfOk result (λ text. string_bytes text ≡ line_of url.now done) }
+pub fn line_text(alloc: Global, url: &str, fetched: Fetched) -> Result<String, AllocError>
+    ensures { IfOk result (λ text. string_bytes text ≡ line_of url.now fetched) }
 {
-    let end = EndText(done);
-    format!(in alloc; "{end} {url}\n")
+    let end = EndText(fetched.done);
+    let retry = retry_word(fetched.retried);
+    format!(in alloc; "{end}{retry} {url}\n")
 }

@@ -8,8 +8,8 @@ ghost use Rattle.client.specs.Fetching.{Fetches};
 use crate::get::fetching::{Fetcher, Network, NetworkFault};
 use budget::Limits;
 use cache::Pool;
-use client::Client;
-use exchange::{Done, Job, Wire};
+use client::{Client, Fetched};
+use exchange::{Job, Wire};
 use socket::{Addresses, SystemClock, WaitingDial, WaitingWire};
 use std::alloc::Global;
 use std::io;
@@ -110,11 +110,11 @@ pub struct SystemFetcher<'a> {
 }
 
 impl Fetcher for SystemFetcher<'_> {
-    ghost fetched = { λ old new job done. Fetches DidToPool
+    ghost fetched = { λ old new job fetched. Fetches DidToPool
         (world_of ⟦<WaitingWire as Wire>⟧.untouched ⟦<WaitingWire as Wire>⟧.happened (λ moment. ⊤))
-        job old.client.pool new.client.pool done };
+        job old.client.pool new.client.pool fetched };
 
-    fn fetch(&mut self, job: &Job) -> Done {
+    fn fetch(&mut self, job: &Job) -> Fetched {
         self.client.fetch(job, self.limit)
     }
 }

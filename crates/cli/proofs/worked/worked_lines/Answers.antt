@@ -7,4 +7,4 @@ unfolding digits
 returns-clause-responses c = λ facts. (refl, refl)
 
 pub returns-clause-faults : goal.returns-clause-faults
-returns-clause-faults c = (refl, refl)
+returns-clause-faults c = (refl, refl, refl)

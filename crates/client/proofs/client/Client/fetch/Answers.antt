@@ -6,7 +6,7 @@ use Rattle.cache.specs.Deeds.{DidToPool}
 use Rattle.exchange.specs.Worlds.{world_of}
 use Rattle.exchange.specs.Since.{since}
 use Rattle.exchange.specs.Exchanging.{Stands}
-use Rattle.exchange.specs.Carrying.{IsForJob}
+use Rattle.exchange.specs.Carrying.{CarriesOut, IsForJob}
 use Rattle.exchange.proofs.Opened.{opens_one, ends_dials}
 use Rattle.client.proofs.client.Client.fetch.Goals as goal
 
@@ -14,7 +14,7 @@ pub returns-clause-fetches : goal.returns-clause-fetches
 returns-clause-fetches g c =
     let begun : Stands (DidToPool {S = g.row.W.Denot}) (world_of g.W.Wire.untouched g.W.Wire.happened (λ moment. ⊤)) c.new-transfer.result.parts (since c.args.self.now.pool) c.prepared.new.self.pool c.new-transfer.result.state = search rules in
     let its : IsForJob c.args.job.now c.poll_to_its_end.new.transfer.parts = search rules in
-    inl (record {
+    let carried : CarriesOut (DidToPool {S = g.row.W.Denot}) (world_of g.W.Wire.untouched g.W.Wire.happened (λ moment. ⊤)) c.args.job.now c.args.self.now.pool c.close-done.new.cache c.close-done.result.0 = record {
       parts = c.poll_to_its_end.new.transfer.parts;
       its = its;
       last = c.poll_to_its_end.new.self.pool;
@@ -24,7 +24,9 @@ returns-clause-fetches g c =
       told = tt;
       closed = search rules;
       ends = search rules;
-    })
+    } in
+    let retried : c.retried-retried.result ≡ c.poll_to_its_end.new.transfer.parts.retried = search rules in
+    inl (carried, retried)
 
 pub returns-clause-opens : goal.returns-clause-opens
 returns-clause-opens g c =
