@@ -16,6 +16,8 @@ mod desk;
 #[cfg(test)]
 mod drops;
 #[cfg(test)]
+mod first_hosts;
+#[cfg(test)]
 mod keeper;
 #[cfg(test)]
 mod limits;

@@ -1,18 +1,19 @@
 //! What want of memory leaves. Each of these tests passes whichever allocation fails: the refusal
-//! says so and changes nothing, the call succeeds when it comes again, and spending takes none.
+//! says so and changes nothing, the call succeeds when it comes again, and spending takes none. In
+//! the last one all memory may be refused from some moment on.
 
-ghost use Rattle.std.specs.Prelude.{◌≡◌};
+ghost use Rattle.std.specs.Prelude.{◌≡◌, IfSome};
 ghost use Rattle.bundle.specs.Lease.{IsMadeAt};
 ghost use Rattle.bundle.specs.Replies.{GivesLease};
 
 use crate::cuts::cut_at_last;
 use crate::desk::{
     Desk, Stream, attach_new, booking_of, claimed, drop_lease, give_back, lease_of, leave,
-    ticket_of, told, want_of,
+    ticket_of, told, told_at_turn, want_of,
 };
-use budget::{Pass, Refusal};
-use bundle::{Bundle, Changed, Got, Lease, Ticket};
-use conn_log::Want;
+use budget::{Pass, Refusal, Try};
+use bundle::{Booking, Bundle, Changed, Got, Lease, Shortage, Ticket};
+use conn_log::{Stamp, Want};
 use std::alloc::Global;
 use std::process::Abort;
 use std::test::Fail;
@@ -188,4 +189,83 @@ fn want_of_memory_refuses_a_new_limit(rt: HostRuntime) -> Result<(), Fail> {
     drop_lease(&rt, &mut desk, second, 0);
     assert_eq!(rt; desk.bundle.log().len(), 46);
     Ok(())
+}
+
+// A lease of a new connection, with its stream, if there is memory for it.
+fn leased_or_none(rt: &impl Abort, desk: &mut Desk<Stream>, transfer: u64) -> Option<Lease<Stream>>
+    ensures made_here { IfSome result (λ lease. lease.tables ≡ desk.old.here) }
+    ensures same { desk.new ≡ desk.old }
+{
+    match desk.acquire(want_of(transfer), 0) {
+        Ok(got) => {
+            let mut lease = lease_of(rt, got);
+            attach_new(&mut lease);
+            Some(lease)
+        }
+        Err(refusal) => {
+            assert_eq!(rt; refusal, Refusal::Memory);
+            None
+        }
+    }
+}
+
+// Two transfers have the connections that there may be in all, and a third one was told so. It
+// tries again, waits, has a turn for which there is no room, and is granted what the first one gives
+// back; what the second one gives back makes room. All of it takes no memory.
+fn spend_all(
+    rt: &impl Abort,
+    desk: &mut Desk<Stream>,
+    leases: (Lease<Stream>, Lease<Stream>),
+    booking: Booking,
+    short: Shortage,
+)
+    requires first { leases.0.tables ≡ desk.old.here }
+    requires second { leases.1.tables ≡ desk.old.here }
+{
+    let (first, second) = leases;
+    let booking = booking_of(rt, desk.retry(rt, booking, 0));
+    let ticket = ticket_of(rt, desk.retry_at_last(rt, booking, 0));
+    assert_eq!(rt; told_at_turn(desk.serve_queued(0)), Some(Try::Full));
+    give_back(rt, desk, first, 1);
+    let third = claimed(rt, desk, ticket);
+    assert_eq!(rt; third.reused(), true);
+    give_back(rt, desk, second, 2);
+    let oldest = Stamp {
+        since: 2,
+        host: 7,
+        number: 2,
+    };
+    assert_eq!(rt; desk.evict_oldest(oldest, short, 3), true);
+    give_back(rt, desk, third, 4);
+    assert_eq!(rt; desk.prune(9, 0, 0), 1);
+    assert_eq!(rt; desk.bundle.log().len(), 9);
+}
+
+// From the first refusal on there may be no memory at all.
+#[test]
+fn want_of_memory_for_good_spends_all(rt: HostRuntime) {
+    let Ok(mut desk) = Desk::new(rt.alloc(), (0, 2, 4), 1) else {
+        return;
+    };
+    let Some(first) = leased_or_none(&rt, &mut desk, 1) else {
+        return;
+    };
+    let Some(second) = leased_or_none(&rt, &mut desk, 2) else {
+        give_back(&rt, &mut desk, first, 1);
+        assert_eq!(rt; desk.prune(9, 0, 0), 1);
+        return;
+    };
+    match desk.acquire(want_of(3), 0) {
+        Ok(Got::NoRoom(no_room)) => {
+            let (booking, short) = no_room.part();
+            spend_all(&rt, &mut desk, (first, second), booking, short);
+        }
+        Ok(_got) => panic!(rt; "there is room"),
+        Err(refusal) => {
+            assert_eq!(rt; refusal, Refusal::Memory);
+            give_back(&rt, &mut desk, first, 1);
+            give_back(&rt, &mut desk, second, 2);
+            assert_eq!(rt; desk.prune(9, 0, 0), 2);
+        }
+    }
 }
