@@ -1,15 +1,11 @@
 -- A host is listed exactly if a transfer waits there beside room.
-use Rattle.std.proofs.Common.{◌≡◌, ℕ, ◌<◌, ◌≤◌, Bool, true, false, not, ◌&&◌, ◌==◌, List, length, sym, ap, subst, ◌∙◌, refl, arith}
-use Rattle.std.specs.Prelude.{IsTrue}
-use mathlib.Core.Bool.{false≢true}
-use Rattle.std.specs.List.{All, Contains}
+use Rattle.std.proofs.Common.{◌≡◌, ℕ, ◌<◌, ◌≤◌, Bool, true, false, not, ◌&&◌, ◌==◌, List, length, sym, ap, ◌∙◌, refl, arith}
 use Rattle.std.proofs.lemmas.Bool.Decides.{nat_tests}
 use Rattle.std.proofs.lemmas.List.Elements.{All-contains}
 use Rattle.conn_log.specs.declared.entry.Entry.{Entry}
-use Rattle.conn_log.specs.declared.entry.Want.{Want}
 use Rattle.conn_log.specs.Connections.{open_connections}
 use Rattle.conn_log.specs.Waiting.{waiting}
-use Rattle.conn_log.specs.Legal.{LimitAndFirst, IsAnyone, limit_in_force}
+use Rattle.conn_log.specs.Legal.{LimitAndFirst, limit_in_force}
 use Rattle.conn_log.proofs.Soundness.{and_left, and_right}
 use Rattle.host_state.specs.Steps.{is_full}
 use Rattle.host_rules.specs.Calls.{is_anyone, is_queued}

@@ -1,5 +1,5 @@
 -- Which hosts the Lobby lists, under the lock of a host and the Lobby's.
-use Rattle.std.specs.Prelude.{◌≡◌, ℕ, ◌<◌, ◌≤◌, List, length, Bool, IsTrue}
+use Rattle.std.specs.Prelude.{◌≡◌, ◌<◌, ◌≤◌, List, length, Bool, IsTrue}
 use Rattle.std.specs.List.{Contains}
 use Rattle.conn_log.specs.declared.entry.Entry.{Entry}
 use Rattle.conn_log.specs.Connections.{open_connections}
