@@ -64,7 +64,10 @@ fn want_of_memory_refuses_what_one_thread_counts(rt: HostRuntime) {
 
 fn check_words<R: Abort + AllocGlobal>(rt: &R) {
     let limits = limits_of(rt);
-    let (budget, seat): (WordBudget<()>, BudgetSeat<()>) = match WordBudget::new(rt.alloc(), limits) {
+    let (budget, seat): (WordBudget<()>, BudgetSeat<()>) = match WordBudget::new(
+        rt.alloc(),
+        limits,
+    ) {
         Ok(made) => made,
         Err(refusal) => {
             check_memory(rt, refusal);

@@ -30,12 +30,7 @@ impl Machine for Forgetful {
 }
 
 // Runs a script without memory for its nth command.
-fn run_until(
-    alloc: Global,
-    script: &[u8],
-    nth: u32,
-    out: &mut Vec<u8>,
-) -> Result<(), ScriptFault> {
+fn run_until(alloc: Global, script: &[u8], nth: u32, out: &mut Vec<u8>) -> Result<(), ScriptFault> {
     if script.len() > SCRIPT_LIMIT {
         return Err(ScriptFault {
             line: 0,

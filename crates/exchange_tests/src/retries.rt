@@ -68,12 +68,22 @@ fn ended<R: Abort + AllocGlobal + RandomSource>(
     let waiting = poll_once(&solo, &mut second, &mut pool, &mut dial);
     let again = poll_once(&solo, &mut first, &mut pool, &mut dial);
     let stage = first.waits_on();
-    go_on(goes_on, &solo, &mut first, &mut second, &mut pool, &mut dial);
+    go_on(
+        goes_on,
+        &solo,
+        &mut first,
+        &mut second,
+        &mut pool,
+        &mut dial,
+    );
     let (one, parts) = first.close(NOW, &mut pool, &mut dial);
     let _over = poll_once(&solo, &mut second, &mut pool, &mut dial);
     let (two, _) = second.close(NOW, &mut pool, &mut dial);
     // whether each poll was ready, and spent a lease
-    assert_eq!(rt; (reading, waiting, again), ((false, false), (false, false), (false, true)));
+    assert_eq!(rt;
+        (reading, waiting, again),
+        ((false, false), (false, false), (false, true))
+    );
     assert_eq!(rt; stage, Stage::Grant);
     ([one, two], parts.retried(), pool)
 }

@@ -289,12 +289,17 @@ fn ask_each_host<N: Names>(
 }
 
 // The only connection of each host is closed for its cause, at the end of its log.
-fn check_closings<N: Names>(rt: &(impl Wait + Abort), cache: &SharedCache<Stream, N>, causes: &[Cause]) {
+fn check_closings<N: Names>(
+    rt: &(impl Wait + Abort),
+    cache: &SharedCache<Stream, N>,
+    causes: &[Cause],
+) {
     let mut site: u32 = 0;
     for &cause in causes {
         let last = cache.inspect(rt, site, |bundle: &Bundle<Stream>| {
             let log = bundle.log();
-            log.get(log.len().saturating_sub(1)).map(|entry| entry.event)
+            log.get(log.len().saturating_sub(1))
+                .map(|entry| entry.event)
         });
         let closed = Event::Closed {
             connection: 1,
@@ -320,7 +325,11 @@ fn serve_all<N: Names, R: Wait + Abort>(rt: &R, alloc: Global, plan: Plan<Stream
         if site >= row.at_once {
             // each connection that comes back makes room for the next of those that wait
             let opened = u64::from(site - row.at_once).saturating_add(1);
-            check_said(rt, desk.claim(rt, &cache, transfer), Said::Opened(1, opened));
+            check_said(
+                rt,
+                desk.claim(rt, &cache, transfer),
+                Said::Opened(1, opened),
+            );
         }
         desk.back(rt, &cache, transfer, KEEP, transfer.saturating_add(1));
     }
