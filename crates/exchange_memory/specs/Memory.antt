@@ -20,6 +20,17 @@ pub record IsUntouched (wire : MemoryWire) : Type 0 where
   pub sent : wire.sent.items ≡ []
   pub answered_is : answered wire ≡ []
 
+-- it is the same, but for the most bytes that a read gives
+pub record IsSameButForReads (old new : MemoryWire) : Type 0 where
+  pub response : new.response ≡ old.response
+  pub place : new.place ≡ old.place
+  pub reads : new.reads ≡ old.reads
+  pub sent : new.sent ≡ old.sent
+  pub most_written : new.most_written ≡ old.most_written
+  pub writes : new.writes ≡ old.writes
+  pub failures : new.failures ≡ old.failures
+  pub source : new.source ≡ old.source
+
 -- it has sent that much more, and its peer has answered that much more of the same script
 pub record Carries (sent received : List ℕ) (old new : MemoryWire) : Type 0 where
   pub script : new.response.items ≡ old.response.items

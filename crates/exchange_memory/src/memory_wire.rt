@@ -27,7 +27,7 @@ pub struct MemoryWire {
 }
 
 impl MemoryWire {
-    ghost use Rattle.exchange_memory.specs.Memory.{IsUntouched};
+    ghost use Rattle.exchange_memory.specs.Memory.{IsUntouched, IsSameButForReads};
 
     /// A wire whose peer answers these bytes. It has room for so many bytes that are sent: a write
     /// that has none left is a fault.
@@ -56,7 +56,8 @@ impl MemoryWire {
 
     /// Each read gives at most so many bytes; 0 counts as one.
     pub fn set_most_read(&mut self, most: usize)
-        ensures { self.new ≡ record self.old { most_read = max most 1 } }
+        ensures most { self.new.most_read ≡ max most 1 }
+        ensures rest { IsSameButForReads self.old self.new }
     {
         self.most_read = most.max(1);
     }
