@@ -209,21 +209,21 @@ module _ {W : Type 0} (world : World W) (may_stop : ℕ → Type 0) (names : Cac
   last_worked workers rest worker is worked = (All-pop (HasWorked world may_stop names claim jobs) workers rest (Some worker) is worked).1
 
   -- nothing is asked where one has given up
-  has_quit : {P : Type 0} (quit : Quit) (earlier : Option Quit) → IfNone (first_quit (Some quit) earlier) P
-  has_quit Memory earlier = tt
-  has_quit Poll earlier = tt
-  has_quit Told None = tt
-  has_quit Told (Some quit) = tt
+  has_quit : (P : Type 0) (quit : Quit) (earlier : Option Quit) → IfNone (first_quit (Some quit) earlier) P
+  has_quit P Memory earlier = tt
+  has_quit P Poll earlier = tt
+  has_quit P Told None = tt
+  has_quit P Told (Some quit) = tt
 
   next_past : (seat other : Drawn) (met quit : Option Quit) (rest : List WorkerShown) → IfNone met (0 < other.past) → IfNone (first_quit met quit) ((length rest ≡ all) ⊎ (0 < (together seat other).past))
-  next_past seat other (Some one) quit rest past = has_quit one quit
+  next_past seat other (Some one) quit rest past = has_quit _ one quit
   next_past seat other None (Some one) rest past = tt
   next_past seat other None None rest past = inr (omega (arith, past))
 
   next_collected : (opened failed : ℕ) (seat other : Drawn) (results placed : List Done) (passes : List Accounts) (pass : Accounts) (own : List Result) (met quit : Option Quit)
       → HasWorked world may_stop names claim jobs (left_with opened failed other pass own met) → IsPlaced own results placed → IfNone quit (IsCollected world may_stop names jobs seat results passes)
       → IfNone (first_quit met quit) (IsCollected world may_stop names jobs (together seat other) placed (passes ++ pass ∷ []))
-  next_collected opened failed seat other results placed passes pass own (Some one) quit has put so_far = has_quit one quit
+  next_collected opened failed seat other results placed passes pass own (Some one) quit has put so_far = has_quit _ one quit
   next_collected opened failed seat other results placed passes pass own None (Some one) has put so_far = tt
   next_collected opened failed seat other results placed passes pass own None None has put so_far =
       collected_more world may_stop names jobs seat other results placed passes (record { results = own; pass = pass }) so_far has.work has.drawn has.fit put

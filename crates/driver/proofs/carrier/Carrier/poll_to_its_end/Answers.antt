@@ -42,4 +42,5 @@ loop-preserved g c =
       story = search rules;
       opens = search rules;
       begun = begun;
+      turns = search rules;
     }

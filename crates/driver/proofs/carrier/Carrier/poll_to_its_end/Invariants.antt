@@ -14,4 +14,5 @@ invariant-loop g l = record {
   story : Continues g.C.Cache.did (world_of g.W.Wire.untouched g.W.Wire.happened (g.K.Clock.tells l.fn.shared.clock.now)) l.fn.transfer.parts l.transfer.parts l.fn.cache l.cache l.fn.transfer.state l.transfer.state;
   opens : OpensFew l.fn.transfer.parts l.transfer.parts l.fn.transfer.state l.transfer.state (g.D.Dial.opened l.fn.self.dial.now) (g.D.Dial.opened l.self.dial.now);
   begun : DialsItsOwn (g.D.Dial.begun l.fn.self.dial.now) (g.D.Dial.begun l.self.dial.now) l.fn.transfer.parts.want.transfer l.fn.transfer.state l.transfer.state;
+  turns : g.D.Dial.turn_failures l.self.dial.now ≡ g.D.Dial.turn_failures l.fn.self.dial.now;
 }
