@@ -13,25 +13,25 @@ use Rattle.script_run.specs.Streams.{Stream, SameFailures}
 use Rattle.cli.specs.declared.get.plan.UrlJob.{UrlJob}
 
 -- so many of the jobs are carried out and told, and so many of these failed
-pub record FetchedSoFar {F : Type 0} (Fetched : Carrying F) (first mid : F) (jobs : List UrlJob) (count : ℕ) (old new : Stream) (failed : ℕ) : Type 0 where
+pub record FetchedSoFar {F : Type 0} (Carries : Carrying F) (first mid : F) (jobs : List UrlJob) (count : ℕ) (old new : Stream) (failed : ℕ) : Type 0 where
   pub dones : List Fetched
   pub count_is : length dones ≡ count
-  pub fetched : AreFetched Fetched first mid jobs dones
+  pub fetched : AreFetched Carries first mid jobs dones
   pub written : WritesLines jobs dones old new
   pub failed_is : failed ≡ count_by has_failed dones
 
-pub none-fetched : {F : Type 0} (Fetched : Carrying F) (first : F) (jobs : List UrlJob) (old : Stream) → FetchedSoFar Fetched first first jobs 0 old old 0
-none-fetched Fetched first jobs old = record { dones = []; count_is = refl; fetched = refl; written = (Appends-nil old.bytes, refl); failed_is = refl }
+pub none-fetched : {F : Type 0} (Carries : Carrying F) (first : F) (jobs : List UrlJob) (old : Stream) → FetchedSoFar Carries first first jobs 0 old old 0
+none-fetched Carries first jobs old = record { dones = []; count_is = refl; fetched = refl; written = (Appends-nil old.bytes, refl); failed_is = refl }
 
 -- one more is carried out
-pub fetched-more : {F : Type 0} (Fetched : Carrying F) (first mid last : F) (jobs : List UrlJob) (dones : List Fetched) (given : UrlJob) (done : Fetched)
-    → AreFetched Fetched first mid jobs dones → length dones < length jobs → given ≡ get_or jobs (length dones) given → Fetched mid last given.job done
-    → AreFetched Fetched first last jobs (dones ++ done ∷ [])
-fetched-more Fetched first mid last [] dones given done so_far below at one = absurd (omega arith)
-fetched-more Fetched first mid last (j ∷ jobs) [] given done so_far below at one =
-    (last, subst (λ (from : _). Fetched from last j.job done) so_far (subst (λ (g : UrlJob). Fetched mid last g.job done) at one), refl)
-fetched-more Fetched first mid last (j ∷ jobs) (d ∷ dones) given done so_far below at one =
-    (so_far.0, so_far.1, fetched-more Fetched so_far.0 mid last jobs dones given done so_far.2 (omega arith) at one)
+pub fetched-more : {F : Type 0} (Carries : Carrying F) (first mid last : F) (jobs : List UrlJob) (dones : List Fetched) (given : UrlJob) (done : Fetched)
+    → AreFetched Carries first mid jobs dones → length dones < length jobs → given ≡ get_or jobs (length dones) given → Carries mid last given.job done
+    → AreFetched Carries first last jobs (dones ++ done ∷ [])
+fetched-more Carries first mid last [] dones given done so_far below at one = absurd (omega arith)
+fetched-more Carries first mid last (j ∷ jobs) [] given done so_far below at one =
+    (last, subst (λ (from : _). Carries from last j.job done) so_far (subst (λ (g : UrlJob). Carries mid last g.job done) at one), refl)
+fetched-more Carries first mid last (j ∷ jobs) (d ∷ dones) given done so_far below at one =
+    (so_far.0, so_far.1, fetched-more Carries so_far.0 mid last jobs dones given done so_far.2 (omega arith) at one)
 
 -- the lines of one more
 pub lines-more : (jobs : List UrlJob) (dones : List Fetched) (given : UrlJob) (done : Fetched) → length dones < length jobs → given ≡ get_or jobs (length dones) given
@@ -43,18 +43,18 @@ lines-more (j ∷ jobs) (d ∷ dones) given done below at =
     ∙ sym (append_assoc (line_of (string_bytes j.url) d) (lines_of jobs dones) (line_of (string_bytes given.url) done))
 
 -- one more is carried out and told
-pub fetched-next : {F : Type 0} (Fetched : Carrying F) (first mid last : F) (jobs : List UrlJob) (count : ℕ) (old between new : Stream) (failed : ℕ) (given : UrlJob) (done : Fetched) (now : ℕ)
-    → FetchedSoFar Fetched first mid jobs count old between failed → count < length jobs → given ≡ get_or jobs count given → Fetched mid last given.job done
+pub fetched-next : {F : Type 0} (Carries : Carrying F) (first mid last : F) (jobs : List UrlJob) (count : ℕ) (old between new : Stream) (failed : ℕ) (given : UrlJob) (done : Fetched) (now : ℕ)
+    → FetchedSoFar Carries first mid jobs count old between failed → count < length jobs → given ≡ get_or jobs count given → Carries mid last given.job done
     → Appends between.bytes new.bytes (line_of (string_bytes given.url) done) → SameFailures between new → now ≡ failed + cond (has_failed done) 1 0
-    → FetchedSoFar Fetched first last jobs (count + 1) old new now
-fetched-next Fetched first mid last jobs count old between new failed given done now so_far below at one told same more =
+    → FetchedSoFar Carries first last jobs (count + 1) old new now
+fetched-next Carries first mid last jobs count old between new failed given done now so_far below at one told same more =
     let below' : length so_far.dones < length jobs = subst (λ n. n < length jobs) (sym so_far.count_is) below in
     let at' : given ≡ get_or jobs (length so_far.dones) given = subst (λ n. given ≡ get_or jobs n given) (sym so_far.count_is) at in
     let line = line_of (string_bytes given.url) done in
     record {
       dones = so_far.dones ++ done ∷ [];
       count_is = length-append so_far.dones (done ∷ []) ∙ ap (λ n. n + 1) so_far.count_is;
-      fetched = fetched-more Fetched first mid last jobs so_far.dones given done so_far.fetched below' at' one;
+      fetched = fetched-more Carries first mid last jobs so_far.dones given done so_far.fetched below' at' one;
       written = (
         subst (λ text. Appends old.bytes new.bytes text) (sym (lines-more jobs so_far.dones given done below' at'))
             (Appends-trans old.bytes between.bytes new.bytes (lines_of jobs so_far.dones) line so_far.written.0 told),
@@ -64,15 +64,15 @@ fetched-next Fetched first mid last jobs count old between new failed given done
     }
 
 -- one more is carried out, and not told whole
-pub fetched-stops : {F : Type 0} (Fetched : Carrying F) (first mid last : F) (jobs : List UrlJob) (count : ℕ) (old between new : Stream) (failed : ℕ) (given : UrlJob) (done : Fetched) (kind : FaultKind)
-    → FetchedSoFar Fetched first mid jobs count old between failed → count < length jobs → given ≡ get_or jobs count given → Fetched mid last given.job done
-    → LineFails between new (line_of (string_bytes given.url) done) kind → Fetches Fetched first last jobs old new (Err kind)
-fetched-stops Fetched first mid last jobs count old between new failed given done kind so_far below at one fails =
+pub fetched-stops : {F : Type 0} (Carries : Carrying F) (first mid last : F) (jobs : List UrlJob) (count : ℕ) (old between new : Stream) (failed : ℕ) (given : UrlJob) (done : Fetched) (kind : FaultKind)
+    → FetchedSoFar Carries first mid jobs count old between failed → count < length jobs → given ≡ get_or jobs count given → Carries mid last given.job done
+    → LineFails between new (line_of (string_bytes given.url) done) kind → Fetches Carries first last jobs old new (Err kind)
+fetched-stops Carries first mid last jobs count old between new failed given done kind so_far below at one fails =
     let below' : length so_far.dones < length jobs = subst (λ n. n < length jobs) (sym so_far.count_is) below in
     let at' : given ≡ get_or jobs (length so_far.dones) given = subst (λ n. given ≡ get_or jobs n given) (sym so_far.count_is) at in
     record {
       dones = so_far.dones ++ done ∷ [];
-      fetched = fetched-more Fetched first mid last jobs so_far.dones given done so_far.fetched below' at' one;
+      fetched = fetched-more Carries first mid last jobs so_far.dones given done so_far.fetched below' at' one;
       ends = record {
         before = so_far.dones;
         last = done;

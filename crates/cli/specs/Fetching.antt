@@ -19,9 +19,9 @@ Carrying F = F → F → Job → Fetched → Type 0
 
 -- the first of the jobs were carried out, one after another, from the one time to the other, and these came of them
 abbrev pub AreFetched : {F : Type 0} → Carrying F → F → F → List UrlJob → List Fetched → Type 0
-AreFetched Fetched first last jobs [] = last ≡ first
-AreFetched Fetched first last [] (done ∷ others) = ⊥
-AreFetched {F} Fetched first last (given ∷ jobs) (done ∷ others) = (next : F) × Fetched first next given.job done × AreFetched Fetched next last jobs others
+AreFetched Carries first last jobs [] = last ≡ first
+AreFetched Carries first last [] (done ∷ others) = ⊥
+AreFetched {F} Carries first last (given ∷ jobs) (done ∷ others) = (next : F) × Carries first next given.job done × AreFetched Carries next last jobs others
 
 -- the lines of these
 abbrev pub lines_of : List UrlJob → List Fetched → Text
@@ -59,9 +59,9 @@ abbrev pub EndsFetching : List UrlJob → List Fetched → Stream → Stream →
 EndsFetching jobs dones old new (Ok failed) = (length dones ≡ length jobs) × WritesLines jobs dones old new × (failed ≡ count_by has_failed dones)
 EndsFetching jobs dones old new (Err kind) = StopsAtLine jobs dones old new kind
 
-pub record Fetches {F : Type 0} (Fetched : Carrying F) (first last : F) (jobs : List UrlJob) (old new : Stream) (result : Result ℕ FaultKind) : Type 0 where
+pub record Fetches {F : Type 0} (Carries : Carrying F) (first last : F) (jobs : List UrlJob) (old new : Stream) (result : Result ℕ FaultKind) : Type 0 where
   pub dones : List Fetched
-  pub fetched : AreFetched Fetched first last jobs dones
+  pub fetched : AreFetched Carries first last jobs dones
   pub ends : EndsFetching jobs dones old new result
 
 -- 0 where all were good and written, else 4
@@ -79,21 +79,21 @@ abbrev pub Closing : Type 0 → Type 0 → Type 1
 Closing N F = N → N → F → Type 0
 
 -- the fetcher carries out the jobs and is then closed: it does nothing after the last of them
-pub record RunsFetcher {N F : Type 0} (Fetched : Carrying F) (Closes : Closing N F) (mid left : N) (first : F) (jobs : List UrlJob) (old new : Stream) (status : ℕ) : Type 0 where
+pub record RunsFetcher {N F : Type 0} (Carries : Carrying F) (Closes : Closing N F) (mid left : N) (first : F) (jobs : List UrlJob) (old new : Stream) (status : ℕ) : Type 0 where
   pub last : F
   pub result : Result ℕ FaultKind
-  pub fetches : Fetches Fetched first last jobs old new result
+  pub fetches : Fetches Carries first last jobs old new result
   pub closes : Closes mid left last
   pub ends : status ≡ fetched_status result
 
 -- nothing is written and nothing closed if there is none
 abbrev pub RunsOpened : {N F : Type 0} → Carrying F → Closing N F → N → N → List UrlJob → Result F NetworkFault → Stream → Stream → ℕ → Type 0
-RunsOpened Fetched Closes mid left jobs (Ok first) old new status = RunsFetcher Fetched Closes mid left first jobs old new status
-RunsOpened Fetched Closes mid left jobs (Err fault) old new status = (left ≡ mid) × (new ≡ old) × (status ≡ 4)
+RunsOpened Carries Closes mid left jobs (Ok first) old new status = RunsFetcher Carries Closes mid left first jobs old new status
+RunsOpened Carries Closes mid left jobs (Err fault) old new status = (left ≡ mid) × (new ≡ old) × (status ≡ 4)
 
 -- the jobs of a plan are carried out by one fetcher, of the network that is opened for its addresses
-pub record RunsPlan {N F : Type 0} (Opens : Connecting N F) (Fetched : Carrying F) (Closes : Closing N F) (network left : N) (plan : GetPlan) (old new : Stream) (status : ℕ) : Type 0 where
+pub record RunsPlan {N F : Type 0} (Opens : Connecting N F) (Carries : Carrying F) (Closes : Closing N F) (network left : N) (plan : GetPlan) (old new : Stream) (status : ℕ) : Type 0 where
   pub mid : N
   pub opened : Result F NetworkFault
   pub opens : Opens network mid plan.addresses plan.timeout opened
-  pub runs : RunsOpened Fetched Closes mid left plan.jobs.items opened old new status
+  pub runs : RunsOpened Carries Closes mid left plan.jobs.items opened old new status
