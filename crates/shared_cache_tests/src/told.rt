@@ -97,7 +97,7 @@ const LEASED_AGAIN: Event = Event::Leased {
     },
 };
 
-static ROWS: [Row; 5] = [
+static ROWS: [Row; 4] = [
     Row {
         name: "each call at a host tells what it answered",
         limits: (2, 0, 4),
