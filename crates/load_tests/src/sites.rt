@@ -73,7 +73,7 @@ fn was_retried(done: &Done) -> bool {
 }
 
 // Carries out a load with these numbers, beside a server that counts its requests.
-fn served<R: Threads + Wait + RandomSource + AllocGlobal + Sync + Abort>(
+fn load_told<R: Threads + Wait + RandomSource + AllocGlobal + Sync + Abort>(
     rt: &R,
     system: &HostRuntime,
     options: LoadOptions,
@@ -171,7 +171,7 @@ fn each_site_gets_the_requests_of_its_jobs(rt: HostRuntime) -> Result<(), Fail> 
     for row in &ROWS {
         let (sites, jobs, workers, total) = *row;
         let options = options_of(sites, jobs, workers, total).expect(&rt, "numbers in range");
-        let ran = served(&rt, &rt, options)?;
+        let ran = load_told(&rt, &rt, options)?;
         assert_eq!(rt; ran.results.len(), jobs as usize, "{options:?}");
         for site in 0..sites {
             let seen = ran.at(site);
