@@ -183,7 +183,7 @@ impl Desk {
             leases,
             tickets,
         } = self;
-        abandon_all(&mut pool, leases, now);
+        abandon_all(&mut pool, leases, &tickets, now);
         withdraw_all(rt, &mut pool, tickets, now);
         pool
     }
@@ -253,8 +253,11 @@ impl Desk {
     }
 }
 
-fn abandon_all(pool: &mut Pool<()>, leases: Vec<Lease<()>>, now: u64)
+// Abandons the leases; the tickets stay the pool's.
+fn abandon_all(pool: &mut Pool<()>, leases: Vec<Lease<()>>, tickets: &[Ticket], now: u64)
     requires here { All (IsMadeHere pool.old) leases.items }
+    requires tickets { All (IsTicketHere pool.old) tickets.now }
+    ensures tickets { All (IsTicketHere pool.new) tickets.now }
 {
     let mut leases = leases;
     while let Some(lease) = leases.pop() {
