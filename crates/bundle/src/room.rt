@@ -91,9 +91,9 @@ impl<S: Drop> Bundle<S> {
         lobby.delist(self.state.host());
     }
 
-    /// Closes the oldest idle connection, if it has that stamp, for the cause that the shortage has,
-    /// and frees its permits; it answers whether it did. The shortage is spent either way. `now` is
-    /// in seconds. It takes no memory.
+    /// Closes the oldest idle connection, if it has that stamp, for the shortage's cause, and frees
+    /// its permits; it answers whether it did. The shortage is spent either way. `now` is in
+    /// seconds. It takes no memory.
     pub fn evict_oldest<P: Permits<Asker>>(
         &mut self,
         stamp: Stamp,

@@ -210,8 +210,8 @@ fn leased_or_none(rt: &impl Abort, desk: &mut Desk<Stream>, transfer: u64) -> Op
 }
 
 // Two transfers have the connections that there may be in all, and a third one was told so. It
-// tries again, waits, has a turn for which there is no room, and is granted what the first one gives
-// back; what the second one gives back makes room. All of it takes no memory.
+// tries again, waits, has a turn for which there is no room, and is granted the connection that the
+// first one gives back; what the second one gives back makes room. All of it takes no memory.
 fn spend_all(
     rt: &impl Abort,
     desk: &mut Desk<Stream>,

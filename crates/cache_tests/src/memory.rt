@@ -1,5 +1,5 @@
-//! What want of memory leaves of a pool. The tests pass whichever allocation fails. In one of them
-//! the refusal says so and changes nothing, and the call succeeds when it comes again. In the others
+//! A pool after allocation failures. The tests pass whichever allocation fails. In one of them the
+//! refusal says so and changes nothing, and the call succeeds when it comes again. In the others
 //! all memory may be refused from some moment on.
 
 use crate::desk::{Desk, want_of};

@@ -61,8 +61,8 @@ impl Connection {
         }
     }
 
-    /// Whether it was dialled for that transfer to the host of that site, which has these addresses,
-    /// and nothing has happened on it yet.
+    /// Whether it was dialled for that transfer to the host of that site, to one of these addresses
+    /// of the host, and nothing has happened on it yet.
     pub(crate) fn is_for(&self, addresses: &[SocketAddr], site: u32, transfer: u64) -> bool
         ensures { result ≡ true → IsDialledTo addresses.now self.now site transfer }
     {
