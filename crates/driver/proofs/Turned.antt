@@ -1,17 +1,13 @@
 -- The failed turns of all workers' dials together: over a call of each worker, as workers are hired, and as they leave.
-use Rattle.std.proofs.Common.{◌≡◌, refl, sym, ap, ◌∙◌, ℕ, suc, take, get_or, ◌+◌, ◌<◌, ◌≤◌, ◌⊎◌, inl, inr, List, [], ◌∷◌, ◌++◌, length, Option, Some, None, arith}
-use Rattle.std.specs.Prelude.{Result, Ok, Err, IfErr, IsErrAnd}
+use Rattle.std.proofs.Common.{◌≡◌, refl, ap, ◌∙◌, ℕ, suc, take, get_or, ◌+◌, ◌<◌, ◌≤◌, ◌⊎◌, inl, inr, List, [], ◌∷◌, ◌++◌, length, Option, Some, None, arith}
 use Rattle.std.specs.List.{sum_by}
 use Rattle.std.proofs.lemmas.List.{length-append}
 use Rattle.std.proofs.lemmas.List.Sums.{sum_by-cons, sum_by_push, sum_by_more}
-use Rattle.driver.specs.declared.fault.DriverFault.{DriverFault}
-use Rattle.driver.specs.declared.fault.DriverFault.TheVariants as fault
 use Rattle.driver.specs.declared.quit.Quit.{Quit}
 use Rattle.driver.specs.declared.quit.Quit.TheVariants.{Memory, Poll, Told}
-use Rattle.driver.specs.Faults.{IsWorkerFault, ComeBack}
 use Rattle.driver.specs.Quits.{QuitsSo, fault_of, first_quit}
 use Rattle.driver.specs.Workers.{WorkerShown}
-use Rattle.driver.specs.Turns.{one_if_quit, one_if_polled, quits, polls, failed_of, RisesTogether, TurnedTogether, FaultTurns, DialsTurned}
+use Rattle.driver.specs.Turns.{one_if_quit, one_if_polled, quits, polls, failed_of, RisesTogether, TurnedTogether, FaultTurns}
 
 -- each worker's count of failed turns changed as its end says
 abbrev pub EachTurned : List WorkerShown → List WorkerShown → Type 0
@@ -156,37 +152,3 @@ module _ {D : Type 0} (failures : D → ℕ) where
       let next = sum_by_more failures dials place dial there in
       let its : failures dial ≡ failures (get_or dials place dial) = ap failures at in
       omega (arith, pushed, next, its, failed, so_far)
-
--- before a run began no turn failed in it
-pub none_turned : {D X Y : Type 0} (failures : D → ℕ) (dials : List D) (refused : DriverFault × Y) → (refused.0 ≡ fault.Poll → ⊥) → DialsTurned {D = D} {X = X} {Y = Y} failures dials (Err refused)
-none_turned failures dials refused other = record { later = dials; number = refl; turns = no_poll refused.0 (sum_by failures dials) other }
-  where
-    no_poll : (found : DriverFault) (count : ℕ) → (found ≡ fault.Poll → ⊥) → FaultTurns found count count
-    no_poll fault.Poll count other = absurd (other refl)
-    no_poll fault.Memory count other = tt
-    no_poll fault.BadWorkers count other = tt
-    no_poll fault.Doubled count other = tt
-    no_poll fault.Missing count other = tt
-    no_poll fault.Spawn count other = tt
-
--- the same of an error that is handed on
-pub none_turned_by : {D X Y : Type 0} (failures : D → ℕ) (dials : List D) (result : Result X (DriverFault × Y)) (refused : DriverFault × Y) → IsErrAnd result (λ other. other ≡ refused) → refused.0 ≡ fault.Memory → DialsTurned failures dials result
-none_turned_by failures dials (Ok report) refused same memory = absurd same
-none_turned_by {Y = Y} failures dials (Err other) refused same memory = none_turned failures dials other (λ is. memory_apart (sym (ap (λ (pair : DriverFault × Y). pair.0) same ∙ memory) ∙ is))
-  where
-    memory_apart : fault.Memory ≡ fault.Poll → ⊥
-    memory_apart is = absurd (cc)
-
--- once a run has begun all passes come back
-pub all_come_back : {X Y : Type 0} (count : Y → ℕ) (result : Result X (DriverFault × Y)) (workers dials : ℕ) → workers ≡ dials → IfErr result (λ refused. IsWorkerFault refused.0) → IfErr result (λ refused. count refused.1 ≡ workers)
-    → IfErr result (λ refused. ComeBack refused.0 (count refused.1) dials)
-all_come_back count (Ok report) workers dials same met back = tt
-all_come_back count (Err refused) workers dials same met back = at_fault refused.0 (count refused.1) met (back ∙ same)
-  where
-    at_fault : (found : DriverFault) (passes : ℕ) → IsWorkerFault found → passes ≡ dials → ComeBack found passes dials
-    at_fault fault.Memory passes met all = omega (arith, all)
-    at_fault fault.Poll passes met all = all
-    at_fault fault.BadWorkers passes met all = absurd met
-    at_fault fault.Doubled passes met all = absurd met
-    at_fault fault.Missing passes met all = absurd met
-    at_fault fault.Spawn passes met all = absurd met
