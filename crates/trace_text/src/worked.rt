@@ -6,7 +6,7 @@ ghost use Rattle.trace_text.specs.Worked.{RefusesForms, RefusesOthers};
 
 /// What lines of a trace say, by computation: one of each form, those that are passed over, and
 /// some that are refused.
-pub fn worked_lines()
+pub fn worked_trace_lines()
     ensures starts { TellsStarts }
     ensures closes { TellsCloses }
     ensures queue { TellsOfTheQueue }
