@@ -193,8 +193,11 @@ fn if_none_left<'a>(line: &[u8], command: Command<'a>) -> Option<Command<'a>>
 }
 
 /// The command of that name, with the words after it.
+///
+/// Errors: `Unknown` if no command has that name, and `Form` if the words after it are not those
+/// that it takes.
 #[tactic(auto, unfolding(crate::specs::Grammar::command_of))]
-fn command_of<'a>(name: &[u8], line: &'a [u8]) -> Result<Command<'a>, FaultKind>
+pub fn command_of<'a>(name: &[u8], line: &'a [u8]) -> Result<Command<'a>, FaultKind>
     ensures { result ≡ command_of name.now (words line.now) }
 {
     if is_word(name, "limits") {

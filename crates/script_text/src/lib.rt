@@ -14,8 +14,10 @@ mod words;
 
 pub use command::{Action, Command, Ending, Limits};
 pub use fault::{FaultKind, ScriptFault};
-pub use grammar::read_line;
+pub use grammar::{LINE_LIMIT, command_of, read_line};
 pub use lines::first_line;
 pub use printing::LookLine;
 pub use replies::{claimed, lines_since, reply, still_waiting, too_many_leased, upkeep};
 pub use site::SiteWord;
+pub use words::{first_word, is_blank, is_word, place_of, small_number_of, text_first};
+pub use words::{number_of, u32_first, u64_first};

@@ -67,7 +67,7 @@ fn is_digits(word: &[u8]) -> bool
 
 /// The number that a word of decimal digits is, where it fits.
 #[tactic(auto, unfolding(crate::specs::Words::number))]
-fn number_of(word: &[u8]) -> Option<u64>
+pub fn number_of(word: &[u8]) -> Option<u64>
     ensures { result ≡ number (2 ^ 64) word.now }
 {
     if word.is_empty() || !is_digits(word) {
@@ -80,7 +80,7 @@ fn number_of(word: &[u8]) -> Option<u64>
 }
 
 /// The same of a number of 32 bits.
-fn small_number_of(word: &[u8]) -> Option<u32>
+pub fn small_number_of(word: &[u8]) -> Option<u32>
     ensures { result ≡ number (2 ^ 32) word.now }
 {
     match number_of(word) {
