@@ -1,0 +1,5 @@
+pub mod Buckets
+pub mod Tally
+pub mod Percentiles
+pub mod Laws
+pub mod Worked

@@ -1,0 +1,20 @@
+-- Percentiles of a histogram.
+use Rattle.std.specs.Prelude.{◌≡◌, ℕ, suc, ◌+◌, ◌*◌, ◌/◌, ◌<◌, ◌≤◌, List, length, max, min, sum, take}
+use Rattle.histogram.specs.Buckets.{highest_of}
+use Rattle.histogram.specs.Tally.{Tally}
+
+-- so many thousandths of the values, rounded up, and at least one value
+abbrev pub rank_of : ℕ → ℕ → ℕ
+rank_of values thousandths = max 1 ((values * thousandths + 999) / 1000)
+
+-- the least bucket that so many values do not pass
+pub record IsBucketAt (counts : List ℕ) (rank bucket : ℕ) : Type 0 where
+  pub there : bucket < length counts
+  pub enough : rank ≤ sum (take (suc bucket) counts)
+  pub fewer : sum (take bucket counts) < rank
+
+-- the greatest value of that bucket, or the greatest of all values if it is less
+pub record IsValueAt (tally : Tally) (rank value : ℕ) : Type 0 where
+  pub bucket : ℕ
+  pub is_least : IsBucketAt tally.counts rank bucket
+  pub value_is : value ≡ min (highest_of bucket) tally.greatest
