@@ -1,16 +1,14 @@
 -- A run goes on: by a job that is drawn and joins, a poll, a round, an end, and a close.
-use Rattle.std.proofs.Common.{◌≡◌, refl, sym, subst, ap, ◌∙◌, ℕ, ◌+◌, ◌<◌, ◌≤◌, ◌⊎◌, List, [], ◌∷◌, ◌++◌, arith, Option, Some, None, IsSomeAnd}
+use Rattle.std.proofs.Common.{◌≡◌, refl, sym, subst, ap, ◌∙◌, ℕ, ◌<◌, List, [], ◌∷◌, ◌++◌, arith, Option, Some, None, IsSomeAnd}
 use Rattle.std.specs.List.{All}
 use Rattle.std.proofs.lemmas.List.{append-nil}
 use Rattle.std.proofs.lemmas.List.Elements.{All-nil}
 use Rattle.bundle.specs.Seats.{Tables}
 use Rattle.conn_log.specs.declared.entry.Want.{Want}
-use Rattle.claim.specs.Draws.{times}
 use Rattle.leasing.specs.Deeds.{Deed}
 use Rattle.exchange.specs.declared.job.Job.{Job}
 use Rattle.exchange.specs.declared.job.Prepared.{Prepared}
 use Rattle.exchange.specs.declared.done.Done.{Done}
-use Rattle.exchange.specs.declared.state.State.{State}
 use Rattle.exchange.specs.declared.transfer.Transfer.{Transfer}
 use Rattle.exchange.specs.Answers.{IsPrepared}
 use Rattle.exchange.specs.Worlds.{World, Dials}
@@ -21,10 +19,10 @@ use Rattle.exchange.specs.Slabs.{ClosesOne, transfers_in}
 use Rattle.exchange.specs.Rounds.{Joins, PollsPlace, PollsPlaces, PollsInTurn}
 use Rattle.run_loop.specs.Deeds.{deeds_for, all_for}
 use Rattle.run_loop.specs.Endings.{EndsFor}
-use Rattle.run_loop.specs.Running.{number_of, numbers_of, IsUnderWay, IsRunning}
+use Rattle.run_loop.specs.Running.{number_of, IsUnderWay, IsRunning}
 use Rattle.run_loop.specs.Closing.{ClosesPlace}
 use Rattle.run_loop.proofs.Labels.{own_upon}
-use Rattle.run_loop.proofs.Beside.{IsBeside, taken_out, goes_on_beside, put_back, has_ended, is_drawn}
+use Rattle.run_loop.proofs.Beside.{taken_out, goes_on_beside, put_back, has_ended, is_drawn}
 use Rattle.run_loop.proofs.Places.{stands_between, comes_between}
 use Rattle.run_loop.proofs.Stories.{LeadsToEnd, prepared_for, same_job, polled_on, ended_so, closed_so, begins_so}
 

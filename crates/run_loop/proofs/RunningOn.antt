@@ -1,5 +1,5 @@
 -- A run goes on from one point to the next, whatever was done before.
-use Rattle.std.proofs.Common.{◌≡◌, refl, sym, subst, ap, ◌∙◌, ℕ, ◌+◌, ◌<◌, List, [], ◌∷◌, ◌++◌, arith, Option, Some, None, sum_by, Bool, true, false}
+use Rattle.std.proofs.Common.{◌≡◌, sym, subst, ap, ◌∙◌, ℕ, ◌+◌, ◌<◌, List, [], ◌∷◌, ◌++◌, arith, Option, Some, None, sum_by, false}
 use Rattle.std.specs.List.{All}
 use Rattle.std.proofs.lemmas.List.Elements.{All-weaker}
 use Rattle.bundle.specs.Seats.{Tables}
@@ -19,7 +19,7 @@ use Rattle.run_loop.specs.Endings.{EndsFor}
 use Rattle.run_loop.specs.Deeds.{deeds_for}
 use Rattle.run_loop.specs.Running.{IsCarriedOut, IsRunning}
 use Rattle.run_loop.specs.Going.{Rules, rules_of, Point, point, IsRunFrom, RunsOn, RunsOnWith, RunsToEnd, rules_at, may_stop_at, is_complete, IfComplete, IfStopped, MayClose}
-use Rattle.run_loop.specs.Steps.{JoinsAs, JoinsIf}
+use Rattle.run_loop.specs.Steps.{JoinsAs}
 use Rattle.run_loop.proofs.Going.{running_join, running_without, running_round, running_round_ends, running_close_last}
 
 -- a job that ended where it may be stopped has ended so wherever it may be stopped too

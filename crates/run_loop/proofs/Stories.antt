@@ -1,5 +1,5 @@
 -- What a poll and a close do for a job, by where its transfer stood.
-use Rattle.std.proofs.Common.{◌≡◌, refl, sym, subst, ap, ◌∙◌, ℕ, ◌⊎◌, inl, inr, Bool, List, [], ◌∷◌, ◌++◌, Option, Some, None, IsSomeAnd}
+use Rattle.std.proofs.Common.{◌≡◌, refl, sym, subst, ◌∙◌, ℕ, inl, inr, Bool, List, [], ◌∷◌, ◌++◌, Option, Some, None, IsSomeAnd}
 use Rattle.leasing.specs.Deeds.{Deed, AllDone, DropsBy, WithdrawsBy}
 use Rattle.leasing.specs.Deeds.Deed.{abandons, withdraws, finds_strange_lease, finds_strange_ticket}
 use Rattle.bundle.specs.Lease.{Leasing, Ticketed}
@@ -17,7 +17,7 @@ use Rattle.exchange.specs.Story.{AsksAt}
 use Rattle.exchange.specs.Standing.{StandsAt, StandsFrom, Ends, Drops}
 use Rattle.exchange.specs.Exchanging.{Stands, Continues, Cancels, CancelsAt, Closes, ClosesAt}
 use Rattle.exchange.specs.Carrying.{IsForJob}
-use Rattle.run_loop.specs.Endings.{LeavesQueue, GivesUp, IsCancelledAt, IsCancelled, HasEndedSo, EndsFor}
+use Rattle.run_loop.specs.Endings.{GivesUp, IsCancelledAt, IsCancelled, EndsFor}
 
 -- what was prepared for a job is that job's, and still is when it is of the same job
 pub prepared_for : (job : Job) (p : Prepared) → IsPrepared job p → IsForJob job p

@@ -1,5 +1,5 @@
 -- Memory in which a job can be prepared.
-use Rattle.std.specs.Prelude.{ℕ, ◌<◌, length}
+use Rattle.std.specs.Prelude.{◌<◌, length}
 use Rattle.exchange.specs.declared.job.Prepared.{Prepared}
 
 -- there is room to read into

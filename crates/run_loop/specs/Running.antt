@@ -1,5 +1,5 @@
 -- How far a run over one cache is: which jobs were drawn, which are under way, and which have results.
-use Rattle.std.specs.Prelude.{◌≡◌, ℕ, ◌+◌, ◌≤◌, List, [], map, Option, IsSomeAnd}
+use Rattle.std.specs.Prelude.{◌≡◌, ℕ, ◌+◌, ◌≤◌, List, [], map, IsSomeAnd}
 use Rattle.std.specs.List.{All}
 use Rattle.claim.specs.Draws.{times}
 use Rattle.leasing.specs.Deeds.{Deed, AllDone}

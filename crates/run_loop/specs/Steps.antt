@@ -6,7 +6,7 @@ use Rattle.exchange.specs.declared.transfer.Transfer.{Transfer}
 use Rattle.exchange.specs.Answers.{IsPrepared}
 use Rattle.exchange.specs.Rounds.{Joins}
 use Rattle.run_loop.specs.declared.run_loop.Next.{Next}
-use Rattle.run_loop.specs.declared.run_loop.Next.TheVariants.{Free, At, Never}
+use Rattle.run_loop.specs.declared.run_loop.Next.TheVariants.{Never}
 
 -- a transfer of the job of that number joined
 pub record JoinsAs {W : Type 0} (job : Job) (number : ℕ) (slots more : List (Option (Transfer W))) : Type 0 where

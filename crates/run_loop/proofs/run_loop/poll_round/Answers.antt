@@ -1,5 +1,5 @@
 -- What has ended has its result, one after another.
-use Rattle.std.proofs.Common.{rules, ◌≡◌, subst, ℕ}
+use Rattle.std.proofs.Common.{rules, subst, ℕ}
 use Rattle.exchange.specs.Worlds.{world_of, dials_of}
 use Rattle.run_loop.specs.Going.{rules_of, point}
 use Rattle.run_loop.proofs.RunningOn.{runs_same, runs_then, runs_round, runs_round_ends}

@@ -1,11 +1,11 @@
 -- A job that joins is begun; one that does not has its result, and nothing was done for it.
-use Rattle.std.proofs.Common.{◌≡◌, refl, sym, subst, List, Option, true, false}
+use Rattle.std.proofs.Common.{◌≡◌, refl, sym, subst, List, Option}
 use Rattle.exchange.specs.declared.done.Done.TheVariants.{Bad}
 use Rattle.exchange.specs.declared.done.Fault.TheVariants.{Memory}
 use Rattle.exchange.specs.declared.transfer.Transfer.{Transfer}
 use Rattle.exchange.specs.Worlds.{world_of}
 use Rattle.run_loop.specs.Going.{rules_of, RunsOnWith}
-use Rattle.run_loop.specs.Steps.{JoinsAs, JoinsIf}
+use Rattle.run_loop.specs.Steps.{JoinsAs}
 use Rattle.run_loop.proofs.RunningOn.{begins_without, begins_joined}
 use Rattle.run_loop.proofs.run_loop.RunLoop.begin.Goals as goal
 

@@ -1,5 +1,5 @@
 -- What is closed has its result, one after another.
-use Rattle.std.proofs.Common.{rules, ◌≡◌, subst, ℕ}
+use Rattle.std.proofs.Common.{rules, subst, ℕ}
 use Rattle.exchange.specs.Worlds.{world_of}
 use Rattle.run_loop.specs.Going.{rules_of, rules_at, point}
 use Rattle.run_loop.proofs.RunningOn.{runs_same, runs_then, runs_close, runs_empty, may_close_it, may_close_more}

@@ -1,10 +1,10 @@
 -- A job that was set aside has its result, and nothing was done for it.
-use Rattle.std.proofs.Common.{rules, ◌≡◌, refl, inl, ℕ, Some, false}
+use Rattle.std.proofs.Common.{rules, ◌≡◌, refl, inl, Some, false}
 use Rattle.exchange.specs.declared.done.Done.TheVariants.{Bad}
 use Rattle.exchange.specs.declared.done.Fault.TheVariants.{Cancelled}
 use Rattle.exchange.specs.Worlds.{world_of}
 use Rattle.run_loop.specs.Drawing.{DrawsNumber}
-use Rattle.run_loop.specs.Going.{rules_of, rules_at, point, is_complete, may_stop_at}
+use Rattle.run_loop.specs.Going.{rules_of, rules_at, point, is_complete}
 use Rattle.run_loop.proofs.RunningOn.{runs_same, runs_undrawn, runs_with, begins_without, may_close_now}
 use Rattle.run_loop.proofs.run_loop.RunLoop.drop_early.Goals as goal
 

@@ -1,5 +1,5 @@
 -- One job after another is drawn and begun.
-use Rattle.std.proofs.Common.{rules, ◌≡◌, subst, ◌∙◌, ℕ, Some}
+use Rattle.std.proofs.Common.{rules, subst, ◌∙◌, ℕ, Some}
 use Rattle.exchange.specs.declared.job.Job.{Job}
 use Rattle.exchange.specs.Worlds.{world_of}
 use Rattle.run_loop.specs.Drawing.{DrawsNumber}

@@ -1,5 +1,5 @@
 -- The run goes on by what it begins, and then by what it polls.
-use Rattle.std.proofs.Common.{rules, ◌≡◌, ◌∙◌}
+use Rattle.std.proofs.Common.{rules, ◌∙◌}
 use Rattle.exchange.specs.Worlds.{world_of}
 use Rattle.run_loop.specs.Going.{rules_of, point}
 use Rattle.run_loop.proofs.RunningOn.{runs_same, runs_in_turn}

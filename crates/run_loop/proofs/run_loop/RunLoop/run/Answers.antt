@@ -1,5 +1,5 @@
 -- The run goes on to its end, and what is left is closed.
-use Rattle.std.proofs.Common.{rules, ◌≡◌, sym, subst, List, [], Option}
+use Rattle.std.proofs.Common.{subst, List, [], Option}
 use Rattle.exchange.specs.declared.transfer.Transfer.{Transfer}
 use Rattle.exchange.specs.Worlds.{world_of}
 use Rattle.run_loop.specs.Going.{rules_of, rules_at, point, RunsOn}
