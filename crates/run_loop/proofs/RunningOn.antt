@@ -1,0 +1,182 @@
+-- A run goes on from one point to the next, whatever was done before.
+use Rattle.std.proofs.Common.{◌≡◌, sym, subst, ap, ◌∙◌, ℕ, ◌+◌, ◌<◌, List, [], ◌∷◌, ◌++◌, arith, Option, Some, None, sum_by, false}
+use Rattle.std.specs.List.{All}
+use Rattle.std.proofs.lemmas.List.Elements.{All-weaker}
+use Rattle.bundle.specs.Seats.{Tables}
+use Rattle.leasing.specs.Deeds.{Deed}
+use Rattle.exchange.specs.declared.job.Job.{Job}
+use Rattle.exchange.specs.declared.job.Prepared.{Prepared}
+use Rattle.exchange.specs.declared.done.Fault.TheVariants.{Memory, Dial, Read, Write, BadResponse, Cut, Refused, Cancelled}
+use Rattle.exchange.specs.declared.done.Done.{Done}
+use Rattle.exchange.specs.declared.done.Done.TheVariants.{Good, Bad}
+use Rattle.exchange.specs.declared.transfer.Transfer.{Transfer}
+use Rattle.exchange.specs.Worlds.{World, Dials}
+use Rattle.exchange.specs.Slabs.{ClosesOne, transfers_in, one_if_some}
+use Rattle.exchange.specs.Rounds.{PollsInTurn}
+use Rattle.run_loop.specs.declared.run_end.RunEnd.{RunEnd}
+use Rattle.run_loop.specs.declared.run_end.RunEnd.TheVariants.{Complete, Stopped, TurnFailed}
+use Rattle.run_loop.specs.Endings.{EndsFor}
+use Rattle.run_loop.specs.Deeds.{deeds_for}
+use Rattle.run_loop.specs.Running.{IsCarriedOut, IsRunning}
+use Rattle.run_loop.specs.Going.{Rules, rules_of, Point, point, IsRunFrom, RunsOn, RunsOnWith, RunsToEnd, rules_at, may_stop_at, is_complete, IfComplete, IfStopped, MayClose}
+use Rattle.run_loop.specs.Steps.{JoinsAs}
+use Rattle.run_loop.proofs.Going.{running_join, running_without, running_round, running_round_ends, running_close_last}
+
+-- a job that ended where it may be stopped has ended so wherever it may be stopped too
+ends_wider : {W : Type 0} (world : World W) (P Q : Type 0) → (P → Q) → (job : Job) (done : Done) (deeds : List (Deed W)) → EndsFor world P job done deeds → EndsFor world Q job done deeds
+ends_wider world P Q wider job (Good answer) deeds ends = ends
+ends_wider world P Q wider job (Bad Memory) deeds ends = ends
+ends_wider world P Q wider job (Bad Dial) deeds ends = ends
+ends_wider world P Q wider job (Bad Read) deeds ends = ends
+ends_wider world P Q wider job (Bad Write) deeds ends = ends
+ends_wider world P Q wider job (Bad BadResponse) deeds ends = ends
+ends_wider world P Q wider job (Bad Cut) deeds ends = ends
+ends_wider world P Q wider job (Bad (Refused refusal)) deeds ends = ends
+ends_wider world P Q wider job (Bad Cancelled) deeds ends = (wider ends.0, ends.1)
+
+may_wider : (end : RunEnd) (may_stop : ℕ → Type 0) (number : ℕ) → may_stop number → may_stop_at end may_stop number
+may_wider Complete may_stop number may = may
+may_wider Stopped may_stop number may = may
+may_wider TurnFailed may_stop number may = tt
+
+-- the jobs of a run's numbers stay the same
+pub runs_as : {C W R : Type 0} (does : C → C → Deed W → Type 0) (world : World W) (may_stop : ℕ → Type 0) (took : R → R → ℕ → Done → Type 0) (is was : ℕ → Job) → is ≡ was → (before after : Point C W R)
+    → RunsOn (rules_of does world may_stop is took) before after → RunsOn (rules_of does world may_stop was took) before after
+runs_as does world may_stop took is was same before after runs = subst (λ (job_at : ℕ → Job). RunsOn (rules_of does world may_stop job_at took) before after) same runs
+
+-- unless a run is complete, each may be stopped
+pub may_close_now : {W : Type 0} (may_stop : ℕ → Type 0) (slots : List (Option (Transfer W))) (end : RunEnd) → is_complete end ≡ false → MayClose end may_stop slots → (number : ℕ) → may_stop_at end may_stop number
+may_close_now may_stop slots Complete is may number = cc
+may_close_now may_stop slots Stopped is may number = may number
+may_close_now may_stop slots TurnFailed is may number = may number
+
+-- how a run ended tells that its transfers may be closed
+pub may_close_from : {W : Type 0} (may_stop : ℕ → Type 0) (slots : List (Option (Transfer W))) (end : RunEnd) → IfComplete end (sum_by one_if_some slots ≡ 0) → IfStopped end ((number : ℕ) → may_stop number) → MayClose end may_stop slots
+may_close_from may_stop slots Complete empty may = empty
+may_close_from may_stop slots Stopped empty may = may
+may_close_from may_stop slots TurnFailed empty may = λ number. tt
+
+-- where a transfer was closed, each may be stopped
+module _ {W : Type 0} (may_stop : ℕ → Type 0) (slots left : List (Option (Transfer W))) (fewer : sum_by one_if_some left + 1 ≡ sum_by one_if_some slots) where
+  pub may_close_it : (end : RunEnd) → MayClose end may_stop slots → (number : ℕ) → may_stop_at end may_stop number
+  may_close_it Complete none number = absurd (omega (arith, none, fewer))
+  may_close_it Stopped may number = may number
+  may_close_it TurnFailed may number = may number
+
+  pub may_close_more : (end : RunEnd) → MayClose end may_stop slots → MayClose end may_stop left
+  may_close_more Complete none = absurd (omega (arith, none, fewer))
+  may_close_more Stopped may = may
+  may_close_more TurnFailed may = may
+
+module _ {C W R : Type 0} (rules : Rules C W R) where
+  pub runs_same : (at : Point C W R) → RunsOn rules at at
+  runs_same at first begun is = is
+
+  pub runs_then : (before middle after : Point C W R) → RunsOn rules before middle → RunsOn rules middle after → RunsOn rules before after
+  runs_then before middle after once then first begun is = then first begun (once first begun is)
+
+  -- no number was drawn
+  pub runs_undrawn : (cache : C) (slots : List (Option (Transfer W))) (results : R) (drawn next : List ℕ) → next ≡ drawn → RunsOn rules (point cache drawn slots results) (point cache next slots results)
+  runs_undrawn cache slots results drawn next same = subst (λ (l : List ℕ). RunsOn rules (point cache drawn slots results) (point cache l slots results)) (sym same) (runs_same (point cache drawn slots results))
+
+  module _ (number : ℕ) (cache : C) (slots : List (Option (Transfer W))) where
+    -- a job that was drawn has a result, and nothing was done for it
+    pub begins_without : (old new : R) (done : Done) → EndsFor {W = W} rules.world (rules.may_stop number) (rules.job_at number) done [] → rules.took old new number done → RunsOnWith rules number cache slots old slots new
+    begins_without old new done ends took drawn above first begun is = record {
+      told = (number, done) ∷ is.told;
+      taken = (old, is.taken, took);
+      running = running_without rules.did rules.world rules.may_stop rules.job_at first cache drawn is.told number done (transfers_in slots) above ends is.running;
+    }
+
+    -- a transfer of it joins
+    pub begins_joined : (more : List (Option (Transfer W))) (results : R) → JoinsAs (rules.job_at number) number slots more → RunsOnWith rules number cache slots results more results
+    begins_joined more results joins drawn above first begun is = record {
+      told = is.told;
+      taken = is.taken;
+      running = running_join rules.did rules.world rules.may_stop rules.job_at first cache drawn is.told number joins.parts slots more above joins.prepared joins.bears joins.joins is.running;
+    }
+
+    -- once its number is drawn, the run goes on
+    pub runs_with : (more : List (Option (Transfer W))) (results told : R) (drawn next : List ℕ) → RunsOnWith rules number cache slots results more told → All (λ n. n < number) drawn → next ≡ drawn ++ number ∷ []
+        → RunsOn rules (point cache drawn slots results) (point cache next more told)
+    runs_with more results told drawn next begins above is =
+        subst (λ (l : List ℕ). RunsOn rules (point cache drawn slots results) (point cache l more told)) (sym is) (begins drawn above)
+
+  module _ {D : Type 0} (dials : Dials D) (before after : C) (old new : D) (drawn : List ℕ) (slots left : List (Option (Transfer W))) (results : R) where
+    -- a round polls what is due
+    pub runs_round : PollsInTurn rules.did rules.world dials before after old new slots left None → RunsOn rules (point before drawn slots results) (point after drawn left results)
+    runs_round round first begun is = record {
+      told = is.told;
+      taken = is.taken;
+      running = running_round rules.did rules.world rules.may_stop rules.job_at first dials before old drawn is.told slots is.running after new left round;
+    }
+
+    -- or up to one that has ended, whose result is taken
+    pub runs_round_ends : (done : Done) (used : Prepared) (told : R) → PollsInTurn rules.did rules.world dials before after old new slots left (Some (done, used)) → rules.took results told used.want.transfer done
+        → RunsOn rules (point before drawn slots results) (point after drawn left told)
+    runs_round_ends done used told round took first begun is = record {
+      told = (used.want.transfer, done) ∷ is.told;
+      taken = (results, is.taken, took);
+      running = running_round_ends rules.did rules.world rules.may_stop rules.job_at first dials before old drawn is.told slots is.running after new left (done, used) round;
+    }
+
+  -- the last transfer is closed, and its result is taken
+  pub runs_close : {D : Type 0} (home : List Tables) (before after : C) (begun_at : D → ℕ → Type 0) (old new : D) (drawn : List ℕ) (slots left : List (Option (Transfer W))) (results told : R) (done : Done) (used : Prepared)
+      → ClosesOne rules.did rules.world home before after begun_at old new slots left (done, used) → rules.may_stop used.want.transfer → rules.took results told used.want.transfer done
+      → RunsOn rules (point before drawn slots results) (point after drawn left told)
+  runs_close home before after begun_at old new drawn slots left results told done used closes may took first begun is = record {
+    told = (used.want.transfer, done) ∷ is.told;
+    taken = (results, is.taken, took);
+    running = running_close_last rules.did rules.world rules.may_stop rules.job_at first home before after begun_at old new drawn is.told slots left (done, used) closes may is.running;
+  }
+
+  -- nothing is closed if no transfer is left
+  pub runs_empty : (before after : C) (drawn : List ℕ) (slots left : List (Option (Transfer W))) (results : R) → after ≡ before → transfers_in slots ≡ [] → left ≡ [] → RunsOn rules (point before drawn slots results) (point after drawn left results)
+  runs_empty before after drawn slots left results same none is_empty first begun is =
+      let empty : transfers_in left ≡ transfers_in slots = ap transfers_in is_empty ∙ sym none in
+      record {
+        told = is.told;
+        taken = is.taken;
+        running = subst (λ (c : C). IsRunning rules.did rules.world rules.may_stop rules.job_at first c drawn (transfers_in left) is.told) (sym same)
+            (subst (λ (l : List (Transfer W)). IsRunning rules.did rules.world rules.may_stop rules.job_at first before drawn l is.told) (sym empty) is.running);
+      }
+
+  -- what a run promises before it ends, it promises at its end
+  pub runs_at_end : (end : RunEnd) (first : C) (begun : R) (at : Point C W R) → IsRunFrom rules first begun at → IsRunFrom (rules_at end rules) first begun at
+  runs_at_end end first begun at is =
+      let run = is.running in
+      record {
+        told = is.told;
+        taken = is.taken;
+        running = record {
+          all = run.all;
+          done = run.done;
+          under_way = run.under_way;
+          carried = All-weaker (λ (r : ℕ × Done). IsCarriedOut rules.world rules.may_stop rules.job_at run.all r.0 r.1) (λ (r : ℕ × Done). IsCarriedOut rules.world (may_stop_at end rules.may_stop) rules.job_at run.all r.0 r.1)
+              (λ r. ends_wider rules.world (rules.may_stop r.0) (may_stop_at end rules.may_stop r.0) (may_wider end rules.may_stop r.0) (rules.job_at r.0) r.1 (deeds_for r.0 run.all)) is.told run.carried;
+          counted = run.counted;
+          once = run.once;
+          none_else = run.none_else;
+        };
+      }
+
+  pub runs_to_end : (end : RunEnd) (before middle after : Point C W R) → RunsOn rules before middle → RunsOn (rules_at end rules) middle after → RunsToEnd end rules before after
+  runs_to_end end before middle after goes ends first begun is = ends first begun (runs_at_end end first begun middle (goes first begun is))
+
+-- one part of a run after another, where the jobs of its numbers stay the same
+pub runs_in_turn : {C W R : Type 0} (does : C → C → Deed W → Type 0) (world : World W) (may_stop : ℕ → Type 0) (took : R → R → ℕ → Done → Type 0) (was then last : ℕ → Job) → then ≡ was → last ≡ then → (first second third fourth : Point C W R)
+    → RunsOn (rules_of does world may_stop was took) first second → RunsOn (rules_of does world may_stop then took) second third → RunsOn (rules_of does world may_stop last took) third fourth → RunsOn (rules_of does world may_stop was took) first fourth
+runs_in_turn does world may_stop took was then last same still first second third fourth one two three =
+    let rules_ = rules_of does world may_stop was took in
+    runs_then rules_ first second fourth one
+    (runs_then rules_ second third fourth (runs_as does world may_stop took then was same second third two) (runs_as does world may_stop took last was (still ∙ same) third fourth three))
+
+-- and up to its end
+pub runs_whole : {C W R : Type 0} (does : C → C → Deed W → Type 0) (world : World W) (may_stop : ℕ → Type 0) (took : R → R → ℕ → Done → Type 0) (end : RunEnd) (was then last : ℕ → Job) → then ≡ was → last ≡ then → (first second third fourth : Point C W R)
+    → RunsOn (rules_of does world may_stop was took) first second → RunsOn (rules_at end (rules_of does world may_stop then took)) second third → RunsOn (rules_at end (rules_of does world may_stop last took)) third fourth
+    → RunsToEnd end (rules_of does world may_stop was took) first fourth
+runs_whole does world may_stop took end was then last same still first second third fourth one two three =
+    let rules_ = rules_of does world may_stop was took in
+    let may = may_stop_at end may_stop in
+    runs_to_end rules_ end first second fourth one
+    (runs_then (rules_at end rules_) second third fourth (runs_as does world may took then was same second third two) (runs_as does world may took last was (still ∙ same) third fourth three))

@@ -1,0 +1,67 @@
+-- The run goes on by what it begins, and then by what it polls.
+use Rattle.std.proofs.Common.{rules, ◌∙◌}
+use Rattle.exchange.specs.Worlds.{world_of}
+use Rattle.run_loop.specs.Going.{rules_of, point}
+use Rattle.run_loop.proofs.RunningOn.{runs_same, runs_in_turn}
+use Rattle.run_loop.proofs.run_loop.RunLoop.go_on.Goals as goal
+
+pub loop-init : goal.loop-init
+loop-init g c = record {
+  stays = search rules;
+  kept = search rules;
+  goes = runs_same (rules_of g.C.Cache.did (world_of g.W.Wire.untouched g.W.Wire.happened (g.T.Clock.tells c.args.timer.now)) (g.T.Timer.may_stop c.args.timer.now) (g.J.Jobs.job_at c.args.jobs.now) g.R.Results.took)
+      (point c.args.cache.now (g.J.Jobs.drawn c.args.jobs.now) c.args.self.now.slab.slots.items c.args.results.now);
+  jobs = search rules;
+  turns = search rules;
+}
+
+pub loop-preserved : goal.loop-preserved
+loop-preserved g c =
+    let did = g.C.Cache.did in
+    let took = g.R.Results.took in
+    let world = world_of g.W.Wire.untouched g.W.Wire.happened (g.T.Clock.tells c.args.timer.now) in
+    let may_stop = g.T.Timer.may_stop c.args.timer.now in
+    let job_at = g.J.Jobs.job_at in
+    let drawn = g.J.Jobs.drawn in
+    let filled = c.fill-next.new in
+    let polled = c.poll_due.new in
+    record {
+      stays = search rules;
+      kept = search rules;
+      goes = (runs_in_turn did world may_stop took (job_at c.args.jobs.now) (job_at c.loop.jobs) (job_at filled.jobs) c.loop.invariant.jobs c.fill-next.ensures.jobs
+          (point c.args.cache.now (drawn c.args.jobs.now) c.args.self.now.slab.slots.items c.args.results.now) (point c.loop.cache (drawn c.loop.jobs) c.loop.self.slab.slots.items c.loop.results)
+          (point c.loop.cache (drawn filled.jobs) filled.self.slab.slots.items filled.results) (point polled.cache (drawn filled.jobs) polled.self.slab.slots.items polled.results)
+          c.loop.invariant.goes c.fill-next.ensures.goes c.poll_due.ensures.goes);
+      jobs = c.fill-next.ensures.jobs ∙ c.loop.invariant.jobs;
+      turns = search rules;
+    }
+
+pub returns-then-is_empty-clause-goes : goal.returns-then-is_empty-clause-goes
+returns-then-is_empty-clause-goes g c =
+    let did = g.C.Cache.did in
+    let took = g.R.Results.took in
+    let world = world_of g.W.Wire.untouched g.W.Wire.happened (g.T.Clock.tells c.args.timer.now) in
+    let may_stop = g.T.Timer.may_stop c.args.timer.now in
+    let job_at = g.J.Jobs.job_at in
+    let drawn = g.J.Jobs.drawn in
+    let filled = c.fill-next.new in
+    let polled = c.poll_due.new in
+    (runs_in_turn did world may_stop took (job_at c.args.jobs.now) (job_at c.loop.jobs) (job_at filled.jobs) c.loop.invariant.jobs c.fill-next.ensures.jobs
+    (point c.args.cache.now (drawn c.args.jobs.now) c.args.self.now.slab.slots.items c.args.results.now) (point c.loop.cache (drawn c.loop.jobs) c.loop.self.slab.slots.items c.loop.results)
+    (point c.loop.cache (drawn filled.jobs) filled.self.slab.slots.items filled.results) (point polled.cache (drawn filled.jobs) polled.self.slab.slots.items polled.results)
+    c.loop.invariant.goes c.fill-next.ensures.goes c.poll_due.ensures.goes)
+
+pub returns-in-Fault-clause-goes : goal.returns-in-Fault-clause-goes
+returns-in-Fault-clause-goes g c =
+    let did = g.C.Cache.did in
+    let took = g.R.Results.took in
+    let world = world_of g.W.Wire.untouched g.W.Wire.happened (g.T.Clock.tells c.args.timer.now) in
+    let may_stop = g.T.Timer.may_stop c.args.timer.now in
+    let job_at = g.J.Jobs.job_at in
+    let drawn = g.J.Jobs.drawn in
+    let filled = c.fill-next.new in
+    let polled = c.poll_due.new in
+    (runs_in_turn did world may_stop took (job_at c.args.jobs.now) (job_at c.loop.jobs) (job_at filled.jobs) c.loop.invariant.jobs c.fill-next.ensures.jobs
+    (point c.args.cache.now (drawn c.args.jobs.now) c.args.self.now.slab.slots.items c.args.results.now) (point c.loop.cache (drawn c.loop.jobs) c.loop.self.slab.slots.items c.loop.results)
+    (point c.loop.cache (drawn filled.jobs) filled.self.slab.slots.items filled.results) (point polled.cache (drawn filled.jobs) polled.self.slab.slots.items polled.results)
+    c.loop.invariant.goes c.fill-next.ensures.goes c.poll_due.ensures.goes)

@@ -1,0 +1,44 @@
+-- What has ended has its result, one after another.
+use Rattle.std.proofs.Common.{rules, subst, ℕ}
+use Rattle.exchange.specs.Worlds.{world_of, dials_of}
+use Rattle.run_loop.specs.Going.{rules_of, point}
+use Rattle.run_loop.proofs.RunningOn.{runs_same, runs_then, runs_round, runs_round_ends}
+use Rattle.run_loop.proofs.run_loop.poll_round.Goals as goal
+
+pub loop-done-init : goal.loop-done-init
+loop-done-init g c =
+    let rules_ = rules_of g.C.Cache.did (world_of g.W.Wire.untouched g.W.Wire.happened (g.T.Clock.tells c.args.timer.now)) (g.T.Timer.may_stop c.args.timer.now) (g.J.Jobs.job_at c.args._jobs.now) g.R.Results.took in
+    record {
+      stays = search rules;
+      kept = search rules;
+      goes = runs_same rules_ (point c.args.cache.now (g.J.Jobs.drawn c.args._jobs.now) c.args.slab.now.slots.items c.args.results.now);
+      fewer = search rules;
+      turns = search rules;
+    }
+
+pub loop-done-preserved : goal.loop-done-preserved
+loop-done-preserved g c =
+    let rules_ = rules_of g.C.Cache.did (world_of g.W.Wire.untouched g.W.Wire.happened (g.T.Clock.tells c.args.timer.now)) (g.T.Timer.may_stop c.args.timer.now) (g.J.Jobs.job_at c.args._jobs.now) g.R.Results.took in
+    let dials = dials_of g.D.Dial.begun g.D.Dial.opened g.D.Dial.failures in
+    let drawn = g.J.Jobs.drawn c.args._jobs.now in
+    let slots = c.loop-done.slab.slots.items in
+    let left = c.poll_next.new.self.slots.items in
+    let took = subst (λ (n : ℕ). g.R.Results.took c.loop-done.results c.take.new.self n c.in-Some.done) c.transfer.ensures c.take.ensures in
+    record {
+      stays = search rules;
+      kept = search rules;
+      goes = runs_then rules_ (point c.args.cache.now drawn c.args.slab.now.slots.items c.args.results.now) (point c.loop-done.cache drawn slots c.loop-done.results) (point c.poll_next.new.cache drawn left c.take.new.self) c.loop-done.invariant.goes
+          (runs_round_ends rules_ dials c.loop-done.cache c.poll_next.new.cache c.loop-done.dial c.poll_next.new.dial drawn slots left c.loop-done.results c.in-Some.done c.in-Some.used c.take.new.self c.in-Some.ensures.polls took);
+      fewer = search rules;
+      turns = search rules;
+    }
+
+pub returns-clause-goes : goal.returns-clause-goes
+returns-clause-goes g c =
+    let rules_ = rules_of g.C.Cache.did (world_of g.W.Wire.untouched g.W.Wire.happened (g.T.Clock.tells c.args.timer.now)) (g.T.Timer.may_stop c.args.timer.now) (g.J.Jobs.job_at c.args._jobs.now) g.R.Results.took in
+    let dials = dials_of g.D.Dial.begun g.D.Dial.opened g.D.Dial.failures in
+    let drawn = g.J.Jobs.drawn c.args._jobs.now in
+    let slots = c.loop-done.slab.slots.items in
+    let left = c.poll_next.new.self.slots.items in
+    runs_then rules_ (point c.args.cache.now drawn c.args.slab.now.slots.items c.args.results.now) (point c.loop-done.cache drawn slots c.loop-done.results) (point c.poll_next.new.cache drawn left c.loop-done.results) c.loop-done.invariant.goes
+    (runs_round rules_ dials c.loop-done.cache c.poll_next.new.cache c.loop-done.dial c.poll_next.new.dial drawn slots left c.loop-done.results (rw c.in_default.is at c.poll_next.ensures.polls))

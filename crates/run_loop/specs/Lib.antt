@@ -1,0 +1,9 @@
+pub mod Deeds
+pub mod Endings
+pub mod Running
+pub mod Closing
+pub mod Drawing
+pub mod Taking
+pub mod Going
+pub mod Room
+pub mod Steps

@@ -1,0 +1,15 @@
+//! A worker's loop: any number of jobs at once over one cache, each carried out by a transfer.
+#![tactic(auto)]
+
+mod jobs;
+mod results;
+mod run_end;
+mod run_loop;
+mod spares;
+mod timer;
+
+pub use jobs::{Draw, Jobs};
+pub use results::Results;
+pub use run_end::RunEnd;
+pub use run_loop::RunLoop;
+pub use timer::Timer;

@@ -1,0 +1,353 @@
+//! The loop of a run over one cache: any number of jobs at once, each carried out by a transfer.
+
+ghost use Rattle.std.specs.Prelude.{◌≡◌, ◌≤◌, ◌<◌, ℕ, List, [], sum_by, IfOk};
+ghost use Rattle.exchange.specs.Dialling.{CountsTurn};
+ghost use Rattle.exchange.specs.Worlds.{world_of};
+ghost use Rattle.exchange.specs.Slabs.{AreKept, one_if_some};
+ghost use Rattle.run_loop.specs.Going.{rules_of, rules_at, point, RunsOn, RunsOnWith, RunsToEnd};
+ghost use Rattle.run_loop.specs.Going.{MayClose, IfStopped, IfComplete, TurnsAt};
+ghost use Rattle.run_loop.specs.Steps.{JoinsIf, IfNever};
+
+use crate::jobs::{Draw, Jobs};
+use crate::results::Results;
+use crate::run_end::RunEnd;
+use crate::spares::Spares;
+use crate::timer::Timer;
+use exchange::{Dial, Done, Fault, Slab, Turned, Wire};
+use futures::task::{Context, Poll, Solo};
+use leasing::Cache;
+use std::alloc::{AllocError, Global};
+use std::sync::Wait;
+
+/// When the next job may begin.
+#[derive(Clone, Copy)]
+enum Next {
+    /// Once a place is free.
+    Free,
+    /// At that moment, in microseconds.
+    At(u64),
+    /// Never: no job is left.
+    Never,
+}
+
+/// The loop of a run over one cache, with so many places: no more jobs are under way at once.
+pub struct RunLoop<W: Wire> {
+    slab: Slab<W>,
+    places: usize,
+    spares: Spares,
+    task: Solo,
+    ghost few: { sum_by one_if_some slab.slots.items ≤ places },
+}
+
+// Polls what is due in a slab, in one round; each job that has ended has its result.
+fn poll_round<W: Wire, C: Cache<W>, D: Dial<W>, J: Jobs, R: Results, T: Timer>(
+    slab: &mut Slab<W>,
+    spares: &mut Spares,
+    context: &mut Context<'_>,
+    cache: &mut C,
+    dial: &mut D,
+    _jobs: &J,
+    results: &mut R,
+    timer: &T,
+)
+    requires kept { AreKept (world_of W.untouched W.happened (T.tells timer.now))
+        (C.home cache.old) slab.old.slots.items }
+    ensures stays { C.home cache.new ≡ C.home cache.old }
+    ensures kept { AreKept (world_of W.untouched W.happened (T.tells timer.now))
+        (C.home cache.new) slab.new.slots.items }
+    ensures goes { RunsOn (rules_of C.did (world_of W.untouched W.happened (T.tells timer.now))
+        (T.may_stop timer.now) (J.job_at _jobs.now) R.took)
+        (point cache.old (J.drawn _jobs.now) slab.old.slots.items results.old)
+        (point cache.new (J.drawn _jobs.now) slab.new.slots.items results.new) }
+    ensures fewer { sum_by one_if_some slab.new.slots.items
+        ≤ sum_by one_if_some slab.old.slots.items }
+    ensures turns { D.turn_failures dial.new ≡ D.turn_failures dial.old }
+{
+    while let Some((done, used)) = slab.poll_next(context, cache, dial, timer) {
+        results.take(used.transfer(), done);
+        spares.keep(Some(used));
+    }
+}
+
+impl<W: Wire> RunLoop<W> {
+    /// A loop with so many places, in which no job is under way. Its polls are those of the task.
+    ///
+    /// # Errors
+    ///
+    /// There is no memory for the places.
+    pub fn new(alloc: Global, places: usize, task: Solo) -> Result<RunLoop<W>, AllocError>
+        ensures { IfOk result (λ made. made.slab.slots.items ≡ []) }
+    {
+        let spares = Spares::new(alloc, places)?;
+        Ok(RunLoop {
+            slab: Slab::new(alloc),
+            places,
+            spares,
+            task,
+        })
+    }
+
+    /// Carries out the jobs that it draws, until none is left, the timer ends the run, or a turn of
+    /// the dial fails; then what is under way is cancelled. Each job that was drawn has one result.
+    ///
+    /// Asked of the caller: no job is under way in it, as it was made.
+    pub fn run<C: Cache<W>, D: Dial<W>, J: Jobs, R: Results, T: Timer, H: Wait>(
+        self,
+        rt: &H,
+        cache: &mut C,
+        dial: &mut D,
+        jobs: &mut J,
+        results: &mut R,
+        timer: &T,
+    ) -> RunEnd
+        requires { self.slab.slots.items ≡ [] }
+        ensures stays { C.home cache.new ≡ C.home cache.old }
+        ensures ends { RunsToEnd result (rules_of C.did (world_of W.untouched W.happened (T.tells
+            timer.now)) (T.may_stop timer.now) (J.job_at jobs.old) R.took)
+            (point cache.old (J.drawn jobs.old) [] results.old)
+            (point cache.new (J.drawn jobs.new) [] results.new) }
+        ensures complete { IfComplete result (J.is_over jobs.new) }
+        ensures turns { TurnsAt result (D.turn_failures dial.old) (D.turn_failures dial.new) }
+    {
+        let mut run = self;
+        let end = run.go_on(rt, cache, dial, jobs, results, timer);
+        run.drop_early(end, cache, jobs, results, timer);
+        run.close_all(end, cache, dial, jobs, results, timer);
+        let RunLoop {
+            slab,
+            places: _,
+            spares: _,
+            task: _,
+        } = run;
+        slab.destroy_empty();
+        end
+    }
+
+    // Carries out jobs until the run ends.
+    fn go_on<C: Cache<W>, D: Dial<W>, J: Jobs, R: Results, T: Timer, H: Wait>(
+        &mut self,
+        rt: &H,
+        cache: &mut C,
+        dial: &mut D,
+        jobs: &mut J,
+        results: &mut R,
+        timer: &T,
+    ) -> RunEnd
+        requires kept { AreKept (world_of W.untouched W.happened (T.tells timer.now))
+            (C.home cache.old) self.old.slab.slots.items }
+        ensures stays { C.home cache.new ≡ C.home cache.old }
+        ensures kept { AreKept (world_of W.untouched W.happened (T.tells timer.now))
+            (C.home cache.new) self.new.slab.slots.items }
+        ensures goes { RunsOn (rules_of C.did (world_of W.untouched W.happened (T.tells
+            timer.now)) (T.may_stop timer.now) (J.job_at jobs.old) R.took)
+            (point cache.old (J.drawn jobs.old) self.old.slab.slots.items results.old)
+            (point cache.new (J.drawn jobs.new) self.new.slab.slots.items results.new) }
+        ensures jobs { J.job_at jobs.new ≡ J.job_at jobs.old }
+        ensures complete { IfComplete result (J.is_over jobs.new) }
+        ensures empty { IfComplete result (sum_by one_if_some self.new.slab.slots.items ≡ 0) }
+        ensures stopped { IfStopped result ((number : ℕ) → T.may_stop timer.now number) }
+        ensures turns { TurnsAt result (D.turn_failures dial.old) (D.turn_failures dial.new) }
+    {
+        for _ in rt.forever() {
+            if timer.is_over() {
+                return RunEnd::Stopped;
+            }
+            let next = self.fill(cache, jobs, results, timer);
+            self.poll_due(cache, dial, jobs, results, timer);
+            if let Next::Never = next {
+                if self.slab.is_empty() {
+                    return RunEnd::Complete;
+                }
+            }
+            if let Turned::Fault = self.rest(dial, timer, next) {
+                return RunEnd::TurnFailed;
+            }
+        }
+        unreachable!()
+    }
+
+    // Draws jobs and begins them, while a place is free and a job is due: when the next may begin.
+    fn fill<C: Cache<W>, J: Jobs, R: Results, T: Timer>(
+        &mut self,
+        cache: &C,
+        jobs: &mut J,
+        results: &mut R,
+        timer: &T,
+    ) -> Next
+        requires kept { AreKept (world_of W.untouched W.happened (T.tells timer.now))
+            (C.home cache.now) self.old.slab.slots.items }
+        ensures kept { AreKept (world_of W.untouched W.happened (T.tells timer.now))
+            (C.home cache.now) self.new.slab.slots.items }
+        ensures goes { RunsOn (rules_of C.did (world_of W.untouched W.happened (T.tells
+            timer.now)) (T.may_stop timer.now) (J.job_at jobs.old) R.took)
+            (point cache.now (J.drawn jobs.old) self.old.slab.slots.items results.old)
+            (point cache.now (J.drawn jobs.new) self.new.slab.slots.items results.new) }
+        ensures jobs { J.job_at jobs.new ≡ J.job_at jobs.old }
+        ensures over { IfNever result (J.is_over jobs.new) }
+    {
+        for _ in 0..self.places {
+            if self.slab.len() >= self.places {
+                return Next::Free;
+            }
+            match jobs.draw(timer.micros()) {
+                Draw::Job(number) => self.begin(number, cache, jobs, results, timer),
+                Draw::Later(due) => return Next::At(due),
+                Draw::Over => return Next::Never,
+            }
+        }
+        Next::Free
+    }
+
+    // Begins the job of that number, which was drawn; it has a result if there is no memory for it.
+    fn begin<C: Cache<W>, J: Jobs, R: Results, T: Timer>(
+        &mut self,
+        number: u64,
+        cache: &C,
+        jobs: &J,
+        results: &mut R,
+        timer: &T,
+    )
+        requires kept { AreKept (world_of W.untouched W.happened (T.tells timer.now))
+            (C.home cache.now) self.old.slab.slots.items }
+        requires free { sum_by one_if_some self.old.slab.slots.items < self.old.places }
+        ensures kept { AreKept (world_of W.untouched W.happened (T.tells timer.now))
+            (C.home cache.now) self.new.slab.slots.items }
+        ensures goes { RunsOnWith (rules_of C.did (world_of W.untouched W.happened (T.tells
+            timer.now)) (T.may_stop timer.now) (J.job_at jobs.now) R.took) number cache.now
+            self.old.slab.slots.items results.old self.new.slab.slots.items results.new }
+        ensures places { self.new.places ≡ self.old.places }
+    {
+        if self.joins(number, cache, jobs, timer) {
+            return;
+        }
+        results.take(number, Done::Bad(Fault::Memory));
+    }
+
+    // Lets a transfer of the job of that number join, if there is memory for it; whether it did.
+    fn joins<C: Cache<W>, J: Jobs, T: Timer>(
+        &mut self,
+        number: u64,
+        cache: &C,
+        jobs: &J,
+        timer: &T,
+    ) -> bool
+        requires kept { AreKept (world_of W.untouched W.happened (T.tells timer.now))
+            (C.home cache.now) self.old.slab.slots.items }
+        requires free { sum_by one_if_some self.old.slab.slots.items < self.old.places }
+        ensures kept { AreKept (world_of W.untouched W.happened (T.tells timer.now))
+            (C.home cache.now) self.new.slab.slots.items }
+        ensures joins { JoinsIf result (J.job_at jobs.now number) number
+            self.old.slab.slots.items self.new.slab.slots.items }
+        ensures places { self.new.places ≡ self.old.places }
+    {
+        let parts = match jobs.prepare(number, self.spares.take()) {
+            Ok(parts) => parts,
+            Err(left) => {
+                self.spares.keep(left);
+                return false;
+            }
+        };
+        match self.slab.join(parts, cache, timer) {
+            Ok(()) => true,
+            Err(unused) => {
+                self.spares.keep(Some(unused));
+                false
+            }
+        }
+    }
+
+    // Polls what is due, in one round; each job that has ended has its result.
+    fn poll_due<C: Cache<W>, D: Dial<W>, J: Jobs, R: Results, T: Timer>(
+        &mut self,
+        cache: &mut C,
+        dial: &mut D,
+        _jobs: &J,
+        results: &mut R,
+        timer: &T,
+    )
+        requires kept { AreKept (world_of W.untouched W.happened (T.tells timer.now))
+            (C.home cache.old) self.old.slab.slots.items }
+        ensures stays { C.home cache.new ≡ C.home cache.old }
+        ensures kept { AreKept (world_of W.untouched W.happened (T.tells timer.now))
+            (C.home cache.new) self.new.slab.slots.items }
+        ensures goes { RunsOn (rules_of C.did (world_of W.untouched W.happened (T.tells
+            timer.now)) (T.may_stop timer.now) (J.job_at _jobs.now) R.took)
+            (point cache.old (J.drawn _jobs.now) self.old.slab.slots.items results.old)
+            (point cache.new (J.drawn _jobs.now) self.new.slab.slots.items results.new) }
+        ensures turns { D.turn_failures dial.new ≡ D.turn_failures dial.old }
+    {
+        let mut context = self.task.begin();
+        poll_round(
+            &mut self.slab,
+            &mut self.spares,
+            &mut context,
+            cache,
+            dial,
+            _jobs,
+            results,
+            timer,
+        );
+        let turn: Poll<()> = context.yield_now();
+        context.end(&turn);
+    }
+
+    // Waits for what may bring a transfer on, by a turn of the dial.
+    fn rest<D: Dial<W>, T: Timer>(&self, dial: &mut D, _timer: &T, _next: Next) -> Turned
+        ensures { CountsTurn result (D.turn_failures dial.old) (D.turn_failures dial.new) }
+    {
+        dial.turn()
+    }
+
+    // A job that was drawn before it was due, if there is one, is stopped before it begins, unless
+    // the run is complete.
+    fn drop_early<C: Cache<W>, J: Jobs, R: Results, T: Timer>(
+        &self,
+        end: RunEnd,
+        _cache: &C,
+        jobs: &mut J,
+        results: &mut R,
+        _timer: &T,
+    )
+        requires may { MayClose end (T.may_stop _timer.now) self.now.slab.slots.items }
+        ensures goes { RunsOn (rules_at end (rules_of C.did (world_of W.untouched W.happened
+            (T.tells _timer.now)) (T.may_stop _timer.now) (J.job_at jobs.old) R.took))
+            (point _cache.now (J.drawn jobs.old) self.now.slab.slots.items results.old)
+            (point _cache.now (J.drawn jobs.new) self.now.slab.slots.items results.new) }
+        ensures jobs { J.job_at jobs.new ≡ J.job_at jobs.old }
+        ensures complete { IfComplete end (jobs.new ≡ jobs.old) }
+    {
+        if end.is_complete() {
+            return;
+        }
+        let Some(number) = jobs.draw_early() else {
+            return;
+        };
+        results.take(number, Done::Bad(Fault::Cancelled));
+    }
+
+    // Closes what is under way; each job of it has its result.
+    fn close_all<C: Cache<W>, D: Dial<W>, J: Jobs, R: Results, T: Timer>(
+        &mut self,
+        end: RunEnd,
+        cache: &mut C,
+        dial: &mut D,
+        _jobs: &J,
+        results: &mut R,
+        timer: &T,
+    )
+        requires kept { AreKept (world_of W.untouched W.happened (T.tells timer.now))
+            (C.home cache.old) self.old.slab.slots.items }
+        requires may { MayClose end (T.may_stop timer.now) self.old.slab.slots.items }
+        ensures stays { C.home cache.new ≡ C.home cache.old }
+        ensures goes { RunsOn (rules_at end (rules_of C.did (world_of W.untouched W.happened
+            (T.tells timer.now)) (T.may_stop timer.now) (J.job_at _jobs.now) R.took))
+            (point cache.old (J.drawn _jobs.now) self.old.slab.slots.items results.old)
+            (point cache.new (J.drawn _jobs.now) self.new.slab.slots.items results.new) }
+        ensures none { self.new.slab.slots.items ≡ [] }
+        ensures turns { D.turn_failures dial.new ≡ D.turn_failures dial.old }
+    {
+        while let Some((done, used)) = self.slab.close_last(cache, dial, timer) {
+            results.take(used.transfer(), done);
+        }
+    }
+}
