@@ -1,5 +1,5 @@
 -- What a dial keeps where it is told of a place, or tells of one.
-use Rattle.std.proofs.Common.{◌≡◌, refl, ◌∙◌, ℕ}
+use Rattle.std.proofs.Common.{refl, ◌∙◌, ℕ}
 use Rattle.exchange.specs.Dialling.{KeepsDial}
 
 module _ {D : Type 0} (failures opened turn_failures source_name : D → ℕ) (begun_at : D → ℕ → Type 0) where

@@ -1,5 +1,4 @@
 -- What the poll promises of the dial as it was told of the place holds of it as it was before.
-use Rattle.std.proofs.Common.{rules}
 use Rattle.exchange.proofs.Begun.{begun_after}
 use Rattle.exchange.proofs.slab.poll_told.Goals as goal
 
