@@ -20,6 +20,7 @@ use leasing::Cache;
 use std::alloc::Global;
 use std::marker::PhantomData;
 use std::sync::Wait;
+use std::time::Duration;
 
 /// What carries out one job at a time, over a dial: the memory of one job serves the next.
 #[derive(Drop)]
@@ -172,7 +173,7 @@ impl<'d, W: Wire, D: Dial<W>> Carrier<'d, W, D> {
                 shared.bell.wait(rt, rings);
                 Ok(true)
             }
-            Stage::Dialling | Stage::Sending | Stage::Reading => match self.dial.turn() {
+            Stage::Dialling | Stage::Sending | Stage::Reading => match self.dial.turn(Duration::MAX) {
                 Turned::Done => Ok(true),
                 Turned::Fault => Err(Quit::Poll),
             },

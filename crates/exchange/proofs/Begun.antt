@@ -55,3 +55,13 @@ module _ {W : Type 0} (old middle new : ℕ → Type 0) where
   -- the last of those that are left was
   pub gives_up_more : (all left next : List (Transfer W)) (t : Transfer W) → GivesUpRest old middle all left → left ≡ next ++ (t ∷ []) → GivesUpDial middle new t.parts.want.transfer t.state → GivesUpRest old new all next
   gives_up_more all left next t rest taken one = (t ∷ rest.0, rest.1 ∙ (ap (λ (l : List (Transfer W)). l ++ rest.0) taken ∙ append_assoc next (t ∷ []) rest.0), one_more_given_up t rest.0 rest.2 one)
+
+-- what is begun for a transfer is its own still, where a dial was told of something before
+module _ {W : Type 0} (x y z : ℕ → Type 0) (transfer : ℕ) (less : (other : ℕ) → y other → x other) (more : (other : ℕ) → x other → y other) where
+  alone_after : (a b : State W) → DialsAlone y z transfer a b → DialsAlone x z transfer a b
+  alone_after a b next = record { others = λ other apart begun. less other (next.others other apart begun); kept = λ other apart begun. next.kept other apart (more other begun); own = λ none. next.own (none_at x y transfer less a none) }
+
+  pub begun_after : (a b : Option (State W)) → DialsItsOwn y z transfer a b → DialsItsOwn x z transfer a b
+  begun_after (Some a) (Some b) next = alone_after a b next
+  begun_after (Some a) None next = absurd next
+  begun_after None b next = absurd next

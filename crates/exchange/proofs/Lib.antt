@@ -14,3 +14,4 @@ pub mod Slots
 pub mod Balanced
 pub mod Rounds
 pub mod Opened
+pub mod Told

@@ -52,3 +52,24 @@ pub record CountsBegun {W : Type 0} (dialled : Dialled W) (transfer : ℕ) (old 
 abbrev pub CountsTurn : Turned → ℕ → ℕ → Type 0
 CountsTurn TurnFault old new = Rises old new
 CountsTurn _ old new = new ≡ old
+
+-- nothing was counted, begun or given up at a dial, and its source has the same name
+pub record KeepsDial {D : Type 0} (failures opened turn_failures source_name : D → ℕ) (begun_at : D → ℕ → Type 0) (old new : D) : Type 0 where
+  pub counted : failures new ≡ failures old
+  pub opens : opened new ≡ opened old
+  pub turns : turn_failures new ≡ turn_failures old
+  pub source : source_name new ≡ source_name old
+  pub begun : (other : ℕ) → begun_at new other → begun_at old other
+  pub kept : (other : ℕ) → begun_at old other → begun_at new other
+
+-- a dial took a turn, and nothing else was counted, begun or given up there
+pub record TurnsDial {D : Type 0} (failures opened turn_failures source_name : D → ℕ) (begun_at : D → ℕ → Type 0) (turned : D → D → Type 0) (answer : Turned) (old new : D) : Type 0 where
+  pub middle : D
+  pub takes : turned old middle
+  pub tells : KeepsDial failures opened turn_failures source_name begun_at middle new
+  pub fault : CountsTurn answer (turn_failures old) (turn_failures new)
+  pub counted : failures new ≡ failures old
+  pub opens : opened new ≡ opened old
+  pub source : source_name new ≡ source_name old
+  pub begun : (other : ℕ) → begun_at new other → begun_at old other
+  pub kept : (other : ℕ) → begun_at old other → begun_at new other

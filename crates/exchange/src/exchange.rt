@@ -24,6 +24,7 @@ use crate::transfer::Transfer;
 use crate::wire::{Clock, Dial, Turned, Wire};
 use futures::task::{Context, Poll};
 use leasing::Cache;
+use std::time::Duration;
 
 /// One request and its response over a connection of a cache, which it borrows for its life. It is
 /// polled by hand, and has to be spent: closed, finished once a poll was ready, or cancelled.
@@ -127,7 +128,7 @@ impl<'a, W: Wire, C: Cache<W>, D: Dial<W>, K: Clock> Exchange<'a, W, C, D, K> {
         ensures same_dial { self.new.dial.ghost_name ≡ self.old.dial.ghost_name }
         ensures same_clock { self.new.clock ≡ self.old.clock }
     {
-        self.dial.turn()
+        self.dial.turn(Duration::MAX)
     }
 
     /// How it ended, what was prepared, its cache and its dial. Asked of the caller: a poll was

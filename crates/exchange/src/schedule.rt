@@ -1,5 +1,7 @@
 //! Which places of a slab are polled next.
 
+use crate::ready::Place;
+use crate::state::Stage;
 use crate::transfer::Transfer;
 use crate::wire::Wire;
 use bundle::MOST_HOSTS;
@@ -68,13 +70,33 @@ struct Waiting {
     is_asked: bool,
 }
 
-/// Places that are due, places that wait for a connection, by site and in the order of their waits,
-/// and free places. Of those that wait only the first one of a site becomes due, and only once a
-/// lease was spent or the one before it was granted a connection.
+// Whether the transfer at a place may go on.
+#[derive(Clone, Copy, Debug, PartialEq, Eq, Drop)]
+enum Standing {
+    // No transfer stands there, or one that waits for a connection.
+    Idle,
+    // It is polled in a round. The dial has told of it since it became due, or not.
+    Due { is_told: bool },
+    // Its dial or its wire had nothing for it: it is polled once the dial tells of it.
+    Parked,
+}
+
+// What is known of a place.
+#[derive(Clone, Copy, Debug, PartialEq, Eq, Drop)]
+struct Seat {
+    place: Place,
+    standing: Standing,
+}
+
+/// Places that are due, places that are parked until the dial tells of them, places that wait for a
+/// connection, by site and in the order of their waits, and free places. Of those that wait only
+/// the first one of a site becomes due, and only once a lease was spent or the one before it was
+/// granted a connection.
 #[derive(Drop)]
 pub(crate) struct Schedule {
     // From each place to the one behind it in its queue.
     links: Vec<usize>,
+    seats: Vec<Seat>,
     free: Queue,
     due: Queue,
     due_len: usize,
@@ -90,6 +112,7 @@ impl Schedule {
     pub(crate) fn new(alloc: Global) -> Schedule {
         Schedule {
             links: Vec::new(alloc),
+            seats: Vec::new(alloc),
             free: Queue::new(),
             due: Queue::new(),
             due_len: 0,
@@ -103,6 +126,15 @@ impl Schedule {
     pub(crate) fn add_place(&mut self, place: usize) -> Result<(), AllocError> {
         if self.links.len() <= place {
             self.links.push(NONE)?;
+        }
+        if self.seats.len() <= place {
+            let Ok(index) = u32::try_from(place) else {
+                return Err(AllocError);
+            };
+            self.seats.push(Seat {
+                place: Place { index, joined: 0 },
+                standing: Standing::Idle,
+            })?;
         }
         Ok(())
     }
@@ -124,14 +156,40 @@ impl Schedule {
         self.free.pop_front(&self.links)
     }
 
+    // Nothing that a dial tells makes the place due.
+    fn is_idle(&mut self, place: usize) {
+        if let Some(seat) = self.seats.get_mut(place) {
+            seat.standing = Standing::Idle;
+        }
+    }
+
     // The place is free from now on.
     fn free(&mut self, place: usize) {
+        self.is_idle(place);
         self.free.push_back(&mut self.links, place);
     }
 
     /// How many places are still to be polled in this round.
     pub(crate) fn left(&self) -> usize {
         self.left
+    }
+
+    /// Whether a place is due, or a site is to be asked.
+    pub(crate) fn has_due(&self) -> bool {
+        self.due_len > 0 || self.is_to_ask
+    }
+
+    /// The place, as a dial is told of it.
+    pub(crate) fn place(&self, place: usize) -> Option<Place> {
+        Some(self.seats.get(place)?.place)
+    }
+
+    /// A new transfer stands at the place, which is polled in the next round.
+    pub(crate) fn joins(&mut self, place: usize) {
+        if let Some(seat) = self.seats.get_mut(place) {
+            seat.place.joined = seat.place.joined.wrapping_add(1);
+        }
+        self.becomes_due(place);
     }
 
     /// The next place to be polled in this round.
@@ -144,8 +202,11 @@ impl Schedule {
         self.due.pop_front(&self.links)
     }
 
-    /// The place is polled in the next round.
-    pub(crate) fn becomes_due(&mut self, place: usize) {
+    // The place is polled in the next round.
+    fn becomes_due(&mut self, place: usize) {
+        if let Some(seat) = self.seats.get_mut(place) {
+            seat.standing = Standing::Due { is_told: false };
+        }
         self.due.push_back(&mut self.links, place);
         self.due_len = self.due_len.saturating_add(1);
     }
@@ -172,13 +233,58 @@ impl Schedule {
             self.begins_wait(place, site);
         } else if transfer.has_ended() {
             self.free(place);
-        } else {
+        } else if transfer.waits_on() == Stage::Turn {
             self.becomes_due(place);
+        } else {
+            self.parks(place);
+        }
+    }
+
+    // The dial or the wire had nothing for the place. If the dial told of it while it was due, it
+    // is polled once more: the first read after a write asks nobody.
+    fn parks(&mut self, place: usize) {
+        match self.seats.get_mut(place) {
+            Some(seat) if seat.standing != (Standing::Due { is_told: true }) => {
+                seat.standing = Standing::Parked;
+            }
+            _ => self.becomes_due(place),
+        }
+    }
+
+    /// The dial tells of the transfer at that place. One that is parked is polled in the next
+    /// round. What is told of a transfer that stood there before, or of one that waits for a
+    /// connection, says nothing.
+    pub(crate) fn note_ready(&mut self, told: Place) {
+        match self.seats.get_mut(told.index as usize) {
+            Some(seat) if seat.place == told => match seat.standing {
+                Standing::Idle => {}
+                Standing::Due { .. } => seat.standing = Standing::Due { is_told: true },
+                Standing::Parked => self.becomes_due(told.index as usize),
+            },
+            _ => {}
+        }
+    }
+
+    /// The dial can't tell: each place that is parked is polled in the next round.
+    pub(crate) fn note_all_ready(&mut self) {
+        for place in 0..self.seats.len() {
+            if self.is_parked(place) {
+                self.becomes_due(place);
+            }
+        }
+    }
+
+    // Whether the transfer at the place is parked.
+    fn is_parked(&self, place: usize) -> bool {
+        match self.seats.get(place) {
+            Some(seat) => seat.standing == Standing::Parked,
+            None => false,
         }
     }
 
     // The place begins to wait at that site, behind all others.
     fn begins_wait(&mut self, place: usize, site: u32) {
+        self.is_idle(place);
         match self.waiting.get_mut(site as usize) {
             Some(waiting) => waiting.queue.push_back(&mut self.links, place),
             None => self.becomes_due(place),
@@ -187,6 +293,7 @@ impl Schedule {
 
     // The place was the first at that site, and waits on.
     fn waits_on(&mut self, place: usize, site: u32) {
+        self.is_idle(place);
         match self.waiting.get_mut(site as usize) {
             Some(waiting) => {
                 waiting.is_asked = false;

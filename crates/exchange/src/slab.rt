@@ -3,25 +3,34 @@
 ghost use Rattle.std.specs.Prelude.{◌≡◌, ◌+◌, [], sum_by, IfSome, IfErr, OnSome, OnOk};
 ghost use Rattle.std.specs.Prelude.{IfNone, None, Some, true, ◌==◌, ◌<◌, ◌∷◌, ◌++◌};
 ghost use Rattle.std.specs.Prelude.{vec_len, vec_capacity, slice_get, slice_set};
+ghost use Rattle.futures.specs.Poll.{IfReady, OnPending};
 ghost use Rattle.exchange.specs.Answers.{IsUnused};
+ghost use Rattle.exchange.specs.Dialling.{KeepsDial, TurnsDial};
+ghost use Rattle.exchange.specs.Owning.{IsReady, Owns};
+ghost use Rattle.exchange.specs.Exchanging.{IsFinished, Leaves};
 ghost use Rattle.exchange.specs.Worlds.{world_of, dials_of};
 ghost use Rattle.exchange.specs.Slabs.{AreKept, HasEnded, HasClosed, ClosesOne};
 ghost use Rattle.exchange.specs.Slabs.{ClosesAll, GivesUpAll, transfers_in, one_if_some};
-ghost use Rattle.exchange.specs.Rounds.{Joins, TriesPlace, PollsInTurn};
+ghost use Rattle.exchange.specs.Rounds.{Joins, IsPolled, TriesPlace, PollsInTurn};
 
 use crate::done::Done;
 use crate::job::Prepared;
+use crate::ready::{Place, Ready};
 use crate::schedule::Schedule;
 use crate::transfer::{Transfer, put};
-use crate::wire::{Clock, Dial, Wire};
-use futures::task::Context;
+use crate::wire::{Clock, Dial, Turned, Wire};
+use futures::task::{Context, Poll};
 use leasing::Cache;
 use std::alloc::Global;
+use std::time::Duration;
 
 /// Any number of transfers that go on over one cache, one dial and one clock, and are polled in
-/// rounds by one thread. Each round polls those that ask, dial, send or read. One that waits for a
-/// connection is polled only once one may have been granted to it: a lease was spent, and those
-/// that waited at its site before it have theirs. So a round costs nothing for those that wait.
+/// rounds by one thread. Each round polls those that are due. One whose dial or wire had nothing
+/// for it is due again once [`Slab::turn`] has found that it may go on. One that waits for a
+/// connection is due only once one may have been granted to it: a lease was spent, and those that
+/// waited at its site before it have theirs. So a round costs nothing for those that wait.
+///
+/// The loop is: [`Slab::poll_next`] while [`Slab::has_due`], then [`Slab::turn`].
 ///
 /// It has to be emptied, by rounds or by [`Slab::close_last`], and then let go of.
 pub struct Slab<W: Wire> {
@@ -31,6 +40,42 @@ pub struct Slab<W: Wire> {
     // A place was taken away, so that the schedule may name one that is not there.
     is_closing: bool,
     ghost counted: { len ≡ sum_by one_if_some slots.items },
+}
+
+// Polls a transfer, whose place the dial is told of before.
+fn poll_told<W: Wire, C: Cache<W>, D: Dial<W>, K: Clock>(
+    transfer: &mut Transfer<W>,
+    place: Option<Place>,
+    cx: &mut Context<'_>,
+    cache: &mut C,
+    dial: &mut D,
+    clock: &K,
+) -> Poll<()>
+    requires owns { Owns (C.home cache.old) transfer.old.parts transfer.old.state }
+    requires ready { IsReady transfer.old.parts }
+    ensures stays { C.home cache.new ≡ C.home cache.old }
+    ensures owns { Owns (C.home cache.new) transfer.new.parts transfer.new.state }
+    ensures ready { IsReady transfer.new.parts }
+    ensures polled { IsPolled C.did (world_of W.untouched W.happened (K.tells clock.now))
+        (dials_of D.begun D.opened D.failures) cache.old cache.new dial.old dial.new
+        transfer.old transfer.new }
+    ensures turns { D.turn_failures dial.new ≡ D.turn_failures dial.old }
+    ensures finished { IfReady result (λ _. IsFinished transfer.new.state) }
+    ensures pending { OnPending result (Leaves W.source_name (D.source_name dial.new)
+        cx.old cx.new transfer.new.waker transfer.new.has_yielded transfer.new.state) }
+{
+    tell_place(dial, place);
+    transfer.poll(cx, cache, dial, clock)
+}
+
+// Tells a dial of a place.
+fn tell_place<W: Wire, D: Dial<W>>(dial: &mut D, place: Option<Place>)
+    ensures { KeepsDial D.failures D.opened D.turn_failures D.source_name D.begun dial.old
+        dial.new }
+{
+    if let Some(place) = place {
+        dial.set_place(place);
+    }
 }
 
 impl<W: Wire> Slab<W> {
@@ -87,7 +132,7 @@ impl<W: Wire> Slab<W> {
         match self.take_vacant() {
             Some(place) => {
                 self.fill(place, Transfer::new(parts));
-                self.schedule.becomes_due(place);
+                self.schedule.joins(place);
             }
             None => {
                 let place = self.slots.len();
@@ -95,7 +140,7 @@ impl<W: Wire> Slab<W> {
                     return Err(parts);
                 }
                 self.append(Transfer::new(parts));
-                self.schedule.becomes_due(place);
+                self.schedule.joins(place);
             }
         }
         Ok(())
@@ -223,7 +268,8 @@ impl<W: Wire> Slab<W> {
         let slot = self.slots.get_mut(place)?;
         let transfer = slot.as_mut()?;
         let waited = transfer.has_ticket();
-        let polled = transfer.poll(cx, cache, dial, clock);
+        let told = self.schedule.place(place);
+        let polled = poll_told(transfer, told, cx, cache, dial, clock);
         self.schedule.note_poll(place, waited, transfer);
         if polled.is_pending() {
             return None;
@@ -233,6 +279,46 @@ impl<W: Wire> Slab<W> {
             unreachable!()
         };
         Some(transfer.finish())
+    }
+
+    /// Whether a transfer is due: one that has joined, that took all steps of its last poll, that
+    /// the dial has told of, or that may have been granted a connection. If none is, a round polls
+    /// nothing until a transfer joins, a turn of the dial was taken by [`Slab::turn`], or
+    /// [`Slab::ask_sites`] was called.
+    pub fn has_due(&self) -> bool {
+        !self.is_closing && self.schedule.has_due()
+    }
+
+    /// Takes a turn of the dial's event loop. It waits until the dial has something for a transfer,
+    /// at most that long, and at most ten milliseconds; not at all if a transfer is due. Transfers
+    /// that the dial tells of are due then.
+    pub fn turn<D: Dial<W>>(&mut self, dial: &mut D, most: Duration) -> Turned
+        ensures slots { self.new.slots ≡ self.old.slots }
+        ensures turns { TurnsDial D.failures D.opened D.turn_failures D.source_name D.begun
+            D.turned result dial.old dial.new }
+    {
+        let most = if self.has_due() { Duration::ZERO } else { most };
+        let turned = dial.turn(most);
+        self.note_ready(dial);
+        turned
+    }
+
+    // Notes what the dial tells after a turn.
+    fn note_ready<D: Dial<W>>(&mut self, dial: &mut D)
+        ensures slots { self.new.slots ≡ self.old.slots }
+        ensures tells { KeepsDial D.failures D.opened D.turn_failures D.source_name D.begun
+            dial.old dial.new }
+    {
+        for _ in 0..u64::MAX {
+            match dial.next_ready() {
+                Ready::At(place) => self.schedule.note_ready(place),
+                Ready::All => {
+                    self.schedule.note_all_ready();
+                    return;
+                }
+                Ready::Nothing => return,
+            }
+        }
     }
 
     /// Closes one of the transfers that are left, as [`Transfer::close`] does, at the time that the

@@ -3,8 +3,10 @@
 ghost use Rattle.std.specs.Prelude.{◌≡◌, ℕ, ◌<◌, length};
 ghost use Rattle.conn_key.specs.Wants.{Rises};
 
+use crate::ready::{Place, Ready};
 use bundle::Lease;
 use futures::task::Source;
+use std::time::Duration;
 
 /// What a read answers.
 #[derive(Clone, Copy, Debug, PartialEq, Eq)]
@@ -102,7 +104,7 @@ pub trait Dial<W: Wire> {
     ghost use Rattle.std.specs.Prelude.{◌≢◌, None};
     ghost use Rattle.exchange.specs.Wires.Happening.{is_adopted};
     ghost use Rattle.exchange.specs.Dialling.{IfUp, CountsDial, OpensOne, CountsTurn};
-    ghost use Rattle.exchange.specs.Dialling.{CountsBegun};
+    ghost use Rattle.exchange.specs.Dialling.{CountsBegun, KeepsDial};
 
     /// How often a dial failed.
     ghost failures: { Self → ℕ };
@@ -156,8 +158,8 @@ pub trait Dial<W: Wire> {
         ensures turns { turn_failures self.new ≡ turn_failures self.old }
         ensures source { source_name self.new ≡ source_name self.old };
 
-    /// Takes a turn of its event loop, which waits at most ten milliseconds.
-    fn turn(&mut self) -> Turned
+    /// Takes a turn of its event loop, which waits at most that long, and at most ten milliseconds.
+    fn turn(&mut self, most: Duration) -> Turned
         ensures fault { CountsTurn result (turn_failures self.old) (turn_failures self.new) }
         ensures done { turned self.old self.new }
         ensures counted { failures self.new ≡ failures self.old }
@@ -165,6 +167,20 @@ pub trait Dial<W: Wire> {
         ensures begun { (other : ℕ) → begun self.new other → begun self.old other }
         ensures kept { (other : ℕ) → begun self.old other → begun self.new other }
         ensures source { source_name self.new ≡ source_name self.old };
+
+    /// Notes a place of a slab: what is dialled or adopted from now on belongs to the transfer
+    /// there.
+    fn set_place(&mut self, _place: Place)
+        ensures same { KeepsDial failures opened turn_failures source_name begun self.old self.new }
+    {}
+
+    /// Tells one of the places whose transfers may go on after the last turn, each once, or that
+    /// it can't tell.
+    fn next_ready(&mut self) -> Ready
+        ensures same { KeepsDial failures opened turn_failures source_name begun self.old self.new }
+    {
+        Ready::All
+    }
 
     /// What a task registers with that waits until a connection is open.
     fn source(&self) -> &Source

@@ -1,20 +1,26 @@
 //! What opens connections in memory.
 
-ghost use Rattle.std.specs.Prelude.{◌≡◌, ℕ, [], ◌∷◌, ◌++◌, length, None, Some, OnOk, OnErr};
+ghost use Rattle.std.specs.Prelude.{◌≡◌, ℕ, [], ◌∷◌, ◌++◌, length, reverse, None, Some, OnOk, OnErr};
 ghost use Rattle.conn_key.specs.Wants.{Rises};
 
 use crate::calls::{Calls, Halt, NEVER};
 use crate::memory_wire::MemoryWire;
 use bundle::Lease;
-use exchange::{Dial, Dialled, Turned};
+use exchange::{Dial, Dialled, Place, Ready, Turned};
 use futures::task::Source;
 use std::alloc::{AllocError, Global};
+use std::time::Duration;
 
 /// What opens connections in memory: at each dial it gives the next of its wires. Without one left
-/// it fails. It keeps which transfer was given up last.
+/// it fails. It keeps which transfer was given up last, and, where it has room for them, the places
+/// of a slab that it was told of. What it tells of places that are ready is a script; without one
+/// it can't tell.
 #[derive(Drop)]
 pub struct MemoryDial {
     wires: Vec<MemoryWire>,
+    // What it has still to tell, the first one last.
+    script: Vec<Ready>,
+    places: Vec<Place>,
     dials: Calls<Halt>,
     turns: Calls<Halt>,
     opened: u64,
@@ -34,6 +40,8 @@ impl MemoryDial {
     {
         MemoryDial {
             wires: Vec::new(alloc),
+            script: Vec::new(alloc),
+            places: Vec::new(alloc),
             dials: Calls::with_halt(NEVER, Halt::Fault),
             turns: Calls::with_halt(NEVER, Halt::Fault),
             opened: 0,
@@ -59,6 +67,46 @@ impl MemoryDial {
             Ok(()) => Ok(()),
             Err(_) => Err(AllocError),
         }
+    }
+
+    /// Writes the script of what it tells of places that are ready, one answer after another:
+    /// each turn's end with `All` or `Nothing`.
+    ///
+    /// # Errors
+    ///
+    /// There is no memory for it. Nothing has changed then.
+    pub fn tell(&mut self, script: &[Ready]) -> Result<(), AllocError>
+        ensures ok { OnOk result (self.new.script.items ≡ reverse script.now) }
+        ensures err { OnErr result (self.new ≡ self.old) }
+        ensures rest { self.new ≡ record self.old { script = self.new.script } }
+    {
+        let alloc = *self.wires.allocator();
+        let mut told = script.to_vec(alloc)?;
+        told.reverse();
+        self.script = told;
+        Ok(())
+    }
+
+    /// Makes room for so many places that it is told of, and forgets those of before.
+    ///
+    /// # Errors
+    ///
+    /// There is no memory for it. Nothing has changed then.
+    pub fn note_places(&mut self, room: usize) -> Result<(), AllocError>
+        ensures ok { OnOk result (self.new.places.items ≡ []) }
+        ensures err { OnErr result (self.new ≡ self.old) }
+        ensures rest { self.new ≡ record self.old { places = self.new.places } }
+    {
+        let alloc = *self.wires.allocator();
+        self.places = Vec::with_capacity(alloc, room)?;
+        Ok(())
+    }
+
+    /// The places that it was told of, in their order, as far as it has room.
+    pub fn places(&self) -> &[Place]
+        ensures { result.now ≡ self.now.places.items }
+    {
+        self.places.as_slice()
     }
 
     /// At that dial, counted from one, this happens.
@@ -124,7 +172,9 @@ impl MemoryDial {
 }
 
 impl Dial<MemoryWire> for MemoryDial {
-    ghost use Rattle.std.specs.Prelude.{◌≡◌, ◌≢◌, ℕ, Some};
+    ghost use Rattle.std.specs.Prelude.{◌≡◌, ◌≢◌, ◌⊎◌, ◌∷◌, ◌++◌, [], ℕ, Some};
+    ghost use Rattle.exchange.specs.Dialling.{KeepsDial};
+    ghost use Rattle.exchange.specs.declared.ready.Ready.TheVariants.{All};
 
     ghost failures = { λ dial. dial.failures };
 
@@ -176,12 +226,37 @@ impl Dial<MemoryWire> for MemoryDial {
 
     fn adopt(&mut self, _wire: &mut MemoryWire) {}
 
-    fn turn(&mut self) -> Turned {
+    fn turn(&mut self, _most: Duration) -> Turned {
         if self.turns.next().is_some() {
             self.turn_failures = self.turn_failures.saturating_add(1);
             return Turned::Fault;
         }
         Turned::Done
+    }
+
+    fn set_place(&mut self, place: Place)
+        ensures same { KeepsDial (λ dial. dial.failures) (λ dial. dial.opened)
+            (λ dial. dial.turn_failures) (λ dial. dial.source.id) (λ dial transfer. ⊥)
+            self.old self.new }
+        ensures rest { self.new ≡ record self.old { places = self.new.places } }
+    {
+        if self.places.len() < self.places.capacity() {
+            self.places.push_reserved(place);
+        }
+    }
+
+    fn next_ready(&mut self) -> Ready
+        ensures same { KeepsDial (λ dial. dial.failures) (λ dial. dial.opened)
+            (λ dial. dial.turn_failures) (λ dial. dial.source.id) (λ dial transfer. ⊥)
+            self.old self.new }
+        ensures told { (self.old.script.items ≡ []) × (result ≡ All)
+            ⊎ (self.old.script.items ≡ self.new.script.items ++ (result ∷ [])) }
+        ensures rest { self.new ≡ record self.old { script = self.new.script } }
+    {
+        match self.script.pop() {
+            Some(ready) => ready,
+            None => Ready::All,
+        }
     }
 
     fn source(&self) -> &Source {

@@ -11,6 +11,7 @@ use futures::task::Source;
 use rand_core::utils::NextWord;
 use rand_pcg::Pcg32;
 use std::alloc::{AllocError, Global};
+use std::time::Duration;
 
 // What happens at a call in place of what it would do.
 fn drawn_halt(random: &mut Pcg32) -> Option<Halt> {
@@ -206,7 +207,7 @@ impl Dial<DrawnWire> for DrawnDial {
 
     fn adopt(&mut self, _wire: &mut DrawnWire) {}
 
-    fn turn(&mut self) -> Turned {
+    fn turn(&mut self, _most: Duration) -> Turned {
         Turned::Done
     }
 

@@ -18,6 +18,8 @@ mod exchanges;
 #[cfg(test)]
 mod memory;
 #[cfg(test)]
+mod places;
+#[cfg(test)]
 mod requests;
 #[cfg(test)]
 mod retries;

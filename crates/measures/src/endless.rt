@@ -5,6 +5,7 @@ ghost use Rattle.std.specs.Prelude.{⊤};
 use bundle::Lease;
 use exchange::{Dial, Dialled, Read, Turned, Wire, Written};
 use futures::task::Source;
+use std::time::Duration;
 
 /// What the peer answers: 200 bytes.
 pub(crate) const RESPONSE: &[u8] = b"HTTP/1.1 200 OK\r\nDate: Tue, 15 Nov 1994 08:12:31 GMT\r\n\
@@ -87,7 +88,7 @@ impl Dial<EndlessWire> for EndlessDial {
 
     fn adopt(&mut self, _wire: &mut EndlessWire) {}
 
-    fn turn(&mut self) -> Turned {
+    fn turn(&mut self, _most: Duration) -> Turned {
         Turned::Done
     }
 

@@ -1,12 +1,13 @@
 //! What is known of a connection over a socket, and how its socket is read, written and looked at.
 
-ghost use Rattle.std.specs.Prelude.{◌≡◌, ◌<◌, length, true, false};
+ghost use Rattle.std.specs.Prelude.{◌≡◌, ◌≢◌, ◌<◌, length, true, false};
 ghost use Rattle.exchange.specs.Wires.{Reads, Writes};
 ghost use Rattle.exchange.specs.Wires.Happening.{is_adopted};
 ghost use Rattle.exchange.specs.Dialling.{OnReadFault, OnWriteFault};
 ghost use Rattle.conn_key.specs.Wants.{Rises};
 ghost use Rattle.socket.specs.Sockets.{IsUntouched, IsDialledTo, HappensTo, Fails, Judges};
-ghost use Rattle.socket.specs.Streams.{HappensOver};
+ghost use Rattle.socket.specs.declared.connection.Condition.TheVariants.{Unfit};
+ghost use Rattle.socket.specs.Streams.{HappensOver, KeepsUnwritten};
 ghost use Rattle.socket.specs.SystemAnswers.{
   IsTemporary,
   TellsRead,
@@ -72,6 +73,13 @@ impl Connection {
             && addresses.contains(&self.address)
     }
 
+    /// Whether it was not found unfit.
+    pub(crate) fn is_fit(&self) -> bool
+        ensures { result ≡ true → self.now.condition ≢ Unfit }
+    {
+        self.condition != Condition::Unfit
+    }
+
     /// Reads from its stream into the buffer, which must have room.
     pub(crate) fn read<S: io::Read + io::Write>(
         &mut self,
@@ -97,6 +105,7 @@ impl Connection {
         ensures writes { Writes bytes.now (HappensOver S.contents S.remaining self.old self.new
             stream.old stream.new) result }
         ensures fault { OnWriteFault result (Rises self.old.failures self.new.failures) }
+        ensures keeps { KeepsUnwritten S.contents stream.old stream.new result }
     {
         if self.condition == Condition::Unfit {
             self.fail();
@@ -167,8 +176,8 @@ impl Connection {
         }
     }
 
-    // Counts a failure.
-    fn fail(&mut self)
+    /// Counts a failure.
+    pub(crate) fn fail(&mut self)
         ensures { Fails self.old self.new }
     {
         self.failures = self.failures.saturating_add(1);

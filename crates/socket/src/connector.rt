@@ -12,7 +12,7 @@ use crate::begun::{Attempt, keep, take};
 use crate::counts::Counts;
 use crate::dialled_socket::{DialledSocket, Progress};
 use exchange::{Dialled, Turned};
-use mio::{Events, Poll, Registry};
+use mio::{Events, Poll, Registry, Token};
 use std::alloc::Global;
 use std::collections::HashMap;
 use std::io;
@@ -33,6 +33,8 @@ pub(crate) struct Connector<'n, N: Net> {
     addresses: Addresses,
     poll: Poll,
     events: Events,
+    // How many of these were told of.
+    seen: usize,
     pub(crate) begun: HashMap<u64, Attempt>,
     pub(crate) counts: Counts,
 }
@@ -63,6 +65,7 @@ impl<'n, N: Net> Connector<'n, N> {
             addresses,
             poll: Poll::new(net)?,
             events: Events::with_capacity(alloc, MOST_EVENTS)?,
+            seen: 0,
             begun: HashMap::new(alloc),
             counts: Counts::new(),
         })
@@ -125,9 +128,9 @@ impl<'n, N: Net> Connector<'n, N> {
         self.poll.registry()
     }
 
-    /// Waits until something that is registered is ready, for at most ten milliseconds. A wait that
-    /// the system refuses is counted.
-    pub(crate) fn wait(&mut self) -> Turned
+    /// Waits until something that is registered is ready, at most that long, and at most ten
+    /// milliseconds. A wait that the system refuses is counted.
+    pub(crate) fn wait(&mut self, most: Duration) -> Turned
         ensures counted { CountsTurn result self.old.counts.turn_failures
             self.new.counts.turn_failures }
         ensures others { self.new.counts
@@ -135,12 +138,27 @@ impl<'n, N: Net> Connector<'n, N> {
         ensures begun { self.new.begun ≡ self.old.begun }
         ensures addresses { self.new.addresses ≡ self.old.addresses }
     {
-        let most = Duration::from_millis(MOST_WAIT_MILLISECONDS);
+        self.seen = 0;
+        let most = most.min(Duration::from_millis(MOST_WAIT_MILLISECONDS));
         if self.poll.poll(&mut self.events, Some(most)).is_ok() {
             return Turned::Done;
         }
         self.counts.fail_turn();
         Turned::Fault
+    }
+
+    /// The token of the next socket that the last wait found ready.
+    pub(crate) fn next_ready(&mut self) -> Option<Token>
+        ensures { (self.new.begun ≡ self.old.begun) × (self.new.counts ≡ self.old.counts) }
+    {
+        let token = self.events.iter().nth(self.seen)?.token();
+        self.seen = self.seen.saturating_add(1);
+        Some(token)
+    }
+
+    /// The token of the connection that is begun for that transfer, if one is.
+    pub(crate) fn token_of(&self, transfer: u64) -> Option<Token> {
+        Some(self.begun.get(&transfer)?.socket.token())
     }
 
     // Goes on with an attempt for that transfer and site. One for another is closed.

@@ -4,14 +4,12 @@ ghost use Rattle.std.specs.Prelude.{◌≡◌, true, IfOk};
 ghost use Rattle.socket.specs.Sockets.{IsUntouched, IsDialledTo};
 
 use crate::connection::Connection;
+use crate::places::token_of;
 use mio::net::TcpStream;
 use mio::{Interest, Registry, Token};
 use std::io;
 use std::io::ErrorKind;
 use std::net::{Net, SocketAddr};
-
-/// The token of all that is registered: a turn only ends sooner where something is ready.
-pub(crate) const TOKEN: Token = Token(0);
 
 /// Whether a connection is open.
 #[derive(Clone, Copy, Debug, PartialEq, Eq)]
@@ -74,12 +72,18 @@ impl DialledSocket {
         }
     }
 
+    /// The token that it is registered by.
+    pub(crate) fn token(&self) -> Token {
+        token_of(&self.stream)
+    }
+
     /// Has that registry tell once it is open or has failed; whether it will.
     pub(crate) fn register(&mut self, registry: &Registry) -> bool
         ensures { self.new.connection ≡ self.old.connection }
     {
+        let token = self.token();
         registry
-            .register(&mut self.stream, TOKEN, Interest::WRITABLE)
+            .register(&mut self.stream, token, Interest::WRITABLE)
             .is_ok()
     }
 

@@ -9,6 +9,7 @@ mod connection;
 mod connector;
 mod counts;
 mod dialled_socket;
+mod places;
 mod polled;
 mod waiting;
 

@@ -5,21 +5,26 @@ ghost use Rattle.std.specs.Prelude.{◌≡◌, IfSome, IfOk};
 use crate::addresses::Addresses;
 use crate::connection::{Connection, is_readable};
 use crate::connector::Connector;
-use crate::dialled_socket::{DialledSocket, TOKEN};
+use crate::dialled_socket::DialledSocket;
+use crate::places::{Places, token_of};
 use bundle::Lease;
-use exchange::{Dial, Dialled, Read, Turned, Wire, Written};
+use exchange::{Dial, Dialled, Place, Read, Ready, Turned, Wire, Written};
 use futures::task::Source;
 use mio::net::TcpStream;
-use mio::{Interest, Registry};
+use mio::unix::SourceFd;
+use mio::{Interest, Registry, Token};
 use std::alloc::Global;
 use std::io;
 use std::net::Net;
 use std::os::fd::AsRawFd;
 use std::sync::Arc;
+use std::time::Duration;
 
 /// A connection over a socket whose reads and writes never wait. The poller of the dial that drives
-/// it knows it, and ends a turn once more can be read than before. It is a wire over every stream,
-/// whose bytes contracts may know, but only one over the system's socket can be made.
+/// it knows it, and ends a turn once more can be read than before, or once a send buffer that was
+/// full has room. The first read after a write that took bytes asks nobody: what comes is told by
+/// a turn. It is a wire over every stream, whose bytes contracts may know, but only one over the
+/// system's socket can be made.
 #[derive(Drop)]
 pub struct PolledWire<S = TcpStream> {
     stream: S,
@@ -27,6 +32,30 @@ pub struct PolledWire<S = TcpStream> {
     // What knows it.
     registry: Arc<Registry>,
     source: Source,
+    arrivals: Arrivals,
+}
+
+/// What is known of bytes that came: those that come after a look that found none are told by a
+/// turn.
+#[derive(Clone, Copy, Debug, PartialEq, Eq)]
+enum Arrivals {
+    /// A look found none, and nothing was written or read since.
+    LookedFor,
+    /// A look found none; bytes were written since, and nothing was read.
+    Awaited,
+    /// Only a read tells.
+    Unknown,
+}
+
+impl Arrivals {
+    // What is known of them once a write has answered so. One that had to wait ends its poll, and a
+    // turn before the next poll may tell of what came.
+    fn after(self, written: Written) -> Arrivals {
+        match (self, written) {
+            (Arrivals::LookedFor | Arrivals::Awaited, Written::Took(_)) => Arrivals::Awaited,
+            _ => Arrivals::Unknown,
+        }
+    }
 }
 
 impl PolledWire<TcpStream> {
@@ -37,15 +66,22 @@ impl PolledWire<TcpStream> {
         let known = Arc::clone(registry).ok()?;
         let (mut stream, connection) = socket.into_parts();
         stream.set_nodelay(true).ok()?;
+        let token = token_of(&stream);
         registry
-            .register(&mut stream, TOKEN, Interest::READABLE)
+            .register(&mut stream, token, Interest::READABLE)
             .ok()?;
         Some(PolledWire {
             stream,
             connection,
             registry: known,
             source: Source::new(),
+            arrivals: Arrivals::LookedFor,
         })
+    }
+
+    // The token that it is registered by.
+    fn token(&self) -> Token {
+        token_of(&self.stream)
     }
 
     // Has that registry know it, and no other; whether it does.
@@ -59,7 +95,8 @@ impl PolledWire<TcpStream> {
             return false;
         };
         let _ = self.registry.deregister(&mut self.stream);
-        let registered = registry.register(&mut self.stream, TOKEN, Interest::READABLE);
+        let token = self.token();
+        let registered = registry.register(&mut self.stream, token, Interest::READABLE);
         if registered.is_err() {
             return false;
         }
@@ -68,7 +105,19 @@ impl PolledWire<TcpStream> {
     }
 }
 
-impl<S: io::Read + io::Write + Drop> Wire for PolledWire<S> {
+impl<S: AsRawFd> PolledWire<S> {
+    // Has its poller end a turn once bytes can be written too; whether it will. It is not told to
+    // stop: the poller tells of room once a send buffer that was full has some, and not before.
+    fn awaits_room(&self) -> bool {
+        let descriptor = self.stream.as_raw_fd();
+        let both = Interest::READABLE | Interest::WRITABLE;
+        self.registry
+            .reregister(&mut SourceFd(&descriptor), token_of(&self.stream), both)
+            .is_ok()
+    }
+}
+
+impl<S: io::Read + io::Write + AsRawFd + Drop> Wire for PolledWire<S> {
     ghost use Rattle.socket.specs.Sockets.{IsUntouched};
     ghost use Rattle.socket.specs.Streams.{HappensOver};
 
@@ -82,11 +131,24 @@ impl<S: io::Read + io::Write + Drop> Wire for PolledWire<S> {
     ghost source_name = { λ wire. wire.source.id };
 
     fn read(&mut self, buffer: &mut [u8]) -> Read {
+        let awaited = self.arrivals == Arrivals::Awaited;
+        self.arrivals = Arrivals::Unknown;
+        if awaited && self.connection.is_fit() {
+            return Read::NotYet;
+        }
         self.connection.read(&mut self.stream, buffer)
     }
 
     fn write(&mut self, bytes: &[u8]) -> Written {
-        self.connection.write(&mut self.stream, bytes)
+        let written = self.connection.write(&mut self.stream, bytes);
+        self.arrivals = self.arrivals.after(written);
+        match written {
+            Written::NotYet if !self.awaits_room() => {
+                self.connection.fail();
+                Written::Fault
+            }
+            _ => written,
+        }
     }
 
     fn source(&self) -> &Source {
@@ -99,6 +161,7 @@ impl<S: io::Read + io::Write + Drop> Wire for PolledWire<S> {
 pub struct PolledDial<'n, N: Net> {
     connector: Connector<'n, N>,
     registry: Arc<Registry>,
+    places: Places,
     source: Source,
 }
 
@@ -118,6 +181,7 @@ impl<'n, N: Net> PolledDial<'n, N> {
         Ok(PolledDial {
             connector,
             registry,
+            places: Places::new(alloc),
             source: Source::new(),
         })
     }
@@ -176,11 +240,18 @@ impl<'n, N: Net> Dial<PolledWire> for PolledDial<'n, N> {
         ensures addresses { self.new.connector.addresses ≡ self.old.connector.addresses }
     {
         match self.connector.connect(lease.site(), lease.transfer()) {
-            Dialled::Up(socket) => self
-                .connector
-                .counts
-                .note(PolledWire::new(socket, &self.registry)),
-            Dialled::NotYet => Dialled::NotYet,
+            Dialled::Up(socket) => {
+                self.places.note(socket.token());
+                self.connector
+                    .counts
+                    .note(PolledWire::new(socket, &self.registry))
+            }
+            Dialled::NotYet => {
+                if let Some(token) = self.connector.token_of(lease.transfer()) {
+                    self.places.note(token);
+                }
+                Dialled::NotYet
+            }
             Dialled::Fault => Dialled::Fault,
         }
     }
@@ -190,13 +261,26 @@ impl<'n, N: Net> Dial<PolledWire> for PolledDial<'n, N> {
     }
 
     fn adopt(&mut self, wire: &mut PolledWire) {
+        self.places.note(wire.token());
         let is_known = wire.move_to(&self.registry);
+        wire.arrivals = Arrivals::LookedFor;
         wire.connection
             .judge(!is_known || is_readable(&wire.stream));
     }
 
-    fn turn(&mut self) -> Turned {
-        self.connector.wait()
+    fn turn(&mut self, most: Duration) -> Turned {
+        self.connector.wait(most)
+    }
+
+    fn set_place(&mut self, place: Place) {
+        self.places.set_current(place);
+    }
+
+    fn next_ready(&mut self) -> Ready {
+        match self.connector.next_ready() {
+            Some(token) => self.places.ready(token),
+            None => Ready::Nothing,
+        }
     }
 
     fn source(&self) -> &Source {

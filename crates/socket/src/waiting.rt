@@ -163,11 +163,11 @@ impl<'n, N: Net> Dial<WaitingWire> for WaitingDial<'n, N> {
         wire.connection.judge(is_readable(&wire.stream));
     }
 
-    fn turn(&mut self) -> Turned {
+    fn turn(&mut self, most: Duration) -> Turned {
         if !self.connector.has_begun() {
             return Turned::Done;
         }
-        self.connector.wait()
+        self.connector.wait(most)
     }
 
     fn source(&self) -> &Source {

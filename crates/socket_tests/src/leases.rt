@@ -8,24 +8,24 @@ use budget::Limits;
 use bundle::{Acquired, Lease};
 use cache::Pool;
 use conn_log::Want;
+use exchange::Wire;
 use leasing::Cache;
-use socket::WaitingWire;
 use std::alloc::AllocGlobal;
 use std::process::Abort;
 
 /// A pool of three hosts, without limits.
-pub(crate) fn pool_of<R: Abort + AllocGlobal>(rt: &R) -> Pool<WaitingWire> {
+pub(crate) fn pool_of<W: Drop, R: Abort + AllocGlobal>(rt: &R) -> Pool<W> {
     let limits = Limits::new(0, 0, 4).expect(rt, "limits");
     Pool::new(rt.alloc(), limits, 3).expect(rt, "memory")
 }
 
 /// The lease of a new connection to that site for that transfer.
-pub(crate) fn lease_at<R: Abort>(
+pub(crate) fn lease_at<W: Wire, R: Abort>(
     rt: &R,
-    pool: &mut Pool<WaitingWire>,
+    pool: &mut Pool<W>,
     site: u32,
     transfer: u64,
-) -> Lease<WaitingWire>
+) -> Lease<W>
     ensures here { IsMadeBy (home_of pool.new) result.site result.tables }
     ensures stays { home_of pool.new ≡ home_of pool.old }
     ensures none { result.stream ≡ None }
@@ -49,7 +49,7 @@ pub(crate) fn lease_at<R: Abort>(
 }
 
 /// Ends a lease of that pool.
-pub(crate) fn abandon(pool: &mut Pool<WaitingWire>, lease: Lease<WaitingWire>)
+pub(crate) fn abandon<W: Wire>(pool: &mut Pool<W>, lease: Lease<W>)
     requires { IsMadeBy (home_of pool.old) lease.site lease.tables }
     ensures { home_of pool.new ≡ home_of pool.old }
 {

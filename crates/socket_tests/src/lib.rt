@@ -12,4 +12,6 @@ mod leases;
 #[cfg(test)]
 mod peer;
 #[cfg(test)]
+mod readiness;
+#[cfg(test)]
 mod requests;

@@ -10,6 +10,12 @@ use std::net::{IpAddr, Ipv4Addr, SocketAddr, TcpListener, TcpStream};
 /// A whole response with a body of two bytes.
 pub(crate) const OK: &[u8] = b"HTTP/1.1 200 OK\r\nContent-Length: 2\r\n\r\nok";
 
+/// A response whose body of two bytes ends with the connection.
+const ENDLESS: &[u8] = b"HTTP/1.1 200 OK\r\n\r\nok";
+
+/// More reads than it takes to empty a socket.
+const MOST_READS: u32 = 10_000;
+
 /// A whole response that nobody asked for.
 const UNASKED: &[u8] = b"HTTP/1.1 200 OK\r\nContent-Length: 7\r\n\r\nunasked";
 
@@ -24,6 +30,8 @@ pub(crate) enum Behaviour {
     SaysMoreLater,
     /// It answers, and then ends the connection.
     AnswersAndEnds,
+    /// It answers without a length, and ends the connection with the answer's last bytes.
+    EndsItsAnswer,
     /// It ends the connection after a front of its answer.
     Cuts,
     /// It ends the connection and has not read the request, so that the system resets it.
@@ -74,19 +82,55 @@ impl Peer {
         }
         let mut request = [0u8; 200];
         let _ = stream.read(&mut request)?;
-        let front = if behaviour == Behaviour::Cuts {
-            &OK[..30]
-        } else {
-            OK
+        let answer = match behaviour {
+            Behaviour::Cuts => &OK[..30],
+            Behaviour::EndsItsAnswer => ENDLESS,
+            _ => OK,
         };
-        stream.write_all(front)?;
+        stream.write_all(answer)?;
         if behaviour == Behaviour::SaysMore {
             stream.write_all(UNASKED)?;
         }
-        if behaviour != Behaviour::AnswersAndEnds && behaviour != Behaviour::Cuts {
+        let ends = matches!(
+            behaviour,
+            Behaviour::AnswersAndEnds | Behaviour::EndsItsAnswer | Behaviour::Cuts
+        );
+        if !ends {
             self.stream = Some(stream);
         }
         Ok(())
+    }
+
+    /// Takes the connection that came; it takes nothing from it.
+    pub(crate) fn accepts(&mut self) -> io::Result<()> {
+        let (stream, _) = self.listener.accept()?;
+        stream.set_nonblocking(true)?;
+        self.stream = Some(stream);
+        Ok(())
+    }
+
+    /// Sends an answer on the last connection.
+    pub(crate) fn answers(&mut self) -> io::Result<()> {
+        match &mut self.stream {
+            Some(stream) => stream.write_all(OK),
+            None => Ok(()),
+        }
+    }
+
+    /// Takes all that has come on the last connection; how many bytes.
+    pub(crate) fn drains(&mut self) -> usize {
+        let Some(stream) = &mut self.stream else {
+            return 0;
+        };
+        let mut buffer = [0u8; 4_096];
+        let mut count: usize = 0;
+        for _ in 0..MOST_READS {
+            match stream.read(&mut buffer) {
+                Ok(taken) if taken > 0 => count = count.saturating_add(taken),
+                _ => break,
+            }
+        }
+        count
     }
 
     /// Sends what it says once its response was read, if it does.

@@ -39,7 +39,7 @@ struct Row {
     opened: u64,
 }
 
-static ROWS: [Row; 6] = [
+static ROWS: [Row; 7] = [
     Row {
         behaviour: Behaviour::Answers,
         first: Outcome::New,
@@ -62,6 +62,12 @@ static ROWS: [Row; 6] = [
         behaviour: Behaviour::AnswersAndEnds,
         first: Outcome::New,
         second: Outcome::Retried,
+        opened: 2,
+    },
+    Row {
+        behaviour: Behaviour::EndsItsAnswer,
+        first: Outcome::New,
+        second: Outcome::New,
         opened: 2,
     },
     Row {
@@ -94,8 +100,8 @@ fn outcome_of(done: Done) -> Outcome {
     }
 }
 
-// A request to the server at that port, prepared, if there is memory for it.
-fn prepared(rt: &HostRuntime, transfer: u64, port: u16) -> Option<Prepared>
+/// A request to the server at that port, prepared, if there is memory for it.
+pub(crate) fn prepared(rt: &HostRuntime, transfer: u64, port: u16) -> Option<Prepared>
     ensures { IfSome result IsUnused }
 {
     let want = Want {
@@ -169,8 +175,8 @@ fn outcomes<W: Wire, D: Dial<W>>(
     Some((first, second))
 }
 
-// A server, and the addresses of its one site, if there is memory for them.
-fn peer_of(rt: &HostRuntime) -> Option<(Peer, Addresses)> {
+/// A server, and the addresses of its one site, if there is memory for them.
+pub(crate) fn peer_of(rt: &HostRuntime) -> Option<(Peer, Addresses)> {
     let peer = Peer::new(rt).ok()?;
     let addresses = addresses_of(rt, "127.0.0.1", peer.port().ok()?)?;
     Some((peer, addresses))

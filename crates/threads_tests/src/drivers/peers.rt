@@ -8,6 +8,7 @@ ghost use Rattle.exchange.specs.Dialling.{OnReadFault};
 use bundle::Lease;
 use exchange::{Dial, Dialled, Read, Turned, Wire, Written};
 use futures::task::Source;
+use std::time::Duration;
 
 /// A peer's answer, but for the length of its body, which has two digits: a blank may stand in
 /// place of the first (RFC 9112, section 5).
@@ -176,7 +177,7 @@ impl Dial<PeerWire> for PeerDial {
 
     fn adopt(&mut self, _wire: &mut PeerWire) {}
 
-    fn turn(&mut self) -> Turned {
+    fn turn(&mut self, _most: Duration) -> Turned {
         if self.fails_turns {
             self.turn_failures = self.turn_failures.saturating_add(1);
             return Turned::Fault;

@@ -14,55 +14,53 @@ pub returns-then-is_pending-clause-kept : goal.returns-then-is_pending-clause-ke
 returns-then-is_pending-clause-kept g c =
     let world = world_of g.W.Wire.untouched g.W.Wire.happened (g.K.Clock.tells c.args.clock.now) in
     let old = c.in_ok-transfer.transfer.now in
-    let new = c.poll-polled.new.self in
+    let new = c.poll_told-polled.new.transfer in
     let slots = c.args.self.now.slots.items in
     let there = slice_get_read slots (length slots) c.args.place c.in_ok-slot.slot.now refl c.in_ok-slot.ensures.item.3.0 c.in_ok-slot.ensures.item.1 in
     let lent : c.in_ok-slot.slot.now ≡ Some old = search rules in
     let is : slice_get slots c.args.place ≡ Some (Some old) = there ∙ ap Some lent in
     let was = kept_at world (g.C.Cache.home c.args.cache.now) slots c.args.place old is c.requires.kept in
-    let told = told_on g.C.Cache.did world old.parts new.parts c.args.cache.now c.poll-polled.new.cache old.state new.state c.poll-polled.ensures.story was.told in
-    let kept : AreKept world (g.C.Cache.home c.poll-polled.new.cache) slots = rw c.poll-polled.ensures.stays c.requires.kept in
-    kept_with world (g.C.Cache.home c.poll-polled.new.cache) slots new (record { owns = c.poll-polled.ensures.owns; ready = c.poll-polled.ensures.ready; told = told }) kept c.args.place
+    let told = told_on g.C.Cache.did world old.parts new.parts c.args.cache.now c.poll_told-polled.new.cache old.state new.state c.poll_told-polled.ensures.polled.story was.told in
+    let kept : AreKept world (g.C.Cache.home c.poll_told-polled.new.cache) slots = rw c.poll_told-polled.ensures.stays c.requires.kept in
+    kept_with world (g.C.Cache.home c.poll_told-polled.new.cache) slots new (record { owns = c.poll_told-polled.ensures.owns; ready = c.poll_told-polled.ensures.ready; told = told }) kept c.args.place
 
 pub returns-clause-ended : goal.returns-clause-ended
 returns-clause-ended g c =
     let world = world_of g.W.Wire.untouched g.W.Wire.happened (g.K.Clock.tells c.args.clock.now) in
     let old = c.in_ok-transfer.transfer.now in
-    let new = c.poll-polled.new.self in
+    let new = c.poll_told-polled.new.transfer in
     let slots = c.args.self.now.slots.items in
     let there = slice_get_read slots (length slots) c.args.place c.in_ok-slot.slot.now refl c.in_ok-slot.ensures.item.3.0 c.in_ok-slot.ensures.item.1 in
     let lent : c.in_ok-slot.slot.now ≡ Some old = search rules in
     let is : slice_get slots c.args.place ≡ Some (Some old) = there ∙ ap Some lent in
     let was = kept_at world (g.C.Cache.home c.args.cache.now) slots c.args.place old is c.requires.kept in
-    let told = told_on g.C.Cache.did world old.parts new.parts c.args.cache.now c.poll-polled.new.cache old.state new.state c.poll-polled.ensures.story was.told in
+    let told = told_on g.C.Cache.did world old.parts new.parts c.args.cache.now c.poll_told-polled.new.cache old.state new.state c.poll_told-polled.ensures.polled.story was.told in
     let same : c.in-Some.transfer ≡ new = search rules in
     let its : IsTold world c.in-Some.transfer.parts c.in-Some.transfer.state = subst (λ (t : Transfer _). IsTold world t.parts t.state) (sym same) told in
-    let ready : IsReady c.in-Some.transfer.parts = subst (λ (t : Transfer _). IsReady t.parts) (sym same) c.poll-polled.ensures.ready in
+    let ready : IsReady c.in-Some.transfer.parts = subst (λ (t : Transfer _). IsReady t.parts) (sym same) c.poll_told-polled.ensures.ready in
     ended_is world c.finish.result.0 c.in-Some.transfer.parts c.finish.result.1 c.in-Some.transfer.state c.finish.ensures.done c.finish.ensures.parts ready its
 
 pub returns-then-is_pending-clause-polls : goal.returns-then-is_pending-clause-polls
 returns-then-is_pending-clause-polls g c =
     let old = c.in_ok-transfer.transfer.now in
-    let new = c.poll-polled.new.self in
-    let polled = c.poll-polled.ensures in
+    let new = c.poll_told-polled.new.transfer in
     let slots = c.args.self.now.slots.items in
     let there = slice_get_read slots (length slots) c.args.place c.in_ok-slot.slot.now refl c.in_ok-slot.ensures.item.3.0 c.in_ok-slot.ensures.item.1 in
     let lent : c.in_ok-slot.slot.now ≡ Some old = search rules in
-    let source = g.D.Dial.source_name c.poll-polled.new.dial in
-    let leaves : Leaves g.W.Wire.source_name source c.args.cx.now c.poll-polled.new.cx new.waker new.has_yielded new.state = search rules in
+    let source = g.D.Dial.source_name c.poll_told-polled.new.dial in
+    let leaves : Leaves g.W.Wire.source_name source c.args.cx.now c.poll_told-polled.new.cx new.waker new.has_yielded new.state = search rules in
     inl (record {
       transfer = old;
       next = new;
       stood = there ∙ ap Some lent;
-      polled = record { same = polled.same; story = polled.story; steps = polled.steps; dialled = polled.dialled; opens = polled.opens; begun = polled.begun };
-      leaves = (refl, pending_goes_on g.W.Wire.source_name source c.args.cx.now c.poll-polled.new.cx new.waker new.has_yielded new.state leaves);
+      polled = c.poll_told-polled.ensures.polled;
+      leaves = (refl, pending_goes_on g.W.Wire.source_name source c.args.cx.now c.poll_told-polled.new.cx new.waker new.has_yielded new.state leaves);
     })
 
 pub returns-clause-polls : goal.returns-clause-polls
 returns-clause-polls g c =
     let old = c.in_ok-transfer.transfer.now in
-    let new = c.poll-polled.new.self in
-    let polled = c.poll-polled.ensures in
+    let new = c.poll_told-polled.new.transfer in
     let slots = c.args.self.now.slots.items in
     let there = slice_get_read slots (length slots) c.args.place c.in_ok-slot.slot.now refl c.in_ok-slot.ensures.item.3.0 c.in_ok-slot.ensures.item.1 in
     let lent : c.in_ok-slot.slot.now ≡ Some old = search rules in
@@ -73,6 +71,6 @@ returns-clause-polls g c =
       transfer = old;
       next = new;
       stood = there ∙ ap Some lent;
-      polled = record { same = polled.same; story = polled.story; steps = polled.steps; dialled = polled.dialled; opens = polled.opens; begun = polled.begun };
+      polled = c.poll_told-polled.ensures.polled;
       leaves = (search rules, state ∙ c.finish.ensures.done, c.finish.ensures.parts ∙ parts);
     })

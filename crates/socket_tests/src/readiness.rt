@@ -1,0 +1,205 @@
+//! What a dial of polled sockets tells of them, and when.
+
+ghost use Rattle.cache.specs.Deeds.{home_of};
+ghost use Rattle.exchange.specs.Answers.{IsUnused};
+ghost use Rattle.exchange.specs.Slabs.{AreKept};
+ghost use Rattle.exchange.specs.Worlds.{world_of};
+
+use crate::leases::{abandon, lease_at, pool_of};
+use crate::peer::{Behaviour, Peer};
+use crate::requests::{peer_of, prepared};
+use budget::Limits;
+use cache::Pool;
+use exchange::{Clock, Dial, Dialled, Done, Place, Prepared, Read, Ready, Slab, Wire, Written};
+use futures::task::{Doorbell, Poll, Solo};
+use socket::{PolledDial, PolledWire, SystemClock};
+use std::alloc::{AllocGlobal, Global};
+use std::process::Abort;
+use std::time::Duration;
+
+/// More polls and turns than a request here takes.
+const MOST: u32 = 200;
+
+/// The place whose sockets are looked at.
+const PLACE: Place = Place {
+    index: 3,
+    joined: 7,
+};
+
+// Dials until the connection is open.
+fn dialled<R: Abort>(
+    rt: &R,
+    dial: &mut PolledDial<'_, HostRuntime>,
+    pool: &mut Pool<PolledWire>,
+) -> Option<PolledWire> {
+    dial.set_place(PLACE);
+    let lease = lease_at(rt, pool, 0, 1);
+    let mut wire = None;
+    for _ in 0..MOST {
+        match dial.dial(&lease) {
+            Dialled::Up(up) => wire = Some(up),
+            Dialled::NotYet => {}
+            Dialled::Fault => break,
+        }
+        if wire.is_some() {
+            break;
+        }
+        let _ = dial.turn(Duration::MAX);
+    }
+    abandon(pool, lease);
+    wire
+}
+
+// What the first turn tells that tells of something.
+fn told(dial: &mut PolledDial<'_, HostRuntime>) -> Ready {
+    for _ in 0..MOST {
+        let _ = dial.turn(Duration::MAX);
+        let ready = dial.next_ready();
+        if ready != Ready::Nothing {
+            return ready;
+        }
+    }
+    Ready::Nothing
+}
+
+// Lets turns pass until one tells nothing.
+fn pass_turns(dial: &mut PolledDial<'_, HostRuntime>) {
+    for _ in 0..MOST {
+        let _ = dial.turn(Duration::ZERO);
+        if dial.next_ready() == Ready::Nothing {
+            return;
+        }
+    }
+}
+
+#[test]
+fn the_first_read_after_a_write_asks_nobody(rt: HostRuntime) {
+    let (mut peer, addresses) = peer_of(&rt).expect(&rt, "a server");
+    let mut dial = PolledDial::new(&rt, rt.alloc(), addresses).expect(&rt, "a dial");
+    let mut pool = pool_of(&rt);
+    let mut wire = dialled(&rt, &mut dial, &mut pool).expect(&rt, "a connection");
+    peer.accepts().expect(&rt, "a connection");
+    let mut buffer = [0u8; 100];
+    let written = wire.write(b"a request");
+    peer.answers().expect(&rt, "a connection");
+    let before = wire.read(&mut buffer);
+    let ready = told(&mut dial);
+    let after = wire.read(&mut buffer);
+    let rest = wire.read(&mut buffer);
+    assert_eq!(rt; (written, before), (Written::Took(9), Read::NotYet));
+    assert_eq!(rt; ready, Ready::At(PLACE));
+    assert_eq!(rt; (after, rest), (Read::Bytes(40), Read::NotYet));
+}
+
+// Writes until the send buffer is full; whether it is.
+fn fills<W: Wire>(wire: &mut W) -> bool {
+    let bytes = [0u8; 4_096];
+    for _ in 0..100_000 {
+        match wire.write(&bytes) {
+            Written::Took(_) => {}
+            Written::NotYet => return true,
+            Written::Fault => return false,
+        }
+    }
+    false
+}
+
+#[test]
+fn a_full_send_buffer_is_told_of_once_it_has_room(rt: HostRuntime) {
+    let (mut peer, addresses) = peer_of(&rt).expect(&rt, "a server");
+    let mut dial = PolledDial::new(&rt, rt.alloc(), addresses).expect(&rt, "a dial");
+    let mut pool = pool_of(&rt);
+    let mut wire = dialled(&rt, &mut dial, &mut pool).expect(&rt, "a connection");
+    peer.accepts().expect(&rt, "a connection");
+    assert!(rt; fills(&mut wire));
+    pass_turns(&mut dial);
+    assert!(rt; peer.drains() > 0);
+    assert_eq!(rt; told(&mut dial), Ready::At(PLACE));
+    assert!(rt; matches!(wire.write(b"more"), Written::Took(4)));
+    // and what came before the write that found no room is read
+    peer.answers().expect(&rt, "a connection");
+    assert_eq!(rt; told(&mut dial), Ready::At(PLACE));
+    let mut buffer = [0u8; 100];
+    assert_eq!(rt; wire.read(&mut buffer), Read::Bytes(40));
+}
+
+// Polls until none is due; how the one that ended, if it did, has ended.
+fn poll_due<W: Wire, D: Dial<W>, K: Clock>(
+    task: &Solo,
+    slab: &mut Slab<W>,
+    pool: &mut Pool<W>,
+    dial: &mut D,
+    clock: &K,
+) -> Option<Done>
+    requires kept { AreKept (world_of W.untouched W.happened (K.tells clock.now))
+        (home_of pool.old) slab.old.slots.items }
+    ensures kept { AreKept (world_of W.untouched W.happened (K.tells clock.now))
+        (home_of pool.new) slab.new.slots.items }
+{
+    let mut done = None;
+    let mut cx = task.begin();
+    for _ in 0..MOST {
+        if !slab.has_due() {
+            break;
+        }
+        if let Some((ended, _)) = slab.poll_next(&mut cx, pool, dial, clock) {
+            done = Some(ended);
+        }
+    }
+    let turn: Poll<()> = cx.yield_now();
+    cx.end(&turn);
+    done
+}
+
+// How a transfer of a slab ends, and after how many turns, where the server does that after each
+// round.
+fn ends<W: Wire, D: Dial<W>, K: Clock>(
+    alloc: Global,
+    task: &Solo,
+    peer: &mut Peer,
+    behaviour: Behaviour,
+    parts: Prepared,
+    pool: &mut Pool<W>,
+    dial: &mut D,
+    clock: &K,
+) -> (Option<Done>, u32)
+    requires { IsUnused parts }
+{
+    let mut slab = Slab::new(alloc);
+    let mut done = None;
+    let mut turns: u32 = 0;
+    if slab.join(parts, pool, clock).is_ok() {
+        for _ in 0..MOST {
+            done = poll_due(task, &mut slab, pool, dial, clock);
+            if done.is_some() || peer.does(behaviour).is_err() {
+                break;
+            }
+            let _ = slab.turn(dial, Duration::MAX);
+            turns = turns.saturating_add(1);
+        }
+    }
+    slab.close(pool, dial, clock);
+    (done, turns)
+}
+
+#[test]
+fn an_answer_and_its_end_are_told_of_once(rt: HostRuntime) {
+    let task = Solo::new(&rt, Doorbell::spinning()).expect(&rt, "a task");
+    let limits = Limits::new(0, 0, 4).expect(&rt, "limits");
+    let clock = SystemClock::new(&rt).expect(&rt, "a clock");
+    for &behaviour in &[Behaviour::Answers, Behaviour::EndsItsAnswer] {
+        let (mut peer, addresses) = peer_of(&rt).expect(&rt, "a server");
+        let port = peer.port().expect(&rt, "a port");
+        let mut dial = PolledDial::new(&rt, rt.alloc(), addresses).expect(&rt, "a dial");
+        let mut pool = Pool::new(rt.alloc(), limits, 1).expect(&rt, "memory");
+        let parts = prepared(&rt, 1, port).expect(&rt, "memory");
+        let (done, turns) = ends(
+            rt.alloc(), &task, &mut peer, behaviour, parts, &mut pool, &mut dial, &clock,
+        );
+        let Some(Done::Good(answer)) = done else {
+            panic!(rt; "no answer: {done:?}");
+        };
+        assert_eq!(rt; (answer.status, answer.body_len), (200, 2));
+        assert!(rt; turns < 5, "{turns} turns");
+    }
+}
