@@ -159,7 +159,8 @@ impl<'c, W: Wire, D: Dial<W> + Drop, C: time::Clock> Client<'c, W, D, C> {
     {
         match stage {
             Stage::Grant | Stage::Turn => true,
-            Stage::Dialling | Stage::Sending | Stage::Reading => self.dial.turn(Duration::MAX) == Turned::Done,
+            Stage::Dialling | Stage::Sending | Stage::Reading => self.dial.turn(Duration::MAX)
+                == Turned::Done,
         }
     }
 }

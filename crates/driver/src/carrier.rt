@@ -173,7 +173,10 @@ impl<'d, W: Wire, D: Dial<W>> Carrier<'d, W, D> {
                 shared.bell.wait(rt, rings);
                 Ok(true)
             }
-            Stage::Dialling | Stage::Sending | Stage::Reading => match self.dial.turn(Duration::MAX) {
+            Stage::Dialling | Stage::Sending | Stage::Reading => match self
+                .dial
+                .turn(Duration::MAX)
+            {
                 Turned::Done => Ok(true),
                 Turned::Fault => Err(Quit::Poll),
             },

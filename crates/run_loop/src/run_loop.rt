@@ -18,6 +18,7 @@ use futures::task::{Context, Poll, Solo};
 use leasing::Cache;
 use std::alloc::{AllocError, Global};
 use std::sync::Wait;
+use std::time::Duration;
 
 /// When the next job may begin.
 #[derive(Clone, Copy)]
@@ -291,11 +292,16 @@ impl<W: Wire> RunLoop<W> {
         context.end(&turn);
     }
 
-    // Waits for what may bring a transfer on, by a turn of the dial.
-    fn rest<D: Dial<W>, T: Timer>(&self, dial: &mut D, _timer: &T, _next: Next) -> Turned
-        ensures { CountsTurn result (D.turn_failures dial.old) (D.turn_failures dial.new) }
+    // Waits for what may bring a transfer on, or until the next job is due, by a turn of the dial.
+    fn rest<D: Dial<W>, T: Timer>(&mut self, dial: &mut D, timer: &T, next: Next) -> Turned
+        ensures turns { CountsTurn result (D.turn_failures dial.old) (D.turn_failures dial.new) }
+        ensures slots { self.new.slab.slots ≡ self.old.slab.slots }
     {
-        dial.turn()
+        let most = match next {
+            Next::Free | Next::Never => Duration::MAX,
+            Next::At(due) => Duration::from_micros(due.saturating_sub(timer.micros())),
+        };
+        self.slab.turn(dial, most)
     }
 
     // A job that was drawn before it was due, if there is one, is stopped before it begins, unless

@@ -194,7 +194,14 @@ fn an_answer_and_its_end_are_told_of_once(rt: HostRuntime) {
         let mut pool = Pool::new(rt.alloc(), limits, 1).expect(&rt, "memory");
         let parts = prepared(&rt, 1, port).expect(&rt, "memory");
         let (done, turns) = ends(
-            rt.alloc(), &task, &mut peer, behaviour, parts, &mut pool, &mut dial, &clock,
+            rt.alloc(),
+            &task,
+            &mut peer,
+            behaviour,
+            parts,
+            &mut pool,
+            &mut dial,
+            &clock,
         );
         let Some(Done::Good(answer)) = done else {
             panic!(rt; "no answer: {done:?}");
