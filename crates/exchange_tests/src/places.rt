@@ -8,6 +8,7 @@ ghost use Rattle.exchange_memory.specs.Memory.{IsUntouched, HappenedTo};
 
 use crate::driving::{MOST_POLLS, NOW, OK, pool_of, prepared_at, want_of, wire_of};
 use cache::Pool;
+use conn_log::Want;
 use exchange::{Place, Ready, Slab};
 use exchange_memory::{FixedClock, Halt, MemoryDial, MemoryWire};
 use futures::task::{Doorbell, Poll, Solo};
@@ -112,7 +113,7 @@ static ROWS: [Row; 8] = [
     },
 ];
 
-// A transfer of that number joins.
+// A transfer of that number joins. One that joins behind another wants a new connection.
 fn join<R: Abort + AllocGlobal>(
     rt: &R,
     slab: &mut Slab<MemoryWire>,
@@ -124,7 +125,11 @@ fn join<R: Abort + AllocGlobal>(
     ensures kept { AreKept (world_of (λ wire site transfer. IsUntouched wire) HappenedTo
         (λ moment. moment ≡ 7)) (home_of pool.now) slab.new.slots.items }
 {
-    let want = want_of(transfer);
+    let fresh = transfer > TRANSFERS;
+    let want = Want {
+        fresh,
+        ..want_of(transfer)
+    };
     let parts = prepared_at(rt, 0, Method::Get, "http://example.com/", want);
     let joined = slab.join(parts, pool, &CLOCK);
     assert!(rt; joined.is_ok());

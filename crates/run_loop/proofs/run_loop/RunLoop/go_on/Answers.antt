@@ -28,7 +28,7 @@ loop-preserved g c =
     record {
       stays = search rules;
       kept = search rules;
-      goes = (runs_in_turn did world may_stop took (job_at c.args.jobs.now) (job_at c.loop.jobs) (job_at filled.jobs) c.loop.invariant.jobs c.fill-next.ensures.jobs
+      goes = rw c.rest.ensures.slots (runs_in_turn did world may_stop took (job_at c.args.jobs.now) (job_at c.loop.jobs) (job_at filled.jobs) c.loop.invariant.jobs c.fill-next.ensures.jobs
           (point c.args.cache.now (drawn c.args.jobs.now) c.args.self.now.slab.slots.items c.args.results.now) (point c.loop.cache (drawn c.loop.jobs) c.loop.self.slab.slots.items c.loop.results)
           (point c.loop.cache (drawn filled.jobs) filled.self.slab.slots.items filled.results) (point polled.cache (drawn filled.jobs) polled.self.slab.slots.items polled.results)
           c.loop.invariant.goes c.fill-next.ensures.goes c.poll_due.ensures.goes);
@@ -61,7 +61,7 @@ returns-in-Fault-clause-goes g c =
     let drawn = g.J.Jobs.drawn in
     let filled = c.fill-next.new in
     let polled = c.poll_due.new in
-    (runs_in_turn did world may_stop took (job_at c.args.jobs.now) (job_at c.loop.jobs) (job_at filled.jobs) c.loop.invariant.jobs c.fill-next.ensures.jobs
+    rw c.rest.ensures.slots (runs_in_turn did world may_stop took (job_at c.args.jobs.now) (job_at c.loop.jobs) (job_at filled.jobs) c.loop.invariant.jobs c.fill-next.ensures.jobs
     (point c.args.cache.now (drawn c.args.jobs.now) c.args.self.now.slab.slots.items c.args.results.now) (point c.loop.cache (drawn c.loop.jobs) c.loop.self.slab.slots.items c.loop.results)
     (point c.loop.cache (drawn filled.jobs) filled.self.slab.slots.items filled.results) (point polled.cache (drawn filled.jobs) polled.self.slab.slots.items polled.results)
     c.loop.invariant.goes c.fill-next.ensures.goes c.poll_due.ensures.goes)
