@@ -5,9 +5,9 @@
 mod base;
 mod counts;
 mod entry;
+mod history;
 pub mod laws;
 mod log;
-mod past;
 mod readers;
 mod stamp;
 mod still_waiting;
@@ -16,6 +16,7 @@ pub mod worked;
 pub use base::{Base, OpenConnection};
 pub use counts::Counts;
 pub use entry::{Cause, Entry, Event, Want};
+pub use history::History;
 pub use log::{Log, LogFault};
 pub use readers::{holder, idle_oldest, open_count, waiting_len};
 pub use stamp::Stamp;

@@ -9,7 +9,7 @@ ghost use Rattle.conn_log.specs.Bases.{summary, past_of, rest_of, is_too_long_to
 use crate::base::Base;
 use crate::counts::Counts;
 use crate::entry::Entry;
-use crate::past::Past;
+use crate::history::History;
 use std::alloc::{AllocError, Global};
 use std::marker::Model;
 use std::mem::{replace, size_of_val};
@@ -49,7 +49,7 @@ pub struct Log {
     rest: Vec<Entry>,
     base: Base,
     cut_away: u64,
-    past: Past,
+    past: History,
 }
 
 impl Model for Log {
@@ -86,7 +86,7 @@ impl Log {
             rest,
             base: Base::new(alloc),
             cut_away: 0,
-            past: Past::new(),
+            past: History::new(),
         })
     }
 

@@ -29,26 +29,26 @@ use Rattle.conn_log.specs.contracts.entry.Entry.{the_row}
 use Rattle.conn_log.specs.declared.entry.Entry.{Entry}
 use denote.Exit.{yes}
 use denote.Slice.{ShrSlice, slice_val, shr_slice_vals, shr_slice_Tells}
-use Rattle.conn_log.specs.declared.past.Past.{Past}
-use Rattle.conn_log.specs.contracts.past.Past as T
-use Rattle.conn_log.specs.contracts.past.Past.append.Key.{name as #it}
-use Rattle.conn_log.specs.contracts.past.Past.append as it
-use Rattle.conn_log.proofs.past.Past.append.Statement as stated
-use Rattle.conn_log.proofs.past.Past.append.Code as code
+use Rattle.conn_log.specs.declared.history.History.{History}
+use Rattle.conn_log.specs.contracts.history.History as T
+use Rattle.conn_log.specs.contracts.history.History.append.Key.{name as #it}
+use Rattle.conn_log.specs.contracts.history.History.append as it
+use Rattle.conn_log.proofs.history.History.append.Statement as stated
+use Rattle.conn_log.proofs.history.History.append.Code as code
 
 abbrev Arg : Type 0
-Arg = MutBor Past × (Bor (List Entry) × Unit {0})
+Arg = MutBor History × (Bor (List Entry) × Unit {0})
 
 abbrev stayed : Stays (it.ended).signature.params (it.ended).kept
 stayed = (stay_ref (0 ∷ []) tt (plain (λ _. T.the_row)), (stay_none_slice (1 ∷ []) tt (plain (λ _. the_row)) yes, tt))
 
-module _ {M : Type 1} {𝓤 : Ura M} (𝓛 : Logic 𝓤) (at_mem : Memory → SProp 𝓤) (run : Routine → Fun 𝓤) (κ κ' : Lft) (q q' : Share) (b o : ℕ) (γ : GName) (h : Past) (s : Bor (List Entry)) where
+module _ {M : Type 1} {𝓤 : Ura M} (𝓛 : Logic 𝓤) (at_mem : Memory → SProp 𝓤) (run : Routine → Fun 𝓤) (κ κ' : Lft) (q q' : Share) (b o : ℕ) (γ : GName) (h : History) (s : Bor (List Entry)) where
   open 𝓛 use {H, A}
 
   abbrev x : Arg
   x = (record { ref_ptr = (b, o); ghost_name = γ; now = h }, (s, tt))
 
-  abbrev h' : Past
+  abbrev h' : History
   h' = record { marker = h.marker; entries = reverse s.now ++ h.entries }
 
   abbrev at : List Val × (List Val × Unit {0})

@@ -21,17 +21,17 @@ use denote.Triple.Entry.{on_entry}
 use denote.Triple.Spec.{Meets, triple_of}
 use denote.Triple.Table.{entered}
 use denote.Triple.Walked.{says, ends_at, walked, walk_Meets}
-use Rattle.conn_log.specs.declared.past.Past.{Past}
-use Rattle.conn_log.specs.contracts.past.Past as T
-use Rattle.conn_log.specs.contracts.past.Past.new.Key.{name as #it}
-use Rattle.conn_log.specs.contracts.past.Past.new as it
-use Rattle.conn_log.proofs.past.Past.new.Statement as stated
-use Rattle.conn_log.proofs.past.Past.new.Code as code
+use Rattle.conn_log.specs.declared.history.History.{History}
+use Rattle.conn_log.specs.contracts.history.History as T
+use Rattle.conn_log.specs.contracts.history.History.new.Key.{name as #it}
+use Rattle.conn_log.specs.contracts.history.History.new as it
+use Rattle.conn_log.proofs.history.History.new.Statement as stated
+use Rattle.conn_log.proofs.history.History.new.Code as code
 
 abbrev v : Val
 v = vstruct (vcons (vstruct vnil) vnil)
 
-abbrev r : Past
+abbrev r : History
 r = record { marker = record {}; entries = [] }
 
 meets : {M : Type 1} {𝓤 : Ura M} (𝓛 : Logic 𝓤) → (at_mem : Memory → SProp 𝓤) (run : Routine → Fun 𝓤) (𝓣 : Tables 𝓤 𝓛.H)
