@@ -17,5 +17,6 @@ pub use base::{Base, OpenConnection};
 pub use counts::Counts;
 pub use entry::{Cause, Entry, Event, Want};
 pub use log::{Log, LogFault};
+pub use past::Past;
 pub use readers::{holder, idle_oldest, open_count, waiting_len};
 pub use stamp::Stamp;

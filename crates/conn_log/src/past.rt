@@ -1,5 +1,5 @@
-//! The entries that were cut away from a log: a history that contracts alone see, and no code
-//! holds.
+//! The entries that were cut away from a log, or that a monitor took: a history that contracts
+//! alone see, and no code holds.
 ghost use Rattle.std.specs.Prelude.{◌≡◌, List, [], ◌++◌, reverse};
 ghost use Rattle.std.specs.Borrow.{ftrue};
 ghost use Rattle.conn_log.specs.declared.entry.Entry.{Entry};
@@ -8,10 +8,10 @@ use crate::entry::Entry;
 use std::fmt::{self, Debug, Formatter, Write};
 use std::marker::{Model, PhantomData};
 
-/// What was cut away so far, newest first. It takes no memory, and its methods do nothing at run
-/// time.
+/// Entries of the past, newest first: those that were cut away from a log, or those that a monitor
+/// took. It takes no memory, and its methods do nothing at run time.
 #[derive(Drop)]
-pub(crate) struct Past {
+pub struct Past {
     marker: PhantomData<u8>,
     pub ghost entries: { List Entry },
 }
@@ -27,7 +27,7 @@ unsafe impl Send for Past {}
 unsafe impl Sync for Past {}
 
 impl Past {
-    /// Nothing was cut away.
+    /// No entry yet.
     pub fn new() -> Past
         ensures { result.entries ≡ [] }
     {
@@ -36,7 +36,7 @@ impl Past {
         }
     }
 
-    /// These are cut away too, which come after the others, oldest first.
+    /// These entries come after the others, oldest first.
     pub fn append(&mut self, _part: &[Entry])
         ensures { self.new.entries ≡ reverse _part.now ++ self.old.entries }
     {}

@@ -1,0 +1,4 @@
+pub mod WaitersInOrder
+pub mod Following
+pub mod AllowedEvents
+pub mod DueReturns

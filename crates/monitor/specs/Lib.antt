@@ -1,0 +1,5 @@
+pub mod Rules
+pub mod Waiters
+pub mod Held
+pub mod Tables
+pub mod Laws
