@@ -1,4 +1,5 @@
-//! Tests of `conn_log`: what no clause says, and worked rows.
+//! Tests of `conn_log`: what no clause says, and worked rows; and of `monitor`,
+//! which judges logs.
 #![tactic(auto)]
 
 #[cfg(test)]
@@ -7,6 +8,8 @@ mod counts;
 mod cuts;
 #[cfg(test)]
 mod entries;
+#[cfg(test)]
+mod judged;
 #[cfg(test)]
 mod log;
 #[cfg(test)]
