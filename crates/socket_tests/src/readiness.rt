@@ -151,6 +151,46 @@ fn poll_due<W: Wire, D: Dial<W>, K: Clock>(
     done
 }
 
+// Waits until a transfer of the slab may go on.
+fn take_turn<W: Wire, D: Dial<W>, K: Clock>(
+    slab: &mut Slab<W>,
+    _pool: &Pool<W>,
+    dial: &mut D,
+    _clock: &K,
+)
+    requires kept { AreKept (world_of W.untouched W.happened (K.tells _clock.now))
+        (home_of _pool.now) slab.old.slots.items }
+    ensures kept { AreKept (world_of W.untouched W.happened (K.tells _clock.now))
+        (home_of _pool.now) slab.new.slots.items }
+{
+    let _ = slab.turn(dial, Duration::MAX);
+}
+
+// Polls until one has ended, and how it has; the server does that after each round.
+fn rounds<W: Wire, D: Dial<W>, K: Clock>(
+    task: &Solo,
+    peer: &mut Peer,
+    behaviour: Behaviour,
+    slab: &mut Slab<W>,
+    pool: &mut Pool<W>,
+    dial: &mut D,
+    clock: &K,
+) -> (Option<Done>, u32)
+    requires kept { AreKept (world_of W.untouched W.happened (K.tells clock.now))
+        (home_of pool.old) slab.old.slots.items }
+    ensures kept { AreKept (world_of W.untouched W.happened (K.tells clock.now))
+        (home_of pool.new) slab.new.slots.items }
+{
+    for turns in 0..MOST {
+        let done = poll_due(task, slab, pool, dial, clock);
+        if done.is_some() || peer.does(behaviour).is_err() {
+            return (done, turns);
+        }
+        take_turn(slab, pool, dial, clock);
+    }
+    (None, MOST)
+}
+
 // How a transfer of a slab ends, and after how many turns, where the server does that after each
 // round.
 fn ends<W: Wire, D: Dial<W>, K: Clock>(
@@ -166,20 +206,13 @@ fn ends<W: Wire, D: Dial<W>, K: Clock>(
     requires { IsUnused parts }
 {
     let mut slab = Slab::new(alloc);
-    let mut done = None;
-    let mut turns: u32 = 0;
-    if slab.join(parts, pool, clock).is_ok() {
-        for _ in 0..MOST {
-            done = poll_due(task, &mut slab, pool, dial, clock);
-            if done.is_some() || peer.does(behaviour).is_err() {
-                break;
-            }
-            let _ = slab.turn(dial, Duration::MAX);
-            turns = turns.saturating_add(1);
-        }
+    if slab.join(parts, pool, clock).is_err() {
+        slab.close(pool, dial, clock);
+        return (None, 0);
     }
+    let told = rounds(task, peer, behaviour, &mut slab, pool, dial, clock);
     slab.close(pool, dial, clock);
-    (done, turns)
+    told
 }
 
 #[test]
