@@ -16,6 +16,8 @@ mod example;
 #[cfg(test)]
 mod exchanges;
 #[cfg(test)]
+mod loops;
+#[cfg(test)]
 mod memory;
 #[cfg(test)]
 mod places;

@@ -1,0 +1,214 @@
+//! Runs over a pool and connections in memory, with their whole reports.
+
+ghost use Rattle.std.specs.Prelude.{◌<◌, length};
+ghost use Rattle.std.specs.List.{All};
+
+use crate::driving::{OK, dial_of, job_at, pool_of, want_of, wire_of};
+use exchange::{Clock, Done, Job, Prepared};
+use exchange_memory::{Halt, MemoryDial};
+use futures::task::{Doorbell, Solo};
+use persistence::Method;
+use run_loop::{Draw, Jobs, Results, RunEnd, RunLoop, Timer};
+use std::alloc::{AllocGlobal, Global};
+use std::fmt::Write;
+use std::process::Abort;
+use std::random::RandomSource;
+use std::sync::Wait;
+use std::sync::atomic::{AtomicU64, Ordering};
+
+/// Jobs that are due at once; each has its place as its number.
+#[derive(Drop)]
+struct Listed {
+    alloc: Global,
+    jobs: Vec<Job>,
+    // What the job of a number would be that has no place.
+    other: Job,
+    drawn: Vec<u64>,
+    ghost below: { All (λ number. number < length drawn.items) drawn.items },
+}
+
+impl Listed {
+    fn new<R: Abort + AllocGlobal>(rt: &R, count: u64) -> Listed {
+        let mut jobs = Vec::new(rt.alloc());
+        for number in 0..count {
+            jobs.push(get(rt, number)).expect(rt, "memory");
+        }
+        Listed {
+            alloc: rt.alloc(),
+            jobs,
+            other: get(rt, count),
+            drawn: Vec::with_capacity(rt.alloc(), 8).expect(rt, "memory"),
+        }
+    }
+}
+
+// A GET of the host by that transfer.
+fn get<R: Abort + AllocGlobal>(rt: &R, transfer: u64) -> Job {
+    job_at(rt, 0, Method::Get, "http://example.com/", want_of(transfer))
+}
+
+impl Jobs for Listed {
+    ghost use Rattle.std.specs.Prelude.{⊤, slice_index_or};
+
+    ghost job_at = { λ listed number. slice_index_or listed.jobs.items number listed.other };
+
+    ghost drawn = { λ listed. listed.drawn.items };
+
+    ghost is_over = { λ listed. ⊤ };
+
+    fn draw(&mut self, _now: u64) -> Draw {
+        let number = self.drawn.len();
+        if number >= self.jobs.len() {
+            return Draw::Over;
+        }
+        let Ok(()) = self.drawn.push(number as u64) else {
+            return Draw::Over;
+        };
+        Draw::Job(number as u64)
+    }
+
+    fn draw_early(&mut self) -> Option<u64> {
+        None
+    }
+
+    fn prepare(&self, number: u64, spare: Option<Prepared>) -> Result<Prepared, Option<Prepared>> {
+        let Some(job) = self.jobs.get(number as usize) else {
+            return Err(spare);
+        };
+        if job.want.transfer != number {
+            return Err(spare);
+        }
+        let Some(used) = spare else {
+            return Prepared::new(self.alloc, job).map_err(|_| None);
+        };
+        used.again(job).map_err(|(left, _)| Some(left))
+    }
+}
+
+/// A line for each result.
+#[derive(Drop)]
+struct Report {
+    text: String,
+    lines: u64,
+}
+
+impl Results for Report {
+    ghost use Rattle.std.specs.Prelude.{⊤};
+
+    ghost took = { λ old new number done. ⊤ };
+
+    fn take(&mut self, number: u64, done: Done) {
+        self.lines = self.lines.saturating_add(1);
+        let _ = match done {
+            Done::Good(answer) => {
+                let use_of = if answer.reused { "reused" } else { "new" };
+                writeln!(
+                    self.text,
+                    "{number}: {}, {} bytes, {use_of}",
+                    answer.status, answer.body_len
+                )
+            }
+            Done::Bad(fault) => writeln!(self.text, "{number}: {fault:?}"),
+        };
+    }
+}
+
+/// It ends a run after so many looks, and stands still else.
+#[derive(Drop)]
+struct Looks {
+    left: AtomicU64,
+}
+
+impl Clock for Looks {
+    ghost use Rattle.std.specs.Prelude.{⊤};
+
+    ghost tells = { λ looks moment. ⊤ };
+
+    fn now(&self) -> u64 {
+        7
+    }
+}
+
+impl Timer for Looks {
+    ghost use Rattle.std.specs.Prelude.{⊤};
+
+    ghost may_stop = { λ looks job. ⊤ };
+
+    fn micros(&self) -> u64 {
+        0
+    }
+
+    fn is_over(&self) -> bool {
+        self.left.fetch_sub(1, Ordering::SeqCst) == 0
+    }
+
+    fn stops(&self, _job: u64, _begun: u64) -> bool {
+        false
+    }
+}
+
+/// More looks than any run here takes.
+const MANY: u64 = 1_000;
+
+// A dial whose one connection answers so many requests, and has nothing yet at its first read.
+fn dial_for<R: Abort + AllocGlobal>(rt: &R, requests: u32) -> MemoryDial {
+    let mut responses = Vec::new(rt.alloc());
+    for _ in 0..requests {
+        responses.extend_from_slice(OK).expect(rt, "memory");
+    }
+    let mut wire = wire_of(rt, &responses);
+    wire.set_most_read(OK.len());
+    wire.halt_read(1, Halt::NotYet);
+    dial_of(rt, wire)
+}
+
+// Carries out so many jobs at two places, over a host that may have one connection.
+fn run_of<R: Abort + AllocGlobal + RandomSource + Wait>(
+    rt: &R,
+    count: u64,
+    looks: u64,
+    dial: &mut MemoryDial,
+) -> (RunEnd, Report) {
+    let task = Solo::new(rt, Doorbell::spinning()).expect(rt, "a task");
+    let mut pool = pool_of(rt, 1);
+    let mut jobs = Listed::new(rt, count);
+    let mut report = Report {
+        text: String::new(rt.alloc()),
+        lines: 0,
+    };
+    let timer = Looks {
+        left: AtomicU64::new(looks),
+    };
+    let places = RunLoop::new(rt.alloc(), 2, task).expect(rt, "memory");
+    let end = places.run(rt, &mut pool, dial, &mut jobs, &mut report, &timer);
+    (end, report)
+}
+
+#[test]
+fn two_places_share_one_connection(rt: HostRuntime) {
+    let mut dial = dial_for(&rt, 4);
+    let (end, report) = run_of(&rt, 4, MANY, &mut dial);
+    assert_eq!(rt; end, RunEnd::Complete);
+    assert_eq!(rt; report.text.as_str(),
+        "0: 200, 2 bytes, new\n\
+         1: 200, 2 bytes, reused\n\
+         2: 200, 2 bytes, reused\n\
+         3: 200, 2 bytes, reused\n");
+}
+
+#[test]
+fn a_run_that_is_stopped_cancels_what_is_under_way(rt: HostRuntime) {
+    let mut dial = dial_for(&rt, 4);
+    let (end, report) = run_of(&rt, 4, 1, &mut dial);
+    assert_eq!(rt; end, RunEnd::Stopped);
+    assert_eq!(rt; report.text.as_str(), "1: Cancelled\n0: Cancelled\n");
+}
+
+#[test]
+fn a_turn_that_fails_ends_a_run(rt: HostRuntime) {
+    let mut dial = dial_for(&rt, 4);
+    dial.fail_turn(1);
+    let (end, report) = run_of(&rt, 4, MANY, &mut dial);
+    assert_eq!(rt; end, RunEnd::TurnFailed);
+    assert_eq!(rt; report.text.as_str(), "1: Cancelled\n0: Cancelled\n");
+}
