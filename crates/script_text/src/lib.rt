@@ -19,5 +19,7 @@ pub use lines::first_line;
 pub use printing::LookLine;
 pub use replies::{claimed, lines_since, reply, still_waiting, too_many_leased, upkeep};
 pub use site::SiteWord;
-pub use words::{first_word, is_blank, is_word, place_of, small_number_of, text_first};
-pub use words::{number_of, u32_first, u64_first};
+pub use words::{
+    first_word, is_blank, is_word, number_of, place_of, small_number_of, text_first, u32_first,
+    u64_first,
+};
