@@ -189,11 +189,13 @@ fn two_places_share_one_connection(rt: HostRuntime) {
     let mut dial = dial_for(&rt, 4);
     let (end, report) = run_of(&rt, 4, MANY, &mut dial);
     assert_eq!(rt; end, RunEnd::Complete);
-    assert_eq!(rt; report.text.as_str(),
+    assert_eq!(rt;
+        report.text.as_str(),
         "0: 200, 2 bytes, new\n\
          1: 200, 2 bytes, reused\n\
          2: 200, 2 bytes, reused\n\
-         3: 200, 2 bytes, reused\n");
+         3: 200, 2 bytes, reused\n"
+    );
 }
 
 #[test]
