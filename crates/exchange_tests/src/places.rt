@@ -207,6 +207,55 @@ fn telling_dial<R: Abort + AllocGlobal>(rt: &R, turns: &[&[(u32, u32)]]) -> Memo
     dial
 }
 
+// Takes a turn of the dial.
+fn take_turn(slab: &mut Slab<MemoryWire>, _pool: &Pool<MemoryWire>, dial: &mut MemoryDial)
+    requires kept { AreKept (world_of (λ wire site transfer. IsUntouched wire) HappenedTo
+        (λ moment. moment ≡ 7)) (home_of _pool.now) slab.old.slots.items }
+    ensures kept { AreKept (world_of (λ wire site transfer. IsUntouched wire) HappenedTo
+        (λ moment. moment ≡ 7)) (home_of _pool.now) slab.new.slots.items }
+{
+    let _ = slab.turn(dial, Duration::ZERO);
+}
+
+// All transfers of the beginning join.
+fn join_all<R: Abort + AllocGlobal>(rt: &R, slab: &mut Slab<MemoryWire>, pool: &Pool<MemoryWire>)
+    requires kept { AreKept (world_of (λ wire site transfer. IsUntouched wire) HappenedTo
+        (λ moment. moment ≡ 7)) (home_of pool.now) slab.old.slots.items }
+    ensures kept { AreKept (world_of (λ wire site transfer. IsUntouched wire) HappenedTo
+        (λ moment. moment ≡ 7)) (home_of pool.now) slab.new.slots.items }
+{
+    for transfer in 0..TRANSFERS {
+        join(rt, slab, pool, transfer);
+    }
+}
+
+// Polls and takes turns until all transfers have ended, and writes which places were polled.
+fn poll_all<R: Abort + AllocGlobal>(
+    rt: &R,
+    task: &Solo,
+    slab: &mut Slab<MemoryWire>,
+    pool: &mut Pool<MemoryWire>,
+    dial: &mut MemoryDial,
+    joins: u64,
+    text: &mut String,
+)
+    requires kept { AreKept (world_of (λ wire site transfer. IsUntouched wire) HappenedTo
+        (λ moment. moment ≡ 7)) (home_of pool.old) slab.old.slots.items }
+    ensures kept { AreKept (world_of (λ wire site transfer. IsUntouched wire) HappenedTo
+        (λ moment. moment ≡ 7)) (home_of pool.new) slab.new.slots.items }
+{
+    let mut left = joins;
+    for _ in 0..MOST_POLLS {
+        if slab.is_empty() {
+            return;
+        }
+        let seen = dial.places().len();
+        left = poll_due(rt, task, slab, pool, dial, left);
+        write_places(rt, text, dial, seen);
+        take_turn(slab, pool, dial);
+    }
+}
+
 // Which places are polled before each turn, until all transfers have ended.
 fn transcript_of<R: Abort + AllocGlobal + RandomSource>(rt: &R, row: &Row) -> String {
     let task = Solo::new(rt, Doorbell::spinning()).expect(rt, "a task");
@@ -214,23 +263,14 @@ fn transcript_of<R: Abort + AllocGlobal + RandomSource>(rt: &R, row: &Row) -> St
     let mut pool = pool_of(rt, row.most);
     let mut slab = Slab::new(rt.alloc());
     let mut text = String::new(rt.alloc());
-    for transfer in 0..TRANSFERS {
-        join(rt, &mut slab, &pool, transfer);
-    }
+    join_all(rt, &mut slab, &pool);
     if row.turns_first {
-        let _ = slab.turn(&mut dial, Duration::ZERO);
+        take_turn(&mut slab, &pool, &mut dial);
         write_places(rt, &mut text, &dial, 0);
     }
-    let mut joins = row.joins;
-    for _ in 0..MOST_POLLS {
-        if slab.is_empty() {
-            break;
-        }
-        let seen = dial.places().len();
-        joins = poll_due(rt, &task, &mut slab, &mut pool, &mut dial, joins);
-        write_places(rt, &mut text, &dial, seen);
-        let _ = slab.turn(&mut dial, Duration::ZERO);
-    }
+    poll_all(
+        rt, &task, &mut slab, &mut pool, &mut dial, row.joins, &mut text,
+    );
     slab.close(&mut pool, &mut dial, &CLOCK);
     text
 }
