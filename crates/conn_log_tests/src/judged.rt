@@ -1,6 +1,6 @@
-//! Which rule an entry breaks, at small logs of one host: each event is taken once, and each rule is
-//! broken once. The logs are those of the traces in `tools/trace_model/worked`, whose answers were
-//! written by hand.
+//! Which rule an entry breaks, at small logs of one host: each event is taken once, and each rule
+//! is broken once. The logs are those of the traces in `tools/trace_model/worked`, whose answers
+//! were written by hand.
 use crate::entries::{KEEP, closed, get, leased, left, limited, opened, returned, waited};
 use conn_log::{Cause, Entry, Event, Want};
 use monitor::{Fault, HostMonitor, Violation};

@@ -1,6 +1,7 @@
 //! What opens connections in memory.
 
-ghost use Rattle.std.specs.Prelude.{◌≡◌, ℕ, [], ◌∷◌, ◌++◌, length, reverse, None, Some, OnOk, OnErr};
+ghost use Rattle.std.specs.Prelude.{◌≡◌, ℕ, [], ◌∷◌, ◌++◌, length, reverse};
+ghost use Rattle.std.specs.Prelude.{None, Some, OnOk, OnErr};
 ghost use Rattle.conn_key.specs.Wants.{Rises};
 
 use crate::calls::{Calls, Halt, NEVER};

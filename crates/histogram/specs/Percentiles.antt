@@ -1,7 +1,7 @@
 -- Percentiles of a histogram.
 use Rattle.std.specs.Prelude.{◌≡◌, ℕ, suc, ◌+◌, ◌*◌, ◌/◌, ◌<◌, ◌≤◌, List, length, max, min, sum, take}
 use Rattle.histogram.specs.Buckets.{highest_of}
-use Rattle.histogram.specs.Tally.{Tally}
+use Rattle.histogram.specs.Tally.{Tally, values_in}
 
 -- so many thousandths of the values, rounded up, and at least one value
 abbrev pub rank_of : ℕ → ℕ → ℕ
@@ -18,3 +18,7 @@ pub record IsValueAt (tally : Tally) (rank value : ℕ) : Type 0 where
   pub bucket : ℕ
   pub is_least : IsBucketAt tally.counts rank bucket
   pub value_is : value ≡ min (highest_of bucket) tally.greatest
+
+-- the value that so many thousandths of all values do not pass
+abbrev pub IsPercentileAt : Tally → ℕ → ℕ → Type 0
+IsPercentileAt tally thousandths value = IsValueAt tally (rank_of (values_in tally) thousandths) value

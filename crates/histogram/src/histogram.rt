@@ -1,6 +1,6 @@
 ghost use Rattle.std.specs.Prelude.{◌≡◌, ◌-◌, ◌+◌, ◌/◌, ◌<◌, ◌≤◌, ◌^◌, ◌==◌, length, sum};
 ghost use Rattle.std.specs.Prelude.{IfNone, IfOk, IfSome, OnErr, OnOk};
-ghost use Rattle.histogram.specs.Percentiles.{rank_of, IsBucketAt, IsValueAt};
+ghost use Rattle.histogram.specs.Percentiles.{rank_of, IsBucketAt, IsPercentileAt};
 ghost use Rattle.histogram.specs.Tally.{added, nothing, recorded, sums, values_in};
 
 use crate::buckets::{BUCKETS, bucket_of, highest_of};
@@ -136,7 +136,7 @@ impl Histogram {
     /// less. `None` exactly if there is no value.
     pub fn value_at(&self, thousandths: u64) -> Option<u64>
         requires { thousandths ≤ 1000 }
-        ensures some { IfSome result (IsValueAt self.now (rank_of (values_in self.now) thousandths)) }
+        ensures some { IfSome result (IsPercentileAt self.now thousandths) }
         ensures none { IfNone result (values_in self.now ≡ 0) }
     {
         let rank = rank_of(self.values, thousandths);

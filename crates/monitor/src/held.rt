@@ -1,6 +1,7 @@
 //! Which connection each transfer holds, after one more entry.
 
-ghost use Rattle.std.specs.Prelude.{◌≡◌, ℕ, ◌+◌, ◌<◌, OnOk, OnErr, None, Some, IsSome, IfSome, nat_eq};
+ghost use Rattle.std.specs.Prelude.{◌≡◌, ℕ, ◌+◌, ◌<◌, nat_eq};
+ghost use Rattle.std.specs.Prelude.{OnOk, OnErr, None, Some, IsSome, IfSome};
 ghost use Rattle.std.specs.Prelude.{◌==◌, if◌then◌else◌};
 ghost use Rattle.std.specs.HashMap.{get, hash_map_len, spare};
 ghost use Rattle.monitor.specs.Held.{IsSameTable, HoldsOneMore, HoldsOneLess};

@@ -1,5 +1,6 @@
 ghost use Rattle.std.specs.Prelude.{◌≡◌, ◌++◌, ◌∷◌, [], ◌<◌, ◌==◌, length, slice_get, slice_set};
-ghost use Rattle.std.specs.Prelude.{bytes_eq, option_copied, position, None, IfErr, IfOk, IfSome, OnErr, OnOk};
+ghost use Rattle.std.specs.Prelude.{bytes_eq, option_copied, position, None};
+ghost use Rattle.std.specs.Prelude.{IfErr, IfOk, IfSome, OnErr, OnOk};
 ghost use Rattle.std.specs.Result.{IsOkUnless};
 ghost use Rattle.site_table.specs.Hosts.{keys_in, place_of};
 ghost use Rattle.site_table.specs.Giving.{Gives, Refuses};
