@@ -157,7 +157,7 @@ impl Schedule {
     }
 
     // Nothing that a dial tells makes the place due.
-    fn is_idle(&mut self, place: usize) {
+    fn becomes_idle(&mut self, place: usize) {
         if let Some(seat) = self.seats.get_mut(place) {
             seat.standing = Standing::Idle;
         }
@@ -165,7 +165,7 @@ impl Schedule {
 
     // The place is free from now on.
     fn free(&mut self, place: usize) {
-        self.is_idle(place);
+        self.becomes_idle(place);
         self.free.push_back(&mut self.links, place);
     }
 
@@ -284,7 +284,7 @@ impl Schedule {
 
     // The place begins to wait at that site, behind all others.
     fn begins_wait(&mut self, place: usize, site: u32) {
-        self.is_idle(place);
+        self.becomes_idle(place);
         match self.waiting.get_mut(site as usize) {
             Some(waiting) => waiting.queue.push_back(&mut self.links, place),
             None => self.becomes_due(place),
@@ -293,7 +293,7 @@ impl Schedule {
 
     // The place was the first at that site, and waits on.
     fn waits_on(&mut self, place: usize, site: u32) {
-        self.is_idle(place);
+        self.becomes_idle(place);
         match self.waiting.get_mut(site as usize) {
             Some(waiting) => {
                 waiting.is_asked = false;
