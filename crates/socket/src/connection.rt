@@ -75,7 +75,8 @@ impl Connection {
 
     /// Whether it was not found unfit.
     pub(crate) fn is_fit(&self) -> bool
-        ensures { result ≡ true → self.now.condition ≢ Unfit }
+        ensures fit { result ≡ true → self.now.condition ≢ Unfit }
+        ensures unfit { result ≡ false → self.now.condition ≡ Unfit }
     {
         self.condition != Condition::Unfit
     }
