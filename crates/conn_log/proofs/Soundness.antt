@@ -27,7 +27,7 @@ and_right true b both = both
 and_right false b both = absurd (false≢true both)
 
 -- the cause of an ended use is one that the owed close allows
-ended_close : (whole forbids : Bool) (before : List Entry) (c : ℕ) → owed before ≡ Some (c, if not whole then Cut else (if forbids then Forbidden else NotPersistent)) → MayClose before c (if not whole then Cut else (if forbids then Forbidden else NotPersistent))
+pub ended_close : (whole forbids : Bool) (before : List Entry) (c : ℕ) → owed before ≡ Some (c, if not whole then Cut else (if forbids then Forbidden else NotPersistent)) → MayClose before c (if not whole then Cut else (if forbids then Forbidden else NotPersistent))
 ended_close true true before c owes = owes
 ended_close true false before c owes = owes
 ended_close false forbids before c owes = owes

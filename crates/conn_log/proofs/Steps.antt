@@ -70,8 +70,9 @@ gone_closed moment c cause log = record {
   limit = λ settings. refl;
 }
 
-pub gone_ended : (moment c : ℕ) (facts : Facts) (cause : Cause) (log : List Entry) → IsGone c log (record { moment = moment; event = Closed c cause } ∷ record { moment = moment; event = Returned c facts } ∷ log)
-gone_ended moment c facts cause log = record {
+-- the close that a return owes may come in a later moment
+pub gone_later : (moment later c : ℕ) (facts : Facts) (cause : Cause) (log : List Entry) → IsGone c log (record { moment = later; event = Closed c cause } ∷ record { moment = moment; event = Returned c facts } ∷ log)
+gone_later moment later c facts cause log = record {
   opened = refl;
   closed = λ d. refl;
   held = λ d. ap (λ held. want_among held d) (without_twice c (holdings log)) ∙ want_without c d (holdings log);
@@ -83,6 +84,9 @@ gone_ended moment c facts cause log = record {
   persists = λ d other. rw other refl;
   limit = λ settings. refl;
 }
+
+pub gone_ended : (moment c : ℕ) (facts : Facts) (cause : Cause) (log : List Entry) → IsGone c log (record { moment = moment; event = Closed c cause } ∷ record { moment = moment; event = Returned c facts } ∷ log)
+gone_ended moment c facts cause log = gone_later moment moment c facts cause log
 
 -- a use ends
 ends_once : (was : Bool) (held : Option ℕ) (c d : ℕ) → was ≡ has_number held d → (if c == d then false else was) ≡ has_number (unless_it_is c held) d

@@ -19,27 +19,11 @@ use Rattle.monitor.specs.Tables.{IsDue, entry_of, with_due}
 use Rattle.monitor.proofs.Following.{owed_due}
 use Rattle.monitor.proofs.AllowedEvents.{unbroken_parts, allows, close_is}
 
--- the first rule that an entry breaks, where a close is due, and where none is
-pub broken_due : (settings : LimitAndFirst) (log : List Entry) (due : Due) (e : Entry) → IsDue log due → first_broken settings (entry_of due ∷ log) e ≡ option_or (earlier due.moment e.moment) (of_owed due.connection due.cause e.event)
-broken_due settings log due e is = ap (λ (d : Option (ℕ × Cause)). option_or (earlier due.moment e.moment) (of_debt settings (entry_of due ∷ log) d e.moment e.event)) (owed_due log due is)
-
-pub broken_settled : (settings : LimitAndFirst) (log : List Entry) (e : Entry) → IsSound settings log → first_broken settings log e ≡ option_or (earlier (last_moment log) e.moment) (of_event settings log e.moment e.event)
-broken_settled settings log e sound = ap (λ (d : Option (ℕ × Cause)). option_or (earlier (last_moment log) e.moment) (of_debt settings log d e.moment e.event)) sound.settled
-
 -- an entry that breaks no rule may be taken: where a close is due it is that close
 pub may_take : (settings : LimitAndFirst) (log : List Entry) (e : Entry) → IsSound settings log → first_broken settings log e ≡ None → (last_moment log ≤ e.moment) × Allows settings log e.moment e.event
 may_take settings log e sound none =
     let parts = unbroken_parts settings log e none in
     (parts.0, allows settings log sound e.moment e.event (sym (ap (λ (d : Option (ℕ × Cause)). of_debt settings log d e.moment e.event) sound.settled) ∙ parts.1))
-
-pub may_end : (settings : LimitAndFirst) (log : List Entry) (due : Due) (e : Entry) → IsDue log due → first_broken settings (entry_of due ∷ log) e ≡ None → (due.moment ≤ e.moment) × (e.event ≡ Closed due.connection due.cause)
-may_end settings log due e is none =
-    let parts = unbroken_parts settings (entry_of due ∷ log) e none in
-    (parts.0, close_is due.connection due.cause due.facts is.want e.event is.cause (sym (ap (λ (d : Option (ℕ × Cause)). of_debt settings (entry_of due ∷ log) d e.moment e.event) (owed_due log due is)) ∙ parts.1))
-
--- the log with such a return is legal
-pub legal_due : (settings : LimitAndFirst) (log : List Entry) (due : Due) → IsSound settings log → IsDue log due → IsLegal settings (entry_of due ∷ log)
-legal_due settings log due sound is = (is.later, (sound.settled, ap is_some is.held), sound.legal)
 
 -- no more are idle than open
 pub idle_open : (log : List Entry) → length (idle_connections log) ≤ length (open_connections log)

@@ -27,8 +27,8 @@ use Rattle.conn_log.proofs.Sorted.{told}
 use Rattle.conn_log.proofs.Entries.{at_is}
 use Rattle.conn_log.proofs.Telling.{knows_all, among_known}
 use Rattle.conn_log.proofs.Holdings.{want_without, without_twice}
-use Rattle.conn_log.proofs.Steps.{IsGone, gone_closed, more_open, as_many_idle_open, fewer_idle_lease, taken_back, taken_end, taken_same, more_idle, gone_taken, fewer_open, as_many_idle, fewer_idle, orderly_gone, is_idle_is, idle_open_unheld}
-use Rattle.conn_log.proofs.Soundness.{and_left, holds_is, next_free, next_is_new, sound_open, sound_lease, sound_return, sound_wait, sound_leave, sound_limit, sound_empty}
+use Rattle.conn_log.proofs.Steps.{IsGone, gone_closed, gone_later, more_open, as_many_idle_open, fewer_idle_lease, taken_back, taken_end, taken_same, more_idle, gone_taken, fewer_open, as_many_idle, fewer_idle, orderly_gone, is_idle_is, idle_open_unheld}
+use Rattle.conn_log.proofs.Soundness.{and_left, holds_is, next_free, next_is_new, sound_open, sound_lease, sound_return, sound_wait, sound_leave, sound_limit, sound_empty, ended_close}
 use Rattle.monitor.specs.declared.due.Due.{Due}
 use Rattle.monitor.specs.Rules.{known_at}
 use Rattle.monitor.specs.Held.{IsSameTable, HoldsOneMore, HoldsOneLess}
@@ -52,26 +52,6 @@ number_is (Some d) c has = elim (eqb_tells d c) [
   | inl same ↦ ap (λ (n : ℕ). Some n) same.1
   | inr other ↦ absurd (false≢true (sym other.0 ∙ has))
 ]
-
--- of a sound log the owed close may come in a later moment
-gone_later : (moment later c : ℕ) (facts : Facts) (cause : Cause) (log : List Entry) → IsGone c log (record { moment = later; event = Closed c cause } ∷ record { moment = moment; event = Returned c facts } ∷ log)
-gone_later moment later c facts cause log = record {
-  opened = refl;
-  closed = λ d. refl;
-  held = λ d. ap (λ held. want_among held d) (without_twice c (holdings log)) ∙ want_without c d (holdings log);
-  holdings = without_twice c (holdings log);
-  waiting = refl;
-  lane = λ d. refl;
-  born = λ d. refl;
-  since = λ d other. rw other refl;
-  persists = λ d other. rw other refl;
-  limit = λ settings. refl;
-}
-
-ended_close : (whole forbids : Bool) (before : List Entry) (c : ℕ) → owed before ≡ Some (c, if not whole then Cut else (if forbids then Forbidden else NotPersistent)) → MayClose before c (if not whole then Cut else (if forbids then Forbidden else NotPersistent))
-ended_close true true before c owes = owes
-ended_close true false before c owes = owes
-ended_close false forbids before c owes = owes
 
 pub owed_due : (log : List Entry) (due : Due) → IsDue log due → owed (entry_of due ∷ log) ≡ Some (due.connection, due.cause)
 owed_due log due is = rw (is.held, is.ends) (ap (λ (cause : Cause). Some (due.connection, cause)) (sym is.cause))
@@ -99,19 +79,6 @@ holder_told settings log sound c = elim (told (is_open log c)) [
     nobody : is_open log c ≡ false → (b : Bool) → (b ≡ true → is_open log c ≡ true) → b ≡ false
     nobody out false open_then = refl
     nobody out true open_then = absurd (false≢true (sym out ∙ open_then refl))
-
--- a host without entries
-pub follows_empty : (settings : LimitAndFirst) (known : List (ℕ × OpenConnection)) (held : ℕ → Option ℕ) (held_len : ℕ) → known ≡ [] → ((t : ℕ) → held t ≡ None) → held_len ≡ 0 → settings.first ≡ 1 → settings.limit < 2 ^ 32 → Follows settings [] known held held_len [] 0 settings.limit
-follows_empty settings known held held_len nothing none zero first fits = record {
-  sound = sound_empty settings;
-  small = fits;
-  known_is = nothing;
-  held_is = none;
-  open_len = omega (arith, zero);
-  wants_are = refl;
-  most_is = omega (arith, first);
-  limit_is = refl;
-}
 
 module _ (settings : LimitAndFirst) (log : List Entry) (known : List (ℕ × OpenConnection)) (held : ℕ → Option ℕ) (held_len : ℕ) (wants : List Want) (most limit : ℕ) (f : Follows settings log known held held_len wants most limit) where
   -- what is known of a connection, and how many are open
