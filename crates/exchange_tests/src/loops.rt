@@ -141,10 +141,6 @@ impl Timer for Looks {
     fn is_over(&self) -> bool {
         self.left.fetch_sub(1, Ordering::SeqCst) == 0
     }
-
-    fn stops(&self, _job: u64, _begun: u64) -> bool {
-        false
-    }
 }
 
 /// More looks than any run here takes.

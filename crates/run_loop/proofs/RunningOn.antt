@@ -164,12 +164,10 @@ module _ {C W R : Type 0} (rules : Rules C W R) where
   runs_to_end end before middle after goes ends first begun is = ends first begun (runs_at_end end first begun middle (goes first begun is))
 
 -- one part of a run after another, where the jobs of its numbers stay the same
-pub runs_in_turn : {C W R : Type 0} (does : C → C → Deed W → Type 0) (world : World W) (may_stop : ℕ → Type 0) (took : R → R → ℕ → Done → Type 0) (was then last : ℕ → Job) → then ≡ was → last ≡ then → (first second third fourth : Point C W R)
-    → RunsOn (rules_of does world may_stop was took) first second → RunsOn (rules_of does world may_stop then took) second third → RunsOn (rules_of does world may_stop last took) third fourth → RunsOn (rules_of does world may_stop was took) first fourth
-runs_in_turn does world may_stop took was then last same still first second third fourth one two three =
-    let rules_ = rules_of does world may_stop was took in
-    runs_then rules_ first second fourth one
-    (runs_then rules_ second third fourth (runs_as does world may_stop took then was same second third two) (runs_as does world may_stop took last was (still ∙ same) third fourth three))
+pub runs_in_turn : {C W R : Type 0} (does : C → C → Deed W → Type 0) (world : World W) (may_stop : ℕ → Type 0) (took : R → R → ℕ → Done → Type 0) (was then : ℕ → Job) → then ≡ was → (first second third : Point C W R)
+    → RunsOn (rules_of does world may_stop was took) first second → RunsOn (rules_of does world may_stop then took) second third → RunsOn (rules_of does world may_stop was took) first third
+runs_in_turn does world may_stop took was then same first second third once more =
+    runs_then (rules_of does world may_stop was took) first second third once (runs_as does world may_stop took then was same second third more)
 
 -- and up to its end
 pub runs_whole : {C W R : Type 0} (does : C → C → Deed W → Type 0) (world : World W) (may_stop : ℕ → Type 0) (took : R → R → ℕ → Done → Type 0) (end : RunEnd) (was then last : ℕ → Job) → then ≡ was → last ≡ then → (first second third fourth : Point C W R)

@@ -153,8 +153,7 @@ impl<W: Wire> RunLoop<W> {
             if timer.is_over() {
                 return RunEnd::Stopped;
             }
-            let next = self.fill(cache, jobs, results, timer);
-            self.poll_due(cache, dial, jobs, results, timer);
+            let next = self.take_round(cache, dial, jobs, results, timer);
             if let Next::Never = next {
                 if self.slab.is_empty() {
                     return RunEnd::Complete;
@@ -165,6 +164,33 @@ impl<W: Wire> RunLoop<W> {
             }
         }
         unreachable!()
+    }
+
+    // A round: draws jobs and begins them, and polls what is due. When the next job may begin.
+    fn take_round<C: Cache<W>, D: Dial<W>, J: Jobs, R: Results, T: Timer>(
+        &mut self,
+        cache: &mut C,
+        dial: &mut D,
+        jobs: &mut J,
+        results: &mut R,
+        timer: &T,
+    ) -> Next
+        requires kept { AreKept (world_of W.untouched W.happened (T.tells timer.now))
+            (C.home cache.old) self.old.slab.slots.items }
+        ensures stays { C.home cache.new ≡ C.home cache.old }
+        ensures kept { AreKept (world_of W.untouched W.happened (T.tells timer.now))
+            (C.home cache.new) self.new.slab.slots.items }
+        ensures goes { RunsOn (rules_of C.did (world_of W.untouched W.happened (T.tells
+            timer.now)) (T.may_stop timer.now) (J.job_at jobs.old) R.took)
+            (point cache.old (J.drawn jobs.old) self.old.slab.slots.items results.old)
+            (point cache.new (J.drawn jobs.new) self.new.slab.slots.items results.new) }
+        ensures jobs { J.job_at jobs.new ≡ J.job_at jobs.old }
+        ensures over { IfNever result (J.is_over jobs.new) }
+        ensures turns { D.turn_failures dial.new ≡ D.turn_failures dial.old }
+    {
+        let next = self.fill(cache, jobs, results, timer);
+        self.poll_due(cache, dial, jobs, results, timer);
+        next
     }
 
     // Draws jobs and begins them, while a place is free and a job is due: when the next may begin.

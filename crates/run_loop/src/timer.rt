@@ -18,9 +18,4 @@ pub trait Timer: Clock {
     /// Whether the run is to end now: all jobs are stopped.
     fn is_over(&self) -> bool
         ensures { OnTrue result ((job : ℕ) → may_stop self.now job) };
-
-    /// Whether the job of that number, which began at that moment in microseconds, is to be stopped
-    /// now.
-    fn stops(&self, job: u64, begun: u64) -> bool
-        ensures { OnTrue result (may_stop self.now job) };
 }

@@ -1,4 +1,4 @@
--- The run goes on by what it begins, and then by what it polls.
+-- The run goes on round by round.
 use Rattle.std.proofs.Common.{rules, ◌∙◌}
 use Rattle.exchange.specs.Worlds.{world_of}
 use Rattle.run_loop.specs.Going.{rules_of, point}
@@ -23,16 +23,14 @@ loop-preserved g c =
     let may_stop = g.T.Timer.may_stop c.args.timer.now in
     let job_at = g.J.Jobs.job_at in
     let drawn = g.J.Jobs.drawn in
-    let filled = c.fill-next.new in
-    let polled = c.poll_due.new in
+    let round = c.take_round-next.new in
     record {
       stays = search rules;
       kept = search rules;
-      goes = rw c.rest.ensures.slots (runs_in_turn did world may_stop took (job_at c.args.jobs.now) (job_at c.loop.jobs) (job_at filled.jobs) c.loop.invariant.jobs c.fill-next.ensures.jobs
+      goes = rw c.rest.ensures.slots (runs_in_turn did world may_stop took (job_at c.args.jobs.now) (job_at c.loop.jobs) c.loop.invariant.jobs
           (point c.args.cache.now (drawn c.args.jobs.now) c.args.self.now.slab.slots.items c.args.results.now) (point c.loop.cache (drawn c.loop.jobs) c.loop.self.slab.slots.items c.loop.results)
-          (point c.loop.cache (drawn filled.jobs) filled.self.slab.slots.items filled.results) (point polled.cache (drawn filled.jobs) polled.self.slab.slots.items polled.results)
-          c.loop.invariant.goes c.fill-next.ensures.goes c.poll_due.ensures.goes);
-      jobs = c.fill-next.ensures.jobs ∙ c.loop.invariant.jobs;
+          (point round.cache (drawn round.jobs) round.self.slab.slots.items round.results) c.loop.invariant.goes c.take_round-next.ensures.goes);
+      jobs = c.take_round-next.ensures.jobs ∙ c.loop.invariant.jobs;
       turns = search rules;
     }
 
@@ -44,12 +42,10 @@ returns-then-is_empty-clause-goes g c =
     let may_stop = g.T.Timer.may_stop c.args.timer.now in
     let job_at = g.J.Jobs.job_at in
     let drawn = g.J.Jobs.drawn in
-    let filled = c.fill-next.new in
-    let polled = c.poll_due.new in
-    (runs_in_turn did world may_stop took (job_at c.args.jobs.now) (job_at c.loop.jobs) (job_at filled.jobs) c.loop.invariant.jobs c.fill-next.ensures.jobs
+    let round = c.take_round-next.new in
+    runs_in_turn did world may_stop took (job_at c.args.jobs.now) (job_at c.loop.jobs) c.loop.invariant.jobs
     (point c.args.cache.now (drawn c.args.jobs.now) c.args.self.now.slab.slots.items c.args.results.now) (point c.loop.cache (drawn c.loop.jobs) c.loop.self.slab.slots.items c.loop.results)
-    (point c.loop.cache (drawn filled.jobs) filled.self.slab.slots.items filled.results) (point polled.cache (drawn filled.jobs) polled.self.slab.slots.items polled.results)
-    c.loop.invariant.goes c.fill-next.ensures.goes c.poll_due.ensures.goes)
+    (point round.cache (drawn round.jobs) round.self.slab.slots.items round.results) c.loop.invariant.goes c.take_round-next.ensures.goes
 
 pub returns-in-Fault-clause-goes : goal.returns-in-Fault-clause-goes
 returns-in-Fault-clause-goes g c =
@@ -59,9 +55,7 @@ returns-in-Fault-clause-goes g c =
     let may_stop = g.T.Timer.may_stop c.args.timer.now in
     let job_at = g.J.Jobs.job_at in
     let drawn = g.J.Jobs.drawn in
-    let filled = c.fill-next.new in
-    let polled = c.poll_due.new in
-    rw c.rest.ensures.slots (runs_in_turn did world may_stop took (job_at c.args.jobs.now) (job_at c.loop.jobs) (job_at filled.jobs) c.loop.invariant.jobs c.fill-next.ensures.jobs
+    let round = c.take_round-next.new in
+    rw c.rest.ensures.slots (runs_in_turn did world may_stop took (job_at c.args.jobs.now) (job_at c.loop.jobs) c.loop.invariant.jobs
     (point c.args.cache.now (drawn c.args.jobs.now) c.args.self.now.slab.slots.items c.args.results.now) (point c.loop.cache (drawn c.loop.jobs) c.loop.self.slab.slots.items c.loop.results)
-    (point c.loop.cache (drawn filled.jobs) filled.self.slab.slots.items filled.results) (point polled.cache (drawn filled.jobs) polled.self.slab.slots.items polled.results)
-    c.loop.invariant.goes c.fill-next.ensures.goes c.poll_due.ensures.goes)
+    (point round.cache (drawn round.jobs) round.self.slab.slots.items round.results) c.loop.invariant.goes c.take_round-next.ensures.goes)
