@@ -5,7 +5,6 @@ use Rattle.std.specs.Option.{option_or, option_map}
 use Rattle.std.specs.Bool.{beq}
 use mathlib.Core.Bool.{false≢true}
 use Rattle.std.proofs.lemmas.Bool.Decides.{nat_tests}
-use Rattle.persistence.specs.declared.facts.Facts.{Facts}
 use Rattle.conn_log.specs.declared.base.OpenConnection.{OpenConnection}
 use Rattle.conn_log.specs.declared.entry.Want.{Want}
 use Rattle.conn_log.specs.declared.entry.Cause.{Cause}
@@ -16,7 +15,7 @@ use Rattle.conn_log.specs.declared.entry.Entry.{Entry}
 use Rattle.conn_log.specs.Connections.{last_moment, opened, greatest, open_connections, is_open, holdings, holder_want, held_number, holds, idle_connections, is_idle, lane, born, since, came_back_persistent}
 use Rattle.conn_log.specs.Waiting.{waiting, waits}
 use Rattle.conn_log.specs.Fit.{is_fit}
-use Rattle.conn_log.specs.Legal.{LimitAndFirst, limit_in_force, ending_cause, owed, MayStartAmong, MayClose, Allows, IsLegal}
+use Rattle.conn_log.specs.Legal.{LimitAndFirst, limit_in_force, owed, MayStartAmong, MayClose, Allows, IsLegal}
 use Rattle.conn_log.specs.Sound.{IsSound}
 use Rattle.conn_log.specs.Laws.{known_of}
 use Rattle.conn_log.proofs.Sorted.{told}
@@ -25,7 +24,7 @@ use Rattle.conn_log.proofs.Steps.{is_idle_is, idle_open_unheld}
 use Rattle.conn_log.proofs.CountSums.{AddsUp, adds_up}
 use Rattle.monitor.specs.declared.violation.Violation.{Violation}
 use Rattle.monitor.specs.declared.violation.Violation.TheVariants.{InUse, NotNext, Full, CloseOwed, WaitsAlready, BesideIdle}
-use Rattle.monitor.specs.Rules.{unless, first_of, is_same_want, known_at, earlier, holds_one, starts, in_use, not_held, other_lane, wants_new, idle_too_long, open_too_long, of_leased, of_returned, of_cause, of_closed, of_waited, is_same_ending, is_close_of, of_owed, of_start, of_event, of_debt, first_broken}
+use Rattle.monitor.specs.Rules.{unless, first_of, is_same_want, known_at, earlier, holds_one, starts, in_use, not_held, other_lane, wants_new, idle_too_long, open_too_long, of_leased, of_returned, of_cause, of_closed, of_waited, of_start, of_event, of_debt, first_broken}
 
 none_some : {X : Type 0} {x : X} → Some x ≡ None → ⊥
 none_some same = false≢true (sym (ap is_some same))

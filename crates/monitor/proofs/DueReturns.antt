@@ -1,23 +1,20 @@
 -- A return whose close is due, beside the tables that leave it out.
 use Rattle.std.proofs.Common.{◌≡◌, ℕ, ◌+◌, ◌≤◌, Bool, true, false, List, [], ◌∷◌, length, filter, Option, Some, None, is_some, is_none, refl, sym, ap, inl, inr, ◌∙◌, arith}
-use Rattle.std.specs.Option.{option_or}
 use Rattle.persistence.specs.declared.facts.Facts.{Facts}
 use Rattle.persistence.specs.declared.facts.Version.TheVariants.{V11}
 use Rattle.persistence.specs.declared.facts.Framing.TheVariants.{NoBody}
 use Rattle.conn_log.specs.declared.entry.Cause.{Cause}
-use Rattle.conn_log.specs.declared.entry.Event.TheVariants.{Closed}
 use Rattle.conn_log.specs.declared.entry.Entry.{Entry}
 use Rattle.conn_log.specs.Connections.{last_moment, open_connections, holder_want, idle_connections}
 use Rattle.conn_log.specs.Waiting.{waiting}
-use Rattle.conn_log.specs.Legal.{LimitAndFirst, limit_in_force, Allows, IsLegal}
+use Rattle.conn_log.specs.Legal.{LimitAndFirst, limit_in_force, Allows}
 use Rattle.conn_log.specs.Sound.{IsSound}
 use Rattle.conn_log.proofs.Sorted.{told}
 use Rattle.conn_log.proofs.Steps.{more_idle}
 use Rattle.monitor.specs.declared.due.Due.{Due}
-use Rattle.monitor.specs.Rules.{earlier, of_event, of_owed, of_debt, first_broken}
+use Rattle.monitor.specs.Rules.{of_debt, first_broken}
 use Rattle.monitor.specs.Tables.{IsDue, entry_of, with_due}
-use Rattle.monitor.proofs.Following.{owed_due}
-use Rattle.monitor.proofs.AllowedEvents.{unbroken_parts, allows, close_is}
+use Rattle.monitor.proofs.AllowedEvents.{unbroken_parts, allows}
 
 -- an entry that breaks no rule may be taken: where a close is due it is that close
 pub may_take : (settings : LimitAndFirst) (log : List Entry) (e : Entry) → IsSound settings log → first_broken settings log e ≡ None → (last_moment log ≤ e.moment) × Allows settings log e.moment e.event

@@ -16,7 +16,7 @@ use Rattle.conn_log.specs.declared.entry.Cause.{Cause}
 use Rattle.conn_log.specs.declared.entry.Cause.TheVariants.{NotPersistent, Cut, Forbidden, TooOld, HostRoom, TotalRoom, CacheFull, Dropped, Withdrawn, Pruned}
 use Rattle.conn_log.specs.declared.entry.Event.TheVariants.{Opened, Leased, Returned, Closed, Waited, Left, Limit}
 use Rattle.conn_log.specs.declared.entry.Entry.{Entry}
-use Rattle.conn_log.specs.Connections.{is_among, last_moment, greatest, open_connections, is_open, holder_want, held_number, holds, holdings, want_among, is_idle}
+use Rattle.conn_log.specs.Connections.{is_among, last_moment, greatest, open_connections, is_open, holder_want, held_number, holds, is_idle}
 use Rattle.conn_log.specs.Waiting.{without, waiting, waits}
 use Rattle.conn_log.specs.Fit.{suits}
 use Rattle.conn_log.specs.Legal.{LimitAndFirst, owed, MayStartAmong, MayOpen, MayLease, MayWait, MayClose}
@@ -26,9 +26,8 @@ use Rattle.conn_log.specs.Laws.{known_of}
 use Rattle.conn_log.proofs.Sorted.{told}
 use Rattle.conn_log.proofs.Entries.{at_is}
 use Rattle.conn_log.proofs.Telling.{knows_all, among_known}
-use Rattle.conn_log.proofs.Holdings.{want_without, without_twice}
 use Rattle.conn_log.proofs.Steps.{IsGone, gone_closed, gone_later, more_open, as_many_idle_open, fewer_idle_lease, taken_back, taken_end, taken_same, more_idle, gone_taken, fewer_open, as_many_idle, fewer_idle, orderly_gone, is_idle_is, idle_open_unheld}
-use Rattle.conn_log.proofs.Soundness.{and_left, holds_is, next_free, next_is_new, sound_open, sound_lease, sound_return, sound_wait, sound_leave, sound_limit, sound_empty, ended_close}
+use Rattle.conn_log.proofs.Soundness.{and_left, holds_is, next_free, next_is_new, sound_open, sound_lease, sound_return, sound_wait, sound_leave, sound_limit, ended_close}
 use Rattle.monitor.specs.declared.due.Due.{Due}
 use Rattle.monitor.specs.Rules.{known_at}
 use Rattle.monitor.specs.Held.{IsSameTable, HoldsOneMore, HoldsOneLess}
