@@ -4,7 +4,8 @@ ghost use Rattle.std.specs.Prelude.{◌≡◌, ◌<◌, ◌∷◌, length, None,
 ghost use Rattle.std.specs.Prelude.{IfOk, IfErr, OnOk, OnErr};
 ghost use Rattle.conn_log.specs.Legal.{IsLegal};
 ghost use Rattle.monitor.specs.Rules.{first_broken, violation_of};
-ghost use Rattle.monitor.specs.Tables.{HostLog};
+ghost use Rattle.std.specs.List.{sum_by};
+ghost use Rattle.monitor.specs.Tables.{open_at};
 ghost use Rattle.monitor.specs.AllHosts.{begun_hosts, host_at, more_at, has_room, past_total};
 ghost use Rattle.monitor.specs.AllHosts.{past_kept, beside_idle, beside_room, first_waiting};
 ghost use Rattle.monitor.specs.AllHosts.{first_unrest};
@@ -99,6 +100,13 @@ impl Monitor {
         ensures { result ≡ has_room self.now }
     {
         self.totals.open_len < u64::from(self.limits.total()) || self.totals.idle_len > 0
+    }
+
+    /// How many connections are open in total.
+    pub fn open_len(&self) -> u64
+        ensures { result ≡ sum_by open_at self.now.hosts }
+    {
+        self.totals.open_len
     }
 
     /// [`Unrest::PastTotal`] if more connections are open than the total limit allows.
