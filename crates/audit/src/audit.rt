@@ -1,12 +1,21 @@
 //! An audit of a trace, line by line.
 
+ghost use Rattle.std.specs.Prelude.{◌≡◌, ◌≤◌, ◌+◌, length, Err, None, IsSome};
+ghost use Rattle.std.specs.Prelude.{IfOk, IfErr, OnOk};
+ghost use Rattle.std.specs.List.{sum_by};
+ghost use Rattle.monitor.specs.Tables.{open_at};
+ghost use Rattle.trace_text.specs.Lines.{trace_reading};
+ghost use Rattle.audit.specs.Audits.{not_begun, open_in, Comes, ReadsEvent, ReadsOther, ReadsLine};
+ghost use Rattle.audit.specs.Audits.{Begins, KeepsLogs};
+
 use crate::fault::AuditFault;
 use crate::finding::{Broken, Finding};
 use crate::hosts::{Outcome, TracedHosts};
-use budget::Limits;
+use budget::{GREATEST_LIMIT, Limits};
 use conn_key::{CountedMemory, Sites, SitesFault};
 use script_text::{Action, Command, FaultKind, SiteWord, first_word};
 use std::alloc::{AllocError, Global};
+use std::marker::Model;
 use trace_text::{Line, Traced, TracedEvent, read_line};
 
 /// An audit of a trace: it reads line by line, and keeps the violations that it found.
@@ -32,6 +41,24 @@ pub struct Audit {
     findings: Vec<Finding>,
 }
 
+impl Model for Audit {
+    ghost use Rattle.std.specs.Prelude.{length};
+    ghost use Rattle.audit.specs.Audits.{Audited};
+
+    ghost Value = { Audited };
+
+    ghost view = { λ audit. record {
+      limits = audit.limits;
+      sites = length audit.sites;
+      hosts = audit.hosts;
+      found = length audit.findings.items;
+      lines = audit.line;
+      events = audit.events;
+      passed_by = audit.passed_by;
+      has_waits = audit.has_waits;
+    } };
+}
+
 /// The words of a line, one space between.
 fn words_of(alloc: Global, line: &[u8]) -> Result<String, AllocError> {
     let mut words = Vec::new(alloc);
@@ -46,9 +73,35 @@ fn words_of(alloc: Global, line: &[u8]) -> Result<String, AllocError> {
     String::from_utf8_lossy(alloc, words.as_slice())
 }
 
+/// Whether an event is a limit that no host can have.
+fn is_bad_limit(event: &TracedEvent) -> bool {
+    match *event {
+        TracedEvent::Limit { limit } => limit > GREATEST_LIMIT,
+        _ => false,
+    }
+}
+
+/// Reads an event at hosts that were made.
+fn read_in(
+    hosts: &mut Option<TracedHosts>,
+    traced: &Traced,
+    line: u64,
+) -> Result<Outcome, AuditFault>
+    requires { IsSome hosts.old }
+    ensures { IfOk result (λ outcome. Comes traced.now outcome hosts.old hosts.new) }
+{
+    match hosts {
+        Some(hosts) => hosts.read(traced, line),
+        None => Err(AuditFault::NoSuchSite),
+    }
+}
+
 impl Audit {
     /// An audit before the first line. The only error is an allocation failure.
-    pub fn new(alloc: Global) -> Result<Audit, AuditFault> {
+    pub fn new(alloc: Global) -> Result<Audit, AuditFault>
+        ensures ok { IfOk result (λ audit. audit ≡ not_begun) }
+        ensures err { IfErr result (λ fault. fault ≡ AuditFault.Memory) }
+    {
         let Ok(sites) = Sites::new(alloc) else {
             return Err(AuditFault::Memory);
         };
@@ -70,37 +123,51 @@ impl Audit {
     }
 
     /// The violations found so far, in the order in which they show.
-    pub fn findings(&self) -> &[Finding] {
+    pub fn findings(&self) -> &[Finding]
+        ensures { length result.now ≡ self.now.found }
+    {
         self.findings.as_slice()
     }
 
     /// How many lines were read.
-    pub fn line(&self) -> u64 {
+    pub fn line(&self) -> u64
+        ensures { result ≡ self.now.lines }
+    {
         self.line
     }
 
     /// How many lines told of events.
-    pub fn events(&self) -> u64 {
+    pub fn events(&self) -> u64
+        ensures { result ≡ self.now.events }
+    {
         self.events
     }
 
     /// How many lines were of connections whose opening was not taken.
-    pub fn passed_by(&self) -> u64 {
+    pub fn passed_by(&self) -> u64
+        ensures { result ≡ self.now.passed_by }
+    {
         self.passed_by
     }
 
     /// Whether any line told of a wait.
-    pub fn has_waits(&self) -> bool {
+    pub fn has_waits(&self) -> bool
+        ensures { result ≡ self.now.has_waits }
+    {
         self.has_waits
     }
 
     /// How many hosts there are.
-    pub fn hosts(&self) -> usize {
+    pub fn hosts(&self) -> usize
+        ensures { result ≡ self.now.sites }
+    {
         self.sites.len()
     }
 
     /// How many connections are open, those that have to be closed among them.
-    pub fn open_len(&self) -> u64 {
+    pub fn open_len(&self) -> u64
+        ensures { result ≡ open_in self.now.hosts }
+    {
         match &self.hosts {
             Some(hosts) => hosts.monitor.open_len(),
             None => 0,
@@ -109,8 +176,14 @@ impl Audit {
 
     /// Reads one more line, without its line end. An event that breaks a rule changes nothing.
     ///
-    /// The errors say why the trace can't be read on.
-    pub fn read(&mut self, line: &[u8]) -> Result<(), AuditFault> {
+    /// The errors say why the trace can't be read on: [`AuditFault::Line`] if the line is none of a
+    /// trace, stands in a wrong place, or has bad limits or a bad site; those of events; and
+    /// [`AuditFault::Memory`].
+    pub fn read(&mut self, line: &[u8]) -> Result<(), AuditFault>
+        ensures line { OnOk result (ReadsLine (trace_reading line.now) self.old self.new) }
+        ensures unread { IfErr (trace_reading line.now)
+            (λ kind. result ≡ Err (AuditFault.Line kind)) }
+    {
         self.line = self.line.saturating_add(1);
         let Some(said) = read_line(line)? else {
             return Ok(());
@@ -130,7 +203,9 @@ impl Audit {
     }
 
     /// Judges the pool at the end of the trace.
-    pub fn end(&mut self) -> Result<(), AuditFault> {
+    pub fn end(&mut self) -> Result<(), AuditFault>
+        ensures { KeepsLogs self.old self.new }
+    {
         let mut found = Vec::new(self.alloc);
         if let Some(hosts) = &mut self.hosts {
             hosts.rest(&mut found)?;
@@ -139,7 +214,9 @@ impl Audit {
     }
 
     /// Reads a command of a script.
-    fn read_command(&mut self, command: Command<'_>) -> Result<(), AuditFault> {
+    fn read_command(&mut self, command: Command<'_>) -> Result<(), AuditFault>
+        ensures { OnOk result (ReadsOther self.old self.new) }
+    {
         match command {
             Command::Limits(limits) => self.set_limits(limits.host, limits.total, limits.kept),
             Command::Site(word) => self.add_site(&word),
@@ -156,7 +233,9 @@ impl Audit {
     }
 
     /// `order host`: before all others.
-    fn order_by_host(&mut self) -> Result<(), AuditFault> {
+    fn order_by_host(&mut self) -> Result<(), AuditFault>
+        ensures { KeepsLogs self.old self.new }
+    {
         if self.is_by_host || self.limits.is_some() {
             return Err(AuditFault::Line(FaultKind::Place));
         }
@@ -165,7 +244,9 @@ impl Audit {
     }
 
     /// `limits`: once, before all sites.
-    fn set_limits(&mut self, host: u32, total: u32, kept: u32) -> Result<(), AuditFault> {
+    fn set_limits(&mut self, host: u32, total: u32, kept: u32) -> Result<(), AuditFault>
+        ensures { KeepsLogs self.old self.new }
+    {
         if self.limits.is_some() {
             return Err(AuditFault::Line(FaultKind::Place));
         }
@@ -179,7 +260,9 @@ impl Audit {
     }
 
     /// `site`: after the limits, before all others.
-    fn add_site(&mut self, word: &SiteWord<'_>) -> Result<(), AuditFault> {
+    fn add_site(&mut self, word: &SiteWord<'_>) -> Result<(), AuditFault>
+        ensures { KeepsLogs self.old self.new }
+    {
         if self.limits.is_none() || self.hosts.is_some() {
             return Err(AuditFault::Line(FaultKind::Place));
         }
@@ -192,7 +275,9 @@ impl Audit {
     }
 
     /// Makes the hosts, at the first line after the sites, which may be `rest`.
-    fn begin(&mut self, is_rest: bool) -> Result<(), AuditFault> {
+    fn begin(&mut self, is_rest: bool) -> Result<(), AuditFault>
+        ensures { OnOk result (Begins self.old self.new) }
+    {
         let Some(limits) = self.limits else {
             return Err(AuditFault::Line(FaultKind::Place));
         };
@@ -206,16 +291,14 @@ impl Audit {
     }
 
     /// Reads a line that says: it is taken if it breaks no rule.
-    fn read_event(&mut self, traced: &Traced, line: &[u8]) -> Result<(), AuditFault> {
-        if let TracedEvent::Limit { limit } = traced.event {
-            if limit > budget::GREATEST_LIMIT {
-                return Err(AuditFault::Line(FaultKind::BadLimits));
-            }
+    fn read_event(&mut self, traced: &Traced, line: &[u8]) -> Result<(), AuditFault>
+        requires there { IsSome self.old.hosts }
+        ensures { OnOk result (ReadsEvent traced.now self.old self.new) }
+    {
+        if is_bad_limit(&traced.event) {
+            return Err(AuditFault::Line(FaultKind::BadLimits));
         }
-        let Some(hosts) = &mut self.hosts else {
-            return Ok(());
-        };
-        let outcome = hosts.read(traced, self.line)?;
+        let outcome = read_in(&mut self.hosts, traced, self.line)?;
         self.events = self.events.saturating_add(1);
         self.has_waits |= matches!(traced.event, TracedEvent::Waited { .. });
         match outcome {
@@ -232,7 +315,9 @@ impl Audit {
     }
 
     /// Notes the event that was taken last.
-    fn note_last(&mut self, line: &[u8]) -> Result<(), AuditFault> {
+    fn note_last(&mut self, line: &[u8]) -> Result<(), AuditFault>
+        ensures { self.new ≡ self.old }
+    {
         self.last_line = self.line;
         self.last_text.clear();
         self.last_text.extend_from_slice(line)?;
@@ -240,7 +325,11 @@ impl Audit {
     }
 
     /// Tells a violation.
-    fn tell(&mut self, line: u64, event: String, broken: Broken) -> Result<(), AuditFault> {
+    fn tell(&mut self, line: u64, event: String, broken: Broken) -> Result<(), AuditFault>
+        ensures ok { OnOk result (self.new
+            ≡ record self.old { found = self.old.found + 1 }) }
+        ensures kept { KeepsLogs self.old self.new }
+    {
         let finding = Finding {
             line,
             event,
@@ -253,7 +342,9 @@ impl Audit {
     }
 
     /// Tells what is broken at rest, at the last event that was taken.
-    fn tell_at_rest(&mut self, found: &[Broken]) -> Result<(), AuditFault> {
+    fn tell_at_rest(&mut self, found: &[Broken]) -> Result<(), AuditFault>
+        ensures { KeepsLogs self.old self.new }
+    {
         for broken in found {
             let event = words_of(self.alloc, self.last_text.as_slice())?;
             self.tell(self.last_line, event, *broken)?;
@@ -262,7 +353,9 @@ impl Audit {
     }
 
     /// Judges the pool at a `rest` line: all of it, or each host for itself.
-    fn rest(&mut self) -> Result<(), AuditFault> {
+    fn rest(&mut self) -> Result<(), AuditFault>
+        ensures { KeepsLogs self.old self.new }
+    {
         let mut found = Vec::new(self.alloc);
         if let Some(hosts) = &mut self.hosts {
             if self.is_by_host {
@@ -275,7 +368,9 @@ impl Audit {
     }
 
     /// Judges the pool before a line that asks, of a site or of none.
-    fn rest_before(&mut self, site: Option<u32>) -> Result<(), AuditFault> {
+    fn rest_before(&mut self, site: Option<u32>) -> Result<(), AuditFault>
+        ensures { KeepsLogs self.old self.new }
+    {
         if self.rests_alone {
             return Ok(());
         }
@@ -290,7 +385,9 @@ impl Audit {
     }
 
     /// Keeps what a line that asks hands in.
-    fn ask(&mut self, site: u32, action: Action) -> Result<(), AuditFault> {
+    fn ask(&mut self, site: u32, action: Action) -> Result<(), AuditFault>
+        ensures { KeepsLogs self.old self.new }
+    {
         let Some(hosts) = &mut self.hosts else {
             return Ok(());
         };
