@@ -11,6 +11,8 @@ mod entries;
 #[cfg(test)]
 mod judged;
 #[cfg(test)]
+mod judged_hosts;
+#[cfg(test)]
 mod log;
 #[cfg(test)]
 mod readers;

@@ -1,9 +1,13 @@
 -- What the rules have to do with legal logs.
-use Rattle.std.specs.Prelude.{◌≡◌, List, ◌∷◌, Some, None}
+use Rattle.std.specs.Prelude.{◌≡◌, ℕ, ◌<◌, ◌≤◌, true, false, List, ◌∷◌, length, slice_index_or, Some, None}
+use Rattle.std.specs.List.{sum_by}
 use Rattle.conn_log.specs.declared.entry.Entry.{Entry}
-use Rattle.conn_log.specs.Legal.{LimitAndFirst, IsLegal}
+use Rattle.conn_log.specs.Legal.{LimitAndFirst, IsLegal, IsQuiet}
+use Rattle.conn_log.specs.Sound.{IsSound}
 use Rattle.monitor.specs.declared.violation.Violation.{Violation}
 use Rattle.monitor.specs.Rules.{first_broken}
+use Rattle.monitor.specs.Tables.{HostLog, open_at, idle_at}
+use Rattle.monitor.specs.AllHosts.{AllHosts, waits_beside_room, has_room, first_unrest}
 
 -- an entry that breaks a rule makes no legal log
 abbrev pub ABrokenRuleMakesNoLegalLog : Type 0
@@ -19,3 +23,20 @@ ALegalLogBreaksNoRule =
     (settings : LimitAndFirst) (log : List Entry) (e : Entry)
     → IsLegal settings (e ∷ log)
     → first_broken settings log e ≡ None
+
+-- each host is, if its log is sound
+abbrev pub AreQuiet : AllHosts → Type 0
+AreQuiet all =
+    (site : ℕ) (host : HostLog)
+    → site < length all.hosts
+    → host ≡ slice_index_or all.hosts site host
+    → IsSound host.settings host.log
+    → IsQuiet host.settings (waits_beside_room host) host.log × (waits_beside_room host ≡ true → has_room all ≡ false)
+
+-- what is settled at rest: the total and what is kept are within their limits, and a host's sound log is quiet, queued
+-- for room if a transfer waits there and the host has room; then the total has none
+abbrev pub WhatIsSettledIsQuiet : Type 0
+WhatIsSettledIsQuiet =
+    (all : AllHosts)
+    → first_unrest all ≡ None
+    → (sum_by open_at all.hosts ≤ all.limits.total) × (sum_by idle_at all.hosts ≤ all.limits.connects) × AreQuiet all

@@ -8,12 +8,17 @@ mod held;
 mod host;
 mod judging;
 pub mod laws;
+mod monitor;
 mod rules;
 mod tables;
 mod taken;
 mod taking;
+mod totals;
+mod unrest;
 mod violation;
 mod waiters;
 
 pub use host::HostMonitor;
+pub use monitor::Monitor;
+pub use unrest::Unrest;
 pub use violation::{Fault, Violation};

@@ -1,0 +1,4 @@
+pub mod Endings
+pub mod Events
+pub mod Audits
+pub mod Laws
