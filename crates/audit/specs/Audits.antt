@@ -10,8 +10,8 @@ use Rattle.trace_text.specs.declared.line.Traced.{Traced}
 use Rattle.trace_text.specs.declared.line.Line.{Line}
 use Rattle.trace_text.specs.declared.line.Line.TheVariants as lines
 use Rattle.audit.specs.declared.hosts.Outcome.{Outcome}
-use Rattle.audit.specs.declared.hosts.Outcome.TheVariants.{Taken, PassedBy, Broken}
-use Rattle.audit.specs.Events.{IsOutcome}
+use Rattle.audit.specs.declared.hosts.Outcome.TheVariants.{Taken, HeldBack, PassedBy, Broken}
+use Rattle.audit.specs.Outcomes.{ComesOf}
 
 -- the limits that were read, how many sites there are, the hosts once they were made, how many violations were found;
 -- how many lines were read, how many told of events, how many of connections whose opening was not taken, and whether any
@@ -50,12 +50,13 @@ pub record KeepsLogs (old new : Audited) : Type 0 where
 -- an event that breaks a rule is one violation more
 abbrev pub found_by : Outcome → ℕ
 found_by Taken = 0
+found_by HeldBack = 0
 found_by PassedBy = 0
 found_by (Broken broken) = 1
 
 -- what comes of an event at hosts that were made
 abbrev pub Comes : Traced → Outcome → Option AllHosts → Option AllHosts → Type 0
-Comes event outcome (Some old) (Some new) = IsOutcome event outcome old new
+Comes event outcome (Some old) (Some new) = ComesOf event outcome old new
 Comes event outcome _ _ = ⊥
 
 -- an event is read

@@ -12,15 +12,12 @@ use Rattle.conn_log.specs.Legal.{IsLegal}
 use Rattle.monitor.specs.Rules.{first_broken}
 use Rattle.monitor.specs.Tables.{HostLog}
 use Rattle.monitor.specs.AllHosts.{AllHosts, host_at, more_at}
-use Rattle.trace_text.specs.declared.line.Traced.{Traced}
 use Rattle.trace_text.specs.declared.line.TracedEvent.{TracedEvent}
 use Rattle.trace_text.specs.declared.line.TracedEvent.TheVariants as traced
 use Rattle.budget.specs.Limits.{or_greatest}
 use Rattle.audit.specs.declared.ended.Ended.{Ended}
 use Rattle.audit.specs.declared.host.TracedConnection.{TracedConnection}
 use Rattle.audit.specs.declared.hosts.Breach.{Breach}
-use Rattle.audit.specs.declared.hosts.Outcome.{Outcome}
-use Rattle.audit.specs.declared.hosts.Outcome.TheVariants.{Taken, PassedBy, Broken}
 use Rattle.audit.specs.declared.hosts.Breach.TheVariants.{InLog, Beside}
 use Rattle.audit.specs.declared.rule.Name.{Name}
 use Rattle.audit.specs.declared.rule.Rule.{Rule}
@@ -94,28 +91,6 @@ breach_of host e beside = option_or (option_map InLog (first_broken host.setting
 pub record IsTaken (site moment : ℕ) (event : Event) (behind : Option Event) (old new : AllHosts) : Type 0 where
   pub now : new ≡ and_behind site moment behind (more_at site (entry_at moment event) old)
   pub legal : let host = host_at old site in IsLegal host.settings (entry_at moment event ∷ host.log)
-
--- an event is taken with what was known of its connection, a next number and a want
-pub record Takes (event : Traced) (old new : AllHosts) : Type 0 where
-  pub known : Option TracedConnection
-  pub next : ℕ
-  pub want : Want
-  pub taken : IsTaken event.host event.moment (event_of event.event known next want) (close_behind event.event known) old new
-  pub beside : beside_log event.host event.event known ≡ None
-
--- an event is not taken: it breaks a rule
-pub record Refuses (event : Traced) (old : AllHosts) : Type 0 where
-  pub known : Option TracedConnection
-  pub next : ℕ
-  pub want : Want
-  pub breach : IsSome (breach_of (host_at old event.host) (entry_at event.moment (event_of event.event known next want)) (beside_log event.host event.event known))
-
--- what comes of an event: it is taken, or held back until its connection is closed; it is of a connection whose opening was
--- not taken; or it breaks a rule. Only one that is taken changes a log
-abbrev pub IsOutcome : Traced → Outcome → AllHosts → AllHosts → Type 0
-IsOutcome event Taken old new = (new ≡ old) ⊎ Takes event old new
-IsOutcome event PassedBy old new = new ≡ old
-IsOutcome event (Broken broken) old new = (new ≡ old) × Refuses event old
 
 -- each host's log is legal
 abbrev pub AreLegal : AllHosts → Type 0

@@ -303,6 +303,7 @@ impl Audit {
         self.has_waits |= matches!(traced.event, TracedEvent::Waited { .. });
         match outcome {
             Outcome::Taken => self.note_last(line),
+            Outcome::HeldBack => self.note_last(line),
             Outcome::PassedBy => {
                 self.passed_by = self.passed_by.saturating_add(1);
                 Ok(())

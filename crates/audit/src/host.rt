@@ -1,5 +1,9 @@
 //! What a trace's lines need of a host beside its log: numbers, lines, wants and endings.
 
+ghost use Rattle.std.specs.Prelude.{◌≡◌, IfOk};
+ghost use Rattle.audit.specs.Tables.{want_in, known_in, next_in, passes_by, end_by, end_of};
+ghost use Rattle.audit.specs.Tables.{IsWantOf, IsJudgedBy};
+
 use crate::ended::Ended;
 use crate::fault::AuditFault;
 use crate::finding::{Earlier, Happened};
@@ -97,7 +101,9 @@ impl TracedHost {
     }
 
     /// The want by which a start or a wait of the transfer is judged, if it is known.
-    fn want(&self, transfer: u64) -> Option<Want> {
+    fn want(&self, transfer: u64) -> Option<Want>
+        ensures { result ≡ want_in self.now transfer }
+    {
         if let Some(waiter) = self.waiters.get(&transfer) {
             return Some(waiter.want);
         }
@@ -161,8 +167,15 @@ impl TracedHost {
         Ok(())
     }
 
-    /// A transfer gave its connection back to be closed.
-    fn note_ended(&mut self, connection: u64, transfer: u64, ended: Ended, line: u64) {
+    /// The return of a connection is held back until it is closed.
+    pub(crate) fn note_ended(&mut self, event: &TracedEvent, ended: Ended, line: u64) {
+        let TracedEvent::Returned {
+            connection,
+            transfer,
+        } = *event
+        else {
+            return;
+        };
         let _ = self.given.remove(&transfer);
         if let Some(open) = self.connections.get_mut(&connection) {
             open.return_line = line;
@@ -193,29 +206,44 @@ impl TracedHost {
     }
 
     /// What is known of an event's connection, if it is open.
-    pub(crate) fn connection_of(&self, event: &TracedEvent) -> Option<TracedConnection> {
+    pub(crate) fn connection_of(&self, event: &TracedEvent) -> Option<TracedConnection>
+        ensures { result ≡ known_in self.now event.now }
+    {
         self.connections.get(&connection_of(event)?).copied()
     }
 
+    /// The number of the host's next connection, if it can have one more.
+    pub(crate) fn next(&self) -> u32
+        ensures { result ≡ next_in self.now }
+    {
+        self.opened.saturating_add(1)
+    }
+
     /// Whether the event is of a connection whose opening was not taken, and doesn't open it once
-    /// more. With its close that ends.
-    pub(crate) fn passes_by(&mut self, event: &TracedEvent) -> bool {
+    /// more.
+    pub(crate) fn passes_by(&self, event: &TracedEvent) -> bool
+        ensures { result ≡ passes_by self.now event.now }
+    {
         match *event {
-            TracedEvent::Leased { connection, .. } | TracedEvent::Returned { connection, .. } => {
-                self.not_taken.contains(&connection)
-            }
-            TracedEvent::Closed { connection, .. } => self.not_taken.remove(&connection),
+            TracedEvent::Leased { connection, .. } => self.not_taken.contains(&connection),
+            TracedEvent::Returned { connection, .. } => self.not_taken.contains(&connection),
+            TracedEvent::Closed { connection, .. } => self.not_taken.contains(&connection),
             _ => false,
+        }
+    }
+
+    /// Notes such an event: with its close no line is of the connection.
+    pub(crate) fn note_passed(&mut self, event: &TracedEvent) {
+        if let TracedEvent::Closed { connection, .. } = *event {
+            let _ = self.not_taken.remove(&connection);
         }
     }
 
     /// The want by which a start is judged. If it is not known, a rule is broken whatever it is, or
     /// the trace can't be read on.
-    fn start_want(
-        &self,
-        transfer: u64,
-        known: Option<TracedConnection>,
-    ) -> Result<Want, AuditFault> {
+    fn start_want(&self, transfer: u64, known: Option<TracedConnection>) -> Result<Want, AuditFault>
+        ensures { IfOk result (IsWantOf self.now transfer) }
+    {
         if let Some(want) = self.want(transfer) {
             return Ok(want);
         }
@@ -230,7 +258,9 @@ impl TracedHost {
         &self,
         traced: &Traced,
         known: Option<TracedConnection>,
-    ) -> Result<Want, AuditFault> {
+    ) -> Result<Want, AuditFault>
+        ensures { IfOk result (IsJudgedBy self.now traced.now.event) }
+    {
         match traced.event {
             TracedEvent::Opened {
                 connection,
@@ -258,7 +288,9 @@ impl TracedHost {
     }
 
     /// The want by which a wait is judged.
-    fn wait_want(&self, transfer: u64) -> Result<Want, AuditFault> {
+    fn wait_want(&self, transfer: u64) -> Result<Want, AuditFault>
+        ensures { IfOk result (IsWantOf self.now transfer) }
+    {
         if let Some(want) = self.want(transfer) {
             return Ok(want);
         }
@@ -269,7 +301,10 @@ impl TracedHost {
     }
 
     /// Why a connection has to be closed that its holder returns, if it has.
-    fn ended_by(&self, transfer: u64, known: &TracedConnection) -> Option<Ended> {
+    fn end_by(&self, transfer: u64, known: Option<TracedConnection>) -> Option<Ended>
+        ensures { result ≡ end_by self.now transfer known }
+    {
+        let known = known?;
         if known.ended.is_some() || known.holder != Some(transfer) {
             return None;
         }
@@ -277,30 +312,17 @@ impl TracedHost {
         Ended::of(*ending, known.forbids_reuse)
     }
 
-    /// Holds a return back until the connection is closed, if the event is the return of one that
-    /// has to be closed, and tells whether it is.
-    pub(crate) fn hold_back(
-        &mut self,
+    /// Why the return of a connection is held back until it is closed, if it is.
+    pub(crate) fn end_of(
+        &self,
         event: &TracedEvent,
         known: Option<TracedConnection>,
-        line: u64,
-    ) -> bool {
-        let (
-            TracedEvent::Returned {
-                connection,
-                transfer,
-            },
-            Some(known),
-        ) = (*event, known)
-        else {
-            return false;
-        };
-        match self.ended_by(transfer, &known) {
-            Some(ended) => {
-                self.note_ended(connection, transfer, ended, line);
-                true
-            }
-            None => false,
+    ) -> Option<Ended>
+        ensures { result ≡ end_of self.now event.now known }
+    {
+        match *event {
+            TracedEvent::Returned { transfer, .. } => self.end_by(transfer, known),
+            _ => None,
         }
     }
 

@@ -3,7 +3,8 @@
 ghost use Rattle.std.specs.Prelude.{◌≡◌, ◌<◌, ◌≤◌, length, None, Err, OnOk, OnErr};
 ghost use Rattle.std.specs.Prelude.{IfOk, IfErr, IfSome, IfNone};
 ghost use Rattle.monitor.specs.AllHosts.{begun_hosts, host_at};
-ghost use Rattle.audit.specs.Events.{entry_at, breach_of, and_behind, IsTaken, IsOutcome, AreLegal};
+ghost use Rattle.audit.specs.Events.{entry_at, breach_of, and_behind, IsTaken, AreLegal};
+ghost use Rattle.audit.specs.Outcomes.{IsOutcome, ComesOf};
 
 use crate::fault::AuditFault;
 use crate::finding::Broken;
@@ -23,6 +24,8 @@ use trace_text::Traced;
 pub(crate) enum Outcome {
     /// It was taken.
     Taken,
+    /// It is a return that is held back until its connection is closed.
+    HeldBack,
     /// It is of a connection whose opening was not taken.
     PassedBy,
     /// It breaks that rule, and changed nothing.
@@ -123,7 +126,7 @@ impl TracedHosts {
     /// [`AuditFault::NoSuchSite`] exactly if the host isn't there.
     pub(crate) fn read(&mut self, traced: &Traced, line: u64) -> Result<Outcome, AuditFault>
         ensures outcome { IfOk result (λ outcome.
-            IsOutcome traced.now outcome self.old self.new) }
+            ComesOf traced.now outcome self.old self.new) }
         ensures no_site { length self.old.hosts ≤ traced.now.host
             → result ≡ Err AuditFault.NoSuchSite }
         ensures err { OnErr result (length self.new.hosts ≡ length self.old.hosts) }
@@ -144,20 +147,22 @@ fn read_at(
 ) -> Result<Outcome, AuditFault>
     requires there { traced.now.host < length monitor.old.hosts }
     ensures outcome { IfOk result (λ outcome.
-        IsOutcome traced.now outcome monitor.old monitor.new) }
+        IsOutcome tables.old traced.now outcome monitor.old monitor.new) }
     ensures legal { AreLegal monitor.old → AreLegal monitor.new }
     ensures count { length monitor.new.hosts ≡ length monitor.old.hosts }
 {
     let event = &traced.event;
     if tables.passes_by(event) {
+        tables.note_passed(event);
         return Ok(Outcome::PassedBy);
     }
     let known = tables.connection_of(event);
     let want = tables.judged_want(traced, known)?;
-    if tables.hold_back(event, known, line) {
-        return Ok(Outcome::Taken);
+    if let Some(ended) = tables.end_of(event, known) {
+        tables.note_ended(event, ended, line);
+        return Ok(Outcome::HeldBack);
     }
-    let next = tables.opened.saturating_add(1);
+    let next = tables.next();
     let becomes = Becomes {
         site: traced.host,
         moment: traced.moment,

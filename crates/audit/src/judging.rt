@@ -3,6 +3,7 @@
 ghost use Rattle.std.specs.Prelude.{◌≡◌};
 ghost use Rattle.budget.specs.Limits.{or_greatest};
 ghost use Rattle.audit.specs.Events.{number_in, end_in, holder_in, cause_read, close_of, event_of};
+ghost use Rattle.audit.specs.Tables.{connection_in};
 ghost use Rattle.audit.specs.Events.{close_behind, returned_beside, closed_beside, beside_log};
 
 use crate::ended::{Ended, PERSISTENT};
@@ -16,7 +17,9 @@ use monitor::Violation;
 use trace_text::{Traced, TracedEvent};
 
 /// The connection that an event is of, by the number that the pool gave it, if it is of one.
-pub(crate) fn connection_of(event: &TracedEvent) -> Option<u64> {
+pub(crate) fn connection_of(event: &TracedEvent) -> Option<u64>
+    ensures { result ≡ connection_in event.now }
+{
     match *event {
         TracedEvent::Opened { connection, .. }
         | TracedEvent::Leased { connection, .. }

@@ -7,7 +7,9 @@ use std::fmt;
 /// A connection, by its host and the number that its pool gave it.
 #[derive(Clone, Copy, Debug, PartialEq, Eq)]
 pub struct Name {
+    /// The host's index.
     pub host: u32,
+    /// The number that the pool gave the connection.
     pub connection: u64,
 }
 
@@ -21,40 +23,51 @@ impl fmt::Display for Name {
 /// A rule that is broken, with the numbers that show it. Moments and ages are in seconds.
 #[derive(Clone, Copy, Debug, PartialEq, Eq)]
 pub enum Rule {
+    /// The event comes before the host's last one.
     Earlier {
         last: u64,
     },
+    /// The host is at its limit.
     Full {
         count: u64,
         limit: u32,
     },
+    /// Another transfer is the first waiter.
     NotFirst {
         first: u64,
     },
+    /// The transfer holds a connection already.
     Holds {
         transfer: u64,
         connection: Name,
     },
+    /// The connection is not open.
     NotOpen {
         connection: Name,
     },
+    /// The connection came back to be closed, and is leased.
     Ended {
         ended: Ended,
     },
+    /// A transfer holds the connection.
     InUse {
         holder: u64,
     },
+    /// The connection is of another lane.
     OtherLane {
         lane: u32,
         want: Want,
     },
+    /// The transfer wants a new connection.
     WantsNew {
         transfer: u64,
     },
+    /// The connection was idle for longer than the transfer accepts.
     IdleTooLong {
         idle: u64,
         want: Want,
     },
+    /// The connection was open for longer than the transfer accepts.
     OpenTooLong {
         age: u64,
         want: Want,
@@ -70,34 +83,44 @@ pub enum Rule {
     },
     /// No transfer holds a connection that is closed as one that a transfer lets go.
     NobodyHolds,
+    /// The connection came back to be closed for another cause.
     OtherCause {
         ended: Ended,
     },
+    /// No response ended the use of the connection.
     NotOwed,
+    /// The transfer waits already.
     WaitsAlready {
         transfer: u64,
     },
+    /// A connection is idle.
     BesideIdle {
         connection: Name,
     },
+    /// The transfer does not wait.
     NotWaiting {
         transfer: u64,
     },
+    /// The limit is below what is open.
     BelowOpen {
         count: u64,
     },
+    /// More connections are open than the total limit allows.
     PastTotal {
         count: u64,
         limit: u32,
     },
+    /// More connections are idle than may be kept.
     PastKept {
         count: u64,
         limit: u32,
     },
+    /// A transfer waits though a connection of its host is idle.
     WaiterBesideIdle {
         first: u64,
         connection: Name,
     },
+    /// A transfer waits though its host and the total have room.
     WaiterBesideRoom {
         first: u64,
         count: u64,

@@ -1,9 +1,6 @@
-//! Tests of `histogram` and `site_table`: worked rows, and what an allocation failure leaves; and of
-//! `audit`: worked traces.
+//! Tests of `histogram` and `site_table`: worked rows, and what an allocation failure leaves.
 #![tactic(auto)]
 
-#[cfg(test)]
-mod audits;
 #[cfg(test)]
 mod histograms;
 #[cfg(test)]
