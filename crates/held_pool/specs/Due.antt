@@ -1,6 +1,5 @@
 -- What the slots of a pool hold is what the pool's logs show.
 use Rattle.std.specs.Prelude.{◌≡◌, ℕ, List, Option, Some, None, IfSome}
-use Rattle.conn_log.specs.declared.entry.Want.{Want}
 use Rattle.bundle.specs.declared.answers.Acquired.{Acquired}
 use Rattle.bundle.specs.declared.answers.Acquired.TheVariants.{Lease, Wait}
 use Rattle.bundle.specs.Lease.{HostShown, lease_number, ticket_want}

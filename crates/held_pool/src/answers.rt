@@ -23,6 +23,9 @@ pub enum SlotError {
     /// The connection has its token.
     #[error("token attached already")]
     Attached,
+    /// No response was begun for it.
+    #[error("no response begun")]
+    Unread,
     /// There is no memory.
     #[error("out of memory")]
     Memory,

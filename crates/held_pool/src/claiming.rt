@@ -14,7 +14,8 @@ use leasing::Cache;
 #[inline(always)]
 pub(crate) fn claim_from(pool: &mut Pool<Token>, ticket: Ticket) -> Acquired<Token>
     requires { IsDue pool.old (Wait ticket) }
-    ensures { ClaimsTicket pool.old pool.new ticket result }
+    ensures done { ClaimsTicket pool.old pool.new ticket result }
+    ensures due { IsDue pool.new result }
 {
     match Cache::claim(pool, ticket) {
         Ok(Claimed::Lease(lease)) => Acquired::Lease(lease),

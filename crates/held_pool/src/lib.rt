@@ -5,8 +5,10 @@
 mod acquiring;
 mod answers;
 mod claiming;
+mod closing;
 mod held_pool;
 mod spending;
+mod used_sites;
 
 pub use answers::{Got, SlotError};
 pub use held_pool::HeldPool;

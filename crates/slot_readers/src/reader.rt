@@ -5,7 +5,6 @@ ghost use Rattle.persistence.specs.Reader.{new_reader};
 ghost use Rattle.slot_readers.specs.Readers.{EndsReader, FeedsReader, TellsItsFacts, TellsResponse};
 ghost use Rattle.slot_readers.specs.Readers.{reading_of};
 
-
 use crate::response::{FeedError, Response};
 use persistence::{Facts, Fed, Method, ResponseReader, persists};
 use std::alloc::{AllocError, Global};

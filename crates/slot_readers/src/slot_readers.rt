@@ -80,7 +80,8 @@ impl SlotReaders {
 
     /// Tells that the connection of the slot's response has ended; whether there is one.
     pub fn end(&mut self, slot: Slot) -> bool
-        ensures ended { result ≡ true → EndsSlot self.old.readers.items self.new.readers.items slot }
+        ensures ended { result ≡ true
+            → EndsSlot self.old.readers.items self.new.readers.items slot }
         ensures none { result ≡ false → reading_in self.old.readers.items slot ≡ None }
         ensures same { result ≡ false → SameReaders self.old.readers.items self.new.readers.items }
     {

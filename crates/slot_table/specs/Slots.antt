@@ -26,6 +26,10 @@ value_in places slot = value_of (place_at places slot.index) slot.generation
 abbrev pub ChangesPlace : {T : Type 0} → List (Place T) → List (Place T) → ℕ → Place T → Type 0
 ChangesPlace old new one place = (index : ℕ) → place_at new index ≡ (if index == one then place else place_at old index)
 
+-- all places stay
+abbrev pub SamePlaces : {T : Type 0} → List (Place T) → List (Place T) → Type 0
+SamePlaces old new = (index : ℕ) → place_at new index ≡ place_at old index
+
 -- a value is put into a new slot: its place held none, and the slot is of the next generation there
 pub record Puts {T : Type 0} (old new : List (Place T)) (slot : Slot) (value : T) : Type 0 where
   pub vacant : (place_at old slot.index).held ≡ None
