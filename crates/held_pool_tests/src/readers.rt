@@ -1,0 +1,46 @@
+//! Readers of responses by slot.
+
+use persistence::{Fed, Method, ReadFault};
+use slot_readers::{FeedError, SlotReaders};
+use slot_table::Slot;
+use std::test::Fail;
+
+const RESPONSE: &[u8] = b"HTTP/1.1 200 OK\r\nContent-Length: 3\r\n\r\nabc";
+
+#[test]
+fn each_slot_has_its_own_reader(rt: HostRuntime) -> Result<(), Fail> {
+    let one = Slot {
+        index: 0,
+        generation: 1,
+    };
+    let other = Slot {
+        index: 3,
+        generation: 1,
+    };
+    let later = Slot {
+        index: 0,
+        generation: 2,
+    };
+    let mut readers = SlotReaders::new(rt.alloc());
+    assert_eq!(rt; readers.feed(one, RESPONSE), Err(FeedError::NoReader));
+    readers.begin(rt.alloc(), one, Method::Get, false)?;
+    readers.begin(rt.alloc(), other, Method::Get, false)?;
+    assert_eq!(rt; readers.feed(one, RESPONSE), Ok(Fed::Whole));
+    assert_eq!(rt; readers.feed(other, b"HTTP/1.1 2"), Ok(Fed::More));
+    assert_eq!(rt; readers.response(one).map(|told| told.persists), Some(true));
+    assert_eq!(rt;
+        readers.response(other).map(|told| told.persists),
+        Some(false)
+    );
+    assert!(rt; readers.end(other));
+    assert_eq!(rt; readers.feed(other, b"0"), Err(FeedError::Ended));
+    // The reader is used again for another slot of its index.
+    readers.begin(rt.alloc(), later, Method::Get, true)?;
+    assert_eq!(rt; readers.response(one), None);
+    assert_eq!(rt;
+        readers.feed(later, b"FTP"),
+        Err(FeedError::Fault(ReadFault::BadHead))
+    );
+    assert!(rt; !readers.end(one));
+    Ok(())
+}
