@@ -563,14 +563,8 @@ const OTHERS: [(&str, &str); 11] = [
          opened 1.1 for 1 at 0\n",
         "line 4: no such site\n",
     ),
-    (
-        "closed 0.1 at 0\n",
-        "line 1: wrong place\n",
-    ),
-    (
-        "limits 0 0 0\n",
-        "line 1: bad limits\n",
-    ),
+    ("closed 0.1 at 0\n", "line 1: wrong place\n"),
+    ("limits 0 0 0\n", "line 1: bad limits\n"),
 ];
 
 #[test]
