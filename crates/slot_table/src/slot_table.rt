@@ -41,12 +41,14 @@ impl<T> SlotTable<T> {
         ensures room { OnOk result (vec_len self.new.places < vec_capacity self.new.places) }
         ensures few { OnOk result (vec_len self.new.places < 4294967295) }
     {
-        if self.places.len() >= u32::MAX as usize {
+        let places = self.places.len();
+        if places >= u32::MAX as usize {
             return Err(AllocError);
         }
         self.places.reserve(1)?;
-        // So that each place can be noted once it is vacant.
-        self.vacant.reserve(1)
+        // So that all places can be vacant at once.
+        self.vacant
+            .reserve(places.saturating_sub(self.vacant.len()) + 1)
     }
 
     /// Puts a value into a new slot.
@@ -119,7 +121,7 @@ impl<T> SlotTable<T> {
         ensures same { IfNone result (self.new.places.items ≡ self.old.places.items) }
     {
         let value = self.lift(slot)?;
-        // There is room for it: each put has made some.
+        // There is room for it: `reserve` has made some for each place.
         let _ = self.vacant.push(slot.index);
         Some(value)
     }
