@@ -211,10 +211,10 @@ fn write_at_rest<W: fmt::Write>(rule: &Rule, f: &mut fmt::Formatter<W>) -> fmt::
             count,
             limit,
             host,
-        } => write!(
-            f,
-            "a waiter beside room: transfer {first} waits, {count} of {limit} are open at host {host}"
-        ),
+        } => {
+            write!(f, "a waiter beside room: transfer {first} waits, ")?;
+            write!(f, "{count} of {limit} are open at host {host}")
+        }
         _ => Ok(()),
     }
 }

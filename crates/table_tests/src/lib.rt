@@ -1,5 +1,5 @@
-//! Tests of `histogram` and `site_table`: worked rows, and what an allocation failure leaves; and of
-//! `audit`: worked traces.
+//! Tests of `histogram` and `site_table`: worked rows, and what an allocation failure leaves; and
+//! of `audit`: worked traces.
 #![tactic(auto)]
 
 #[cfg(test)]
