@@ -13,5 +13,6 @@ pub mod Steps
 pub mod Slots
 pub mod Balanced
 pub mod Rounds
+pub mod Scheduling
 pub mod Opened
 pub mod Told

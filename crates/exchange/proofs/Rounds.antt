@@ -3,8 +3,7 @@ use Rattle.std.proofs.Common.{◌≡◌, refl, sym, subst, inl, inr, Bool, true,
 use Rattle.futures.specs.declared.task.context.Context.{Context}
 use Rattle.futures.specs.declared.task.waker.Waker.{Waker}
 use Rattle.leasing.specs.Deeds.{Deed}
-use Rattle.exchange.specs.declared.job.Prepared.{Prepared}
-use Rattle.exchange.specs.declared.done.Done.{Done}
+use Rattle.exchange.specs.declared.ended.Ended.{Ended}
 use Rattle.exchange.specs.declared.state.State.{State}
 use Rattle.exchange.specs.declared.state.State.TheVariants as at
 use Rattle.exchange.specs.declared.transfer.Transfer.{Transfer}
@@ -48,6 +47,6 @@ module _ {C D W : Type 0} (does : C → C → Deed W → Type 0) (world : World 
     polls_more (inr none) = (rounds.0, still_polls before cache after old dial new slots middle left rounds.0 none.1 none.2 none.3 rounds.1)
 
     -- the last one, whose transfer has ended
-    pub polls_last : (ended : Done × Prepared) → TriesPlace does world dials cache after dial new middle left place (Some ended) → PollsInTurn does world dials before after old new slots left (Some ended)
+    pub polls_last : (ended : Ended) → TriesPlace does world dials cache after dial new middle left place (Some ended) → PollsInTurn does world dials before after old new slots left (Some ended)
     polls_last ended (inl polls) = (rounds.0, cache, dial, middle, rounds.1, (place, polls))
     polls_last ended (inr none) = cc none.0

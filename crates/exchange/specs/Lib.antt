@@ -16,3 +16,4 @@ pub mod Carrying
 pub mod Balance
 pub mod Slabs
 pub mod Rounds
+pub mod Scheduling

@@ -1,5 +1,5 @@
 -- What a slab knows of its transfers.
-use Rattle.std.specs.Prelude.{◌≡◌, ◌≢◌, ℕ, ◌⊎◌, List, [], ◌∷◌, ◌++◌, filter_map, Option, Some, None, IfSome, IsSomeAnd, All}
+use Rattle.std.specs.Prelude.{◌≡◌, ◌≢◌, ℕ, ◌⊎◌, List, [], ◌∷◌, ◌++◌, filter_map, slice_get, slice_set, Option, Some, None, IfSome, IsSomeAnd, All}
 use Rattle.bundle.specs.Seats.{Tables}
 use Rattle.exchange.specs.declared.job.Prepared.{Prepared}
 use Rattle.exchange.specs.declared.done.Done.{Done}
@@ -48,6 +48,21 @@ pub record ClosesOne {C D W : Type 0} (did : C → C → Deed W → Type 0) (wor
   pub begun : GivesUpDial (begun_at old) (begun_at new) transfer.parts.want.transfer transfer.state
   pub leaves : LeavesDial old new transfer.state
 
+-- the transfer at that place was kept and was closed, at a moment that the clock told; at the dial nothing is begun for it,
+-- and the dial stays as it was unless the transfer dialled; the other places stay as they are
+pub record ClosesPlace {C D W : Type 0} (did : C → C → Deed W → Type 0) (world : World W) (home : List Tables) (before after : C) (begun_at : D → ℕ → Type 0) (old new : D) (slots left : List (Option (Transfer W))) (place : ℕ) (closed : Done × Prepared) : Type 0 where
+  pub transfer : Transfer W
+  pub stood : slice_get slots place ≡ Some (Some transfer)
+  pub left_is : left ≡ slice_set slots place None
+  pub kept : IsKept world home transfer
+  pub moment : ℕ
+  pub told : world.tells moment
+  pub cancels : Cancels did before after moment transfer.state
+  pub closes : Closes closed.0 transfer.state
+  pub parts : closed.1 ≡ transfer.parts
+  pub begun : GivesUpDial (begun_at old) (begun_at new) transfer.parts.want.transfer transfer.state
+  pub leaves : LeavesDial old new transfer.state
+
 -- these were closed, the last one first, each at a moment that the clock told, and nothing else was done at the cache
 abbrev pub ClosesAll : {C W : Type 0} → (C → C → Deed W → Type 0) → World W → C → C → List (Transfer W) → Type 0
 ClosesAll did world before after [] = after ≡ before
@@ -72,3 +87,11 @@ pub record GivesUpAll {W : Type 0} (old new : ℕ → Type 0) (transfers : List 
 abbrev pub one_if_some : {W : Type 0} → Option (Transfer W) → ℕ
 one_if_some (Some transfer) = 1
 one_if_some None = 0
+
+-- that is the number of the transfer at that place
+abbrev pub HasNumberAt : {W : Type 0} → List (Option (Transfer W)) → ℕ → ℕ → Type 0
+HasNumberAt {W} slots place number = (transfer : Transfer W) × (slice_get slots place ≡ Some (Some transfer)) × (number ≡ transfer.parts.want.transfer)
+
+-- no transfer stands there
+abbrev pub HasNoneAt : {W : Type 0} → List (Option (Transfer W)) → ℕ → Type 0
+HasNoneAt slots place = IfSome (slice_get slots place) (λ slot. slot ≡ None)

@@ -3,6 +3,7 @@
 
 mod connecting;
 mod done;
+mod ended;
 mod ending;
 mod exchange;
 mod job;
@@ -16,6 +17,7 @@ mod transferring;
 mod wire;
 
 pub use done::{Answer, Done, Fault};
+pub use ended::Ended;
 pub use exchange::Exchange;
 pub use job::{Job, Prepared};
 pub use polled::Polled;

@@ -1,182 +1,206 @@
 //! Which places of a slab are polled next.
 
+ghost use Rattle.std.specs.Prelude.{◌≡◌, ℕ, ◌<◌, ◌≤◌, Some, None, IfSome, IfNone, IfOk, OnOk, false};
+ghost use Rattle.futures.specs.LinkedLists.{list_of, list_count, key_limit, IsEmpty, SameLists};
+ghost use Rattle.futures.specs.LinkedLists.{Moves};
+ghost use Rattle.exchange.specs.Scheduling.{free_list, most_lists, last_site, IsDueList};
+ghost use Rattle.exchange.specs.Scheduling.{site_list_of, IsListFor, Becomes, Wakes};
+ghost use Rattle.exchange.specs.Scheduling.{HasNoneDue};
+ghost use Rattle.std.specs.Bool.{OnFalse};
+
 use crate::ready::Place;
-use crate::state::Stage;
 use crate::transfer::Transfer;
 use crate::wire::Wire;
 use bundle::MOST_HOSTS;
+use futures::util::linked_list::LinkedLists;
 use std::alloc::{AllocError, Global};
 
-/// Where a queue has no place.
-const NONE: usize = usize::MAX;
+/// The list of places where no transfer stands.
+const FREE: usize = 0;
 
-/// Places in order, each of which is linked to the one behind it: a place goes from one queue to
-/// another, and that takes no memory.
-#[derive(Clone, Copy, Debug, PartialEq, Eq, Drop)]
-struct Queue {
-    first: usize,
-    last: usize,
+/// The list of places whose transfers wait for their dial or their wire.
+const PARKED: usize = 1;
+
+/// The lists of places that are due: one for rounds of even number, one for the others.
+const DUE_EVEN: usize = 2;
+
+const DUE_ODD: usize = 3;
+
+/// The list of places that wait for a connection to the first site; the other sites' are behind it.
+const FIRST_SITE: usize = 4;
+
+/// How many lists of places there are.
+const LISTS: usize = FIRST_SITE + MOST_HOSTS as usize;
+
+/// The list of sites whose first waiter is not asked.
+const QUIET: usize = 0;
+
+/// The lists of sites whose first waiter is asked, by rounds as above.
+const ASKED_EVEN: usize = 1;
+
+const ASKED_ODD: usize = 2;
+
+/// The last site that a host may have.
+const LAST_SITE: usize = MOST_HOSTS as usize - 1;
+
+/// How many lists of sites there are.
+const SITE_LISTS: usize = 3;
+
+// The list of places that are due in rounds of that parity.
+fn due_list(is_odd: bool) -> usize
+    ensures due { IsDueList result }
+    ensures in_range { result < most_lists }
+{
+    if is_odd { DUE_ODD } else { DUE_EVEN }
 }
 
-impl Queue {
-    // No place.
-    const fn new() -> Queue {
-        Queue {
-            first: NONE,
-            last: NONE,
-        }
-    }
+// The list of sites that are asked in rounds of that parity.
+fn asked_list(is_odd: bool) -> usize
+    ensures { result < 3 }
+{
+    if is_odd { ASKED_ODD } else { ASKED_EVEN }
+}
 
-    // Puts a place behind all others.
-    fn push_back(&mut self, links: &mut [usize], place: usize) {
-        if let Some(link) = links.get_mut(place) {
-            *link = NONE;
-        }
-        match links.get_mut(self.last) {
-            Some(link) => *link = place,
-            None => self.first = place,
-        }
-        self.last = place;
-    }
-
-    // Puts a place before all others.
-    fn push_front(&mut self, links: &mut [usize], place: usize) {
-        if let Some(link) = links.get_mut(place) {
-            *link = self.first;
-        }
-        if self.first == NONE {
-            self.last = place;
-        }
-        self.first = place;
-    }
-
-    // Takes the first place out.
-    fn pop_front(&mut self, links: &[usize]) -> Option<usize> {
-        let place = self.first;
-        let next = *links.get(place)?;
-        self.first = next;
-        if next == NONE {
-            self.last = NONE;
-        }
-        Some(place)
+// The list of places that wait at a site: no host has a site past the most.
+fn site_list(site: usize) -> Option<usize>
+    ensures list { IfSome result (λ list. list ≡ site_list_of site) }
+    ensures in_range { IfSome result (λ list. list < most_lists) }
+{
+    if site < MOST_HOSTS as usize {
+        Some(FIRST_SITE + site)
+    } else {
+        None
     }
 }
 
-// Those that wait at a site, in the order of their waits; the first one is not among them while it
-// is due.
-#[derive(Clone, Copy, Debug, PartialEq, Eq, Drop)]
-struct Waiting {
-    queue: Queue,
-    is_asked: bool,
+// So many lists without keys, with room for so many keys.
+fn lists_of(alloc: Global, count: usize, room: usize) -> Result<LinkedLists, AllocError>
+    ensures count { IfOk result (λ made. list_count made ≡ count) }
+    ensures none { IfOk result (λ made. (key : ℕ) → list_of made key ≡ None) }
+    ensures room { IfOk result (λ made. room ≤ key_limit made) }
+{
+    let mut lists = LinkedLists::new(alloc, count)?;
+    let Some(last) = room.checked_sub(1) else {
+        return Ok(lists);
+    };
+    lists.reserve_key(last)?;
+    Ok(lists)
 }
 
-// Whether the transfer at a place may go on.
-#[derive(Clone, Copy, Debug, PartialEq, Eq, Drop)]
-enum Standing {
-    // No transfer stands there, or one that waits for a connection.
-    Idle,
-    // It is polled in a round. The dial has told of it since it became due, or not.
-    Due { is_told: bool },
-    // Its dial or its wire had nothing for it: it is polled once the dial tells of it.
-    Parked,
+// Takes a key out of its list, and puts it behind all others of that one.
+fn move_to(lists: &mut LinkedLists, list: usize, key: usize)
+    requires list_in { list < list_count lists.old }
+    requires key_in { key < key_limit lists.old }
+    ensures { Moves lists.old lists.new key (Some list) }
+{
+    lists.unlink(key);
+    lists.push_back(list, key);
 }
 
-// What is known of a place.
+// What is known of a place beside its list.
 #[derive(Clone, Copy, Debug, PartialEq, Eq, Drop)]
 struct Seat {
     place: Place,
-    standing: Standing,
+    // The dial has told of it since it became due.
+    is_told: bool,
 }
 
-/// Places that are due, places that are parked until the dial tells of them, places that wait for a
-/// connection, by site and in the order of their waits, and free places. Of those that wait only
-/// the first one of a site becomes due, and only once a lease was spent or the one before it was
-/// granted a connection.
+impl Seat {
+    // The place of that index, where none has joined.
+    fn at(place: usize) -> Result<Seat, AllocError> {
+        let Ok(index) = u32::try_from(place) else {
+            return Err(AllocError);
+        };
+        Ok(Seat {
+            place: Place { index, joined: 0 },
+            is_told: false,
+        })
+    }
+}
+
+// So many places, where none has joined.
+fn seats_of(alloc: Global, room: usize) -> Result<Vec<Seat>, AllocError> {
+    let mut seats = Vec::with_capacity(alloc, room)?;
+    for place in 0..room {
+        seats.push(Seat::at(place)?)?;
+    }
+    Ok(seats)
+}
+
+/// Places in lists: those where no transfer stands, those that are due, those that are parked until
+/// the dial tells of them, and for each site those that wait for a connection, in the order of
+/// their waits. Of those that wait only the first one of a site is polled, and only once a lease or
+/// a ticket was spent or the one before it waits no more: it stays in its list meanwhile.
 #[derive(Drop)]
 pub(crate) struct Schedule {
-    // From each place to the one behind it in its queue.
-    links: Vec<usize>,
+    lists: LinkedLists,
     seats: Vec<Seat>,
-    free: Queue,
-    due: Queue,
-    due_len: usize,
-    // How many of those that are due are polled in this round.
-    left: usize,
-    waiting: Vec<Waiting>,
-    // A lease was spent since the sites were asked.
+    // The sites where places wait, in lists; a site where none waits any more may be left there.
+    sites: LinkedLists,
+    // The parity of this round.
+    is_odd: bool,
+    // A lease or a ticket was spent since the sites were asked.
     is_to_ask: bool,
+    // One was since the slab's owner asked.
+    has_spent: bool,
+    ghost count: { list_count lists ≡ most_lists },
+    ghost sites_count: { list_count sites ≡ 3 },
+    ghost sites_room: { last_site < key_limit sites },
 }
 
 impl Schedule {
-    /// No places.
-    pub(crate) fn new(alloc: Global) -> Schedule {
-        Schedule {
-            links: Vec::new(alloc),
-            seats: Vec::new(alloc),
-            free: Queue::new(),
-            due: Queue::new(),
-            due_len: 0,
-            left: 0,
-            waiting: Vec::new(alloc),
+    /// No transfers, and memory for so many places.
+    pub(crate) fn with_room(alloc: Global, room: usize) -> Result<Schedule, AllocError>
+        ensures none { IfOk result (λ made. (place : ℕ) → list_of made.lists place ≡ None) }
+        ensures room { IfOk result (λ made. room ≤ key_limit made.lists) }
+    {
+        Ok(Schedule {
+            lists: lists_of(alloc, LISTS, room)?,
+            seats: seats_of(alloc, room)?,
+            sites: lists_of(alloc, SITE_LISTS, LAST_SITE + 1)?,
+            is_odd: false,
             is_to_ask: false,
-        }
+            has_spent: false,
+        })
     }
 
     /// Makes room for that place, where it is the one behind all others.
-    pub(crate) fn add_place(&mut self, place: usize) -> Result<(), AllocError> {
-        if self.links.len() <= place {
-            self.links.push(NONE)?;
-        }
+    pub(crate) fn add_place(&mut self, place: usize) -> Result<(), AllocError>
+        ensures room { OnOk result (place < key_limit self.new.lists) }
+        ensures grows { key_limit self.old.lists ≤ key_limit self.new.lists }
+        ensures same { SameLists self.old.lists self.new.lists }
+    {
+        let seat = Seat::at(place)?;
         if self.seats.len() <= place {
-            let Ok(index) = u32::try_from(place) else {
-                return Err(AllocError);
-            };
-            self.seats.push(Seat {
-                place: Place { index, joined: 0 },
-                standing: Standing::Idle,
-            })?;
+            self.seats.push(seat)?;
         }
-        Ok(())
+        self.lists.reserve_key(place)
     }
 
-    /// Makes room for waits at that site: no host has a site past the most.
-    pub(crate) fn add_site(&mut self, site: u32) -> Result<(), AllocError> {
-        let sites = site.min(MOST_HOSTS) as usize + 1;
-        for _ in self.waiting.len()..sites {
-            self.waiting.push(Waiting {
-                queue: Queue::new(),
-                is_asked: false,
-            })?;
-        }
-        Ok(())
+    /// The first place where no transfer stands.
+    pub(crate) fn first_free(&self) -> Option<usize>
+        ensures free { IfSome result (λ place.
+            list_of self.now.lists place ≡ Some free_list) }
+        ensures none { IfNone result (IsEmpty self.now.lists free_list) }
+    {
+        self.lists.front(FREE)
     }
 
-    /// A free place, which is free no more.
-    pub(crate) fn take_free(&mut self) -> Option<usize> {
-        self.free.pop_front(&self.links)
+    /// Whether a place is due, or a site is asked or to be asked.
+    pub(crate) fn has_due(&self) -> bool
+        ensures { OnFalse result (HasNoneDue self.now.lists) }
+    {
+        self.has_due_places()
+            || self.is_to_ask
+            || self.sites.front(ASKED_EVEN).is_some()
+            || self.sites.front(ASKED_ODD).is_some()
     }
 
-    // Nothing that a dial tells makes the place due.
-    fn becomes_idle(&mut self, place: usize) {
-        if let Some(seat) = self.seats.get_mut(place) {
-            seat.standing = Standing::Idle;
-        }
-    }
-
-    // The place is free from now on.
-    fn free(&mut self, place: usize) {
-        self.becomes_idle(place);
-        self.free.push_back(&mut self.links, place);
-    }
-
-    /// How many places are still to be polled in this round.
-    pub(crate) fn left(&self) -> usize {
-        self.left
-    }
-
-    /// Whether a place is due, or a site is to be asked.
-    pub(crate) fn has_due(&self) -> bool {
-        self.due_len > 0 || self.is_to_ask
+    // Whether a place is due.
+    fn has_due_places(&self) -> bool
+        ensures { OnFalse result (HasNoneDue self.now.lists) }
+    {
+        self.lists.front(DUE_EVEN).is_some() || self.lists.front(DUE_ODD).is_some()
     }
 
     /// The place, as a dial is told of it.
@@ -184,162 +208,238 @@ impl Schedule {
         Some(self.seats.get(place)?.place)
     }
 
+    /// No round takes more polls.
+    pub(crate) fn most_polls(&self) -> usize {
+        self.seats.len().saturating_add(MOST_HOSTS as usize)
+    }
+
     /// A new transfer stands at the place, which is polled in the next round.
-    pub(crate) fn joins(&mut self, place: usize) {
+    pub(crate) fn joins(&mut self, place: usize)
+        requires { place < key_limit self.old.lists }
+        ensures { Becomes self.old.lists self.new.lists place IsDueList }
+    {
         if let Some(seat) = self.seats.get_mut(place) {
             seat.place.joined = seat.place.joined.wrapping_add(1);
         }
         self.becomes_due(place);
     }
 
-    /// The next place to be polled in this round.
-    pub(crate) fn next_due(&mut self) -> Option<usize> {
-        if self.left == 0 {
-            return None;
-        }
-        self.left -= 1;
-        self.due_len = self.due_len.saturating_sub(1);
-        self.due.pop_front(&self.links)
-    }
-
     // The place is polled in the next round.
-    fn becomes_due(&mut self, place: usize) {
+    fn becomes_due(&mut self, place: usize)
+        requires { place < key_limit self.old.lists }
+        ensures { Becomes self.old.lists self.new.lists place IsDueList }
+    {
         if let Some(seat) = self.seats.get_mut(place) {
-            seat.standing = Standing::Due { is_told: false };
+            seat.is_told = false;
         }
-        self.due.push_back(&mut self.links, place);
-        self.due_len = self.due_len.saturating_add(1);
+        move_to(&mut self.lists, due_list(!self.is_odd), place);
     }
 
-    /// The transfer there was polled; it waited for a connection before, or not.
-    pub(crate) fn note_poll<W: Wire>(
-        &mut self,
-        place: usize,
-        waited: bool,
-        transfer: &Transfer<W>,
-    ) {
-        let site = transfer.site();
-        let waits = transfer.has_ticket();
-        if transfer.has_spent() {
-            self.ask_sites();
-        } else if waited && waits {
-            self.waits_on(place, site);
+    /// The next place to be polled in this round.
+    pub(crate) fn next_due(&mut self) -> Option<usize>
+        ensures { self.new.lists ≡ self.old.lists }
+    {
+        match self.lists.front(due_list(self.is_odd)) {
+            Some(place) => Some(place),
+            None => self.next_asked(),
+        }
+    }
+
+    // The first place that waits at the next site that is asked in this round.
+    fn next_asked(&mut self) -> Option<usize>
+        ensures { self.new.lists ≡ self.old.lists }
+    {
+        for _ in 0..MOST_HOSTS {
+            let site = self.sites.front(asked_list(self.is_odd))?;
+            if let Some(place) = self.first_at(site) {
+                return Some(place);
+            }
+            self.sites.unlink(site);
+        }
+        None
+    }
+
+    // The first place that waits at the site.
+    fn first_at(&self, site: usize) -> Option<usize> {
+        self.lists.front(site_list(site)?)
+    }
+
+    /// The transfer there was polled and goes on; it waited for a connection before, or not.
+    pub(crate) fn note_poll<W: Wire>(&mut self, place: usize, waited: bool, transfer: &Transfer<W>)
+        requires { place < key_limit self.old.lists }
+        ensures { Becomes self.old.lists self.new.lists place (IsListFor transfer.now) }
+    {
+        let site = transfer.site() as usize;
+        let list = self.list_for(place, transfer);
+        self.note_spent(transfer.has_spent());
+        if waited && !transfer.has_spent() && self.lists.list_of(place) == Some(list) {
+            self.moves_site(site, QUIET);
             return;
         }
+        self.moves(place, list);
         if waited {
-            self.ends_wait(site);
-        }
-        if waits {
-            self.begins_wait(place, site);
-        } else if transfer.has_ended() {
-            self.free(place);
-        } else if transfer.waits_on() == Stage::Turn {
-            self.becomes_due(place);
-        } else {
-            self.parks(place);
+            self.ask(site);
+        } else if transfer.has_ticket() && self.sites.list_of(site).is_none() {
+            self.moves_site(site, QUIET);
         }
     }
 
-    // The dial or the wire had nothing for the place. If the dial told of it while it was due, it
-    // is polled once more: the first read after a write asks nobody.
-    fn parks(&mut self, place: usize) {
-        match self.seats.get_mut(place) {
-            Some(seat) if seat.standing != (Standing::Due { is_told: true }) => {
-                seat.standing = Standing::Parked;
+    /// The transfer there has ended. It had a ticket before, or not, and its last poll spent a
+    /// lease, or not.
+    pub(crate) fn note_end(&mut self, place: usize, site: u32, waited: bool, has_spent: bool)
+        requires { place < key_limit self.old.lists }
+        ensures { Moves self.old.lists self.new.lists place (Some free_list) }
+    {
+        self.note_spent(has_spent);
+        self.moves(place, FREE);
+        if waited {
+            self.ask(site as usize);
+        }
+    }
+
+    /// The place is there no more.
+    pub(crate) fn note_gone(&mut self, place: usize)
+        ensures { Moves self.old.lists self.new.lists place None }
+    {
+        self.lists.unlink(place);
+    }
+
+    /// Notes whether a lease or a ticket was spent: then a transfer that waits may have been
+    /// granted a connection, at any site.
+    pub(crate) fn note_spent(&mut self, has_spent: bool)
+        ensures { self.new.lists ≡ self.old.lists }
+    {
+        self.has_spent |= has_spent;
+        self.is_to_ask |= has_spent;
+    }
+
+    // Puts the place behind all others of that list.
+    fn moves(&mut self, place: usize, list: usize)
+        requires place { place < key_limit self.old.lists }
+        requires list { list < most_lists }
+        ensures { Moves self.old.lists self.new.lists place (Some list) }
+    {
+        if let Some(seat) = self.seats.get_mut(place) {
+            seat.is_told = false;
+        }
+        move_to(&mut self.lists, list, place);
+    }
+
+    // The list of a transfer that goes on. If the dial told of it while it was due, it is polled
+    // once more: the first read after a write asks nobody.
+    fn list_for<W: Wire>(&self, place: usize, transfer: &Transfer<W>) -> usize
+        ensures list { IsListFor transfer.now result }
+        ensures in_range { result < most_lists }
+    {
+        if transfer.has_ticket() {
+            if let Some(list) = site_list(transfer.site() as usize) {
+                return list;
             }
-            _ => self.becomes_due(place),
+        }
+        if transfer.is_at_wire() && !self.is_told(place) {
+            return PARKED;
+        }
+        due_list(!self.is_odd)
+    }
+
+    // Whether the dial has told of the place since it became due.
+    fn is_told(&self, place: usize) -> bool {
+        match self.seats.get(place) {
+            Some(seat) => seat.is_told,
+            None => false,
+        }
+    }
+
+    // The site is asked in the next round, if a place waits there.
+    fn ask(&mut self, site: usize)
+        ensures { self.new.lists ≡ self.old.lists }
+    {
+        if self.first_at(site).is_some() {
+            self.moves_site(site, asked_list(!self.is_odd));
+        } else {
+            self.sites.unlink(site);
+        }
+    }
+
+    // Puts the site behind all others of that list.
+    fn moves_site(&mut self, site: usize, list: usize)
+        requires { list < 3 }
+        ensures { self.new.lists ≡ self.old.lists }
+    {
+        if site <= LAST_SITE {
+            move_to(&mut self.sites, list, site);
         }
     }
 
     /// The dial tells of the transfer at that place. One that is parked is polled in the next
     /// round. What is told of a transfer that stood there before, or of one that waits for a
     /// connection, says nothing.
-    pub(crate) fn note_ready(&mut self, told: Place) {
-        match self.seats.get_mut(told.index as usize) {
-            Some(seat) if seat.place == told => match seat.standing {
-                Standing::Idle => {}
-                Standing::Due { .. } => seat.standing = Standing::Due { is_told: true },
-                Standing::Parked => self.becomes_due(told.index as usize),
-            },
-            _ => {}
+    pub(crate) fn note_ready(&mut self, told: Place)
+        ensures wakes { Wakes self.old.lists self.new.lists }
+        ensures limit { key_limit self.new.lists ≡ key_limit self.old.lists }
+    {
+        let place = told.index as usize;
+        match self.seats.get_mut(place) {
+            Some(seat) if seat.place == told => seat.is_told = true,
+            _ => return,
         }
-    }
-
-    /// The dial can't tell: each place that is parked is polled in the next round.
-    pub(crate) fn note_all_ready(&mut self) {
-        for place in 0..self.seats.len() {
-            if self.is_parked(place) {
-                self.becomes_due(place);
-            }
-        }
-    }
-
-    // Whether the transfer at the place is parked.
-    fn is_parked(&self, place: usize) -> bool {
-        match self.seats.get(place) {
-            Some(seat) => seat.standing == Standing::Parked,
-            None => false,
-        }
-    }
-
-    // The place begins to wait at that site, behind all others.
-    fn begins_wait(&mut self, place: usize, site: u32) {
-        self.becomes_idle(place);
-        match self.waiting.get_mut(site as usize) {
-            Some(waiting) => waiting.queue.push_back(&mut self.links, place),
-            None => self.becomes_due(place),
-        }
-    }
-
-    // The place was the first at that site, and waits on.
-    fn waits_on(&mut self, place: usize, site: u32) {
-        self.becomes_idle(place);
-        match self.waiting.get_mut(site as usize) {
-            Some(waiting) => {
-                waiting.is_asked = false;
-                waiting.queue.push_front(&mut self.links, place);
-            }
-            None => self.becomes_due(place),
-        }
-    }
-
-    // The first place at that site waits no more: the one behind it is asked too.
-    fn ends_wait(&mut self, site: u32) {
-        if let Some(waiting) = self.waiting.get_mut(site as usize) {
-            waiting.is_asked = false;
-        }
-        self.poll_first(site as usize);
-    }
-
-    // The first place that waits at that site is polled in the next round.
-    fn poll_first(&mut self, site: usize) {
-        let first = match self.waiting.get_mut(site) {
-            Some(waiting) if !waiting.is_asked => {
-                let first = waiting.queue.pop_front(&self.links);
-                waiting.is_asked = first.is_some();
-                first
-            }
-            _ => None,
-        };
-        if let Some(place) = first {
+        if self.lists.list_of(place) == Some(PARKED) {
             self.becomes_due(place);
         }
     }
 
-    /// A lease was spent: a transfer that waits may have been granted a connection, at any site.
-    pub(crate) fn ask_sites(&mut self) {
+    /// The dial can't tell: each place that is parked is polled in the next round.
+    pub(crate) fn note_all_ready(&mut self)
+        ensures wakes { Wakes self.old.lists self.new.lists }
+        ensures limit { key_limit self.new.lists ≡ key_limit self.old.lists }
+    {
+        for _ in 0..self.seats.len() {
+            let Some(place) = self.lists.front(PARKED) else {
+                return;
+            };
+            self.becomes_due(place);
+        }
+    }
+
+    /// A transfer that waits may have been granted a connection, at any site.
+    pub(crate) fn ask_sites(&mut self)
+        ensures { self.new.lists ≡ self.old.lists }
+    {
         self.is_to_ask = true;
     }
 
-    /// Ends the round: the next one polls those that are due by then, and with them, if a lease was
-    /// spent, the first one that waits at each site.
-    pub(crate) fn end_round(&mut self) {
+    /// Whether a lease or a ticket was spent since the last call.
+    pub(crate) fn take_spent(&mut self) -> bool
+        ensures spent { result ≡ self.old.has_spent }
+        ensures taken { self.new.has_spent ≡ false }
+        ensures same { self.new.lists ≡ self.old.lists }
+    {
+        let has_spent = self.has_spent;
+        self.has_spent = false;
+        has_spent
+    }
+
+    /// Ends the round: the next one polls those that are due by then, and behind them, if a lease
+    /// or a ticket was spent, the first one that waits at each site.
+    pub(crate) fn end_round(&mut self)
+        ensures { self.new.lists ≡ self.old.lists }
+    {
         if self.is_to_ask {
             self.is_to_ask = false;
-            for site in 0..self.waiting.len() {
-                self.poll_first(site);
-            }
+            self.ask_all();
         }
-        self.left = self.due_len;
+        self.is_odd = !self.is_odd;
+    }
+
+    // Each site where a place waits is asked in the next round.
+    fn ask_all(&mut self)
+        ensures { self.new.lists ≡ self.old.lists }
+    {
+        for _ in 0..MOST_HOSTS {
+            let Some(site) = self.sites.front(QUIET) else {
+                return;
+            };
+            self.ask(site);
+        }
     }
 }

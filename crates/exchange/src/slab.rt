@@ -1,7 +1,7 @@
 //! Any number of transfers that go on over one cache, one dial and one clock.
 
-ghost use Rattle.std.specs.Prelude.{◌≡◌, ◌+◌, [], sum_by, IfSome, IfErr, OnSome, OnOk};
-ghost use Rattle.std.specs.Prelude.{IfNone, None, Some, true, ◌==◌, ◌<◌, ◌∷◌, ◌++◌};
+ghost use Rattle.std.specs.Prelude.{◌≡◌, ◌+◌, [], sum_by, IfSome, IfErr, OnSome, OnOk, OnErr};
+ghost use Rattle.std.specs.Prelude.{IfNone, IfOk, None, Some, false, ◌==◌, ◌<◌, ◌≤◌, ◌∷◌, ◌++◌};
 ghost use Rattle.std.specs.Prelude.{vec_len, vec_capacity, slice_get, slice_set};
 ghost use Rattle.futures.specs.Poll.{IfReady, OnPending};
 ghost use Rattle.exchange.specs.Answers.{IsUnused};
@@ -9,11 +9,16 @@ ghost use Rattle.exchange.specs.Dialling.{KeepsDial, TurnsDial};
 ghost use Rattle.exchange.specs.Owning.{IsReady, Owns};
 ghost use Rattle.exchange.specs.Exchanging.{IsFinished, Leaves};
 ghost use Rattle.exchange.specs.Worlds.{world_of, dials_of};
-ghost use Rattle.exchange.specs.Slabs.{AreKept, HasEnded, HasClosed, ClosesOne};
+ghost use Rattle.exchange.specs.Slabs.{AreKept, HasEnded, HasClosed, ClosesOne, ClosesPlace};
 ghost use Rattle.exchange.specs.Slabs.{ClosesAll, GivesUpAll, transfers_in, one_if_some};
+ghost use Rattle.exchange.specs.Slabs.{HasNumberAt, HasNoneAt};
+ghost use Rattle.exchange.specs.Scheduling.{IsScheduled, AreIdle};
+ghost use Rattle.std.specs.Bool.{OnFalse};
+ghost use Rattle.futures.specs.LinkedLists.{key_limit};
 ghost use Rattle.exchange.specs.Rounds.{Joins, IsPolled, TriesPlace, PollsInTurn};
 
 use crate::done::Done;
+use crate::ended::Ended;
 use crate::job::Prepared;
 use crate::ready::{Place, Ready};
 use crate::schedule::Schedule;
@@ -21,7 +26,7 @@ use crate::transfer::{Transfer, put};
 use crate::wire::{Clock, Dial, Turned, Wire};
 use futures::task::{Context, Poll};
 use leasing::Cache;
-use std::alloc::Global;
+use std::alloc::{AllocError, Global};
 use std::time::Duration;
 
 /// Any number of transfers that go on over one cache, one dial and one clock, and are polled in
@@ -37,9 +42,12 @@ pub struct Slab<W: Wire> {
     slots: Vec<Option<Transfer<W>>>,
     len: usize,
     schedule: Schedule,
-    // A place was taken away, so that the schedule may name one that is not there.
-    is_closing: bool,
+    // For so many places all memory is there.
+    room: usize,
     ghost counted: { len ≡ sum_by one_if_some slots.items },
+    ghost scheduled: { IsScheduled slots.items schedule.lists },
+    ghost roomy: { room ≤ vec_capacity slots },
+    ghost listed: { room ≤ key_limit schedule.lists },
 }
 
 // Polls a transfer, whose place the dial is told of before.
@@ -80,15 +88,33 @@ fn tell_place<W: Wire, D: Dial<W>>(dial: &mut D, place: Option<Place>)
 
 impl<W: Wire> Slab<W> {
     /// A slab without transfers.
-    pub fn new(alloc: Global) -> Slab<W>
-        ensures { result.slots.items ≡ [] }
+    ///
+    /// # Errors
+    ///
+    /// There is no memory for the queues of all sites, some 50,000 bytes.
+    pub fn new(alloc: Global) -> Result<Slab<W>, AllocError>
+        ensures { IfOk result (λ made. made.slots.items ≡ []) }
     {
-        Slab {
-            slots: Vec::new(alloc),
+        Slab::with_room(alloc, 0)
+    }
+
+    /// A slab without transfers, with memory for so many: joining takes none while there are fewer.
+    ///
+    /// # Errors
+    ///
+    /// There is no memory for them, or there are more than 2^32.
+    pub fn with_room(alloc: Global, room: usize) -> Result<Slab<W>, AllocError>
+        ensures none { IfOk result (λ made. made.slots.items ≡ []) }
+        ensures room { IfOk result (λ made. made.room ≡ room) }
+    {
+        let schedule = Schedule::with_room(alloc, room)?;
+        let slots = Vec::with_capacity(alloc, room)?;
+        Ok(Slab {
+            slots,
             len: 0,
-            schedule: Schedule::new(alloc),
-            is_closing: false,
-        }
+            schedule,
+            room,
+        })
     }
 
     /// How many transfers there are that have not ended.
@@ -105,8 +131,28 @@ impl<W: Wire> Slab<W> {
         self.len == 0
     }
 
-    /// Begins a transfer of what was prepared, which is polled from the next round on. It is given
-    /// back if memory is short, and once [`Slab::close_last`] has taken a place away.
+    /// How many places there are, counted from 0: at some of them a transfer stands.
+    pub fn places(&self) -> usize
+        ensures { result ≡ vec_len self.now.slots }
+    {
+        self.slots.len()
+    }
+
+    /// The transfer number of the transfer at that place, if one stands there.
+    pub fn transfer_at(&self, place: usize) -> Option<u64>
+        ensures number { IfSome result (HasNumberAt self.now.slots.items place) }
+        ensures none { IfNone result (HasNoneAt self.now.slots.items place) }
+    {
+        match self.slots.get(place) {
+            Some(Some(transfer)) => Some(transfer.number()),
+            Some(None) => None,
+            None => None,
+        }
+    }
+
+    /// Begins a transfer of what was prepared, which is polled from the next round on: the place
+    /// where it stands. It is given back if memory is short, which it is not while there are fewer
+    /// transfers than [`Slab::with_room`] made room for.
     ///
     /// Cache and clock are those of the rounds: contracts alone look at them.
     pub fn join<C: Cache<W>, K: Clock>(
@@ -114,92 +160,89 @@ impl<W: Wire> Slab<W> {
         parts: Prepared,
         _cache: &C,
         _clock: &K,
-    ) -> Result<(), Prepared>
+    ) -> Result<usize, Prepared>
         requires unused { IsUnused parts }
         requires kept { AreKept (world_of W.untouched W.happened (K.tells _clock.now))
             (C.home _cache.now) self.old.slots.items }
         ensures kept { AreKept (world_of W.untouched W.happened (K.tells _clock.now))
             (C.home _cache.now) self.new.slots.items }
-        ensures joins { OnOk result (Joins self.old.slots.items self.new.slots.items parts) }
+        ensures joins { IfOk result (Joins self.old.slots.items self.new.slots.items parts) }
         ensures ok { OnOk result (sum_by one_if_some self.new.slots.items
             ≡ sum_by one_if_some self.old.slots.items + 1) }
         ensures err { IfErr result (λ same. (same ≡ parts)
-            × (self.new.slots.items ≡ self.old.slots.items)) }
+            × (self.new.slots.items ≡ self.old.slots.items)
+            × (self.old.room ≤ sum_by one_if_some self.old.slots.items)) }
+        ensures room { self.new.room ≡ self.old.room }
     {
-        if self.is_closing || self.schedule.add_site(parts.site).is_err() {
+        if let Some(place) = self.schedule.first_free() {
+            self.fill(place, Transfer::new(parts));
+            return Ok(place);
+        }
+        let Ok(place) = self.grow() else {
             return Err(parts);
-        }
-        match self.take_vacant() {
-            Some(place) => {
-                self.fill(place, Transfer::new(parts));
-                self.schedule.joins(place);
-            }
-            None => {
-                let place = self.slots.len();
-                if self.slots.reserve(1).is_err() || self.schedule.add_place(place).is_err() {
-                    return Err(parts);
-                }
-                self.append(Transfer::new(parts));
-                self.schedule.joins(place);
-            }
-        }
-        Ok(())
+        };
+        self.append(place, Transfer::new(parts));
+        Ok(place)
     }
 
-    // A place where no transfer stands, which is free no more.
-    fn take_vacant(&mut self) -> Option<usize>
-        ensures vacant { IfSome result (λ place.
-            slice_get self.new.slots.items place ≡ Some None) }
-        ensures same { self.new.slots ≡ self.old.slots }
+    // Makes room for one place more, behind all others, unless it is there: that place.
+    fn grow(&mut self) -> Result<usize, AllocError>
+        ensures place { IfOk result (λ place. place ≡ vec_len self.new.slots) }
+        ensures room { OnOk result (vec_len self.new.slots < vec_capacity self.new.slots) }
+        ensures list { IfOk result (λ place. place < key_limit self.new.schedule.lists) }
+        ensures items { self.new.slots.items ≡ self.old.slots.items }
+        ensures same { self.new.room ≡ self.old.room }
+        ensures err { OnErr result (self.old.room ≤ vec_len self.old.slots) }
     {
-        let place = self.schedule.take_free()?;
-        if self.is_vacant(place) {
-            Some(place)
-        } else {
-            None
+        let place = self.slots.len();
+        if place < self.room {
+            return Ok(place);
         }
-    }
-
-    // Whether no transfer stands there, and one can.
-    fn is_vacant(&self, place: usize) -> bool
-        ensures { result ≡ true → slice_get self.now.slots.items place ≡ Some None }
-    {
-        matches!(self.slots.get(place), Some(None))
+        self.slots.reserve(1)?;
+        self.schedule.add_place(place)?;
+        Ok(place)
     }
 
     // Puts a transfer there.
     fn fill(&mut self, place: usize, transfer: Transfer<W>)
         requires vacant { slice_get self.old.slots.items place ≡ Some None }
-        ensures { self.new.slots.items
+        ensures items { self.new.slots.items
             ≡ slice_set self.old.slots.items place (Some transfer) }
+        ensures same { self.new.room ≡ self.old.room }
     {
         let Some(slot) = self.slots.get_mut(place) else {
             unreachable!()
         };
         put(slot, transfer);
         self.len += 1;
+        self.schedule.joins(place);
     }
 
     // Puts a transfer behind all others.
-    fn append(&mut self, transfer: Transfer<W>)
+    fn append(&mut self, place: usize, transfer: Transfer<W>)
+        requires place { place ≡ vec_len self.old.slots }
         requires room { vec_len self.old.slots < vec_capacity self.old.slots }
-        ensures { self.new.slots.items ≡ self.old.slots.items ++ (Some transfer ∷ []) }
+        requires seat { place < key_limit self.old.schedule.lists }
+        ensures items { self.new.slots.items ≡ self.old.slots.items ++ (Some transfer ∷ []) }
+        ensures same { self.new.room ≡ self.old.room }
     {
         self.slots.push_reserved(Some(transfer));
         self.len += 1;
+        self.schedule.joins(place);
     }
 
     /// Tells that a lease was spent, a ticket withdrawn, or the host's limit raised, beside the
     /// slab: the next round but one polls the first transfer that waits at each site.
     pub fn ask_sites(&mut self)
-        ensures { self.new.slots ≡ self.old.slots }
+        ensures slots { self.new.slots ≡ self.old.slots }
+        ensures room { self.new.room ≡ self.old.room }
     {
         self.schedule.ask_sites();
     }
 
-    /// Polls those transfers that are due in this round, until one ends: how, and what was
-    /// prepared. `None` once all were polled, which ends the round; what has become due meanwhile
-    /// is polled in the next one.
+    /// Polls those transfers that are due in this round, until one ends: where it stood, how it
+    /// ended, and what was prepared. `None` once all were polled, which ends the round; what has
+    /// become due meanwhile is polled in the next one.
     ///
     /// Asked of the caller: cache, dial and clock are always the same.
     pub fn poll_next<C: Cache<W>, D: Dial<W>, K: Clock>(
@@ -208,14 +251,14 @@ impl<W: Wire> Slab<W> {
         cache: &mut C,
         dial: &mut D,
         clock: &K,
-    ) -> Option<(Done, Prepared)>
+    ) -> Option<Ended>
         requires kept { AreKept (world_of W.untouched W.happened (K.tells clock.now))
             (C.home cache.old) self.old.slots.items }
         ensures stays { C.home cache.new ≡ C.home cache.old }
         ensures kept { AreKept (world_of W.untouched W.happened (K.tells clock.now))
             (C.home cache.new) self.new.slots.items }
-        ensures ended { IfSome result
-            (HasEnded (world_of W.untouched W.happened (K.tells clock.now))) }
+        ensures ended { IfSome result (λ it. HasEnded
+            (world_of W.untouched W.happened (K.tells clock.now)) (it.done, it.parts)) }
         ensures fewer { OnSome result (sum_by one_if_some self.new.slots.items + 1
             ≡ sum_by one_if_some self.old.slots.items) }
         ensures same { IfNone result (sum_by one_if_some self.new.slots.items
@@ -224,11 +267,9 @@ impl<W: Wire> Slab<W> {
             (dials_of D.begun D.opened D.failures) cache.old cache.new dial.old dial.new
             self.old.slots.items self.new.slots.items result }
         ensures turns { D.turn_failures dial.new ≡ D.turn_failures dial.old }
+        ensures room { self.new.room ≡ self.old.room }
     {
-        if self.is_closing {
-            return None;
-        }
-        for _ in 0..self.schedule.left() {
+        for _ in 0..self.schedule.most_polls() {
             let Some(place) = self.schedule.next_due() else {
                 break;
             };
@@ -240,7 +281,7 @@ impl<W: Wire> Slab<W> {
         None
     }
 
-    // Polls the transfer there, if there is one; how it ended, where it has.
+    // Polls the transfer there, if there is one; how it ended, if it has.
     fn poll_at<C: Cache<W>, D: Dial<W>, K: Clock>(
         &mut self,
         place: usize,
@@ -248,14 +289,14 @@ impl<W: Wire> Slab<W> {
         cache: &mut C,
         dial: &mut D,
         clock: &K,
-    ) -> Option<(Done, Prepared)>
+    ) -> Option<Ended>
         requires kept { AreKept (world_of W.untouched W.happened (K.tells clock.now))
             (C.home cache.old) self.old.slots.items }
         ensures stays { C.home cache.new ≡ C.home cache.old }
         ensures kept { AreKept (world_of W.untouched W.happened (K.tells clock.now))
             (C.home cache.new) self.new.slots.items }
-        ensures ended { IfSome result
-            (HasEnded (world_of W.untouched W.happened (K.tells clock.now))) }
+        ensures ended { IfSome result (λ it. HasEnded
+            (world_of W.untouched W.happened (K.tells clock.now)) (it.done, it.parts)) }
         ensures fewer { OnSome result (sum_by one_if_some self.new.slots.items + 1
             ≡ sum_by one_if_some self.old.slots.items) }
         ensures same { IfNone result (sum_by one_if_some self.new.slots.items
@@ -264,29 +305,35 @@ impl<W: Wire> Slab<W> {
             (dials_of D.begun D.opened D.failures) cache.old cache.new dial.old dial.new
             self.old.slots.items self.new.slots.items place result }
         ensures turns { D.turn_failures dial.new ≡ D.turn_failures dial.old }
+        ensures room { self.new.room ≡ self.old.room }
     {
         let slot = self.slots.get_mut(place)?;
         let transfer = slot.as_mut()?;
         let waited = transfer.has_ticket();
         let told = self.schedule.place(place);
         let polled = poll_told(transfer, told, cx, cache, dial, clock);
-        self.schedule.note_poll(place, waited, transfer);
         if polled.is_pending() {
+            self.schedule.note_poll(place, waited, transfer);
             return None;
         }
+        self.schedule
+            .note_end(place, transfer.site(), waited, transfer.has_spent());
         self.len -= 1;
         let Some(transfer) = slot.take() else {
             unreachable!()
         };
-        Some(transfer.finish())
+        let (done, parts) = transfer.finish();
+        Some(Ended { place, done, parts })
     }
 
     /// Whether a transfer is due: one that has joined, that took all steps of its last poll, that
     /// the dial has told of, or that may have been granted a connection. If none is, a round polls
     /// nothing until a transfer joins, a turn of the dial was taken by [`Slab::turn`], or
     /// [`Slab::ask_sites`] was called.
-    pub fn has_due(&self) -> bool {
-        !self.is_closing && self.schedule.has_due()
+    pub fn has_due(&self) -> bool
+        ensures { OnFalse result (AreIdle self.now.slots.items) }
+    {
+        self.schedule.has_due()
     }
 
     /// Takes a turn of the dial's event loop. It waits until the dial has something for a transfer,
@@ -294,6 +341,7 @@ impl<W: Wire> Slab<W> {
     /// that the dial tells of are due then.
     pub fn turn<D: Dial<W>>(&mut self, dial: &mut D, most: Duration) -> Turned
         ensures slots { self.new.slots ≡ self.old.slots }
+        ensures room { self.new.room ≡ self.old.room }
         ensures turns { TurnsDial D.failures D.opened D.turn_failures D.source_name D.begun
             D.turned result dial.old dial.new }
     {
@@ -306,6 +354,7 @@ impl<W: Wire> Slab<W> {
     // Notes what the dial tells after a turn.
     fn note_ready<D: Dial<W>>(&mut self, dial: &mut D)
         ensures slots { self.new.slots ≡ self.old.slots }
+        ensures room { self.new.room ≡ self.old.room }
         ensures tells { KeepsDial D.failures D.opened D.turn_failures D.source_name D.begun
             dial.old dial.new }
     {
@@ -321,10 +370,64 @@ impl<W: Wire> Slab<W> {
         }
     }
 
+    /// Closes the transfer at that place, as [`Transfer::close`] does, at the time that the clock
+    /// tells: how it ended, or that it was cancelled, and what was prepared. The place is free
+    /// then. `None` if no transfer stands there, and then nothing is done.
+    pub fn close_at<C: Cache<W>, D: Dial<W>, K: Clock>(
+        &mut self,
+        place: usize,
+        cache: &mut C,
+        dial: &mut D,
+        clock: &K,
+    ) -> Option<(Done, Prepared)>
+        requires kept { AreKept (world_of W.untouched W.happened (K.tells clock.now))
+            (C.home cache.old) self.old.slots.items }
+        ensures stays { C.home cache.new ≡ C.home cache.old }
+        ensures kept { AreKept (world_of W.untouched W.happened (K.tells clock.now))
+            (C.home cache.new) self.new.slots.items }
+        ensures closed { IfSome result
+            (HasClosed (world_of W.untouched W.happened (K.tells clock.now))) }
+        ensures closes { IfSome result (ClosesPlace C.did
+            (world_of W.untouched W.happened (K.tells clock.now)) (C.home cache.old)
+            cache.old cache.new D.begun dial.old dial.new self.old.slots.items
+            self.new.slots.items place) }
+        ensures fewer { OnSome result (sum_by one_if_some self.new.slots.items + 1
+            ≡ sum_by one_if_some self.old.slots.items) }
+        ensures none { IfNone result (HasNoneAt self.old.slots.items place) }
+        ensures same { IfNone result (self.new.slots.items ≡ self.old.slots.items) }
+        ensures same_cache { IfNone result (cache.new ≡ cache.old) }
+        ensures same_dial { IfNone result (dial.new ≡ dial.old) }
+        ensures counted { D.failures dial.new ≡ D.failures dial.old }
+        ensures opens { D.opened dial.new ≡ D.opened dial.old }
+        ensures turns { D.turn_failures dial.new ≡ D.turn_failures dial.old }
+        ensures room { self.new.room ≡ self.old.room }
+    {
+        let slot = self.slots.get_mut(place)?;
+        let transfer = slot.take()?;
+        self.len -= 1;
+        self.schedule.note_end(
+            place,
+            transfer.site(),
+            transfer.has_ticket(),
+            transfer.has_any(),
+        );
+        Some(transfer.close(clock.now(), cache, dial))
+    }
+
+    /// Whether a lease or a ticket was spent since the last call, by a poll or a close: then a
+    /// transfer of another slab over the same cache may have been granted a connection.
+    pub fn take_spent(&mut self) -> bool
+        ensures spent { result ≡ self.old.schedule.has_spent }
+        ensures taken { self.new.schedule.has_spent ≡ false }
+        ensures slots { self.new.slots ≡ self.old.slots }
+        ensures room { self.new.room ≡ self.old.room }
+    {
+        self.schedule.take_spent()
+    }
+
     /// Closes one of the transfers that are left, as [`Transfer::close`] does, at the time that the
     /// clock tells: how it ended, or that it was cancelled, and what was prepared. `None` where
-    /// none is left. Once a call has taken a place away, whether or not a transfer stood there, no
-    /// round polls any more, and none can join.
+    /// none is left.
     pub fn close_last<C: Cache<W>, D: Dial<W>, K: Clock>(
         &mut self,
         cache: &mut C,
@@ -351,10 +454,12 @@ impl<W: Wire> Slab<W> {
         ensures counted { D.failures dial.new ≡ D.failures dial.old }
         ensures opens { D.opened dial.new ≡ D.opened dial.old }
         ensures turns { D.turn_failures dial.new ≡ D.turn_failures dial.old }
+        ensures room { self.new.room ≡ self.old.room }
     {
         while let Some(slot) = self.slots.pop() {
-            self.is_closing = true;
+            self.schedule.note_gone(self.slots.len());
             if let Some(transfer) = slot {
+                self.schedule.note_spent(transfer.has_any());
                 self.len -= 1;
                 return Some(transfer.close(clock.now(), cache, dial));
             }
@@ -389,7 +494,7 @@ impl<W: Wire> Slab<W> {
             slots,
             len: _,
             schedule: _,
-            is_closing: _,
+            room: _,
         } = self;
         slots.destroy_empty();
     }

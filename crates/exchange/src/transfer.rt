@@ -15,6 +15,8 @@ ghost use Rattle.exchange.specs.Exchanging.{Continues, IsFinished, Leaves, StepE
 ghost use Rattle.exchange.specs.Exchanging.{Cancels, Closes, StaysEnded, GivesUpDial, LeavesDial};
 ghost use Rattle.exchange.specs.Exchanging.{DialFailed, DialFailsSince, OpensFew, DialsItsOwn};
 ghost use Rattle.exchange.specs.Balance.{HasAll, SpendsAll};
+ghost use Rattle.exchange.specs.Scheduling.{HasTicket, HasLease, IsAtWire};
+ghost use Rattle.std.specs.Bool.{OnTrue};
 ghost use Rattle.exchange.specs.declared.state.State.TheVariants as at;
 
 use crate::connecting::{ask, claim, dial_up};
@@ -262,17 +264,45 @@ impl<W: Wire> Transfer<W> {
     }
 
     /// Whether it waits for a connection, with a ticket.
-    pub(crate) fn has_ticket(&self) -> bool {
+    pub(crate) fn has_ticket(&self) -> bool
+        ensures { OnTrue result (HasTicket self.now) }
+    {
         matches!(self.state, Some(State::Waiting(_)))
     }
 
-    /// Whether it has ended.
-    pub(crate) fn has_ended(&self) -> bool {
-        matches!(self.state, Some(State::Finished(_)))
+    /// Whether it has a lease.
+    pub(crate) fn has_lease(&self) -> bool
+        ensures { OnTrue result (HasLease self.now) }
+    {
+        match &self.state {
+            Some(state) => state.has_lease(),
+            None => false,
+        }
+    }
+
+    /// Whether it has a lease or a ticket, so that a close spends it.
+    pub(crate) fn has_any(&self) -> bool {
+        self.has_lease() || self.has_ticket()
+    }
+
+    /// Whether it waits for its dial or its wire since its last poll, which was pending.
+    pub(crate) fn is_at_wire(&self) -> bool
+        ensures { OnTrue result (IsAtWire self.now) }
+    {
+        !self.has_yielded && self.has_lease()
+    }
+
+    /// Its transfer number.
+    pub(crate) fn number(&self) -> u64
+        ensures { result ≡ self.now.parts.want.transfer }
+    {
+        self.parts.transfer()
     }
 
     /// The index of its host.
-    pub(crate) fn site(&self) -> u32 {
+    pub(crate) fn site(&self) -> u32
+        ensures { result ≡ self.now.parts.site }
+    {
         self.parts.site
     }
 

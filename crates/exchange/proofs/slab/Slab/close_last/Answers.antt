@@ -1,5 +1,8 @@
 -- What was kept of a transfer tells how it ended.
-use Rattle.std.proofs.Common.{rules, IfSome, Some, sym, ◌∙◌}
+use Rattle.std.proofs.Common.{rules, arith, ◌≡◌, IfSome, Some, None, ap, sym, subst, ◌∙◌, ℕ, ◌≤◌, [], ◌∷◌, ◌++◌, length, sum_by}
+use Rattle.std.proofs.lemmas.List.Sums.{sum_by_push}
+use Rattle.exchange.specs.Slabs.{one_if_some}
+use Rattle.exchange.proofs.Scheduling.{law_of_pop}
 use Rattle.std.proofs.lemmas.List.Elements.{All-pop}
 use Rattle.exchange.specs.Worlds.{world_of}
 use Rattle.exchange.specs.Slabs.{IsKept}
@@ -45,4 +48,35 @@ loop-slot-preserved g c =
       left = left ∙ c.loop-slot.invariant.left;
       cache = search rules;
       dial = search rules;
+      room = search rules;
+    }
+
+pub invariant_of-self : goal.invariant_of-self
+invariant_of-self g c =
+    let slots = c.loop-slot.self.slots.items in
+    let left = c.pop.new.self.items in
+    let pops : slots ≡ left ++ (Some c.in-Some-slot.transfer ∷ []) = rw (c.in-Some.is, c.in-Some-slot.is) at c.pop.ensures.items in
+    let place : c.len.result ≡ length left = c.len.ensures ∙ c.pop.new.self.ok.0 in
+    let sums = ap (sum_by one_if_some) pops ∙ sum_by_push one_if_some left (Some c.in-Some-slot.transfer) in
+    let counted = c.loop-slot.self.counted in
+    record {
+      counted = omega (arith, sums, counted);
+      scheduled = rw c.note_spent.ensures (law_of_pop slots left c.loop-slot.self.schedule.lists c.note_gone.new.self.lists c.len.result (Some c.in-Some-slot.transfer) c.loop-slot.self.scheduled pops place c.note_gone.ensures);
+      roomy = subst (λ (n : ℕ). c.loop-slot.self.room ≤ n) (sym c.pop.ensures.capacity) c.loop-slot.self.roomy;
+      listed = rw c.note_spent.ensures (subst (λ (n : ℕ). c.loop-slot.self.room ≤ n) (sym c.note_gone.ensures.limit) c.loop-slot.self.listed);
+    }
+
+pub invariant_of-self-in_default-slot : goal.invariant_of-self-in_default-slot
+invariant_of-self-in_default-slot g c =
+    let slots = c.loop-slot.self.slots.items in
+    let left = c.pop.new.self.items in
+    let pops : slots ≡ left ++ (None ∷ []) = rw (c.in-Some.is, c.in_default-slot.is) at c.pop.ensures.items in
+    let place : c.len.result ≡ length left = c.len.ensures ∙ c.pop.new.self.ok.0 in
+    let sums = ap (sum_by one_if_some) pops ∙ sum_by_push one_if_some left None in
+    let counted = c.loop-slot.self.counted in
+    record {
+      counted = omega (arith, sums, counted);
+      scheduled = law_of_pop slots left c.loop-slot.self.schedule.lists c.note_gone.new.self.lists c.len.result None c.loop-slot.self.scheduled pops place c.note_gone.ensures;
+      roomy = subst (λ (n : ℕ). c.loop-slot.self.room ≤ n) (sym c.pop.ensures.capacity) c.loop-slot.self.roomy;
+      listed = subst (λ (n : ℕ). c.loop-slot.self.room ≤ n) (sym c.note_gone.ensures.limit) c.loop-slot.self.listed;
     }

@@ -14,4 +14,5 @@ invariant-loop-slot g l = record {
   left : transfers_in l.self.slots.items ≡ transfers_in l.fn.self.slots.items;
   cache : l.cache ≡ l.fn.cache;
   dial : l.dial ≡ l.fn.dial;
+  room : l.self.room ≡ l.fn.self.room;
 }

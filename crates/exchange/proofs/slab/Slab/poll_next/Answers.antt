@@ -4,12 +4,6 @@ use Rattle.exchange.specs.Worlds.{world_of, dials_of}
 use Rattle.exchange.proofs.Rounds.{polls_none, polls_more, polls_last}
 use Rattle.exchange.proofs.slab.Slab.poll_next.Goals as goal
 
-pub returns-then-self-clause-polls : goal.returns-then-self-clause-polls
-returns-then-self-clause-polls g c =
-    let world = world_of g.W.Wire.untouched g.W.Wire.happened (g.K.Clock.tells c.args.clock.now) in
-    let dials = dials_of g.D.Dial.begun g.D.Dial.opened g.D.Dial.failures in
-    polls_none g.C.Cache.did world dials c.args.cache.now c.args.dial.now c.args.self.now.slots.items
-
 pub loop-init : goal.loop-init
 loop-init g c =
     let world = world_of g.W.Wire.untouched g.W.Wire.happened (g.K.Clock.tells c.args.clock.now) in
@@ -20,6 +14,7 @@ loop-init g c =
       same = search rules;
       polls = polls_none g.C.Cache.did world dials c.args.cache.now c.args.dial.now c.args.self.now.slots.items;
       turns = search rules;
+      room = search rules;
     }
 
 pub loop-preserved : goal.loop-preserved
@@ -34,6 +29,7 @@ loop-preserved g c =
       polls = polls_more g.C.Cache.did world dials c.args.cache.now c.loop.cache c.poll_at.new.cache c.args.dial.now c.loop.dial c.poll_at.new.dial
           c.args.self.now.slots.items c.loop.self.slots.items c.poll_at.new.self.slots.items c.in-Some.place c.loop.invariant.polls tried;
       turns = search rules;
+      room = search rules;
     }
 
 pub returns-in-Some-poll_at-clause-polls : goal.returns-in-Some-poll_at-clause-polls

@@ -11,4 +11,5 @@ invariant-loop g l = record {
   same : sum_by one_if_some l.self.slots.items ≡ sum_by one_if_some l.fn.self.slots.items;
   polls : PollsInTurn g.C.Cache.did (world_of g.W.Wire.untouched g.W.Wire.happened (g.K.Clock.tells l.fn.clock)) (dials_of g.D.Dial.begun g.D.Dial.opened g.D.Dial.failures) l.fn.cache l.cache l.fn.dial l.dial l.fn.self.slots.items l.self.slots.items None;
   turns : g.D.Dial.turn_failures l.dial ≡ g.D.Dial.turn_failures l.fn.dial;
+  room : l.self.room ≡ l.fn.self.room;
 }

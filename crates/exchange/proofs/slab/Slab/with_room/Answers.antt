@@ -1,0 +1,14 @@
+-- No place is there yet.
+use Rattle.std.proofs.Common.{refl}
+use Rattle.exchange.proofs.Scheduling.{law_of_none}
+use Rattle.exchange.proofs.slab.Slab.with_room.Goals as goal
+
+pub invariant_of-result : goal.invariant_of-result
+invariant_of-result g c =
+    let empty = c.in_ok-slots.ensures.items in
+    record {
+      counted = rw empty refl;
+      scheduled = rw empty (law_of_none c.in_ok-schedule.schedule.lists c.in_ok-schedule.ensures.none);
+      roomy = c.in_ok-slots.ensures.capacity;
+      listed = c.in_ok-schedule.ensures.room;
+    }
