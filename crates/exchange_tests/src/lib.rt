@@ -4,6 +4,8 @@
 #[cfg(test)]
 mod cancels;
 #[cfg(test)]
+mod closes;
+#[cfg(test)]
 mod dials;
 #[cfg(test)]
 mod drawn;

@@ -4,8 +4,8 @@ ghost use Rattle.std.specs.Prelude.{◌<◌, length};
 ghost use Rattle.std.specs.List.{All};
 
 use crate::driving::{OK, dial_of, job_at, pool_of, want_of, wire_of};
-use exchange::{Clock, Done, Job, Prepared};
-use exchange_memory::{Halt, MemoryDial};
+use exchange::{Clock, Done, Job, Prepared, Ready};
+use exchange_memory::{Halt, MemoryDial, MemoryWire};
 use futures::task::{Doorbell, Solo};
 use persistence::Method;
 use run_loop::{Draw, Jobs, Results, RunEnd, RunLoop, Timer};
@@ -55,6 +55,10 @@ impl Jobs for Listed {
     ghost drawn = { λ listed. listed.drawn.items };
 
     ghost is_over = { λ listed. ⊤ };
+
+    ghost holds_none = { λ listed. ⊤ };
+
+    ghost kept = { λ listed. tt };
 
     fn draw(&mut self, _now: u64) -> Draw {
         let number = self.drawn.len();
@@ -113,10 +117,11 @@ impl Results for Report {
     }
 }
 
-/// It ends a run after so many looks, and stands still else.
+/// It ends a run after so many looks, or breaks it off, and stands still else.
 #[derive(Drop)]
 struct Looks {
     left: AtomicU64,
+    is_fault: bool,
 }
 
 impl Clock for Looks {
@@ -138,16 +143,63 @@ impl Timer for Looks {
         0
     }
 
+    fn stops(&self, _number: u64, _began: u64) -> bool {
+        false
+    }
+
     fn is_over(&self) -> bool {
-        self.left.fetch_sub(1, Ordering::SeqCst) == 0
+        self.left.fetch_sub(1, Ordering::SeqCst) == 0 && !self.is_fault
+    }
+
+    fn is_broken_off(&self) -> bool {
+        self.left.load(Ordering::SeqCst) > MANY && self.is_fault
+    }
+}
+
+/// It stops the job of one number so long after it began. Each look takes five milliseconds.
+#[derive(Drop)]
+struct Limited {
+    micros: AtomicU64,
+    number: u64,
+    limit: u64,
+}
+
+impl Clock for Limited {
+    ghost use Rattle.std.specs.Prelude.{⊤};
+
+    ghost tells = { λ limited moment. ⊤ };
+
+    fn now(&self) -> u64 {
+        7
+    }
+}
+
+impl Timer for Limited {
+    ghost use Rattle.std.specs.Prelude.{◌≡◌};
+
+    ghost may_stop = { λ limited job. job ≡ limited.number };
+
+    fn micros(&self) -> u64 {
+        self.micros.fetch_add(5_000, Ordering::SeqCst)
+    }
+
+    fn stops(&self, number: u64, began: u64) -> bool {
+        if number != self.number {
+            return false;
+        }
+        self.micros().saturating_sub(began) >= self.limit
+    }
+
+    fn is_over(&self) -> bool {
+        false
     }
 }
 
 /// More looks than any run here takes.
 const MANY: u64 = 1_000;
 
-// A dial whose one connection answers so many requests, and has nothing yet at its first read.
-fn dial_for<R: Abort + AllocGlobal>(rt: &R, requests: u32) -> MemoryDial {
+// A connection that answers so many requests, and has nothing yet at its first read.
+fn wire_for<R: Abort + AllocGlobal>(rt: &R, requests: u32) -> MemoryWire {
     let mut responses = Vec::new(rt.alloc());
     for _ in 0..requests {
         responses.extend_from_slice(OK).expect(rt, "memory");
@@ -155,14 +207,44 @@ fn dial_for<R: Abort + AllocGlobal>(rt: &R, requests: u32) -> MemoryDial {
     let mut wire = wire_of(rt, &responses);
     wire.set_most_read(OK.len());
     wire.halt_read(1, Halt::NotYet);
-    dial_of(rt, wire)
+    wire
 }
 
-// Carries out so many jobs at two places, over a host that may have one connection.
+// A dial of one connection that answers so many requests.
+fn dial_for<R: Abort + AllocGlobal>(rt: &R, requests: u32) -> MemoryDial {
+    dial_of(rt, wire_for(rt, requests))
+}
+
+// A dial of two such connections, whose turns find nothing for a while.
+fn slow_dial<R: Abort + AllocGlobal>(rt: &R) -> MemoryDial {
+    let mut dial = dial_for(rt, 4);
+    dial.add(wire_for(rt, 4)).expect(rt, "memory");
+    let script = [Ready::Nothing; 40];
+    dial.tell(&script).expect(rt, "memory");
+    dial
+}
+
+// Carries out so many jobs at two places, over a host that may have one connection; the timer ends
+// the run after so many looks.
 fn run_of<R: Abort + AllocGlobal + RandomSource + Wait>(
     rt: &R,
     count: u64,
     looks: u64,
+    is_fault: bool,
+    dial: &mut MemoryDial,
+) -> (RunEnd, Report) {
+    let timer = Looks {
+        left: AtomicU64::new(looks),
+        is_fault,
+    };
+    run_by(rt, count, &timer, dial)
+}
+
+// The same by a timer.
+fn run_by<R: Abort + AllocGlobal + RandomSource + Wait, T: Timer>(
+    rt: &R,
+    count: u64,
+    timer: &T,
     dial: &mut MemoryDial,
 ) -> (RunEnd, Report) {
     let task = Solo::new(rt, Doorbell::spinning()).expect(rt, "a task");
@@ -172,18 +254,15 @@ fn run_of<R: Abort + AllocGlobal + RandomSource + Wait>(
         text: String::new(rt.alloc()),
         lines: 0,
     };
-    let timer = Looks {
-        left: AtomicU64::new(looks),
-    };
     let places = RunLoop::new(rt.alloc(), 2, task).expect(rt, "memory");
-    let end = places.run(rt, &mut pool, dial, &mut jobs, &mut report, &timer);
+    let end = places.run(rt, &mut pool, dial, &mut jobs, &mut report, timer);
     (end, report)
 }
 
 #[test]
 fn two_places_share_one_connection(rt: HostRuntime) {
     let mut dial = dial_for(&rt, 4);
-    let (end, report) = run_of(&rt, 4, MANY, &mut dial);
+    let (end, report) = run_of(&rt, 4, MANY, false, &mut dial);
     assert_eq!(rt; end, RunEnd::Complete);
     assert_eq!(rt;
         report.text.as_str(),
@@ -197,16 +276,94 @@ fn two_places_share_one_connection(rt: HostRuntime) {
 #[test]
 fn a_run_that_is_stopped_cancels_what_is_under_way(rt: HostRuntime) {
     let mut dial = dial_for(&rt, 4);
-    let (end, report) = run_of(&rt, 4, 1, &mut dial);
+    let (end, report) = run_of(&rt, 4, 1, false, &mut dial);
     assert_eq!(rt; end, RunEnd::Stopped);
     assert_eq!(rt; report.text.as_str(), "1: Cancelled\n0: Cancelled\n");
+}
+
+#[test]
+fn a_run_that_is_broken_off_cancels_what_is_under_way(rt: HostRuntime) {
+    let mut dial = dial_for(&rt, 4);
+    let (end, report) = run_of(&rt, 4, 1, true, &mut dial);
+    assert_eq!(rt; end, RunEnd::BrokenOff);
+    assert_eq!(rt; report.text.as_str(), "1: Cancelled\n0: Cancelled\n");
+}
+
+// Two ends, and the worse of them.
+static WORSE: [(RunEnd, RunEnd, RunEnd); 7] = [
+    (RunEnd::Complete, RunEnd::Complete, RunEnd::Complete),
+    (RunEnd::Complete, RunEnd::Stopped, RunEnd::Stopped),
+    (RunEnd::Complete, RunEnd::TurnFailed, RunEnd::TurnFailed),
+    (RunEnd::Stopped, RunEnd::BrokenOff, RunEnd::BrokenOff),
+    (RunEnd::Stopped, RunEnd::TurnFailed, RunEnd::TurnFailed),
+    (RunEnd::BrokenOff, RunEnd::BrokenOff, RunEnd::BrokenOff),
+    (RunEnd::BrokenOff, RunEnd::TurnFailed, RunEnd::TurnFailed),
+];
+
+#[test]
+fn the_worse_of_two_ends(rt: HostRuntime) {
+    for (one, other, worse) in &WORSE {
+        assert_eq!(rt; one.or_worse(*other), *worse);
+        assert_eq!(rt; other.or_worse(*one), *worse);
+    }
 }
 
 #[test]
 fn a_turn_that_fails_ends_a_run(rt: HostRuntime) {
     let mut dial = dial_for(&rt, 4);
     dial.fail_turn(1);
-    let (end, report) = run_of(&rt, 4, MANY, &mut dial);
+    let (end, report) = run_of(&rt, 4, MANY, false, &mut dial);
     assert_eq!(rt; end, RunEnd::TurnFailed);
     assert_eq!(rt; report.text.as_str(), "1: Cancelled\n0: Cancelled\n");
+}
+
+/// The job that is over its limit, and the report of four jobs.
+static LIMITS: [(u64, &str); 4] = [
+    // the one that has the connection: the next one opens another
+    (
+        0,
+        "0: Cancelled\n\
+         1: 200, 2 bytes, new\n\
+         2: 200, 2 bytes, reused\n\
+         3: 200, 2 bytes, reused\n",
+    ),
+    // the one that waits for it
+    (
+        1,
+        "1: Cancelled\n\
+         0: 200, 2 bytes, new\n\
+         2: 200, 2 bytes, reused\n\
+         3: 200, 2 bytes, reused\n",
+    ),
+    // one that has not begun by then
+    (
+        2,
+        "0: 200, 2 bytes, new\n\
+         1: 200, 2 bytes, reused\n\
+         2: 200, 2 bytes, reused\n\
+         3: 200, 2 bytes, reused\n",
+    ),
+    // none
+    (
+        9,
+        "0: 200, 2 bytes, new\n\
+         1: 200, 2 bytes, reused\n\
+         2: 200, 2 bytes, reused\n\
+         3: 200, 2 bytes, reused\n",
+    ),
+];
+
+#[test]
+fn a_job_over_its_limit_is_cancelled(rt: HostRuntime) {
+    for &(number, lines) in &LIMITS {
+        let mut dial = slow_dial(&rt);
+        let timer = Limited {
+            micros: AtomicU64::new(0),
+            number,
+            limit: 100_000,
+        };
+        let (end, report) = run_by(&rt, 4, &timer, &mut dial);
+        assert_eq!(rt; end, RunEnd::Complete);
+        assert_eq!(rt; report.text.as_str(), lines);
+    }
 }

@@ -2,7 +2,11 @@
 //! from one on.
 
 ghost use Rattle.std.specs.Prelude.{IfSome, ◌≡◌};
+ghost use Rattle.cache.specs.Deeds.{home_of};
 ghost use Rattle.exchange.specs.Answers.{IsUnused};
+ghost use Rattle.exchange.specs.Slabs.{AreKept};
+ghost use Rattle.exchange.specs.Worlds.{world_of as known_of};
+ghost use Rattle.exchange_memory.specs.Memory.{IsUntouched, HappenedTo};
 
 use crate::driving::KEEP;
 use budget::{Limits, Refusal};
@@ -10,7 +14,7 @@ use bundle::Acquired;
 use cache::Pool;
 use conn_key::{CountedMemory, read_target};
 use conn_log::Want;
-use exchange::{Answer, Done, Exchange, Fault, Job, Prepared};
+use exchange::{Answer, Done, Exchange, Fault, Job, Prepared, Slab};
 use exchange_memory::{FakeCache, FixedClock, Halt, MemoryDial, MemoryWire};
 use futures::task::{Doorbell, Solo};
 use leasing::Cache;
@@ -195,4 +199,56 @@ fn want_of_memory_gives_back_what_was_prepared(rt: HostRuntime) -> Result<(), Fa
     assert!(rt; parts.text().starts_with("GET /a/path/that/is/so/long/"));
     assert!(rt; parts.text().len() > LONG.len());
     Ok(())
+}
+
+// Whether a transfer joins. If it does not, what was prepared comes back, and no other one is lost.
+fn joins<R: Abort>(
+    rt: &R,
+    slab: &mut Slab<MemoryWire>,
+    pool: &Pool<MemoryWire>,
+    parts: Prepared,
+) -> bool
+    requires unused { IsUnused parts }
+    requires kept { AreKept (known_of (λ wire site transfer. IsUntouched wire) HappenedTo
+        (λ moment. moment ≡ 7)) (home_of pool.now) slab.old.slots.items }
+    ensures kept { AreKept (known_of (λ wire site transfer. IsUntouched wire) HappenedTo
+        (λ moment. moment ≡ 7)) (home_of pool.now) slab.new.slots.items }
+{
+    let count = slab.len();
+    match slab.join(parts, pool, &FixedClock { now: 7 }) {
+        Ok(place) => {
+            assert_eq!(rt; place, count);
+            true
+        }
+        Err(parts) => {
+            assert_eq!(rt; (parts.transfer(), slab.len()), (WANT.transfer, count));
+            false
+        }
+    }
+}
+
+/// A slab with room for two takes two, whichever allocation fails, and a third one if there is
+/// memory for it.
+#[test]
+fn want_of_memory_leaves_the_room_of_a_slab(rt: HostRuntime) {
+    let Some(mut pool) = pool_at(rt.alloc()) else {
+        return;
+    };
+    let Some(first) = prepared_for(rt.alloc(), "http://example.com/") else {
+        return;
+    };
+    let Some(second) = prepared_for(rt.alloc(), "http://example.com/") else {
+        return;
+    };
+    let Some(third) = prepared_for(rt.alloc(), "http://example.com/") else {
+        return;
+    };
+    let Ok(mut slab) = Slab::with_room(rt.alloc(), 2) else {
+        return;
+    };
+    let mut dial = MemoryDial::new(rt.alloc());
+    assert!(rt; joins(&rt, &mut slab, &pool, first));
+    assert!(rt; joins(&rt, &mut slab, &pool, second));
+    let _ = joins(&rt, &mut slab, &pool, third);
+    slab.close(&mut pool, &mut dial, &FixedClock { now: 7 });
 }

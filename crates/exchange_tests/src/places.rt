@@ -261,7 +261,7 @@ fn transcript_of<R: Abort + AllocGlobal + RandomSource>(rt: &R, row: &Row) -> St
     let task = Solo::new(rt, Doorbell::spinning()).expect(rt, "a task");
     let mut dial = telling_dial(rt, row.turns);
     let mut pool = pool_of(rt, row.most);
-    let mut slab = Slab::new(rt.alloc());
+    let mut slab = Slab::new(rt.alloc()).expect(rt, "memory");
     let mut text = String::new(rt.alloc());
     join_all(rt, &mut slab, &pool);
     if row.turns_first {

@@ -118,8 +118,8 @@ fn take_turn<R: Abort>(
             break;
         }
         let ended = slab.poll_next(&mut context, pool, dial, &clock);
-        if let Some((done, parts)) = ended {
-            ends.count(rt, done, parts.transfer());
+        if let Some(ended) = ended {
+            ends.count(rt, ended.done, ended.parts.transfer());
         }
     }
     let turn: Poll<()> = context.yield_now();
@@ -134,7 +134,7 @@ fn a_thousand_go_on_at_once(rt: HostRuntime) {
     let mut dial = DrawnDial::new(rt.alloc(), 42);
     let limits = Limits::new(6, 20, 4).expect(&rt, "limits");
     let mut pool = Pool::new(rt.alloc(), limits, HOSTS).expect(&rt, "memory");
-    let mut slab = Slab::new(rt.alloc());
+    let mut slab = Slab::new(rt.alloc()).expect(&rt, "memory");
     for transfer in 0..TRANSFERS {
         let joined = slab.join(prepared(&rt, transfer), &pool, &clock);
         assert!(rt; joined.is_ok());

@@ -142,8 +142,8 @@ fn poll_due<W: Wire, D: Dial<W>, K: Clock>(
         if !slab.has_due() {
             break;
         }
-        if let Some((ended, _)) = slab.poll_next(&mut cx, pool, dial, clock) {
-            done = Some(ended);
+        if let Some(ended) = slab.poll_next(&mut cx, pool, dial, clock) {
+            done = Some(ended.done);
         }
     }
     let turn: Poll<()> = cx.yield_now();
@@ -205,7 +205,9 @@ fn ends<W: Wire, D: Dial<W>, K: Clock>(
 ) -> (Option<Done>, u32)
     requires { IsUnused parts }
 {
-    let mut slab = Slab::new(alloc);
+    let Ok(mut slab) = Slab::new(alloc) else {
+        return (None, 0);
+    };
     if slab.join(parts, pool, clock).is_err() {
         slab.close(pool, dial, clock);
         return (None, 0);
