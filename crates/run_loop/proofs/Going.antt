@@ -9,18 +9,18 @@ use Rattle.leasing.specs.Deeds.{Deed}
 use Rattle.exchange.specs.declared.job.Job.{Job}
 use Rattle.exchange.specs.declared.job.Prepared.{Prepared}
 use Rattle.exchange.specs.declared.done.Done.{Done}
+use Rattle.exchange.specs.declared.ended.Ended.{Ended}
 use Rattle.exchange.specs.declared.transfer.Transfer.{Transfer}
 use Rattle.exchange.specs.Answers.{IsPrepared}
 use Rattle.exchange.specs.Worlds.{World, Dials}
 use Rattle.exchange.specs.Standing.{StandsAt}
 use Rattle.exchange.specs.Exchanging.{Closes, Cancels}
 use Rattle.exchange.specs.Carrying.{IsForJob}
-use Rattle.exchange.specs.Slabs.{ClosesOne, transfers_in}
+use Rattle.exchange.specs.Slabs.{ClosesOne, ClosesPlace, transfers_in}
 use Rattle.exchange.specs.Rounds.{Joins, PollsPlace, PollsPlaces, PollsInTurn}
 use Rattle.run_loop.specs.Deeds.{deeds_for, all_for}
 use Rattle.run_loop.specs.Endings.{EndsFor}
 use Rattle.run_loop.specs.Running.{number_of, IsUnderWay, IsRunning}
-use Rattle.run_loop.specs.Closing.{ClosesPlace}
 use Rattle.run_loop.proofs.Labels.{own_upon}
 use Rattle.run_loop.proofs.Beside.{taken_out, goes_on_beside, put_back, has_ended, is_drawn}
 use Rattle.run_loop.proofs.Places.{stands_between, comes_between}
@@ -41,10 +41,10 @@ module _ {C W : Type 0} (does : C → C → Deed W → Type 0) (world : World W)
 
   module _ (first : C) where
     -- a job is drawn and joins the slab
-    pub running_join : (cache : C) (drawn : List ℕ) (results : List (ℕ × Done)) (number : ℕ) (parts : Prepared) (slots more : List (Option (Transfer W))) → All (λ k. k < number) drawn → IsPrepared (job_at number) parts → parts.want.transfer ≡ number → Joins slots more parts
+    pub running_join : (cache : C) (drawn : List ℕ) (results : List (ℕ × Done)) (number : ℕ) (parts : Prepared) (slots more : List (Option (Transfer W))) (place : ℕ) → All (λ k. k < number) drawn → IsPrepared (job_at number) parts → parts.want.transfer ≡ number → Joins slots more parts place
         → IsRunning does world may_stop job_at first cache drawn (transfers_in slots) results → IsRunning does world may_stop job_at first cache (drawn ++ number ∷ []) (transfers_in more) results
-    running_join cache drawn results number parts slots more above prepared bears joins run =
-        let comes = comes_between slots more joins.transfer joins.stands in
+    running_join cache drawn results number parts slots more place above prepared bears joins run =
+        let comes = comes_between slots more joins.transfer place joins.stands in
         let there : IsRunning does world may_stop job_at first cache drawn (comes.front ++ comes.back) results = subst (λ (l : List (Transfer W)). IsRunning does world may_stop job_at first cache drawn l results) comes.before run in
         let beside = is_drawn does world may_stop job_at first cache drawn number comes.front comes.back results above there in
         let its : IsForJob (job_at number) joins.transfer.parts = subst (IsForJob (job_at number)) (sym joins.its) (prepared_for (job_at number) parts prepared) in
@@ -91,7 +91,7 @@ module _ {C W : Type 0} (does : C → C → Deed W → Type 0) (world : World W)
           subst (λ (l : List (Transfer W)). IsRunning does world may_stop job_at first after drawn l results) (sym whole) back
 
       -- a transfer was polled and has ended
-      pub running_end : (ended : Done × Prepared) → PollsPlace does world dials before after old new slots left place (Some ended) → IsRunning does world may_stop job_at first after drawn (transfers_in left) ((ended.1.want.transfer, ended.0) ∷ results)
+      pub running_end : (ended : Ended) → PollsPlace does world dials before after old new slots left place (Some ended) → IsRunning does world may_stop job_at first after drawn (transfers_in left) ((ended.parts.want.transfer, ended.done) ∷ results)
       running_end ended polls =
           let t = polls.transfer in
           let number = number_of t in
@@ -100,11 +100,11 @@ module _ {C W : Type 0} (does : C → C → Deed W → Type 0) (world : World W)
           let out = taken_out does world may_stop job_at first before drawn stands.front stands.back t results there in
           let leads = polled_on does world t.parts polls.next.parts before after (deeds_for number there.all) t.state polls.next.state polls.polled.story out.0.stands in
           let its = same_job (job_at number) t.parts polls.next.parts out.0.its polls.polled.same in
-          let end = ended_so does world (may_stop number) (job_at number) polls.next.parts before after (deeds_for number there.all) polls.next.state ended.0 polls.leaves.1 its leads in
-          let same : ended.1.want.transfer ≡ number = ap (λ (p : Prepared). p.want.transfer) polls.leaves.2 ∙ ap (λ (w : Want). w.transfer) polls.polled.same.want in
+          let end = ended_so does world (may_stop number) (job_at number) polls.next.parts before after (deeds_for number there.all) polls.next.state ended.done polls.leaves.1 its leads in
+          let same : ended.parts.want.transfer ≡ number = ap (λ (p : Prepared). p.want.transfer) polls.leaves.2 ∙ ap (λ (w : Want). w.transfer) polls.polled.same.want in
           let whole : transfers_in left ≡ stands.front ++ stands.back = ap transfers_in polls.leaves.0 ∙ stands.without in
-          subst (λ (n : ℕ). IsRunning does world may_stop job_at first after drawn (transfers_in left) ((n, ended.0) ∷ results)) (sym same)
-          (subst (λ (l : List (Transfer W)). IsRunning does world may_stop job_at first after drawn l ((number, ended.0) ∷ results)) (sym whole) (ends_between before after drawn results stands.front stands.back t ended.0 there end))
+          subst (λ (n : ℕ). IsRunning does world may_stop job_at first after drawn (transfers_in left) ((n, ended.done) ∷ results)) (sym same)
+          (subst (λ (l : List (Transfer W)). IsRunning does world may_stop job_at first after drawn l ((number, ended.done) ∷ results)) (sym whole) (ends_between before after drawn results stands.front stands.back t ended.done there end))
 
     -- a transfer that may be stopped was closed between those
     closes_between : (before after : C) (drawn : List ℕ) (results : List (ℕ × Done)) (front back : List (Transfer W)) (t : Transfer W) (closed : Done × Prepared) (moment : ℕ) → world.tells moment → Cancels does before after moment t.state → Closes closed.0 t.state → closed.1 ≡ t.parts
@@ -152,7 +152,7 @@ module _ {C W : Type 0} (does : C → C → Deed W → Type 0) (world : World W)
       pub running_round : (after : C) (new : D) (left : List (Option (Transfer W))) → PollsInTurn does world dials before after old new slots left None → IsRunning does world may_stop job_at first after drawn (transfers_in left) results
       running_round after new left round = running_polls after new left round.0 round.1
 
-      pub running_round_ends : (after : C) (new : D) (left : List (Option (Transfer W))) (ended : Done × Prepared) → PollsInTurn does world dials before after old new slots left (Some ended)
-          → IsRunning does world may_stop job_at first after drawn (transfers_in left) ((ended.1.want.transfer, ended.0) ∷ results)
+      pub running_round_ends : (after : C) (new : D) (left : List (Option (Transfer W))) (ended : Ended) → PollsInTurn does world dials before after old new slots left (Some ended)
+          → IsRunning does world may_stop job_at first after drawn (transfers_in left) ((ended.parts.want.transfer, ended.done) ∷ results)
       running_round_ends after new left ended round =
           running_end dials round.1 after round.2 new drawn results round.3 left round.5.0 (running_polls round.1 round.2 round.3 round.0 round.4) ended round.5.1

@@ -1,5 +1,5 @@
 -- The transfers that stand in the places of a slab, where one place changes.
-use Rattle.std.proofs.Common.{◌≡◌, refl, sym, subst, ap, ◌∙◌, ℕ, zero, suc, ◌⊎◌, inl, inr, List, [], ◌∷◌, ◌++◌, set, slice_get, Option, Some, None}
+use Rattle.std.proofs.Common.{◌≡◌, refl, sym, subst, ap, ◌∙◌, ℕ, zero, suc, ◌⊎◌, inl, inr, List, [], ◌∷◌, ◌++◌, length, set, slice_get, Option, Some, None}
 use Rattle.std.proofs.lemmas.List.{append-nil}
 use Rattle.std.proofs.lemmas.List.Elements.{filter_map-append}
 use Rattle.std.proofs.lemmas.Option.{same_Some}
@@ -58,11 +58,11 @@ comes_at {W} (Some u ∷ slots) (suc place) t is =
     }
 
 -- at a place where none stood, or behind all others
-pub comes_between : {W : Type 0} (slots more : List (Option (Transfer W))) (t : Transfer W) → ((place : ℕ) × (slice_get slots place ≡ Some None) × (more ≡ set slots place (Some t))) ⊎ (more ≡ slots ++ (Some t ∷ [])) → ComesBetween slots more t
-comes_between slots more t (inl at) = subst (λ (l : List (Option (Transfer _))). ComesBetween slots l t) (sym at.2) (comes_at slots at.0 t at.1)
-comes_between slots more t (inr last) = record {
+pub comes_between : {W : Type 0} (slots more : List (Option (Transfer W))) (t : Transfer W) (place : ℕ) → ((slice_get slots place ≡ Some None) × (more ≡ set slots place (Some t))) ⊎ ((place ≡ length slots) × (more ≡ slots ++ (Some t ∷ []))) → ComesBetween slots more t
+comes_between slots more t place (inl at) = subst (λ (l : List (Option (Transfer _))). ComesBetween slots l t) (sym at.1) (comes_at slots place t at.0)
+comes_between slots more t place (inr last) = record {
   front = transfers_in slots;
   back = [];
   before = sym (append-nil (transfers_in slots));
-  after = ap transfers_in last ∙ filter_map-append (λ slot. slot) slots (Some t ∷ []);
+  after = ap transfers_in last.1 ∙ filter_map-append (λ slot. slot) slots (Some t ∷ []);
 }

@@ -2,25 +2,27 @@
 use Rattle.std.proofs.Common.{◌≡◌, sym, subst, ap, ◌∙◌, ℕ, ◌+◌, ◌<◌, List, [], ◌∷◌, ◌++◌, arith, Option, Some, None, sum_by, false}
 use Rattle.std.specs.List.{All}
 use Rattle.std.proofs.lemmas.List.Elements.{All-weaker}
+use Rattle.std.proofs.lemmas.Option.{same_Some}
 use Rattle.bundle.specs.Seats.{Tables}
 use Rattle.leasing.specs.Deeds.{Deed}
 use Rattle.exchange.specs.declared.job.Job.{Job}
 use Rattle.exchange.specs.declared.job.Prepared.{Prepared}
 use Rattle.exchange.specs.declared.done.Fault.TheVariants.{Memory, Dial, Read, Write, BadResponse, Cut, Refused, Cancelled}
 use Rattle.exchange.specs.declared.done.Done.{Done}
+use Rattle.exchange.specs.declared.ended.Ended.{Ended}
 use Rattle.exchange.specs.declared.done.Done.TheVariants.{Good, Bad}
 use Rattle.exchange.specs.declared.transfer.Transfer.{Transfer}
 use Rattle.exchange.specs.Worlds.{World, Dials}
-use Rattle.exchange.specs.Slabs.{ClosesOne, transfers_in, one_if_some}
+use Rattle.exchange.specs.Slabs.{ClosesOne, ClosesPlace, HasNumberAt, transfers_in, one_if_some}
 use Rattle.exchange.specs.Rounds.{PollsInTurn}
 use Rattle.run_loop.specs.declared.run_end.RunEnd.{RunEnd}
-use Rattle.run_loop.specs.declared.run_end.RunEnd.TheVariants.{Complete, Stopped, TurnFailed}
+use Rattle.run_loop.specs.declared.run_end.RunEnd.TheVariants.{Complete, Stopped, TurnFailed, BrokenOff}
 use Rattle.run_loop.specs.Endings.{EndsFor}
 use Rattle.run_loop.specs.Deeds.{deeds_for}
 use Rattle.run_loop.specs.Running.{IsCarriedOut, IsRunning}
 use Rattle.run_loop.specs.Going.{Rules, rules_of, Point, point, IsRunFrom, RunsOn, RunsOnWith, RunsToEnd, rules_at, may_stop_at, is_complete, IfComplete, IfStopped, MayClose}
 use Rattle.run_loop.specs.Steps.{JoinsAs}
-use Rattle.run_loop.proofs.Going.{running_join, running_without, running_round, running_round_ends, running_close_last}
+use Rattle.run_loop.proofs.Going.{running_join, running_without, running_round, running_round_ends, running_close_last, running_close}
 
 -- a job that ended where it may be stopped has ended so wherever it may be stopped too
 ends_wider : {W : Type 0} (world : World W) (P Q : Type 0) → (P → Q) → (job : Job) (done : Done) (deeds : List (Deed W)) → EndsFor world P job done deeds → EndsFor world Q job done deeds
@@ -38,6 +40,7 @@ may_wider : (end : RunEnd) (may_stop : ℕ → Type 0) (number : ℕ) → may_st
 may_wider Complete may_stop number may = may
 may_wider Stopped may_stop number may = may
 may_wider TurnFailed may_stop number may = tt
+may_wider BrokenOff may_stop number may = tt
 
 -- the jobs of a run's numbers stay the same
 pub runs_as : {C W R : Type 0} (does : C → C → Deed W → Type 0) (world : World W) (may_stop : ℕ → Type 0) (took : R → R → ℕ → Done → Type 0) (is was : ℕ → Job) → is ≡ was → (before after : Point C W R)
@@ -49,12 +52,14 @@ pub may_close_now : {W : Type 0} (may_stop : ℕ → Type 0) (slots : List (Opti
 may_close_now may_stop slots Complete is may number = cc
 may_close_now may_stop slots Stopped is may number = may number
 may_close_now may_stop slots TurnFailed is may number = may number
+may_close_now may_stop slots BrokenOff is may number = may number
 
 -- how a run ended tells that its transfers may be closed
 pub may_close_from : {W : Type 0} (may_stop : ℕ → Type 0) (slots : List (Option (Transfer W))) (end : RunEnd) → IfComplete end (sum_by one_if_some slots ≡ 0) → IfStopped end ((number : ℕ) → may_stop number) → MayClose end may_stop slots
 may_close_from may_stop slots Complete empty may = empty
 may_close_from may_stop slots Stopped empty may = may
 may_close_from may_stop slots TurnFailed empty may = λ number. tt
+may_close_from may_stop slots BrokenOff empty may = λ number. tt
 
 -- where a transfer was closed, each may be stopped
 module _ {W : Type 0} (may_stop : ℕ → Type 0) (slots left : List (Option (Transfer W))) (fewer : sum_by one_if_some left + 1 ≡ sum_by one_if_some slots) where
@@ -62,11 +67,21 @@ module _ {W : Type 0} (may_stop : ℕ → Type 0) (slots left : List (Option (Tr
   may_close_it Complete none number = absurd (omega (arith, none, fewer))
   may_close_it Stopped may number = may number
   may_close_it TurnFailed may number = may number
+  may_close_it BrokenOff may number = may number
 
   pub may_close_more : (end : RunEnd) → MayClose end may_stop slots → MayClose end may_stop left
   may_close_more Complete none = absurd (omega (arith, none, fewer))
   may_close_more Stopped may = may
   may_close_more TurnFailed may = may
+  may_close_more BrokenOff may = may
+
+-- the transfer that was closed at a place bears the number that was told of it
+pub may_close_there : {C D W : Type 0} (does : C → C → Deed W → Type 0) (world : World W) (home : List Tables) (before after : C) (begun_at : D → ℕ → Type 0) (old new : D) (slots left : List (Option (Transfer W))) (place : ℕ) (closed : Done × Prepared) (may_stop : ℕ → Type 0) (number : ℕ)
+    → HasNumberAt slots place number → ClosesPlace does world home before after begun_at old new slots left place closed → may_stop number → may_stop closed.1.want.transfer
+may_close_there {W = W} does world home before after begun_at old new slots left place closed may_stop number there closes may =
+    let same : there.0 ≡ closes.transfer = same_Some there.0 closes.transfer (same_Some (Some there.0) (Some closes.transfer) (sym there.1 ∙ closes.stood)) in
+    let bears : number ≡ closed.1.want.transfer = there.2 ∙ ap (λ (t : Transfer W). t.parts.want.transfer) same ∙ sym (ap (λ (p : Prepared). p.want.transfer) closes.parts) in
+    subst may_stop bears may
 
 module _ {C W R : Type 0} (rules : Rules C W R) where
   pub runs_same : (at : Point C W R) → RunsOn rules at at
@@ -93,7 +108,7 @@ module _ {C W R : Type 0} (rules : Rules C W R) where
     begins_joined more results joins drawn above first begun is = record {
       told = is.told;
       taken = is.taken;
-      running = running_join rules.did rules.world rules.may_stop rules.job_at first cache drawn is.told number joins.parts slots more above joins.prepared joins.bears joins.joins is.running;
+      running = running_join rules.did rules.world rules.may_stop rules.job_at first cache drawn is.told number joins.parts slots more joins.place above joins.prepared joins.bears joins.joins is.running;
     }
 
     -- once its number is drawn, the run goes on
@@ -112,12 +127,12 @@ module _ {C W R : Type 0} (rules : Rules C W R) where
     }
 
     -- or up to one that has ended, whose result is taken
-    pub runs_round_ends : (done : Done) (used : Prepared) (told : R) → PollsInTurn rules.did rules.world dials before after old new slots left (Some (done, used)) → rules.took results told used.want.transfer done
+    pub runs_round_ends : (ended : Ended) (told : R) → PollsInTurn rules.did rules.world dials before after old new slots left (Some ended) → rules.took results told ended.parts.want.transfer ended.done
         → RunsOn rules (point before drawn slots results) (point after drawn left told)
-    runs_round_ends done used told round took first begun is = record {
-      told = (used.want.transfer, done) ∷ is.told;
+    runs_round_ends ended told round took first begun is = record {
+      told = (ended.parts.want.transfer, ended.done) ∷ is.told;
       taken = (results, is.taken, took);
-      running = running_round_ends rules.did rules.world rules.may_stop rules.job_at first dials before old drawn is.told slots is.running after new left (done, used) round;
+      running = running_round_ends rules.did rules.world rules.may_stop rules.job_at first dials before old drawn is.told slots is.running after new left ended round;
     }
 
   -- the last transfer is closed, and its result is taken
@@ -129,6 +144,22 @@ module _ {C W R : Type 0} (rules : Rules C W R) where
     taken = (results, is.taken, took);
     running = running_close_last rules.did rules.world rules.may_stop rules.job_at first home before after begun_at old new drawn is.told slots left (done, used) closes may is.running;
   }
+
+  -- the transfer at a place is closed, and its result is taken
+  pub runs_close_at : {D : Type 0} (home : List Tables) (before after : C) (begun_at : D → ℕ → Type 0) (old new : D) (drawn : List ℕ) (slots left : List (Option (Transfer W))) (results told : R) (place : ℕ) (done : Done) (used : Prepared)
+      → ClosesPlace rules.did rules.world home before after begun_at old new slots left place (done, used) → rules.may_stop used.want.transfer → rules.took results told used.want.transfer done
+      → RunsOn rules (point before drawn slots results) (point after drawn left told)
+  runs_close_at home before after begun_at old new drawn slots left results told place done used closes may took first begun is = record {
+    told = (used.want.transfer, done) ∷ is.told;
+    taken = (results, is.taken, took);
+    running = running_close rules.did rules.world rules.may_stop rules.job_at first home before after begun_at old new drawn is.told slots left place (done, used) closes may is.running;
+  }
+
+  -- nothing was closed
+  pub runs_unchanged : (before after : C) (drawn : List ℕ) (slots left : List (Option (Transfer W))) (results : R) → after ≡ before → left ≡ slots → RunsOn rules (point before drawn slots results) (point after drawn left results)
+  runs_unchanged before after drawn slots left results same same_slots =
+      subst (λ (c : C). RunsOn rules (point before drawn slots results) (point c drawn left results)) (sym same)
+      (subst (λ (l : List (Option (Transfer W))). RunsOn rules (point before drawn slots results) (point before drawn l results)) (sym same_slots) (runs_same (point before drawn slots results)))
 
   -- nothing is closed if no transfer is left
   pub runs_empty : (before after : C) (drawn : List ℕ) (slots left : List (Option (Transfer W))) (results : R) → after ≡ before → transfers_in slots ≡ [] → left ≡ [] → RunsOn rules (point before drawn slots results) (point after drawn left results)

@@ -9,7 +9,7 @@ use Rattle.exchange.specs.declared.transfer.Transfer.{Transfer}
 use Rattle.exchange.specs.Worlds.{World}
 use Rattle.exchange.specs.Slabs.{transfers_in, one_if_some}
 use Rattle.run_loop.specs.declared.run_end.RunEnd.{RunEnd}
-use Rattle.run_loop.specs.declared.run_end.RunEnd.TheVariants.{Complete, Stopped, TurnFailed}
+use Rattle.run_loop.specs.declared.run_end.RunEnd.TheVariants.{Complete, Stopped, TurnFailed, BrokenOff}
 use Rattle.run_loop.specs.Running.{IsRunning}
 use Rattle.run_loop.specs.Taking.{AllTaken}
 
@@ -49,9 +49,10 @@ RunsOn {C} {R = R} rules before after = (first : C) (begun : R) → IsRunFrom ru
 abbrev pub RunsOnWith : {C W R : Type 0} → Rules C W R → ℕ → C → List (Option (Transfer W)) → R → List (Option (Transfer W)) → R → Type 0
 RunsOnWith rules number cache slots results more told = (drawn : List ℕ) → All (λ n. n < number) drawn → RunsOn rules (point cache drawn slots results) (point cache (drawn ++ number ∷ []) more told)
 
--- which jobs may be stopped at a run's end: all if a turn failed
+-- which jobs may be stopped at a run's end: all if a turn failed, or the run was broken off
 abbrev pub may_stop_at : RunEnd → (ℕ → Type 0) → ℕ → Type 0
 may_stop_at TurnFailed may_stop number = Unit {0}
+may_stop_at BrokenOff may_stop number = Unit {0}
 may_stop_at _ may_stop number = may_stop number
 
 abbrev pub rules_at : {C W R : Type 0} → RunEnd → Rules C W R → Rules C W R
@@ -70,10 +71,28 @@ abbrev pub is_complete : RunEnd → Bool
 is_complete Complete = true
 is_complete _ = false
 
--- this holds of a run that is complete, and this of one that was stopped
+abbrev pub is_fault : RunEnd → Bool
+is_fault TurnFailed = true
+is_fault BrokenOff = true
+is_fault _ = false
+
+-- the worse of two ends: no end is better than Complete, and none worse than TurnFailed
+abbrev pub worse_end : RunEnd → RunEnd → RunEnd
+worse_end Complete other = other
+worse_end end Complete = end
+worse_end Stopped other = other
+worse_end end Stopped = end
+worse_end BrokenOff other = other
+worse_end TurnFailed other = TurnFailed
+
+-- this holds of a run that is complete, this of one that isn't, and this of one that was stopped
 abbrev pub IfComplete : RunEnd → Type 0 → Type 0
 IfComplete Complete P = P
 IfComplete _ P = Unit {0}
+
+abbrev pub IfIncomplete : RunEnd → Type 0 → Type 0
+IfIncomplete Complete P = Unit {0}
+IfIncomplete _ P = P
 
 abbrev pub IfStopped : RunEnd → Type 0 → Type 0
 IfStopped Stopped P = P

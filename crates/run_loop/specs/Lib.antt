@@ -1,7 +1,6 @@
 pub mod Deeds
 pub mod Endings
 pub mod Running
-pub mod Closing
 pub mod Drawing
 pub mod Taking
 pub mod Going

@@ -13,7 +13,8 @@ pub record JoinsAs {W : Type 0} (job : Job) (number : ℕ) (slots more : List (O
   pub parts : Prepared
   pub prepared : IsPrepared job parts
   pub bears : parts.want.transfer ≡ number
-  pub joins : Joins slots more parts
+  pub place : ℕ
+  pub joins : Joins slots more parts place
 
 -- it did, or none joined
 abbrev pub JoinsIf : {W : Type 0} → Bool → Job → ℕ → List (Option (Transfer W)) → List (Option (Transfer W)) → Type 0

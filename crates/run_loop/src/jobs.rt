@@ -17,7 +17,8 @@ pub enum Draw {
 /// by its number. A job's number is that of its transfer.
 ///
 /// The ghost members tell contracts the job of each number, which stays, the numbers that were
-/// drawn, in this order, and whether no job is left.
+/// drawn, in this order, whether no job is left, whether no number is set aside, and what else of
+/// them stays.
 pub trait Jobs {
     ghost use Rattle.std.specs.Prelude.{◌≡◌, ℕ, ◌<◌, List, length, IfOk, IfErr, IfSome};
     ghost use Rattle.exchange.specs.declared.job.Job.{Job};
@@ -33,16 +34,27 @@ pub trait Jobs {
     /// No job is left.
     ghost is_over: { Self → Type 0 };
 
+    /// No number of a job that was not due yet is set aside.
+    ghost holds_none: { Self → Type 0 };
+
+    /// What else draws leave as it is.
+    ghost Kept: { Type 0 } = { Unit {0} };
+
+    ghost kept: { Self → Self.Kept };
+
     /// Draws the number of the next job, if one is due at that moment, in microseconds.
     fn draw(&mut self, now: u64) -> Draw
         ensures draws { DrawsNumber (drawn_number result) (drawn self.old) (drawn self.new) }
         ensures over { IfOver result (is_over self.new) }
-        ensures same { job_at self.new ≡ job_at self.old };
+        ensures same { job_at self.new ≡ job_at self.old }
+        ensures kept { kept self.new ≡ kept self.old };
 
     /// Draws the number of a job that was set aside since it was not due yet, if there is one.
     fn draw_early(&mut self) -> Option<u64>
         ensures draws { DrawsNumber result (drawn self.old) (drawn self.new) }
-        ensures same { job_at self.new ≡ job_at self.old };
+        ensures none { holds_none self.new }
+        ensures same { job_at self.new ≡ job_at self.old }
+        ensures kept { kept self.new ≡ kept self.old };
 
     /// Prepares the job of that number, in the memory of another one if that is handed in.
     ///

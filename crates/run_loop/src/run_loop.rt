@@ -5,7 +5,7 @@ ghost use Rattle.exchange.specs.Dialling.{CountsTurn};
 ghost use Rattle.exchange.specs.Worlds.{world_of};
 ghost use Rattle.exchange.specs.Slabs.{AreKept, one_if_some};
 ghost use Rattle.run_loop.specs.Going.{rules_of, rules_at, point, RunsOn, RunsOnWith, RunsToEnd};
-ghost use Rattle.run_loop.specs.Going.{MayClose, IfStopped, IfComplete, TurnsAt};
+ghost use Rattle.run_loop.specs.Going.{MayClose, IfStopped, IfComplete, IfIncomplete, TurnsAt};
 ghost use Rattle.run_loop.specs.Steps.{JoinsIf, IfNever};
 
 use crate::jobs::{Draw, Jobs};
@@ -13,12 +13,15 @@ use crate::results::Results;
 use crate::run_end::RunEnd;
 use crate::spares::Spares;
 use crate::timer::Timer;
-use exchange::{Dial, Done, Fault, Slab, Turned, Wire};
+use exchange::{Dial, Done, Ended, Fault, Slab, Turned, Wire};
 use futures::task::{Context, Poll, Solo};
 use leasing::Cache;
 use std::alloc::{AllocError, Global};
 use std::sync::Wait;
 use std::time::Duration;
+
+/// How often the timer is asked which jobs it stops, in microseconds.
+const SWEEP_MICROS: u64 = 10_000;
 
 /// When the next job may begin.
 #[derive(Clone, Copy)]
@@ -35,8 +38,14 @@ enum Next {
 pub struct RunLoop<W: Wire> {
     slab: Slab<W>,
     places: usize,
+    // By place, the moment at which the last job began there.
+    began: Vec<u64>,
+    // The moment at which the timer was asked last.
+    swept: u64,
     spares: Spares,
     task: Solo,
+    /// How many rings were heard.
+    heard: u64,
     ghost few: { sum_by one_if_some slab.slots.items ≤ places },
 }
 
@@ -64,9 +73,21 @@ fn poll_round<W: Wire, C: Cache<W>, D: Dial<W>, J: Jobs, R: Results, T: Timer>(
         ≤ sum_by one_if_some slab.old.slots.items }
     ensures turns { D.turn_failures dial.new ≡ D.turn_failures dial.old }
 {
-    while let Some((done, used)) = slab.poll_next(context, cache, dial, timer) {
-        results.take(used.transfer(), done);
-        spares.keep(Some(used));
+    while let Some(ended) = slab.poll_next(context, cache, dial, timer) {
+        let Ended {
+            place: _,
+            done,
+            parts,
+        } = ended;
+        results.take(parts.transfer(), done);
+        spares.keep(Some(parts));
+    }
+}
+
+// The job at that place began at that moment.
+fn note_begin(began: &mut Vec<u64>, place: usize, now: u64) {
+    if let Some(moment) = began.get_mut(place) {
+        *moment = now;
     }
 }
 
@@ -80,16 +101,22 @@ impl<W: Wire> RunLoop<W> {
         ensures { IfOk result (λ made. made.slab.slots.items ≡ []) }
     {
         let spares = Spares::new(alloc, places)?;
+        let mut began = Vec::with_capacity(alloc, places)?;
+        began.resize(places, 0)?;
         Ok(RunLoop {
-            slab: Slab::new(alloc),
+            slab: Slab::with_room(alloc, places)?,
             places,
+            began,
+            swept: 0,
             spares,
             task,
+            heard: 0,
         })
     }
 
-    /// Carries out the jobs that it draws, until none is left, the timer ends the run, or a turn of
-    /// the dial fails; then what is under way is cancelled. Each job that was drawn has one result.
+    /// Carries out the jobs that it draws, until none is left, the timer ends the run or breaks it
+    /// off, or a turn of the dial fails; then what is under way is cancelled. Each job that was
+    /// drawn has one result.
     ///
     /// Asked of the caller: no job is under way in it, as it was made.
     pub fn run<C: Cache<W>, D: Dial<W>, J: Jobs, R: Results, T: Timer, H: Wait>(
@@ -107,21 +134,34 @@ impl<W: Wire> RunLoop<W> {
             timer.now)) (T.may_stop timer.now) (J.job_at jobs.old) R.took)
             (point cache.old (J.drawn jobs.old) [] results.old)
             (point cache.new (J.drawn jobs.new) [] results.new) }
+        ensures fixed { J.kept jobs.new ≡ J.kept jobs.old }
         ensures complete { IfComplete result (J.is_over jobs.new) }
+        ensures incomplete { IfIncomplete result (J.holds_none jobs.new) }
         ensures turns { TurnsAt result (D.turn_failures dial.old) (D.turn_failures dial.new) }
     {
         let mut run = self;
         let end = run.go_on(rt, cache, dial, jobs, results, timer);
         run.drop_early(end, cache, jobs, results, timer);
         run.close_all(end, cache, dial, jobs, results, timer);
+        run.destroy_empty();
+        timer.ring();
+        end
+    }
+
+    /// Ends a loop in which no job is under way.
+    pub fn destroy_empty(self)
+        requires { self.slab.slots.items ≡ [] }
+    {
         let RunLoop {
             slab,
             places: _,
+            began: _,
+            swept: _,
             spares: _,
             task: _,
-        } = run;
+            heard: _,
+        } = self;
         slab.destroy_empty();
-        end
     }
 
     // Carries out jobs until the run ends.
@@ -144,6 +184,7 @@ impl<W: Wire> RunLoop<W> {
             (point cache.old (J.drawn jobs.old) self.old.slab.slots.items results.old)
             (point cache.new (J.drawn jobs.new) self.new.slab.slots.items results.new) }
         ensures jobs { J.job_at jobs.new ≡ J.job_at jobs.old }
+        ensures fixed { J.kept jobs.new ≡ J.kept jobs.old }
         ensures complete { IfComplete result (J.is_over jobs.new) }
         ensures empty { IfComplete result (sum_by one_if_some self.new.slab.slots.items ≡ 0) }
         ensures stopped { IfStopped result ((number : ℕ) → T.may_stop timer.now number) }
@@ -152,6 +193,9 @@ impl<W: Wire> RunLoop<W> {
         for _ in rt.forever() {
             if timer.is_over() {
                 return RunEnd::Stopped;
+            }
+            if timer.is_broken_off() {
+                return RunEnd::BrokenOff;
             }
             let next = self.take_round(cache, dial, jobs, results, timer);
             if let Next::Never = next {
@@ -166,7 +210,8 @@ impl<W: Wire> RunLoop<W> {
         unreachable!()
     }
 
-    // A round: draws jobs and begins them, and polls what is due. When the next job may begin.
+    // A round: stops jobs that are to be stopped, draws jobs and begins them, and polls what is
+    // due. When the next job may begin.
     fn take_round<C: Cache<W>, D: Dial<W>, J: Jobs, R: Results, T: Timer>(
         &mut self,
         cache: &mut C,
@@ -185,9 +230,11 @@ impl<W: Wire> RunLoop<W> {
             (point cache.old (J.drawn jobs.old) self.old.slab.slots.items results.old)
             (point cache.new (J.drawn jobs.new) self.new.slab.slots.items results.new) }
         ensures jobs { J.job_at jobs.new ≡ J.job_at jobs.old }
+        ensures fixed { J.kept jobs.new ≡ J.kept jobs.old }
         ensures over { IfNever result (J.is_over jobs.new) }
         ensures turns { D.turn_failures dial.new ≡ D.turn_failures dial.old }
     {
+        self.sweep(cache, dial, jobs, results, timer);
         let next = self.fill(cache, jobs, results, timer);
         self.poll_due(cache, dial, jobs, results, timer);
         next
@@ -210,6 +257,7 @@ impl<W: Wire> RunLoop<W> {
             (point cache.now (J.drawn jobs.old) self.old.slab.slots.items results.old)
             (point cache.now (J.drawn jobs.new) self.new.slab.slots.items results.new) }
         ensures jobs { J.job_at jobs.new ≡ J.job_at jobs.old }
+        ensures fixed { J.kept jobs.new ≡ J.kept jobs.old }
         ensures over { IfNever result (J.is_over jobs.new) }
     {
         for _ in 0..self.places {
@@ -275,12 +323,82 @@ impl<W: Wire> RunLoop<W> {
             }
         };
         match self.slab.join(parts, cache, timer) {
-            Ok(()) => true,
+            Ok(place) => {
+                note_begin(&mut self.began, place, timer.micros());
+                true
+            }
             Err(unused) => {
                 self.spares.keep(Some(unused));
                 false
             }
         }
+    }
+
+    // Stops the jobs that the timer stops, if it was not asked for ten milliseconds; each has its
+    // result.
+    fn sweep<C: Cache<W>, D: Dial<W>, J: Jobs, R: Results, T: Timer>(
+        &mut self,
+        cache: &mut C,
+        dial: &mut D,
+        _jobs: &J,
+        results: &mut R,
+        timer: &T,
+    )
+        requires kept { AreKept (world_of W.untouched W.happened (T.tells timer.now))
+            (C.home cache.old) self.old.slab.slots.items }
+        ensures stays { C.home cache.new ≡ C.home cache.old }
+        ensures kept { AreKept (world_of W.untouched W.happened (T.tells timer.now))
+            (C.home cache.new) self.new.slab.slots.items }
+        ensures goes { RunsOn (rules_of C.did (world_of W.untouched W.happened (T.tells
+            timer.now)) (T.may_stop timer.now) (J.job_at _jobs.now) R.took)
+            (point cache.old (J.drawn _jobs.now) self.old.slab.slots.items results.old)
+            (point cache.new (J.drawn _jobs.now) self.new.slab.slots.items results.new) }
+        ensures turns { D.turn_failures dial.new ≡ D.turn_failures dial.old }
+    {
+        let now = timer.micros();
+        if now.saturating_sub(self.swept) < SWEEP_MICROS {
+            return;
+        }
+        self.swept = now;
+        for place in 0..self.slab.places() {
+            self.stop_at(place, cache, dial, _jobs, results, timer);
+        }
+    }
+
+    // Stops the job at that place, if one is under way there that the timer stops; it has its
+    // result then.
+    fn stop_at<C: Cache<W>, D: Dial<W>, J: Jobs, R: Results, T: Timer>(
+        &mut self,
+        place: usize,
+        cache: &mut C,
+        dial: &mut D,
+        _jobs: &J,
+        results: &mut R,
+        timer: &T,
+    )
+        requires kept { AreKept (world_of W.untouched W.happened (T.tells timer.now))
+            (C.home cache.old) self.old.slab.slots.items }
+        ensures stays { C.home cache.new ≡ C.home cache.old }
+        ensures kept { AreKept (world_of W.untouched W.happened (T.tells timer.now))
+            (C.home cache.new) self.new.slab.slots.items }
+        ensures goes { RunsOn (rules_of C.did (world_of W.untouched W.happened (T.tells
+            timer.now)) (T.may_stop timer.now) (J.job_at _jobs.now) R.took)
+            (point cache.old (J.drawn _jobs.now) self.old.slab.slots.items results.old)
+            (point cache.new (J.drawn _jobs.now) self.new.slab.slots.items results.new) }
+        ensures turns { D.turn_failures dial.new ≡ D.turn_failures dial.old }
+    {
+        let Some(number) = self.slab.transfer_at(place) else {
+            return;
+        };
+        let began = self.began.get(place).copied().unwrap_or(0);
+        if !timer.stops(number, began) {
+            return;
+        }
+        let Some((done, used)) = self.slab.close_at(place, cache, dial, timer) else {
+            return;
+        };
+        results.take(used.transfer(), done);
+        self.spares.keep(Some(used));
     }
 
     // Polls what is due, in one round; each job that has ended has its result.
@@ -327,7 +445,29 @@ impl<W: Wire> RunLoop<W> {
             Next::Free | Next::Never => Duration::MAX,
             Next::At(due) => Duration::from_micros(due.saturating_sub(timer.micros())),
         };
-        self.slab.turn(dial, most)
+        self.tell_spent(timer);
+        let turned = self.slab.turn(dial, most);
+        self.hear(timer.rings());
+        turned
+    }
+
+    // Rings the bell if leases or tickets were spent since it was asked last.
+    fn tell_spent<T: Timer>(&mut self, timer: &T)
+        ensures slots { self.new.slab.slots ≡ self.old.slab.slots }
+    {
+        if self.slab.take_spent() {
+            timer.ring();
+        }
+    }
+
+    // Lets the first transfer that waits at each site ask for its connection, if the bell rang.
+    fn hear(&mut self, rings: u64)
+        ensures slots { self.new.slab.slots ≡ self.old.slab.slots }
+    {
+        if rings != self.heard {
+            self.heard = rings;
+            self.slab.ask_sites();
+        }
     }
 
     // A job that was drawn before it was due, if there is one, is stopped before it begins, unless
@@ -346,7 +486,9 @@ impl<W: Wire> RunLoop<W> {
             (point _cache.now (J.drawn jobs.old) self.now.slab.slots.items results.old)
             (point _cache.now (J.drawn jobs.new) self.now.slab.slots.items results.new) }
         ensures jobs { J.job_at jobs.new ≡ J.job_at jobs.old }
+        ensures fixed { J.kept jobs.new ≡ J.kept jobs.old }
         ensures complete { IfComplete end (jobs.new ≡ jobs.old) }
+        ensures incomplete { IfIncomplete end (J.holds_none jobs.new) }
     {
         if end.is_complete() {
             return;

@@ -1,8 +1,8 @@
-//! The time of a run, and what ends jobs before their response.
+//! The time of a run, what ends jobs before their response, and the bell between its loops.
 
 use exchange::Clock;
 
-/// The time of a run, and what ends jobs before their response.
+/// The time of a run, what ends jobs before their response, and the bell between its loops.
 ///
 /// The ghost member tells contracts which jobs may be stopped.
 pub trait Timer: Clock {
@@ -15,7 +15,27 @@ pub trait Timer: Clock {
     /// The microseconds since some moment that stays the same.
     fn micros(&self) -> u64;
 
+    /// Whether the job of that number, which began at that moment, is to be stopped now: it is over
+    /// its limit of time, or nobody wants it any more.
+    fn stops(&self, number: u64, began: u64) -> bool
+        ensures { OnTrue result (may_stop self.now number) };
+
     /// Whether the run is to end now: all jobs are stopped.
     fn is_over(&self) -> bool
         ensures { OnTrue result ((job : ℕ) → may_stop self.now job) };
+
+    /// Whether the run is broken off for a fault elsewhere, as another loop over the same cache
+    /// met: all jobs are stopped, whichever may be.
+    fn is_broken_off(&self) -> bool {
+        false
+    }
+
+    /// How often the bell between the loops over one cache has rung. If that has risen, the first
+    /// transfer that waits at each site asks whether it has its connection.
+    fn rings(&self) -> u64 {
+        0
+    }
+
+    /// Rings that bell: leases or tickets were spent in this loop.
+    fn ring(&self) {}
 }

@@ -5,8 +5,8 @@ use Rattle.run_loop.specs.Going.{rules_of, point}
 use Rattle.run_loop.proofs.RunningOn.{runs_same, runs_then, runs_round, runs_round_ends}
 use Rattle.run_loop.proofs.run_loop.poll_round.Goals as goal
 
-pub loop-done-init : goal.loop-done-init
-loop-done-init g c =
+pub loop-ended-init : goal.loop-ended-init
+loop-ended-init g c =
     let rules_ = rules_of g.C.Cache.did (world_of g.W.Wire.untouched g.W.Wire.happened (g.T.Clock.tells c.args.timer.now)) (g.T.Timer.may_stop c.args.timer.now) (g.J.Jobs.job_at c.args._jobs.now) g.R.Results.took in
     record {
       stays = search rules;
@@ -16,19 +16,19 @@ loop-done-init g c =
       turns = search rules;
     }
 
-pub loop-done-preserved : goal.loop-done-preserved
-loop-done-preserved g c =
+pub loop-ended-preserved : goal.loop-ended-preserved
+loop-ended-preserved g c =
     let rules_ = rules_of g.C.Cache.did (world_of g.W.Wire.untouched g.W.Wire.happened (g.T.Clock.tells c.args.timer.now)) (g.T.Timer.may_stop c.args.timer.now) (g.J.Jobs.job_at c.args._jobs.now) g.R.Results.took in
     let dials = dials_of g.D.Dial.begun g.D.Dial.opened g.D.Dial.failures in
     let drawn = g.J.Jobs.drawn c.args._jobs.now in
-    let slots = c.loop-done.slab.slots.items in
+    let slots = c.loop-ended.slab.slots.items in
     let left = c.poll_next.new.self.slots.items in
-    let took = subst (λ (n : ℕ). g.R.Results.took c.loop-done.results c.take.new.self n c.in-Some.done) c.transfer.ensures c.take.ensures in
+    let took = subst (λ (n : ℕ). g.R.Results.took c.loop-ended.results c.take.new.self n c.in-Some.ended.done) c.transfer.ensures c.take.ensures in
     record {
       stays = search rules;
       kept = search rules;
-      goes = runs_then rules_ (point c.args.cache.now drawn c.args.slab.now.slots.items c.args.results.now) (point c.loop-done.cache drawn slots c.loop-done.results) (point c.poll_next.new.cache drawn left c.take.new.self) c.loop-done.invariant.goes
-          (runs_round_ends rules_ dials c.loop-done.cache c.poll_next.new.cache c.loop-done.dial c.poll_next.new.dial drawn slots left c.loop-done.results c.in-Some.done c.in-Some.used c.take.new.self c.in-Some.ensures.polls took);
+      goes = runs_then rules_ (point c.args.cache.now drawn c.args.slab.now.slots.items c.args.results.now) (point c.loop-ended.cache drawn slots c.loop-ended.results) (point c.poll_next.new.cache drawn left c.take.new.self) c.loop-ended.invariant.goes
+          (runs_round_ends rules_ dials c.loop-ended.cache c.poll_next.new.cache c.loop-ended.dial c.poll_next.new.dial drawn slots left c.loop-ended.results c.in-Some.ended c.take.new.self c.in-Some.ensures.polls took);
       fewer = search rules;
       turns = search rules;
     }
@@ -38,7 +38,7 @@ returns-clause-goes g c =
     let rules_ = rules_of g.C.Cache.did (world_of g.W.Wire.untouched g.W.Wire.happened (g.T.Clock.tells c.args.timer.now)) (g.T.Timer.may_stop c.args.timer.now) (g.J.Jobs.job_at c.args._jobs.now) g.R.Results.took in
     let dials = dials_of g.D.Dial.begun g.D.Dial.opened g.D.Dial.failures in
     let drawn = g.J.Jobs.drawn c.args._jobs.now in
-    let slots = c.loop-done.slab.slots.items in
+    let slots = c.loop-ended.slab.slots.items in
     let left = c.poll_next.new.self.slots.items in
-    runs_then rules_ (point c.args.cache.now drawn c.args.slab.now.slots.items c.args.results.now) (point c.loop-done.cache drawn slots c.loop-done.results) (point c.poll_next.new.cache drawn left c.loop-done.results) c.loop-done.invariant.goes
-    (runs_round rules_ dials c.loop-done.cache c.poll_next.new.cache c.loop-done.dial c.poll_next.new.dial drawn slots left c.loop-done.results (rw c.in_default.is at c.poll_next.ensures.polls))
+    runs_then rules_ (point c.args.cache.now drawn c.args.slab.now.slots.items c.args.results.now) (point c.loop-ended.cache drawn slots c.loop-ended.results) (point c.poll_next.new.cache drawn left c.loop-ended.results) c.loop-ended.invariant.goes
+    (runs_round rules_ dials c.loop-ended.cache c.poll_next.new.cache c.loop-ended.dial c.poll_next.new.dial drawn slots left c.loop-ended.results (rw c.in_default.is at c.poll_next.ensures.polls))

@@ -4,11 +4,11 @@ use Rattle.exchange.specs.Slabs.{AreKept, one_if_some}
 use Rattle.run_loop.specs.Going.{rules_of, point, RunsOn}
 use Rattle.run_loop.proofs.run_loop.poll_round.Given as goal
 
-abbrev pub decreases-loop-done : goal.decreases-loop-done
-decreases-loop-done g l = sum_by one_if_some l.slab.slots.items
+abbrev pub decreases-loop-ended : goal.decreases-loop-ended
+decreases-loop-ended g l = sum_by one_if_some l.slab.slots.items
 
-abbrev pub invariant-loop-done : goal.invariant-loop-done
-invariant-loop-done g l = record {
+abbrev pub invariant-loop-ended : goal.invariant-loop-ended
+invariant-loop-ended g l = record {
   stays : g.C.Cache.home l.cache ≡ g.C.Cache.home l.fn.cache;
   kept : AreKept (world_of g.W.Wire.untouched g.W.Wire.happened (g.T.Clock.tells l.fn.timer)) (g.C.Cache.home l.cache) l.slab.slots.items;
   goes : RunsOn (rules_of g.C.Cache.did (world_of g.W.Wire.untouched g.W.Wire.happened (g.T.Clock.tells l.fn.timer)) (g.T.Timer.may_stop l.fn.timer) (g.J.Jobs.job_at l.fn._jobs) g.R.Results.took)

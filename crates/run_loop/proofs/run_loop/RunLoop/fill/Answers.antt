@@ -14,6 +14,7 @@ loop-init g c =
       kept = search rules;
       goes = runs_same rules_ (point c.args.cache.now (g.J.Jobs.drawn c.args.jobs.now) c.args.self.now.slab.slots.items c.args.results.now);
       jobs = search rules;
+      fixed = search rules;
     }
 
 pub loop-preserved : goal.loop-preserved
@@ -36,4 +37,5 @@ loop-preserved g c =
       goes = runs_then rules_ (point cache (g.J.Jobs.drawn c.args.jobs.now) c.args.self.now.slab.slots.items c.args.results.now) (point cache was slots c.loop.results) (point cache is more c.begin.new.results)
           c.loop.invariant.goes (runs_with rules_ number cache slots more c.loop.results c.begin.new.results was is begins draws.0 draws.1);
       jobs = c.draw.ensures.same ∙ c.loop.invariant.jobs;
+      fixed = search rules;
     }

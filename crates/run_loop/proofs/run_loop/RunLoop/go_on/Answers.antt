@@ -12,6 +12,7 @@ loop-init g c = record {
   goes = runs_same (rules_of g.C.Cache.did (world_of g.W.Wire.untouched g.W.Wire.happened (g.T.Clock.tells c.args.timer.now)) (g.T.Timer.may_stop c.args.timer.now) (g.J.Jobs.job_at c.args.jobs.now) g.R.Results.took)
       (point c.args.cache.now (g.J.Jobs.drawn c.args.jobs.now) c.args.self.now.slab.slots.items c.args.results.now);
   jobs = search rules;
+  fixed = search rules;
   turns = search rules;
 }
 
@@ -31,6 +32,7 @@ loop-preserved g c =
           (point c.args.cache.now (drawn c.args.jobs.now) c.args.self.now.slab.slots.items c.args.results.now) (point c.loop.cache (drawn c.loop.jobs) c.loop.self.slab.slots.items c.loop.results)
           (point round.cache (drawn round.jobs) round.self.slab.slots.items round.results) c.loop.invariant.goes c.take_round-next.ensures.goes);
       jobs = c.take_round-next.ensures.jobs ∙ c.loop.invariant.jobs;
+      fixed = search rules;
       turns = search rules;
     }
 

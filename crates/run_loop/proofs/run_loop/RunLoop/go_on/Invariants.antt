@@ -11,5 +11,6 @@ invariant-loop g l = record {
   goes : RunsOn (rules_of g.C.Cache.did (world_of g.W.Wire.untouched g.W.Wire.happened (g.T.Clock.tells l.fn.timer)) (g.T.Timer.may_stop l.fn.timer) (g.J.Jobs.job_at l.fn.jobs) g.R.Results.took)
       (point l.fn.cache (g.J.Jobs.drawn l.fn.jobs) l.fn.self.slab.slots.items l.fn.results) (point l.cache (g.J.Jobs.drawn l.jobs) l.self.slab.slots.items l.results);
   jobs : g.J.Jobs.job_at l.jobs ≡ g.J.Jobs.job_at l.fn.jobs;
+  fixed : g.J.Jobs.kept l.jobs ≡ g.J.Jobs.kept l.fn.jobs;
   turns : g.D.Dial.turn_failures l.dial ≡ g.D.Dial.turn_failures l.fn.dial;
 }

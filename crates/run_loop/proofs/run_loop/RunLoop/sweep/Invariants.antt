@@ -1,0 +1,14 @@
+use Rattle.std.specs.Prelude.{◌≡◌}
+use Rattle.exchange.specs.Worlds.{world_of}
+use Rattle.exchange.specs.Slabs.{AreKept}
+use Rattle.run_loop.specs.Going.{rules_of, point, RunsOn}
+use Rattle.run_loop.proofs.run_loop.RunLoop.sweep.Given as goal
+
+abbrev pub invariant-loop-place : goal.invariant-loop-place
+invariant-loop-place g l = record {
+  stays : g.C.Cache.home l.cache ≡ g.C.Cache.home l.fn.cache;
+  kept : AreKept (world_of g.W.Wire.untouched g.W.Wire.happened (g.T.Clock.tells l.fn.timer)) (g.C.Cache.home l.cache) l.self.slab.slots.items;
+  goes : RunsOn (rules_of g.C.Cache.did (world_of g.W.Wire.untouched g.W.Wire.happened (g.T.Clock.tells l.fn.timer)) (g.T.Timer.may_stop l.fn.timer) (g.J.Jobs.job_at l.fn._jobs) g.R.Results.took)
+      (point l.fn.cache (g.J.Jobs.drawn l.fn._jobs) l.fn.self.slab.slots.items l.fn.results) (point l.cache (g.J.Jobs.drawn l.fn._jobs) l.self.slab.slots.items l.results);
+  turns : g.D.Dial.turn_failures l.dial ≡ g.D.Dial.turn_failures l.fn.dial;
+}
