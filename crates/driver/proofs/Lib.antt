@@ -2,3 +2,5 @@ pub mod Carried
 pub mod Collected
 pub mod Hired
 pub mod Turned
+pub mod ManyWork
+pub mod Gathered

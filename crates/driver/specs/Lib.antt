@@ -2,6 +2,8 @@ pub mod Faults
 pub mod Quits
 pub mod Results
 pub mod Workers
+pub mod ManyJobs
 pub mod Turns
 pub mod Running
 pub mod Hiring
+pub mod ManyWork

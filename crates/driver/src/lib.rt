@@ -1,4 +1,5 @@
-//! Threads that draw jobs and carry each out over a shared cache: one transfer at a time each.
+//! Threads that draw jobs and carry each out over a shared cache: one transfer at a time each, or
+//! any number in a loop.
 #![tactic(auto)]
 
 mod bell;
@@ -7,6 +8,7 @@ mod collecting;
 mod fault;
 mod faults;
 mod gate;
+mod many;
 mod quit;
 mod room;
 mod running;
@@ -15,4 +17,5 @@ mod worker;
 
 pub use fault::DriverFault;
 pub use gate::{Gate, NoGate};
+pub use many::{Finished, JobSource, ManyReport, NotBegun, Tools, run_many};
 pub use running::{RunReport, run};

@@ -71,8 +71,8 @@ impl<'d, W: Wire, D: Dial<W>> Room<'d, W, D> {
     }
 }
 
-// So many tasks.
-fn tasks_for<R: RandomSource + AllocGlobal>(
+/// So many tasks.
+pub(crate) fn tasks_for<R: RandomSource + AllocGlobal>(
     rt: &R,
     alloc: Global,
     count: usize,

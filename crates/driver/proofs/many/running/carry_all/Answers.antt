@@ -1,0 +1,24 @@
+-- All that workers leave is gathered.
+use Rattle.std.proofs.Common.{rules, ◌≡◌, List, reverse, subst}
+use Rattle.std.proofs.lemmas.List.{reverse-reverse}
+use Rattle.exchange.specs.Worlds.{world_of}
+use Rattle.driver.specs.ManyWork.{IsManyRun, handed_in, handed_back}
+use Rattle.driver.proofs.many.running.carry_all.Goals as goal
+
+pub gather_work-requires-clause-left : goal.gather_work-requires-clause-left
+gather_work-requires-clause-left g c =
+    let begun = reverse (handed_in g.D.Dial.turn_failures c.args.tools.items) in
+    (begun, c.loop_at_once.ensures.looped begun c.hire_all.ensures.begun)
+
+pub returns-clause-runs : goal.returns-clause-runs
+returns-clause-runs g c =
+    let names = g.N.Names.names in
+    let world = world_of g.W.Wire.untouched g.W.Wire.happened (g.T.Clock.tells c.args.timer.now) in
+    let may_stop = g.T.Timer.may_stop c.args.timer.now in
+    let job_at = g.S.JobSource.job_at c.args.source.now in
+    let failures = g.D.Dial.turn_failures in
+    let handed = handed_in failures c.args.tools.items in
+    let begun = reverse handed in
+    let report = c.gather_work.result in
+    subst (λ l. IsManyRun world may_stop names job_at g.F.Results.took c.args.room.claim.jobs l (handed_back failures report.workers.items) report.end report.drawn) (reverse-reverse handed)
+    (c.gather_work.ensures.gathers begun (c.loop_at_once.ensures.looped begun c.hire_all.ensures.begun))

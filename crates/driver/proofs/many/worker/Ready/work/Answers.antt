@@ -1,0 +1,67 @@
+-- A loop that ran at a new desk did what its end tells.
+use Rattle.std.proofs.Common.{rules, ◌≡◌, refl, sym, subst, ◌∙◌, ℕ, ◌<◌, List, [], None}
+use Rattle.exchange.specs.Worlds.{world_of}
+use Rattle.leasing.specs.Deeds.{Deed}
+use Rattle.desk.specs.Desks.{DeskShown}
+use Rattle.desk.specs.Deeds.{DidAtDesk}
+use Rattle.run_loop.specs.Going.{may_stop_at}
+use Rattle.run_loop.specs.Running.{IsRunning}
+use Rattle.run_loop.proofs.Going.{running_first}
+use Rattle.driver.specs.ManyJobs.{given_out}
+use Rattle.driver.proofs.ManyWork.{nothing_held, none_left}
+use Rattle.driver.proofs.many.worker.Ready.work.Goals as goal
+
+pub returns : goal.returns
+returns g c =
+    let names = g.N.Names.names in
+    let world = world_of g.W.Wire.untouched g.W.Wire.happened (g.T.Clock.tells c.args.common.now.timer.now) in
+    let may_stop = g.T.Timer.may_stop c.args.common.now.timer.now in
+    let desk = c.new-desk.result in
+    let did = λ (old new : DeskShown g.row.W.Denot) (deed : Deed g.row.W.Denot). DidAtDesk {S = g.row.W.Denot} names old new deed in
+    let jobs = c.new-jobs.result in
+    let run = c.run-end in
+    let job_of = g.S.JobSource.job_at jobs.source.now in
+    let source : jobs.source.now ≡ c.args.common.now.source.now = search rules in
+    let drew = run.new.jobs in
+    let begins : given_out jobs.held jobs.seat.drawn ≡ [] = search rules in
+    let is = run.ensures.ends desk c.args.self.results (record {
+      told = [];
+      taken = refl;
+      running = subst (λ (drawn : List ℕ). IsRunning did world may_stop job_of desk desk drawn [] []) (sym begins) (running_first did world may_stop job_of desk);
+    }) in
+    let held : drew.held ≡ None = nothing_held run.result (0 < drew.seat.past) (drew.held ≡ None) run.ensures.complete run.ensures.incomplete in
+    let drawn : given_out drew.held drew.seat.drawn ≡ drew.seat.drawn = search rules in
+    record {
+      work = record {
+        begun = c.args.self.results;
+        ended = run.new.results;
+        failed = g.D.Dial.turn_failures c.args.self.dial;
+        failed_now = g.D.Dial.turn_failures run.new.dial;
+        drawn = drew.seat.drawn;
+        told = is.told;
+        pass = c.into_pass.result;
+        end = run.result;
+      };
+      begun_is = refl;
+      worked = record {
+        before = desk;
+        after = run.new.cache;
+        new_pass = search rules;
+        pass_is = search rules;
+        of_cache = search rules;
+        taken = is.taken;
+        running = subst (λ s. IsRunning did world (may_stop_at run.result may_stop) (g.S.JobSource.job_at s) desk run.new.cache drew.seat.drawn [] is.told) source
+            (subst (λ (l : List ℕ). IsRunning did world (may_stop_at run.result may_stop) job_of desk run.new.cache l [] is.told) drawn is.running);
+        turns = run.ensures.turns;
+      };
+      leaves = record {
+        results = search rules;
+        failed = search rules;
+        pass = search rules;
+        end = search rules;
+        at = search rules;
+        share = search rules;
+        drawn = search rules;
+        past = search rules;
+      };
+    }

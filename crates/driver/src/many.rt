@@ -1,0 +1,13 @@
+//! A run with many jobs at once: each worker has places for some of them, in a loop over a desk.
+
+mod drawn_jobs;
+mod gathering;
+mod job_source;
+mod room;
+mod run_timer;
+mod running;
+mod worker;
+
+pub use job_source::JobSource;
+pub use running::{ManyReport, NotBegun, run_many};
+pub use worker::{Finished, Tools};
