@@ -13,7 +13,7 @@ use budget::Limits;
 use cache::Pool;
 use conn_key::{CountedMemory, read_target};
 use conn_log::Want;
-use exchange::{Clock, Done, Job, Prepared, Slab, Transfer};
+use exchange::{Clock, Done, Ended, Job, Prepared, Slab, Transfer};
 use futures::task::{Doorbell, Poll, Solo};
 use persistence::Method;
 use std::alloc::{AllocGlobal, Global};
@@ -157,7 +157,9 @@ fn waiting<R: RandomSource + AllocGlobal>(
     ends: u32,
 ) -> Option<u32> {
     let (task, mut pool, mut job) = world_of(rt, alloc, 1, 0)?;
-    let mut slab = Slab::new(alloc);
+    let Ok(mut slab) = Slab::new(alloc) else {
+        return None;
+    };
     let mut goes_on = all_join(alloc, &mut slab, &pool, &mut job, others.saturating_add(1));
     let mut good: u32 = 0;
     let mut context = task.begin();
@@ -165,7 +167,12 @@ fn waiting<R: RandomSource + AllocGlobal>(
         if !goes_on || good == ends {
             break;
         }
-        if let Some((done, used)) = slab.poll_next(&mut context, &mut pool, dial, &Still) {
+        if let Some(ended) = slab.poll_next(&mut context, &mut pool, dial, &Still) {
+            let Ended {
+                place: _,
+                done,
+                parts: used,
+            } = ended;
             good = good.saturating_add(matches!(done, Done::Good(_)) as u32);
             goes_on = joins_again(&mut slab, &pool, &mut job, used);
         }

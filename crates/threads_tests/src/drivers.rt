@@ -6,6 +6,7 @@ mod events;
 mod gates;
 mod jobs;
 mod logs;
+mod many;
 mod memory;
 mod orders;
 mod peers;

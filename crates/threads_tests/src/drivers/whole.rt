@@ -163,8 +163,8 @@ fn take_out<N: Names>(passes: &mut Vec<Pass<Did>>, place: usize) -> Pass<Did>
     passes.swap_remove(place)
 }
 
-// Puts one more pass by.
-fn put_by<N: Names>(rt: &impl Abort, passes: &mut Vec<Pass<Did>>, pass: Pass<Did>)
+/// Puts one more pass by.
+pub(crate) fn put_by<N: Names>(rt: &impl Abort, passes: &mut Vec<Pass<Did>>, pass: Pass<Did>)
     requires pass { IsPassOf N.names pass }
     requires passes { All (IsPassOf N.names) passes.old.items }
     ensures { All (IsPassOf N.names) passes.new.items }
