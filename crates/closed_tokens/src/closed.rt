@@ -1,4 +1,4 @@
-ghost use Rattle.std.specs.Prelude.{◌≡◌, [], IfNone, IfOk, IfSome};
+ghost use Rattle.std.specs.Prelude.{◌≡◌, ◌⊎◌, [], true, false, IfNone, IfOk, IfSome};
 ghost use Rattle.closed_tokens.specs.Numbers.{IsNext};
 
 use crate::node::{Link, Node, clear, pop};
@@ -69,6 +69,19 @@ impl ClosedTokens {
         }
         self.gathered = self.list.replace(None);
         pop(&mut self.gathered)
+    }
+
+    /// Whether no token is left to be told.
+    pub fn is_empty(&mut self) -> bool
+        ensures empty { result ≡ true → self.new ≡ [] }
+        ensures none { result ≡ true → self.old ≡ [] }
+        ensures left { result ≡ false → (self.new ≡ self.old) ⊎ (self.old ≡ []) }
+    {
+        if self.gathered.is_some() {
+            return false;
+        }
+        self.gathered = self.list.replace(None);
+        self.gathered.is_none()
     }
 }
 

@@ -160,6 +160,30 @@ pub record GivesBackRead (old new : HeldShown) (slot : Slot) (now : ℕ) : Type 
   pub told : TellsFactsOfSome (reading_in old.readers slot) facts
   pub back : GivesBackSlot old new slot facts now
 
--- why it did not: nothing is read for the slot, or as where the caller tells the facts
-abbrev pub RefusesRead : HeldShown → Slot → SlotError → Type 0
-RefusesRead old slot fault = ((reading_in old.readers slot ≡ None) × (fault ≡ Unread)) ⊎ (back_fault (value_in old.places slot) ≡ Some fault)
+-- the response that is read for the lease of a slot; none where it has no lease
+abbrev pub read_for : Option (Acquired ℕ) → Option Reading → Option Reading
+read_for (Some (Lease lease)) reading = reading
+read_for _ reading = None
+
+abbrev pub reading_for : HeldShown → Slot → Option Reading
+reading_for held slot = read_for (value_in held.places slot) (reading_in held.readers slot)
+
+-- why it did not: nothing is read for the slot, or else as where the caller tells the facts
+abbrev pub fault_of_read : Option Reading → Option (Acquired ℕ) → Option SlotError
+fault_of_read None held = Some Unread
+fault_of_read (Some reading) held = back_fault held
+
+abbrev pub read_fault : HeldShown → Slot → Option SlotError
+read_fault held slot = fault_of_read (reading_in held.readers slot) (value_in held.places slot)
+
+-- pool and places are as before
+abbrev pub HoldsSame : HeldShown → HeldShown → Type 0
+HoldsSame old new = (new.pool ≡ old.pool) × SamePlaces old.places new.places
+
+-- the slot's ticket was claimed: the slot has the lease that its transfer was granted
+pub record GrantsSlot (old new : HeldShown) (slot : Slot) : Type 0 where
+  pub ticket : Ticketed
+  pub its : value_in old.places slot ≡ Some (Wait ticket)
+  pub lease : Leasing ℕ
+  pub done : ClaimsTicket old.pool new.pool ticket (Lease lease)
+  pub changes : ChangesPlace old.places new.places slot.index (filled slot.generation (Lease lease))

@@ -7,14 +7,17 @@ ghost use Rattle.host_rules.specs.Counts.{snapshot_of};
 ghost use Rattle.pool_rules.specs.Calls.{after_limit_of, after_prune, prune_count};
 ghost use Rattle.leasing.specs.Deeds.{AllDone};
 ghost use Rattle.cache.specs.Pools.{IsNewPool, KeepsHosts, StaysPool, all_hosts, host_at};
+ghost use Rattle.cache.specs.Pools.{cut_at};
+ghost use Rattle.bundle.specs.Lease.{IsPartOf, cut_refusal};
+ghost use Rattle.conn_log.specs.Counts.{counts as counts_of};
 ghost use Rattle.cache.specs.Deeds.{DidToPool};
 ghost use Rattle.slot_table.specs.Slots.{value_in};
 ghost use Rattle.closed_tokens.specs.Numbers.{IsNext};
 ghost use Rattle.held_pool.specs.Calls.{AbandonsSlot, AcquiresSlot, Attaches, ClaimsHeld};
 ghost use Rattle.held_pool.specs.Calls.{GivesBackSlot, HasSameRest, RefusesSlot, WithdrawsSlot};
 ghost use Rattle.held_pool.specs.Calls.{attach_fault, back_fault, endings_in, lease_fault};
-ghost use Rattle.held_pool.specs.Calls.{BeginsResponse, FeedsHeld, GivesBackRead, RefusesRead};
-ghost use Rattle.held_pool.specs.Calls.{is_unused_site, ticket_fault};
+ghost use Rattle.held_pool.specs.Calls.{BeginsResponse, FeedsHeld, GivesBackRead, GrantsSlot};
+ghost use Rattle.held_pool.specs.Calls.{HoldsSame, is_unused_site, read_fault, reading_for, ticket_fault};
 ghost use Rattle.persistence.specs.Reader.{new_reader};
 ghost use Rattle.slot_readers.specs.Readers.{EndsSlot, SameReaders, TellsSome, reading_in};
 ghost use Rattle.site_table.specs.Giving.{Gives, Refuses};
@@ -25,15 +28,16 @@ use crate::answers::{Got, SlotError};
 use crate::claiming::claim_from;
 use crate::closing::end_all;
 use crate::spending::{
-    abandon_from, attach_fault, give_back_to, has_lease, lift_lease, take_attached, take_lease,
-    take_ticket, withdraw_from,
+    abandon_from, attach_fault, give_back_to, has_lease, has_ticket, lift_lease, take_attached,
+    take_lease, take_ticket, withdraw_from,
 };
 use crate::used_sites::UsedSites;
+use crate::waiters::Waiters;
 use budget::{Limits, Refusal};
 use bundle::{Acquired, Snapshot};
 use cache::Pool;
 use closed_tokens::{ClosedTokens, Token};
-use conn_log::Want;
+use conn_log::{Counts, Entry, Log, Want};
 use persistence::{Facts, Fed, Method};
 use site_table::{PlaceError, SiteTable};
 use slot_readers::{FeedError, Response, SlotReaders};
@@ -43,7 +47,8 @@ use std::marker::Model;
 
 /// A pool of several hosts whose leases and tickets lie in slots. A transfer's slot is given out
 /// when it acquires, names what the transfer has until that is spent, and nothing after it: a
-/// second or wrong use of a slot changes nothing.
+/// second or wrong use of a slot changes nothing. Waiters are told by [`HeldPool::granted`] once
+/// they have their connections.
 ///
 /// The stream of a connection is a token, a 64-bit number of the caller's. Once the pool has closed
 /// a connection, [`HeldPool::next_closed`] tells its token. It has to be closed in the end.
@@ -53,6 +58,7 @@ pub struct HeldPool {
     closed: ClosedTokens,
     readers: SlotReaders,
     sites: SiteTable,
+    waiters: Waiters,
 }
 
 impl Model for HeldPool {
@@ -87,12 +93,14 @@ impl HeldPool {
     {
         let pool = Pool::new(alloc, limits, hosts)?;
         let closed = ClosedTokens::new(alloc)?;
+        let waiters = Waiters::new(alloc, hosts)?;
         Ok(HeldPool {
             pool,
             slots: SlotTable::new(alloc),
             closed,
             readers: SlotReaders::new(alloc),
             sites: SiteTable::new(alloc, hosts),
+            waiters,
         })
     }
 
@@ -109,9 +117,11 @@ impl HeldPool {
         ensures rest { HasSameRest self.old self.new }
     {
         self.slots.reserve()?;
+        self.waiters.reserve(site)?;
         let mut acquired = acquire_from(&mut self.pool, site, want, now)?;
         let got = got_of(&mut acquired);
         let slot = self.slots.put(acquired);
+        self.waiters.note_acquire(site, slot, got);
         Ok((slot, got))
     }
 
@@ -164,11 +174,50 @@ impl HeldPool {
                 Ok(got)
             }
             Some(Acquired::Wait(ticket)) => {
+                let site = ticket.site();
                 let mut claimed = claim_from(&mut self.pool, ticket);
                 let got = got_of(&mut claimed);
                 self.slots.put_back(slot, claimed);
+                self.waiters.note_claim(site, slot, got);
                 Ok(got)
             }
+        }
+    }
+
+    /// The slot of the next waiter that has its connection since the last call: its connection is
+    /// claimed, and [`HeldPool::claim`] tells which. `None` once no other one has; until something
+    /// is spent, or a limit is changed, none can have it then. A slot whose connection was claimed
+    /// by [`HeldPool::claim`] itself is not told.
+    ///
+    /// It asks the first waiter of each site at which somebody waits, once something was spent: a
+    /// freed connection goes to the first waiter of a site.
+    pub fn granted(&mut self) -> Option<Slot>
+        ensures some { IfSome result (GrantsSlot self.old self.new) }
+        ensures none { IfNone result (HoldsSame self.old self.new) }
+        ensures rest { HasSameRest self.old self.new }
+    {
+        for _ in 0..self.waiters.left() {
+            let slot = self.waiters.next()?;
+            if self.grants(slot) {
+                return Some(slot);
+            }
+            self.waiters.pass();
+        }
+        None
+    }
+
+    // Whether the slot's waiter has its connection, which is claimed then.
+    fn grants(&mut self, slot: Slot) -> bool
+        ensures yes { result ≡ true → GrantsSlot self.old self.new slot }
+        ensures no { result ≡ false → HoldsSame self.old self.new }
+        ensures rest { HasSameRest self.old self.new }
+    {
+        if !has_ticket(&self.slots, slot) {
+            return false;
+        }
+        match self.claim(slot) {
+            Ok(Got::New | Got::Reused(_)) => true,
+            Ok(Got::Wait) | Err(_) => false,
         }
     }
 
@@ -189,6 +238,7 @@ impl HeldPool {
     {
         let lease = take_attached(&mut self.slots, slot)?;
         give_back_to(&mut self.pool, lease, facts, now);
+        self.waiters.ask();
         Ok(())
     }
 
@@ -207,6 +257,7 @@ impl HeldPool {
     {
         let lease = take_lease(&mut self.slots, slot)?;
         abandon_from(&mut self.pool, lease, now);
+        self.waiters.ask();
         Ok(())
     }
 
@@ -224,7 +275,10 @@ impl HeldPool {
         ensures rest { HasSameRest self.old self.new }
     {
         let ticket = take_ticket(&mut self.slots, slot)?;
+        let site = ticket.site();
         withdraw_from(&mut self.pool, ticket, now);
+        self.waiters.leave(site, slot);
+        self.waiters.ask();
         Ok(())
     }
 
@@ -238,6 +292,7 @@ impl HeldPool {
         ensures stays { StaysPool self.old.pool self.new.pool }
         ensures rest { self.new ≡ record self.old { pool = self.new.pool } }
     {
+        self.waiters.ask();
         self.pool.prune(now, max_age, max_life)
     }
 
@@ -258,6 +313,7 @@ impl HeldPool {
         ensures stays { StaysPool self.old.pool self.new.pool }
         ensures rest { self.new ≡ record self.old { pool = self.new.pool } }
     {
+        self.waiters.ask();
         self.pool.set_host_limit(site, limit, now)
     }
 
@@ -271,6 +327,46 @@ impl HeldPool {
             × (refusal ≡ Refusal.BadSite)) }
     {
         self.pool.look(site)
+    }
+
+    /// The counts of a site since the pool was made. [`Refusal::BadSite`] exactly if there is no such
+    /// site. It scans the entries of the site's log since the last cut.
+    pub fn counts(&self, site: u32) -> Result<Counts, Refusal>
+        ensures ok { IfOk result (λ told. (site < length self.now.pool.hosts)
+            × (told ≡ counts_of (host_at self.now.pool site).log)) }
+        ensures err { IfErr result (λ refusal. (length self.now.pool.hosts ≤ site)
+            × (refusal ≡ Refusal.BadSite)) }
+    {
+        match self.pool.log(site) {
+            Some(log) => Ok(log.counts()),
+            None => Err(Refusal::BadSite),
+        }
+    }
+
+    /// A site's log; `None` exactly if there is no such site.
+    pub fn log(&self, site: u32) -> Option<&Log>
+        ensures some { IfSome result (λ log. (site < length self.now.pool.hosts)
+            × (log.now.entries ≡ (host_at self.now.pool site).log)) }
+        ensures cut { IfSome result (λ log.
+            log.now.cut_away ≡ (host_at self.now.pool site).cut_away) }
+        ensures none { IfNone result (length self.now.pool.hosts ≤ site) }
+    {
+        self.pool.log(site)
+    }
+
+    /// Cuts a site's log, as [`Pool::cut`] does, and is refused as that is.
+    pub fn cut(&mut self, site: u32) -> Result<Vec<Entry>, Refusal>
+        ensures part { IfOk result (λ part. IsPartOf (host_at self.old.pool site) part.items) }
+        ensures ok { OnOk result (self.new.pool ≡ cut_at site self.old.pool) }
+        ensures there { OnOk result (site < length self.old.pool.hosts) }
+        ensures bad_site { length self.old.pool.hosts ≤ site → result ≡ Err Refusal.BadSite }
+        ensures refused { let host = host_at self.old.pool site in
+            site < length self.old.pool.hosts → IfErr result (λ reason. reason ≡ cut_refusal host) }
+        ensures err { OnErr result (self.new ≡ self.old) }
+        ensures all { all_hosts self.new.pool ≡ all_hosts self.old.pool }
+        ensures rest { self.new ≡ record self.old { pool = self.new.pool } }
+    {
+        self.pool.cut(site)
     }
 
     /// The token of the next connection that the pool has closed, whose socket the caller closes
@@ -313,6 +409,7 @@ impl HeldPool {
             closed,
             readers: _,
             sites: _,
+            waiters: _,
         } = self;
         end_all(&mut pool, &mut slots, now);
         slots.destroy_empty();
@@ -385,21 +482,29 @@ impl HeldPool {
         self.readers.feed(slot, piece)
     }
 
-    /// Tells that the connection of the slot's response has ended; whether a response is read.
+    /// Tells that the connection of the response that is read for the slot's lease has ended;
+    /// whether one is read.
     pub fn end(&mut self, slot: Slot) -> bool
         ensures ended { result ≡ true → EndsSlot self.old.readers self.new.readers slot }
-        ensures none { result ≡ false → reading_in self.old.readers slot ≡ None }
+        ensures leased { result ≡ true → lease_fault (value_in self.old.places slot) ≡ None }
+        ensures none { result ≡ false → reading_for self.old slot ≡ None }
         ensures same { result ≡ false → SameReaders self.old.readers self.new.readers }
         ensures rest { self.new ≡ record self.old { readers = self.new.readers } }
     {
+        if !has_lease(&self.slots, slot) {
+            return false;
+        }
         self.readers.end(slot)
     }
 
-    /// What the slot's response tells so far.
+    /// What the response tells so far that is read for the slot's lease; `None` if none is.
     pub fn response(&self, slot: Slot) -> Option<Response>
-        ensures some { IfSome result (TellsSome (reading_in self.now.readers slot)) }
-        ensures none { IfNone result (reading_in self.now.readers slot ≡ None) }
+        ensures some { IfSome result (TellsSome (reading_for self.now slot)) }
+        ensures none { IfNone result (reading_for self.now slot ≡ None) }
     {
+        if !has_lease(&self.slots, slot) {
+            return None;
+        }
         self.readers.response(slot)
     }
 
@@ -408,12 +513,12 @@ impl HeldPool {
     ///
     /// # Errors
     ///
-    /// `Unread` if no response was begun for the slot, and else those of
+    /// `Unread` if no response was begun for the slot, whatever it has, and else those of
     /// [`HeldPool::give_back_as`]; then nothing changes.
     #[inline(always)]
     pub fn give_back(&mut self, slot: Slot, now: u64) -> Result<(), SlotError>
         ensures ok { OnOk result (GivesBackRead self.old self.new slot now) }
-        ensures err { IfErr result (RefusesRead self.old slot) }
+        ensures err { IfErr result (λ fault. read_fault self.old slot ≡ Some fault) }
         ensures same { OnErr result (self.new ≡ self.old) }
         ensures rest { HasSameRest self.old self.new }
     {

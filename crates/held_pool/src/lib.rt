@@ -9,6 +9,7 @@ mod closing;
 mod held_pool;
 mod spending;
 mod used_sites;
+mod waiters;
 
 pub use answers::{Got, SlotError};
 pub use held_pool::HeldPool;

@@ -28,6 +28,14 @@ pub(crate) fn has_lease(slots: &Slots, slot: Slot) -> bool
     matches!(slots.get(slot), Some(Acquired::Lease(_)))
 }
 
+// Whether the slot has a ticket.
+#[inline(always)]
+pub(crate) fn has_ticket(slots: &Slots, slot: Slot) -> bool
+    ensures ticket { result ≡ true → ticket_fault (value_in slots.now.places.items slot) ≡ None }
+{
+    matches!(slots.get(slot), Some(Acquired::Wait(_)))
+}
+
 // Takes the slot's lease out.
 #[inline(always)]
 pub(crate) fn take_lease(slots: &mut Slots, slot: Slot) -> Result<Lease<Token>, SlotError>

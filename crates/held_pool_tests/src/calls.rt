@@ -140,6 +140,9 @@ fn a_response_that_was_read_gives_its_lease_back(rt: HostRuntime) {
     assert_eq!(rt; held.site("c.test:80"), Ok(1));
     assert_eq!(rt; held.attach(rt.alloc(), slot, 4), Ok(()));
     assert_eq!(rt; held.give_back(slot, 1), Err(SlotError::Unread));
+    let (waiter, _) = held.acquire(site, want_of(2), 0).expect(&rt, "a ticket");
+    assert_eq!(rt; held.give_back(waiter, 1), Err(SlotError::Unread));
+    assert_eq!(rt; held.withdraw(waiter, 1), Ok(()));
     assert_eq!(rt; held.feed(slot, RESPONSE), Err(FeedError::NoReader));
     assert_eq!(rt;
         held.begin_response(rt.alloc(), slot, Method::Get, false),
@@ -149,6 +152,8 @@ fn a_response_that_was_read_gives_its_lease_back(rt: HostRuntime) {
     assert_eq!(rt; held.response(slot).map(|told| told.persists), Some(true));
     assert_eq!(rt; held.give_back(slot, 1), Ok(()));
     assert_eq!(rt; held.feed(slot, RESPONSE), Err(FeedError::NoReader));
+    assert!(rt; held.response(slot).is_none());
+    assert!(rt; !held.end(slot));
     assert_eq!(rt; held.give_back(slot, 1), Err(SlotError::Stranger));
     assert_eq!(rt; held.look(site).map(|counts| counts.idle), Ok(1));
     assert!(rt; close(held, 1));
@@ -188,4 +193,55 @@ fn an_allocation_failure_changes_nothing(rt: HostRuntime) {
     assert_eq!(rt; held.feed(slot, RESPONSE), Ok(Fed::Whole));
     assert_eq!(rt; held.give_back(slot, 1), Ok(()));
     assert!(rt; close(held, 1));
+}
+
+#[test]
+fn waiters_are_told_in_their_order(rt: HostRuntime) {
+    let mut held = pool_of(&rt);
+    let (first, _) = held.acquire(0, want_of(1), 0).expect(&rt, "a lease");
+    assert_eq!(rt; held.attach(rt.alloc(), first, 5), Ok(()));
+    let (second, _) = held.acquire(0, want_of(2), 0).expect(&rt, "a ticket");
+    let (third, _) = held.acquire(0, want_of(3), 0).expect(&rt, "a ticket");
+    let (fourth, _) = held.acquire(0, want_of(4), 0).expect(&rt, "a ticket");
+    assert_eq!(rt; held.granted(), None);
+    assert_eq!(rt; held.give_back_as(first, facts_of(true), 1), Ok(()));
+    assert_eq!(rt; held.granted(), Some(second));
+    assert_eq!(rt; held.granted(), None);
+    assert_eq!(rt; held.claim(second), Ok(Got::Reused(5)));
+    // One that withdraws, or claims by itself, is not told.
+    assert_eq!(rt; held.withdraw(third, 1), Ok(()));
+    assert_eq!(rt; held.granted(), None);
+    assert_eq!(rt; held.abandon(second, 2), Ok(()));
+    assert_eq!(rt; held.claim(fourth), Ok(Got::New));
+    assert_eq!(rt; held.granted(), None);
+    assert_eq!(rt; held.abandon(fourth, 2), Ok(()));
+    assert_eq!(rt; held.next_closed(), Some(5));
+    assert!(rt; close(held, 0));
+}
+
+#[test]
+fn waiters_of_each_site_are_told(rt: HostRuntime) {
+    let limits = Limits::new(2, 2, 2).expect(&rt, "limits");
+    let mut held = HeldPool::new(rt.alloc(), limits, 3).expect(&rt, "memory");
+    let (first, _) = held.acquire(0, want_of(1), 0).expect(&rt, "a lease");
+    let (second, _) = held.acquire(0, want_of(2), 0).expect(&rt, "a lease");
+    // The total is at its limit: the others wait for turns.
+    let (third, got) = held.acquire(1, want_of(3), 0).expect(&rt, "a ticket");
+    assert_eq!(rt; got, Got::Wait);
+    let (fourth, got) = held.acquire(2, want_of(4), 0).expect(&rt, "a ticket");
+    assert_eq!(rt; got, Got::Wait);
+    assert_eq!(rt; held.abandon(first, 1), Ok(()));
+    assert_eq!(rt; held.abandon(second, 1), Ok(()));
+    // Each of them is told once.
+    assert!(rt; held.granted().is_some());
+    assert!(rt; held.granted().is_some());
+    assert!(rt; held.granted().is_none());
+    assert!(rt; held.claim(third) == Ok(Got::New));
+    assert!(rt; held.claim(fourth) == Ok(Got::New));
+    assert_eq!(rt; held.counts(0).expect(&rt, "counts").opened, 2);
+    assert!(rt; held.counts(3).is_err());
+    let part = held.cut(0).expect(&rt, "memory");
+    assert_eq!(rt; part.len(), 4);
+    assert_eq!(rt; held.counts(0).expect(&rt, "counts").closed, 2);
+    assert!(rt; close(held, 0));
 }
