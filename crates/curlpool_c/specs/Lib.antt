@@ -1,0 +1,10 @@
+pub mod Owned
+pub mod Numbers
+pub mod Statuses
+pub mod Structs
+pub mod Behind
+pub mod Transfers
+pub mod Sites
+pub mod Logs
+pub mod Targets
+pub mod Lifecycle
