@@ -1,0 +1,3 @@
+module curlpool
+
+go 1.19
