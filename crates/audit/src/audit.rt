@@ -6,7 +6,7 @@ ghost use Rattle.std.specs.List.{sum_by};
 ghost use Rattle.monitor.specs.Tables.{open_at};
 ghost use Rattle.trace_text.specs.Lines.{trace_reading};
 ghost use Rattle.audit.specs.Audits.{not_begun, open_in, Comes, ReadsEvent, ReadsOther, ReadsLine};
-ghost use Rattle.audit.specs.Audits.{Begins, KeepsLogs};
+ghost use Rattle.audit.specs.Audits.{Begins, KeepsLogs, is_wait, with_line};
 
 use crate::fault::AuditFault;
 use crate::finding::{Broken, Finding};
@@ -16,6 +16,7 @@ use conn_key::{CountedMemory, Sites, SitesFault};
 use script_text::{Action, Command, FaultKind, SiteWord, first_word};
 use std::alloc::{AllocError, Global};
 use std::marker::Model;
+use std::mem;
 use trace_text::{Line, Traced, TracedEvent, read_line};
 
 /// An audit of a trace: it reads line by line, and keeps the violations that it found.
@@ -43,7 +44,7 @@ pub struct Audit {
 
 impl Model for Audit {
     ghost use Rattle.std.specs.Prelude.{length};
-    ghost use Rattle.audit.specs.Audits.{Audited};
+    ghost use Rattle.audit.specs.Audits.{Audited, Counts};
 
     ghost Value = { Audited };
 
@@ -52,10 +53,12 @@ impl Model for Audit {
       sites = length audit.sites;
       hosts = audit.hosts;
       found = length audit.findings.items;
-      lines = audit.line;
-      events = audit.events;
-      passed_by = audit.passed_by;
-      has_waits = audit.has_waits;
+      counts = record {
+        lines = audit.line;
+        events = audit.events;
+        passed_by = audit.passed_by;
+        has_waits = audit.has_waits;
+      };
     } };
 }
 
@@ -79,6 +82,13 @@ fn is_bad_limit(event: &TracedEvent) -> bool {
         TracedEvent::Limit { limit } => limit > GREATEST_LIMIT,
         _ => false,
     }
+}
+
+/// Whether an event tells that a transfer waits.
+fn is_wait(event: &TracedEvent) -> bool
+    ensures { result ≡ is_wait event.now }
+{
+    matches!(*event, TracedEvent::Waited { .. })
 }
 
 /// Reads an event at hosts that were made.
@@ -129,30 +139,47 @@ impl Audit {
         self.findings.as_slice()
     }
 
+    /// Hands out the violations found since the last call, in the order in which they show.
+    pub fn take_findings(&mut self) -> Vec<Finding>
+        ensures taken { length result.items ≡ self.old.found }
+        ensures left { self.new ≡ record self.old { found = 0 } }
+    {
+        mem::replace(&mut self.findings, Vec::new(self.alloc))
+    }
+
+    /// The open connections of a host, first opened first, and its waiters, first in, first out.
+    /// The only error is an allocation failure.
+    pub fn state_of(&self, host: u32) -> Result<String, AllocError> {
+        match &self.hosts {
+            Some(hosts) => hosts.state_of(self.alloc, host),
+            None => Ok(String::new(self.alloc)),
+        }
+    }
+
     /// How many lines were read.
     pub fn line(&self) -> u64
-        ensures { result ≡ self.now.lines }
+        ensures { result ≡ self.now.counts.lines }
     {
         self.line
     }
 
     /// How many lines told of events.
     pub fn events(&self) -> u64
-        ensures { result ≡ self.now.events }
+        ensures { result ≡ self.now.counts.events }
     {
         self.events
     }
 
     /// How many lines were of connections whose opening was not taken.
     pub fn passed_by(&self) -> u64
-        ensures { result ≡ self.now.passed_by }
+        ensures { result ≡ self.now.counts.passed_by }
     {
         self.passed_by
     }
 
     /// Whether any line told of a wait.
     pub fn has_waits(&self) -> bool
-        ensures { result ≡ self.now.has_waits }
+        ensures { result ≡ self.now.counts.has_waits }
     {
         self.has_waits
     }
@@ -180,7 +207,8 @@ impl Audit {
     /// trace, stands in a wrong place, or has bad limits or a bad site; those of events; and
     /// [`AuditFault::Memory`].
     pub fn read(&mut self, line: &[u8]) -> Result<(), AuditFault>
-        ensures line { OnOk result (ReadsLine (trace_reading line.now) self.old self.new) }
+        ensures line { OnOk result
+            (ReadsLine (trace_reading line.now) (with_line self.old) self.new) }
         ensures unread { IfErr (trace_reading line.now)
             (λ kind. result ≡ Err (AuditFault.Line kind)) }
     {
@@ -300,7 +328,7 @@ impl Audit {
         }
         let outcome = read_in(&mut self.hosts, traced, self.line)?;
         self.events = self.events.saturating_add(1);
-        self.has_waits |= matches!(traced.event, TracedEvent::Waited { .. });
+        self.has_waits = self.has_waits || is_wait(&traced.event);
         match outcome {
             Outcome::Taken => self.note_last(line),
             Outcome::HeldBack => self.note_last(line),

@@ -2,6 +2,7 @@
 
 use crate::rule::{Name, Rule};
 use std::fmt;
+use trace_text::{Line, read_line};
 
 /// What happened at the earlier line that matters.
 #[derive(Clone, Copy, Debug, PartialEq, Eq)]
@@ -54,4 +55,18 @@ pub struct Finding {
     /// The words of that line, one space between.
     pub event: String,
     pub broken: Broken,
+}
+
+impl Finding {
+    /// The host at which the rule is broken: the one that the rule names, or else the event's.
+    pub fn host(&self) -> u32 {
+        match self.broken.rule {
+            Rule::WaiterBesideIdle { connection, .. } => connection.host,
+            Rule::WaiterBesideRoom { host, .. } => host,
+            _ => match read_line(self.event.as_bytes()) {
+                Ok(Some(Line::Event(traced))) => traced.host,
+                _ => 0,
+            },
+        }
+    }
 }

@@ -27,8 +27,9 @@ pub(crate) struct TracedConnection {
     pub forbids_reuse: bool,
     /// Where that transfer got it.
     pub start_line: u64,
-    /// Where it last came back.
+    /// Where it last came back, and when.
     pub return_line: u64,
+    pub since: u64,
     /// Why it has to be closed, if it came back to be; its transfer holds it until then.
     pub ended: Option<Ended>,
 }
@@ -127,6 +128,7 @@ impl TracedHost {
             forbids_reuse: want.forbid_reuse,
             start_line: line,
             return_line: 0,
+            since: 0,
             ended: None,
         };
         let _ = self.connections.insert(connection, opened)?;
@@ -155,6 +157,7 @@ impl TracedHost {
         &mut self,
         connection: u64,
         transfer: u64,
+        moment: u64,
         line: u64,
     ) -> Result<(), AllocError> {
         let _ = self.idle.insert(line, connection)?;
@@ -163,6 +166,7 @@ impl TracedHost {
         if let Some(open) = self.connections.get_mut(&connection) {
             open.holder = None;
             open.return_line = line;
+            open.since = moment;
         }
         Ok(())
     }
@@ -337,18 +341,18 @@ impl TracedHost {
     /// An event of the log was taken.
     pub(crate) fn note(
         &mut self,
-        event: &TracedEvent,
+        traced: &Traced,
         want: Want,
         line: u64,
     ) -> Result<(), AllocError> {
         self.last_line = line;
-        match *event {
+        match traced.event {
             TracedEvent::Opened { connection, .. } => self.note_opened(connection, want, line),
             TracedEvent::Leased { connection, .. } => self.note_leased(connection, want, line),
             TracedEvent::Returned {
                 connection,
                 transfer,
-            } => self.note_returned(connection, transfer, line),
+            } => self.note_returned(connection, transfer, traced.moment, line),
             TracedEvent::Closed { connection, .. } => {
                 self.note_closed(connection);
                 Ok(())

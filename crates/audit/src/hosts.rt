@@ -183,7 +183,7 @@ fn read_at(
             Ok(Outcome::Broken(broken))
         }
         None => {
-            tables.note(event, want, line)?;
+            tables.note(traced, want, line)?;
             Ok(Outcome::Taken)
         }
     }

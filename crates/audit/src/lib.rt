@@ -13,6 +13,7 @@ pub mod laws;
 mod report;
 mod rests;
 mod rule;
+mod state;
 
 pub use audit::Audit;
 pub use ended::Ended;
