@@ -1,0 +1,30 @@
+-- What several writes come to.
+use Rattle.std.proofs.Common.{ℕ, List, [], ◌++◌, arith}
+use Rattle.std.proofs.KnownBytes.{Appends-nil, Appends-trans}
+use Rattle.script_text.specs.declared.fault.FaultKind.{FaultKind}
+use Rattle.script_text.specs.declared.fault.FaultKind.TheVariants.{Memory, Read, Write, ScriptTooLong, LineTooLong, Unknown, Form, Place, BadLimits, BadSite, TooManySites}
+use Rattle.script_run.specs.Streams.{Stream, PutFails}
+use Rattle.audit_run.specs.Writing.{Writes, stop_of_output, writes_of}
+
+pub writes-none : (stream : Stream) → Writes stream stream 0
+writes-none stream = record { text = []; appended = Appends-nil stream.bytes; failures = omega arith }
+
+pub writes-more : (old mid new : Stream) (failed : ℕ) → Writes old mid 0 → Writes mid new failed → Writes old new failed
+writes-more old mid new failed first second = record {
+  text = first.text ++ second.text;
+  appended = Appends-trans old.bytes mid.bytes new.bytes first.text second.text first.appended second.appended;
+  failures = omega (arith, first.failures, second.failures);
+}
+
+pub writes-fails : (old new : Stream) (bytes : List ℕ) (kind : FaultKind) → PutFails old new bytes kind → Writes old new (writes_of (stop_of_output kind))
+writes-fails old new bytes Write ((front, proper, appended), one) = record { text = front; appended = appended; failures = one }
+writes-fails old new bytes Memory (appended, same, lacks) = record { text = []; appended = appended; failures = omega (arith, same) }
+writes-fails old new bytes Read fails = absurd fails
+writes-fails old new bytes ScriptTooLong fails = absurd fails
+writes-fails old new bytes LineTooLong fails = absurd fails
+writes-fails old new bytes Unknown fails = absurd fails
+writes-fails old new bytes Form fails = absurd fails
+writes-fails old new bytes Place fails = absurd fails
+writes-fails old new bytes BadLimits fails = absurd fails
+writes-fails old new bytes BadSite fails = absurd fails
+writes-fails old new bytes TooManySites fails = absurd fails
