@@ -1,2 +1,3 @@
 pub mod Streaming
 pub mod Running
+pub mod Traces

@@ -1,5 +1,5 @@
 -- What running the script in a file does.
-use Rattle.std.specs.Prelude.{◌≡◌, Option, Some, None, Result, IsErrAnd}
+use Rattle.std.specs.Prelude.{◌≡◌, Bool, Option, Some, None, Result, IsErrAnd}
 use Rattle.script_text.specs.declared.fault.FaultKind.TheVariants.{Read}
 use Rattle.script_text.specs.declared.fault.ScriptFault.{ScriptFault}
 use Rattle.script_run.specs.Streams.{Stream}
@@ -10,12 +10,12 @@ abbrev pub CannotRead : {A : Type 0} → Stream → Stream → Result A ScriptFa
 CannotRead old new result = IsErrAnd result (λ fault. (fault.line ≡ 0) × (fault.kind ≡ Read)) × (new ≡ old)
 
 -- the script in a file that was opened is run; one that could not be opened can't be read
-abbrev pub RunsOpened : {A : Type 0} → Option Stream → Stream → Stream → Result A ScriptFault → Type 0
-RunsOpened None old new result = CannotRead old new result
-RunsOpened (Some unread) old new result = (left : Stream) × RunsScript unread left old new result
+abbrev pub RunsOpened : {A : Type 0} → Bool → Option Stream → Stream → Stream → Result A ScriptFault → Type 0
+RunsOpened traced None old new result = CannotRead old new result
+RunsOpened traced (Some unread) old new result = (left : Stream) × RunsScript traced unread left old new result
 
 -- a file was opened, and the script in it was run
-pub record RunsFile {A : Type 0} (Opens : Option Stream → Type 0) (old new : Stream) (result : Result A ScriptFault) : Type 0 where
+pub record RunsFile {A : Type 0} (traced : Bool) (Opens : Option Stream → Type 0) (old new : Stream) (result : Result A ScriptFault) : Type 0 where
   pub opened : Option Stream
   pub opens : Opens opened
-  pub runs : RunsOpened opened old new result
+  pub runs : RunsOpened traced opened old new result

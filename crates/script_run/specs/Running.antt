@@ -1,11 +1,12 @@
 -- What running a script does to reader and writer.
-use Rattle.std.specs.Prelude.{◌≡◌, ◌<◌, ◌≤◌, ◌+◌, ◌⊎◌, ◌≢◌, ℕ, length, List, [], Option, Result, Ok, Err}
+use Rattle.std.specs.Prelude.{◌≡◌, ◌<◌, ◌≤◌, ◌+◌, ◌⊎◌, ◌≢◌, ℕ, Bool, length, List, [], Option, Result, Ok, Err}
 use Rattle.std.specs.Io.KnownBytes.{Appends, Consumes, IsAtEnd}
 use Rattle.script_text.specs.declared.fault.FaultKind.{FaultKind}
 use Rattle.script_text.specs.declared.fault.FaultKind.TheVariants.{Memory, Read, Write, ScriptTooLong}
 use Rattle.script_text.specs.declared.fault.ScriptFault.{ScriptFault}
-use Rattle.script_rules.specs.Transcript.{Transcript, transcript, Ends, IsProperFront, LONGEST_SCRIPT}
+use Rattle.script_rules.specs.Transcript.{Transcript, Ends, IsProperFront, LONGEST_SCRIPT}
 use Rattle.script_rules.specs.Meaning.{Run}
+use Rattle.script_run.specs.Traces.{output_of}
 use Rattle.script_run.specs.Streams.{Stream, SameFailures, OneMoreFailed}
 
 -- what a line wrote that means this, and the run after it
@@ -64,12 +65,12 @@ abbrev pub ReadsAll : {A : Type 0} → Option (List ℕ) → List ℕ → List �
 ReadsAll left script written (Ok done) = IsAtEnd left
 ReadsAll left script written (Err fault) = ReadsOn left script written fault.line fault.kind
 
--- a script was read and something was written: a run of the script's transcript, that ends so; a read failed where the
--- fault says so, and nowhere else
-pub record RunsScript {A : Type 0} (unread left old new : Stream) (result : Result A ScriptFault) : Type 0 where
+-- a script was read and something was written: a run of the script's trace or transcript, that ends so; a read failed where
+-- the fault says so, and nowhere else
+pub record RunsScript {A : Type 0} (traced : Bool) (unread left old new : Stream) (result : Result A ScriptFault) : Type 0 where
   pub script : List ℕ
   pub consumed : Consumes unread.bytes left.bytes script
-  pub lines : RunsLines old new (transcript script) result
+  pub lines : RunsLines old new (output_of traced script) result
   pub whole : ReadsAll left.bytes script lines.written result
   pub failures : left.failures ≡ unread.failures + failed_reads result
 

@@ -8,6 +8,6 @@ mod streams;
 mod watched;
 
 pub use files::{ScriptFiles, SystemFiles};
-pub use script::{run_bytes, run_file, run_lines, run_script};
+pub use script::{run_bytes, run_file, run_lines, run_script, untraced_outputs_are_transcripts};
 pub use streams::{SCRIPT_LIMIT, Sink, Source, read_script};
 pub use watched::{ReadFailed, Watched, WriteFailed};

@@ -1,35 +1,40 @@
 //! A script, from its bytes to its transcript.
 
-ghost use Rattle.std.specs.Prelude.{◌≤◌, length, IfErr};
+ghost use Rattle.std.specs.Prelude.{◌≡◌, ◌≤◌, ◌++◌, length, false, IfErr, IfOk};
 ghost use Rattle.script_text.specs.Lines.{lines};
-ghost use Rattle.script_rules.specs.Transcript.{told, line_step, transcript};
+ghost use Rattle.script_text.specs.Grammar.{reading};
+ghost use Rattle.script_rules.specs.Transcript.{Answers};
 ghost use Rattle.script_run.specs.Running.{IsOfNoStream, RunsLine, RunsLines, RunsScript};
 ghost use Rattle.script_run.specs.Running.{RunsWithoutReading};
 ghost use Rattle.script_run.specs.Files.{RunsFile};
 ghost use Rattle.script_run.specs.Streams.{CanCount, in_memory};
+ghost use Rattle.script_run.specs.Traces.{echo_of, output_of, stands, told_as, traced_step};
+ghost use Rattle.script_run.specs.Traces.{AnUntracedOutputIsTheTranscript};
 
 use crate::files::ScriptFiles;
 use crate::streams::{Sink, Source, read_script};
 use script_engine::{Engine, Machine, line_text};
-use script_text::{FaultKind, ScriptFault, first_line};
-use std::alloc::Global;
+use script_text::{Action, Command, FaultKind, ScriptFault, first_line, read_line};
+use std::alloc::{AllocError, Global};
 
 /// Runs the script that the reader gives, and writes its transcript: the lines of each event and
-/// reply, in order. The fault says at which line the script ended, and why. What was written before
+/// reply, in order. If `is_traced` it writes its trace: each line but `limit` stands before those
+/// that it causes. The fault says at which line the script ended, and why. What was written before
 /// a fault stays: what the lines before that line write, and where writing failed a part of its
 /// own.
 pub fn run_script<R: Source, W: Sink>(
     alloc: Global,
+    is_traced: bool,
     reader: &mut R,
     writer: &mut W,
 ) -> Result<(), ScriptFault>
     requires reader { CanCount (R.source reader.old) }
     requires writer { CanCount (W.sink writer.old) }
-    ensures { RunsScript (R.source reader.old) (R.source reader.new) (W.sink writer.old)
+    ensures { RunsScript is_traced (R.source reader.old) (R.source reader.new) (W.sink writer.old)
         (W.sink writer.new) result }
 {
     match read_script(alloc, reader) {
-        Ok(script) => run_engine(alloc, script.as_slice(), writer),
+        Ok(script) => run_engine(alloc, is_traced, script.as_slice(), writer),
         Err(kind) => Err(ScriptFault { line: 0, kind }),
     }
 }
@@ -38,16 +43,17 @@ pub fn run_script<R: Source, W: Sink>(
 /// the fault is `Read`, at no line, and nothing is written.
 pub fn run_file<F: ScriptFiles, W: Sink>(
     alloc: Global,
+    is_traced: bool,
     files: &mut F,
     name: &str,
     writer: &mut W,
 ) -> Result<(), ScriptFault>
     requires { CanCount (W.sink writer.old) }
-    ensures { RunsFile (F.opens files.old files.new name.now) (W.sink writer.old)
+    ensures { RunsFile is_traced (F.opens files.old files.new name.now) (W.sink writer.old)
         (W.sink writer.new) result }
 {
     match files.open(name) {
-        Some(mut file) => run_script(alloc, &mut file, writer),
+        Some(mut file) => run_script(alloc, is_traced, &mut file, writer),
         None => Err(ScriptFault {
             line: 0,
             kind: FaultKind::Read,
@@ -59,25 +65,30 @@ pub fn run_file<F: ScriptFiles, W: Sink>(
 /// or a write's: where `out` can't grow, the fault is `Memory`.
 pub fn run_bytes(alloc: Global, script: &[u8], out: &mut Vec<u8>) -> Result<(), ScriptFault>
     ensures lines { RunsLines (in_memory out.old.items) (in_memory out.new.items)
-        (transcript script.now) result }
+        (output_of false script.now) result }
     ensures streams { IfErr result IsOfNoStream }
 {
     let mut reader = script;
-    run_script(alloc, &mut reader, out)
+    run_script(alloc, false, &mut reader, out)
 }
 
 /// Runs the lines of a script on an engine of its own.
-fn run_engine<W: Sink>(alloc: Global, script: &[u8], writer: &mut W) -> Result<(), ScriptFault>
+fn run_engine<W: Sink>(
+    alloc: Global,
+    is_traced: bool,
+    script: &[u8],
+    writer: &mut W,
+) -> Result<(), ScriptFault>
     requires short { length script.now ≤ 1048576 }
     requires writer { CanCount (W.sink writer.old) }
     ensures { RunsWithoutReading (W.sink writer.old) (W.sink writer.new)
-        (transcript script.now) result }
+        (output_of is_traced script.now) result }
 {
     let mut engine = match Engine::new(alloc) {
         Ok(engine) => engine,
         Err(kind) => return Err(ScriptFault { line: 0, kind }),
     };
-    let result = run_lines(alloc, &mut engine, script, writer);
+    let result = run_lines(alloc, is_traced, &mut engine, script, writer);
     let _ = engine.end();
     result
 }
@@ -89,6 +100,7 @@ fn run_engine<W: Sink>(alloc: Global, script: &[u8], writer: &mut W) -> Result<(
 /// Asked of the caller: the script has at most 1,048,576 bytes.
 pub fn run_lines<M: Machine, W: Sink>(
     alloc: Global,
+    is_traced: bool,
     machine: &mut M,
     script: &[u8],
     writer: &mut W,
@@ -96,14 +108,14 @@ pub fn run_lines<M: Machine, W: Sink>(
     requires short { length script.now ≤ 1048576 }
     requires writer { CanCount (W.sink writer.old) }
     ensures { RunsWithoutReading (W.sink writer.old) (W.sink writer.new)
-        (told (M.run machine.old) 1 (lines script.now)) result }
+        (told_as is_traced (M.run machine.old) 1 (lines script.now)) result }
 {
     let mut rest = script;
     let mut line: u32 = 0;
     while !rest.is_empty() {
         line += 1;
         let (first, others) = first_line(rest);
-        match run_line(alloc, machine, first, writer) {
+        match run_line(alloc, is_traced, machine, first, writer) {
             Ok(()) => rest = others,
             Err(kind) => return Err(ScriptFault { line, kind }),
         }
@@ -114,19 +126,72 @@ pub fn run_lines<M: Machine, W: Sink>(
     }
 }
 
-/// Does what a line says, and writes the lines that tell of it.
+/// Does what a line says, and writes the lines that tell of it; in a trace with itself before them.
 fn run_line<M: Machine, W: Sink>(
     alloc: Global,
+    is_traced: bool,
     machine: &mut M,
     line: &[u8],
     writer: &mut W,
 ) -> Result<(), FaultKind>
     requires { CanCount (W.sink writer.old) }
     ensures { RunsLine (W.sink writer.old) (W.sink writer.new)
-        (line_step (M.run machine.old) line.now) (M.run machine.new) result }
+        (traced_step is_traced (M.run machine.old) line.now) (M.run machine.new) result }
 {
-    match line_text(alloc, machine, line) {
-        Ok(text) => writer.put(text.as_bytes()),
+    match line_output(alloc, is_traced, machine, line) {
+        Ok(text) => writer.put(text.as_slice()),
         Err(kind) => Err(kind),
     }
 }
+
+/// Does what a line says, and gives the lines that tell of it; in a trace with itself before them.
+fn line_output<M: Machine>(
+    alloc: Global,
+    is_traced: bool,
+    machine: &mut M,
+    line: &[u8],
+) -> Result<Vec<u8>, FaultKind>
+    ensures { Answers (λ output. output.items)
+        (traced_step is_traced (M.run machine.old) line.now) result (M.run machine.new) }
+{
+    let text = match line_text(alloc, machine, line) {
+        Ok(text) => text,
+        Err(kind) => return Err(kind),
+    };
+    if !is_traced {
+        return Ok(text.into_bytes());
+    }
+    match echoed(alloc, line, text.as_bytes()) {
+        Ok(whole) => Ok(whole),
+        Err(_) => Err(FaultKind::Memory),
+    }
+}
+
+/// A line with what it causes behind it. A new limit is left out: if it is taken, what it causes is
+/// the same text.
+fn echoed(alloc: Global, line: &[u8], text: &[u8]) -> Result<Vec<u8>, AllocError>
+    ensures { IfOk result (λ whole. whole.items ≡ echo_of line.now ++ text.now) }
+{
+    let mut whole = Vec::new(alloc);
+    if stands(line) {
+        whole.extend_from_slice(line)?;
+        whole.push(b'\n')?;
+    }
+    whole.extend_from_slice(text)?;
+    Ok(whole)
+}
+
+/// Whether a line stands in the trace.
+fn stands(line: &[u8]) -> bool
+    ensures { result ≡ stands (reading line.now) }
+{
+    match read_line(line) {
+        Ok(Some(Command::At { action, .. })) => !matches!(action, Action::Limit { .. }),
+        _ => true,
+    }
+}
+
+/// Without its lines between them, the output is the transcript.
+pub fn untraced_outputs_are_transcripts()
+    ensures { AnUntracedOutputIsTheTranscript }
+{}

@@ -1,7 +1,8 @@
 use Rattle.std.proofs.Common.{sym, ◌∙◌, ap, subst}
 use Rattle.script_text.specs.Lines.{lines}
 use Rattle.script_rules.specs.Meaning.{Run}
-use Rattle.script_rules.specs.Transcript.{Transcript, told}
+use Rattle.script_rules.specs.Transcript.{Transcript}
+use Rattle.script_run.specs.Traces.{told_as}
 use Rattle.script_run.specs.Running.{RunsWithoutReading}
 use Rattle.script_run.proofs.Running.{short-script}
 use Rattle.script_run.proofs.script.run_engine.Goals as goal
@@ -9,5 +10,5 @@ use Rattle.script_run.proofs.script.run_engine.Goals as goal
 pub returns : goal.returns
 returns g c =
     let sink = g.W.Sink.sink in
-    let is = ap (λ (run : Run). told run 1 (lines c.args.script.now)) c.in-Ok.ensures.ok ∙ sym (short-script c.args.script.now c.requires.short) in
+    let is = ap (λ (run : Run). told_as c.args.is_traced run 1 (lines c.args.script.now)) c.in-Ok.ensures.ok ∙ sym (short-script c.args.is_traced c.args.script.now c.requires.short) in
     subst (λ (meant : Transcript). RunsWithoutReading (sink c.args.writer.now) (sink c.run_lines-result.new.writer) meant c.run_lines-result.result) is c.run_lines-result.ensures

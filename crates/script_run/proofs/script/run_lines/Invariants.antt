@@ -1,6 +1,6 @@
 use Rattle.std.proofs.Common.{◌≤◌, ◌+◌, length}
 use Rattle.script_text.specs.Lines.{lines}
-use Rattle.script_rules.specs.Transcript.{told}
+use Rattle.script_run.specs.Traces.{told_as}
 use Rattle.script_run.proofs.Running.{RunSoFar}
 use Rattle.script_run.proofs.script.run_lines.Given as goal
 
@@ -10,7 +10,7 @@ invariant-loop-rest g l =
     let sink = g.W.Sink.sink in
     record {
       count : l.line + length l.rest ≤ 1048576;
-      so_far : RunSoFar (sink l.fn.writer) (sink l.writer) (told (run l.fn.machine) 1 (lines l.script)) (told (run l.machine) (l.line + 1) (lines l.rest)) l.line;
+      so_far : RunSoFar (sink l.fn.writer) (sink l.writer) (told_as l.fn.is_traced (run l.fn.machine) 1 (lines l.script)) (told_as l.fn.is_traced (run l.machine) (l.line + 1) (lines l.rest)) l.line;
     }
 
 abbrev pub decreases-loop-rest : goal.decreases-loop-rest
