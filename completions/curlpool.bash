@@ -3,19 +3,24 @@ _curlpool() {
     local word=${COMP_WORDS[COMP_CWORD]} command=${COMP_WORDS[1]}
     local options
     if [ "$COMP_CWORD" -eq 1 ]; then
-        options="get load script help --help --version"
+        options="get load script audit help --help --version"
     else
         case $command in
             get) options="--head --max-age --timeout --help" ;;
             load) options="--sites --jobs --workers --host-limit --total --connects --help" ;;
-            script) options="--help" ;;
-            help) options="get load script" ;;
+            script) options="--trace --help" ;;
+            audit) options="--all --json --state --help" ;;
+            help) options="get load script audit" ;;
         esac
     fi
-    if [ "$command" = script ] && [ "$COMP_CWORD" -gt 1 ] && [ "${word#-}" = "$word" ]; then
-        mapfile -t COMPREPLY < <(compgen -f -- "$word")
-    else
-        mapfile -t COMPREPLY < <(compgen -W "$options" -- "$word")
-    fi
+    case $command in
+        script | audit)
+            if [ "$COMP_CWORD" -gt 1 ] && [ "${word#-}" = "$word" ]; then
+                mapfile -t COMPREPLY < <(compgen -f -- "$word")
+                return
+            fi
+            ;;
+    esac
+    mapfile -t COMPREPLY < <(compgen -W "$options" -- "$word")
 }
 complete -F _curlpool curlpool ./curlpool

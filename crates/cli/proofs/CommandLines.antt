@@ -5,7 +5,6 @@ use Rattle.std.specs.Option.{option_map}
 use Rattle.std.specs.Str.{bytes_eq}
 use Rattle.clap.specs.Words.{Kinds, IsAmong, Row, Text, kind_of, subcommand_name_of, subcommand_rows_of}
 use Rattle.clap.specs.declared.parser.matches.ArgMatches.{ArgMatches}
-use Rattle.clap.specs.Walk.{first_of}
 use Rattle.clap.specs.declared.error.Error.{Error}
 use Rattle.clap.specs.declared.error.kind.ErrorKind.{ErrorKind}
 use Rattle.clap.specs.declared.error.kind.ErrorKind.TheVariants as kinds
@@ -16,7 +15,9 @@ use Rattle.cli.specs.declared.command_line.request.Request.{Request}
 use Rattle.cli.specs.declared.command_line.request.Request.TheVariants as requests
 use Rattle.cli.specs.declared.command_line.Words.{Words}
 use Rattle.cli.specs.declared.command_line.Words.TheVariants.{NoMemory}
-use Rattle.cli.specs.CommandLine.{AnswersError, AnswersGet, AnswersLoad, Asks, HasManner, Said, asked_file, file_said, get, load, manner_of, request_file, said_in, script, word_faults}
+use Rattle.cli.specs.CommandLine.{AnswersError, AnswersGet, AnswersLoad, Asks, HasManner, Said, audit, file_said, get, load, manner_of, request_file, said_in, script, word_faults}
+use Rattle.cli.specs.ScriptWords.{script_said_in}
+use Rattle.cli.specs.AuditWords.{audit_said_in}
 use Rattle.cli.specs.GetWords.{GetSaid, get_said_in}
 use Rattle.cli.specs.LoadWords.{IsLoadRefused, IsWhyNot, LoadSaid, load_said_in}
 
@@ -38,9 +39,10 @@ lacks-memory faults kind before mid after (inr here) wants is same = inl (kind, 
 -- what an error makes the words ask for is what they may ask for
 pub asks : (faults : Kinds) (said : Said) (kind : ErrorKind) (before mid after : ℕ) (request : Request) → (kind ≡ kinds.OutOfMemory) ⊎ IsAmong kind faults
     → (kind ≡ kinds.OutOfMemory → Rises before mid) → before ≤ mid → AnswersError (manner_of kind) mid after request → Asks faults said before after request
-asks faults said kind before mid after (requests.Script input) fails wants kept answers = absurd answers
+asks faults said kind before mid after (requests.Script asked) fails wants kept answers = absurd answers
 asks faults said kind before mid after (requests.Get plan) fails wants kept answers = absurd answers
 asks faults said kind before mid after (requests.Load options) fails wants kept answers = absurd answers
+asks faults said kind before mid after (requests.Audit words) fails wants kept answers = absurd answers
 asks faults said kind before mid after (requests.Tell text) fails wants kept answers = among faults kind manners.Asked fails answers (λ e. cc)
 asks faults said kind before mid after (requests.Refuse text) fails wants kept answers = inl (among faults kind manners.Mistake fails answers (λ e. cc))
 asks faults said kind before mid after requests.NoMemory fails wants kept (inl (is, same)) = lacks-memory faults kind before mid after fails wants is same
@@ -52,6 +54,7 @@ pub asks-get : (faults : Kinds) (words : GetSaid) (before mid after : ℕ) (requ
 asks-get faults words before mid after (requests.Script input) none kept answers = absurd answers
 asks-get faults words before mid after (requests.Get plan) none kept answers = (none, answers)
 asks-get faults words before mid after (requests.Load options) none kept answers = absurd answers
+asks-get faults words before mid after (requests.Audit asked) none kept answers = absurd answers
 asks-get faults words before mid after (requests.Tell text) none kept answers = absurd answers
 asks-get faults words before mid after (requests.Refuse text) none kept answers = inr (none, answers)
 asks-get faults words before mid after requests.NoMemory none kept answers = inr (rises-from before mid after kept answers)
@@ -62,6 +65,7 @@ pub asks-load : (faults : Kinds) (words : LoadSaid) (before mid after : ℕ) (re
 asks-load faults words before mid after (requests.Script input) none kept answers = absurd answers
 asks-load faults words before mid after (requests.Get plan) none kept answers = absurd answers
 asks-load faults words before mid after (requests.Load options) none kept answers = (none, answers)
+asks-load faults words before mid after (requests.Audit asked) none kept answers = absurd answers
 asks-load faults words before mid after (requests.Tell text) none kept answers = absurd answers
 asks-load faults words before mid after (requests.Refuse text) none kept answers = inr (none, answers)
 asks-load faults words before mid after requests.NoMemory none kept answers = inr (rises-from before mid after kept answers)
@@ -72,6 +76,7 @@ pub answers-load : (words : LoadSaid) (error : Error) (before mid after : ℕ) (
 answers-load words error before mid after (requests.Script input) why wants kept answers = absurd answers
 answers-load words error before mid after (requests.Get plan) why wants kept answers = absurd answers
 answers-load words error before mid after (requests.Load options) why wants kept answers = absurd answers
+answers-load words error before mid after (requests.Audit asked) why wants kept answers = absurd answers
 answers-load words error before mid after (requests.Tell text) (inl lacks) wants kept answers = let no : manners.Memory ≡ manners.Asked = sym (ap manner_of lacks) ∙ answers in cc
 answers-load words error before mid after (requests.Tell text) (inr (is, refused)) wants kept answers = let no : manners.Mistake ≡ manners.Asked = sym (ap manner_of is) ∙ answers in cc
 answers-load words error before mid after (requests.Refuse text) (inl lacks) wants kept answers = let no : manners.Memory ≡ manners.Mistake = sym (ap manner_of lacks) ∙ answers in cc
@@ -85,6 +90,7 @@ pub asks-no-file : (faults : Kinds) (said : Said) (before after : ℕ) (request 
 asks-no-file faults said before after (requests.Script input) asks none = ap file_said (sym asks.1) ∙ none
 asks-no-file faults said before after (requests.Get plan) asks none = refl
 asks-no-file faults said before after (requests.Load options) asks none = refl
+asks-no-file faults said before after (requests.Audit words) asks none = ap file_said (sym asks.1) ∙ none
 asks-no-file faults said before after (requests.Tell text) asks none = refl
 asks-no-file faults said before after (requests.Refuse text) asks none = refl
 asks-no-file faults said before after requests.NoMemory asks none = refl
@@ -97,10 +103,11 @@ lack-memory words is = subst (λ w. HasManner (word_faults w) manners.Memory) (s
 pub or-false : {a b c : Bool} → a ≡ (b || c) → b ≡ false → c ≡ false → a ≡ false
 or-false {a} {b} {c} is first second = is ∙ ap (λ x. x || c) first ∙ second
 
--- what the rows of a subcommand say, where its name is get, or load, or neither
-abbrev said_if : Bool → Bool → List Row → Said
-said_if is_get is_load rows =
-    if is_get then get (get_said_in rows) else (if is_load then load (load_said_in rows) else script (asked_file (first_of (codes "FILE") rows)))
+-- what the rows of a subcommand say, where its name is get, or load, or audit, or none of them
+abbrev said_if : Bool → Bool → Bool → List Row → Said
+said_if is_get is_load is_audit rows =
+    if is_get then get (get_said_in rows) else (if is_load then load (load_said_in rows)
+    else (if is_audit then audit (audit_said_in rows) else script (script_said_in rows)))
 
 -- what the subcommand that matches name says, by its name and its rows
 entered : (name : Text) (rows : List Row) (met : Option (Text × List Row)) → Some name ≡ option_map (λ (p : Text × List Row). p.0) met → Some rows ≡ option_map (λ (p : Text × List Row). p.1) met
@@ -110,15 +117,21 @@ entered name rows (Some p) a b = ap₂ (λ (n : Text) (r : List Row). Some (n, r
 
 pub says-get : (name : Text) (rows : List Row) (met : Option (Text × List Row)) → Some name ≡ option_map (λ (p : Text × List Row). p.0) met → Some rows ≡ option_map (λ (p : Text × List Row). p.1) met
     → bytes_eq name (codes "get") ≡ true → get (get_said_in rows) ≡ said_in met
-says-get name rows met a b is = sym (ap said_in (entered name rows met a b) ∙ ap (λ t. said_if t (bytes_eq name (codes "load")) rows) is)
+says-get name rows met a b is = sym (ap said_in (entered name rows met a b) ∙ ap (λ t. said_if t (bytes_eq name (codes "load")) (bytes_eq name (codes "audit")) rows) is)
 
 pub says-load : (name : Text) (rows : List Row) (met : Option (Text × List Row)) → Some name ≡ option_map (λ (p : Text × List Row). p.0) met → Some rows ≡ option_map (λ (p : Text × List Row). p.1) met
     → bytes_eq name (codes "get") ≡ false → bytes_eq name (codes "load") ≡ true → load (load_said_in rows) ≡ said_in met
-says-load name rows met a b other is = sym (ap said_in (entered name rows met a b) ∙ ap₂ (λ g l. said_if g l rows) other is)
+says-load name rows met a b other is = sym (ap said_in (entered name rows met a b) ∙ ap₂ (λ g l. said_if g l (bytes_eq name (codes "audit")) rows) other is)
 
 pub says-script : (name : Text) (rows : List Row) (met : Option (Text × List Row)) → Some name ≡ option_map (λ (p : Text × List Row). p.0) met → Some rows ≡ option_map (λ (p : Text × List Row). p.1) met
-    → bytes_eq name (codes "get") ≡ false → bytes_eq name (codes "load") ≡ false → script (asked_file (first_of (codes "FILE") rows)) ≡ said_in met
-says-script name rows met a b other is = sym (ap said_in (entered name rows met a b) ∙ ap₂ (λ g l. said_if g l rows) other is)
+    → bytes_eq name (codes "get") ≡ false → bytes_eq name (codes "load") ≡ false → bytes_eq name (codes "audit") ≡ false → script (script_said_in rows) ≡ said_in met
+says-script name rows met a b first second third =
+    sym (ap said_in (entered name rows met a b) ∙ ap₂ (λ g l. said_if g l (bytes_eq name (codes "audit")) rows) first second ∙ ap (λ t. said_if false false t rows) third)
+
+pub says-audit : (name : Text) (rows : List Row) (met : Option (Text × List Row)) → Some name ≡ option_map (λ (p : Text × List Row). p.0) met → Some rows ≡ option_map (λ (p : Text × List Row). p.1) met
+    → bytes_eq name (codes "get") ≡ false → bytes_eq name (codes "load") ≡ false → bytes_eq name (codes "audit") ≡ true → audit (audit_said_in rows) ≡ said_in met
+says-audit name rows met a b first second is =
+    sym (ap said_in (entered name rows met a b) ∙ ap₂ (λ g l. said_if g l (bytes_eq name (codes "audit")) rows) first second ∙ ap (λ t. said_if false false t rows) is)
 
 first-part : {A : Type 0} (name : A → Text) (rows : A → List Row) (met : Option A) → option_map name met ≡ option_map (λ (p : Text × List Row). p.0) (option_map (λ (a : A). (name a, rows a)) met)
 first-part name rows None = refl

@@ -5,7 +5,8 @@ use Rattle.std.specs.Option.{option_map}
 use Rattle.std.specs.Borrow.{Bor}
 use Rattle.clap.specs.Words.{Row, Text}
 use Rattle.clap.specs.Walk.{all_of, first_of}
-use Rattle.cli.specs.GetWords.{GetSaid, get_said_in, is_set}
+use Rattle.cli.specs.Inputs.{is_set}
+use Rattle.cli.specs.GetWords.{GetSaid, get_said_in}
 
 pub rows-say : (rows : List Row) (head : Bool) (max_age timeout : Option Text) (urls : List Text) → head ≡ is_set (first_of (codes "head") rows) → max_age ≡ first_of (codes "max-age") rows
     → timeout ≡ first_of (codes "timeout") rows → urls ≡ unwrap_or (all_of (codes "URL") rows) []

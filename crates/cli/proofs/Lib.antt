@@ -4,3 +4,4 @@ pub mod Plans
 pub mod GetRows
 pub mod LoadRows
 pub mod LoadPlans
+pub mod FlagRows

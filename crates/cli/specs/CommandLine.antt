@@ -1,9 +1,8 @@
 -- The program's command line: what its words ask for, and what the program then does.
-use Rattle.std.specs.Prelude.{◌≡◌, ◌⊎◌, ℕ, true, codes, List, [], ◌∷◌, ◌++◌, map, string_bytes, Option, Some, None, if◌then◌else◌, Result, Ok, Err}
+use Rattle.std.specs.Prelude.{◌≡◌, ◌⊎◌, ℕ, Bool, true, false, codes, List, [], ◌∷◌, ◌++◌, map, string_bytes, Option, Some, None, if◌then◌else◌, Result, Ok, Err}
 use Rattle.std.specs.Str.{bytes_eq}
 use Rattle.clap.specs.Words.{App, Kinds, IsAmong, Row, Rule, Text, fault_of, new_app, new_rule, subcommand_of, with_rule, with_subcommand}
 use Rattle.clap.specs.Lexer.{usize_max}
-use Rattle.clap.specs.Walk.{first_of}
 use Rattle.clap.specs.declared.builder.action.ArgAction.TheVariants.{SetTrue}
 use Rattle.clap.specs.declared.error.kind.ErrorKind.{ErrorKind}
 use Rattle.clap.specs.declared.error.kind.ErrorKind.TheVariants as kinds
@@ -14,9 +13,7 @@ use Rattle.cli.specs.declared.command_line.Subcommand.TheVariants as subcommands
 use Rattle.cli.specs.declared.command_line.Words.{Words}
 use Rattle.cli.specs.declared.command_line.Words.TheVariants.{Given, NotText, NoMemory}
 use Rattle.cli.specs.declared.get.plan.GetPlan.{GetPlan}
-use Rattle.cli.specs.declared.script.input.ScriptInput.{ScriptInput}
 use Rattle.cli.specs.declared.loading.options.LoadOptions.{LoadOptions}
-use Rattle.cli.specs.declared.script.input.ScriptInput.TheVariants.{Standard, File}
 use Rattle.cli.specs.declared.command_line.request.Manner.{Manner}
 use Rattle.cli.specs.declared.command_line.request.Manner.TheVariants as manners
 use Rattle.cli.specs.declared.command_line.request.Request.{Request}
@@ -28,35 +25,44 @@ use Rattle.cli.specs.GetPlan.{IsPlanOf}
 use Rattle.cli.specs.GetWords.{GetSaid, IsRefused, get_said_by, get_said_in}
 use Rattle.cli.specs.Loading.{WritesText}
 use Rattle.cli.specs.LoadWords.{IsLoadOf, IsLoadRefused, LoadSaid, load_said_by, load_said_in}
+use Rattle.cli.specs.Inputs.{name_of}
+use Rattle.cli.specs.ScriptWords.{ScriptSaid, script_said_by, script_said_in}
+use Rattle.cli.specs.AuditWords.{AuditSaid, audit_said_by, audit_said_in}
+use Rattle.cli.specs.Auditing.{AnswersAudit, Opening}
 
--- curlpool has a version and no help subcommand, and needs one of its three subcommands
+-- curlpool has a version and no help subcommand, and needs one of its four subcommands
 abbrev pub needing_a_subcommand : App → App
 needing_a_subcommand app = record app { top = record app.top { has_version = true; subcommand_required = true; disable_help_subcommand = true } }
 
--- script may be given a file
-abbrev pub script_app : App
-script_app = with_rule (new_app (codes "script")) (new_rule (codes "FILE"))
+-- a flag, which may be used once
+abbrev pub flag_rule : Text → Rule
+flag_rule name = record (new_rule name) { long = Some name; action = Some SetTrue }
 
--- get has a flag, two options of one value each, and takes one URL or more
-abbrev pub head_rule : Rule
-head_rule = record (new_rule (codes "head")) { long = Some (codes "head"); action = Some SetTrue }
+-- script has a flag, and may be given a file
+abbrev pub script_app : App
+script_app = with_rule (with_rule (new_app (codes "script")) (flag_rule (codes "trace"))) (new_rule (codes "FILE"))
 
 abbrev pub value_rule : Text → Rule
 value_rule name = record (new_rule name) { long = Some name; value_names = 1 }
 
+-- get has a flag, two options of one value each, and takes one URL or more
 abbrev pub url_rule : Rule
 url_rule = record (new_rule (codes "URL")) { range = Some (record { start_inclusive = 1; end_inclusive = usize_max }); required = true }
 
 abbrev pub get_app : App
-get_app = with_rule (with_rule (with_rule (with_rule (new_app (codes "get")) head_rule) (value_rule (codes "max-age"))) (value_rule (codes "timeout"))) url_rule
+get_app = with_rule (with_rule (with_rule (with_rule (new_app (codes "get")) (flag_rule (codes "head"))) (value_rule (codes "max-age"))) (value_rule (codes "timeout"))) url_rule
 
 -- load has six options of one value each
 abbrev pub load_app : App
 load_app = with_rule (with_rule (with_rule (with_rule (with_rule (with_rule (new_app (codes "load")) (value_rule (codes "sites"))) (value_rule (codes "jobs"))) (value_rule (codes "workers")))
     (value_rule (codes "host-limit"))) (value_rule (codes "total"))) (value_rule (codes "connects"))
 
+-- audit has three flags, and may be given a file
+abbrev pub audit_app : App
+audit_app = with_rule (with_rule (with_rule (with_rule (new_app (codes "audit")) (flag_rule (codes "all"))) (flag_rule (codes "json"))) (flag_rule (codes "state"))) (new_rule (codes "FILE"))
+
 abbrev pub curlpool : App
-curlpool = with_subcommand (with_subcommand (with_subcommand (needing_a_subcommand (new_app (codes "curlpool"))) script_app.top) get_app.top) load_app.top
+curlpool = with_subcommand (with_subcommand (with_subcommand (with_subcommand (needing_a_subcommand (new_app (codes "curlpool"))) script_app.top) get_app.top) load_app.top) audit_app.top
 
 -- the words as they are read: `help COMMAND` is `COMMAND --help`, and `help` alone is `--help`
 abbrev pub read_words : List Text → List Text
@@ -72,24 +78,22 @@ word_faults (Given words) = faults_of (map string_bytes words.items)
 word_faults NotText = kinds.ValueValidation ∷ []
 word_faults NoMemory = kinds.OutOfMemory ∷ []
 
--- what words say: to run the script in a file, or else on standard input; to fetch URLs; to carry out a load; or nothing
+-- what words say: to run the script in a file, or else on standard input; to fetch URLs; to carry out a load; to judge a
+-- trace; or nothing
 pub data Said : Type 0 where
   nothing : Said
-  script : Option Text → Said
+  script : ScriptSaid → Said
   get : GetSaid → Said
   load : LoadSaid → Said
-
--- the file to be read, if the words name that one; none is standard input, which `-` names too
-abbrev pub asked_file : Option Text → Option Text
-asked_file None = None
-asked_file (Some name) = if bytes_eq name (codes "-") then None else Some name
+  audit : AuditSaid → Said
 
 -- what matches say, by the name and the rows of the subcommand
 abbrev pub said_in : Option (Text × List Row) → Said
-said_in None = script None
+said_in None = script (record { traced = false; file = None })
 said_in (Some entered) =
     if bytes_eq entered.0 (codes "get") then get (get_said_in entered.1)
-    else (if bytes_eq entered.0 (codes "load") then load (load_said_in entered.1) else script (asked_file (first_of (codes "FILE") entered.1)))
+    else (if bytes_eq entered.0 (codes "load") then load (load_said_in entered.1)
+    else (if bytes_eq entered.0 (codes "audit") then audit (audit_said_in entered.1) else script (script_said_in entered.1)))
 
 abbrev pub said_after : List Text → Said
 said_after words = said_in (subcommand_of curlpool (read_words words))
@@ -99,19 +103,17 @@ said (Given words) = said_after (map string_bytes words.items)
 said NotText = nothing
 said NoMemory = nothing
 
--- the file that a script is to be read from; none is standard input, or no script
+-- the file that a script or a trace is to be read from; none is standard input, or neither
 abbrev pub file_said : Said → Option Text
-file_said (script file) = file
+file_said (script said) = said.file
+file_said (audit said) = said.file
 file_said _ = None
 
-abbrev pub name_of : ScriptInput → Option Text
-name_of Standard = None
-name_of (File name) = Some (string_bytes name)
-
 abbrev pub said_by : Subcommand → Said
-said_by (subcommands.Script input) = script (name_of input)
+said_by (subcommands.Script words) = script (script_said_by words)
 said_by (subcommands.Get words) = get (get_said_by words)
 said_by (subcommands.Load words) = load (load_said_by words)
+said_by (subcommands.Audit words) = audit (audit_said_by words)
 
 -- what an error of the words is: want of memory, a request for help or the version, or a mistake
 abbrev pub manner_of : ErrorKind → Manner
@@ -122,9 +124,10 @@ manner_of _ = manners.Mistake
 
 -- what an error makes the words ask for, where so many wants of memory were counted before its text was made and after
 abbrev pub AnswersError : Manner → ℕ → ℕ → Request → Type 0
-AnswersError manner before after (requests.Script input) = ⊥
+AnswersError manner before after (requests.Script words) = ⊥
 AnswersError manner before after (requests.Get plan) = ⊥
 AnswersError manner before after (requests.Load options) = ⊥
+AnswersError manner before after (requests.Audit words) = ⊥
 AnswersError manner before after (requests.Tell text) = manner ≡ manners.Asked
 AnswersError manner before after (requests.Refuse text) = manner ≡ manners.Mistake
 AnswersError manner before after requests.NoMemory = ((manner ≡ manners.Memory) × (after ≡ before)) ⊎ Rises before after
@@ -166,16 +169,18 @@ SaysLoad _ options = ⊥
 -- what words with these faults, that say so, may ask for, where so many wants of memory were counted before they were
 -- read and after
 abbrev pub Asks : Kinds → Said → ℕ → ℕ → Request → Type 0
-Asks faults said before after (requests.Script input) = (faults ≡ []) × (said ≡ script (name_of input))
+Asks faults said before after (requests.Script words) = (faults ≡ []) × (said ≡ script (script_said_by words))
 Asks faults said before after (requests.Get plan) = (faults ≡ []) × PlansGet said plan
 Asks faults said before after (requests.Load options) = (faults ≡ []) × SaysLoad said options
+Asks faults said before after (requests.Audit words) = (faults ≡ []) × (said ≡ audit (audit_said_by words))
 Asks faults said before after (requests.Tell text) = HasManner faults manners.Asked
 Asks faults said before after (requests.Refuse text) = HasManner faults manners.Mistake ⊎ ((faults ≡ []) × RefusesSaid said)
 Asks faults said before after requests.NoMemory = HasManner faults manners.Memory ⊎ Rises before after
 
--- the file that a request asks for; none is standard input, or no script
+-- the file that a request asks for; none is standard input, or neither a script nor a trace
 abbrev pub request_file : Request → Option Text
-request_file (requests.Script input) = name_of input
+request_file (requests.Script words) = name_of words.input
+request_file (requests.Audit words) = name_of words.input
 request_file _ = None
 
 -- the status of a program that ran a script
@@ -183,27 +188,23 @@ abbrev pub status_of : {A : Type 0} → Result A ScriptFault → ℕ
 status_of (Ok done) = 0
 status_of (Err fault) = 3
 
--- what opening a file of that name may give: its stream, or none
-abbrev pub Opening : Type 1
-Opening = Text → Option Stream → Type 0
-
 -- the script on standard input was run: nothing else was read or written
-pub record RunsAsked (unread left old new : Stream) (status : ℕ) : Type 0 where
+pub record RunsAsked (traced : Bool) (unread left old new : Stream) (status : ℕ) : Type 0 where
   pub result : Result (Unit {0}) ScriptFault
-  pub runs : RunsScript unread left old new result
+  pub runs : RunsScript traced unread left old new result
   pub ends : status ≡ status_of result
 
 -- the script in a file was run: nothing else was read or written
-pub record RunsNamed (Opens : Option Stream → Type 0) (unread left old new : Stream) (status : ℕ) : Type 0 where
+pub record RunsNamed (Opens : Option Stream → Type 0) (traced : Bool) (unread left old new : Stream) (status : ℕ) : Type 0 where
   pub unread_yet : left ≡ unread
   pub result : Result (Unit {0}) ScriptFault
-  pub runs : RunsFile Opens old new result
+  pub runs : RunsFile traced Opens old new result
   pub ends : status ≡ status_of result
 
 -- a script is read from the file of that name, or from standard input
-abbrev pub AnswersScript : Opening → Option Text → Stream → Stream → Stream → Stream → ℕ → Type 0
-AnswersScript Opens None unread left old new status = RunsAsked unread left old new status
-AnswersScript Opens (Some name) unread left old new status = RunsNamed (Opens name) unread left old new status
+abbrev pub AnswersScript : Opening → Option Text → Bool → Stream → Stream → Stream → Stream → ℕ → Type 0
+AnswersScript Opens None traced unread left old new status = RunsAsked traced unread left old new status
+AnswersScript Opens (Some name) traced unread left old new status = RunsNamed (Opens name) traced unread left old new status
 
 -- a text was told: nothing was read
 pub record TellsText (text : List ℕ) (unread left old new : Stream) (status : ℕ) : Type 0 where
@@ -229,13 +230,14 @@ pub record AnswersPlan (Runs : Stream → Stream → ℕ → Type 0) (unread lef
 abbrev pub LoadRun : Type 1
 LoadRun = LoadOptions → Stream → Stream → ℕ → Type 0
 
--- what is done for a request, and the status: a script is run, or a plan or a load carried out; help or the version is
--- told; words that are refused, and want of memory while they are read, end the program at once; the network is left alone,
+-- what is done for a request, and the status: a script is run, a plan or a load carried out, or a trace judged; help or the
+-- version is told; words that are refused, and want of memory while they are read, end the program at once; the network is left alone,
 -- but for a plan
 abbrev pub AnswersRequest : Opening → PlanRun → Type 0 → LoadRun → Request → Stream → Stream → Stream → Stream → ℕ → Type 0
-AnswersRequest Opens Runs Alone Loads (requests.Script input) unread left old new status = AnswersScript Opens (name_of input) unread left old new status × Alone
+AnswersRequest Opens Runs Alone Loads (requests.Script words) unread left old new status = AnswersScript Opens (name_of words.input) words.is_traced unread left old new status × Alone
 AnswersRequest Opens Runs Alone Loads (requests.Get plan) unread left old new status = AnswersPlan (Runs plan) unread left old new status
 AnswersRequest Opens Runs Alone Loads (requests.Load options) unread left old new status = AnswersPlan (Loads options) unread left old new status × Alone
+AnswersRequest Opens Runs Alone Loads (requests.Audit words) unread left old new status = AnswersAudit Opens (name_of words.input) words.telling unread left old new status × Alone
 AnswersRequest Opens Runs Alone Loads (requests.Tell text) unread left old new status = TellsText (string_bytes text) unread left old new status × Alone
 AnswersRequest Opens Runs Alone Loads (requests.Refuse text) unread left old new status = EndsAtOnce 2 unread left old new status × Alone
 AnswersRequest Opens Runs Alone Loads requests.NoMemory unread left old new status = EndsAtOnce 4 unread left old new status × Alone
@@ -276,13 +278,20 @@ abbrev pub small_said : List (List ℕ) → Said
 small_said words = said_after (codes "curlpool" ∷ words)
 
 abbrev pub TakesFile : Type 0
-TakesFile = (faults_after (codes "script" ∷ codes "a" ∷ []) ≡ []) × (small_said (codes "script" ∷ codes "a" ∷ []) ≡ script (Some (codes "a")))
+TakesFile = (faults_after (codes "script" ∷ codes "a" ∷ []) ≡ []) × (small_said (codes "script" ∷ codes "a" ∷ []) ≡ script (record { traced = false; file = Some (codes "a") }))
+
+abbrev pub from_input : ScriptSaid
+from_input = record { traced = false; file = None }
 
 abbrev pub TakesStandardInput : Type 0
-TakesStandardInput = (small_said (codes "script" ∷ []) ≡ script None) × (small_said (codes "script" ∷ codes "-" ∷ []) ≡ script None)
+TakesStandardInput = (small_said (codes "script" ∷ []) ≡ script from_input) × (small_said (codes "script" ∷ codes "-" ∷ []) ≡ script from_input)
 
 abbrev pub TakesDash : Type 0
 TakesDash = faults_after (codes "script" ∷ codes "-" ∷ []) ≡ []
+
+abbrev pub TakesTraceFlag : Type 0
+TakesTraceFlag = (faults_after (codes "script" ∷ codes "a" ∷ codes "--trace" ∷ []) ≡ [])
+    × (small_said (codes "script" ∷ codes "a" ∷ codes "--trace" ∷ []) ≡ script (record { traced = true; file = Some (codes "a") }))
 
 abbrev pub a_get : List (List ℕ)
 a_get = codes "get" ∷ codes "--head" ∷ codes "a" ∷ codes "--timeout" ∷ codes "9" ∷ codes "b" ∷ []
@@ -308,3 +317,14 @@ RefusesNumberTwice = faults_after (codes "load" ∷ codes "--total=1" ∷ codes 
 
 abbrev pub WantsNumber : Type 0
 WantsNumber = faults_after (codes "load" ∷ codes "--sites" ∷ []) ≡ kinds.InvalidValue ∷ []
+
+abbrev pub an_audit : List (List ℕ)
+an_audit = codes "audit" ∷ codes "--all" ∷ codes "a" ∷ codes "--state" ∷ []
+
+abbrev pub TakesTrace : Type 0
+TakesTrace = (faults_after an_audit ≡ [])
+    × (small_said an_audit ≡ audit (record { telling = record { all = true; json = false; state = true }; file = Some (codes "a") }))
+    × (small_said (codes "audit" ∷ codes "-" ∷ []) ≡ audit (record { telling = record { all = false; json = false; state = false }; file = None }))
+
+abbrev pub RefusesFlagTwice : Type 0
+RefusesFlagTwice = faults_after (codes "audit" ∷ codes "--json" ∷ codes "--json" ∷ []) ≡ kinds.ArgumentConflict ∷ []

@@ -1,8 +1,8 @@
 -- What the words after `get` say, and when they are refused.
 use Rattle.std.specs.Prelude.{◌≡◌, ◌≢◌, ◌⊎◌, ◌<◌, ◌^◌, ◌&&◌, ℕ, Bool, true, false, nat_le, codes, List, [], length, map, string_bytes, Option, None, Some, unwrap_or, if◌then◌else◌}
-use Rattle.std.specs.Str.{bytes_eq, chars}
+use Rattle.std.specs.Str.{chars}
 use Rattle.std.specs.List.{Any, list_any}
-use Rattle.std.specs.Option.{option_and_then, option_map, option_map_or}
+use Rattle.std.specs.Option.{option_and_then, option_map}
 use Rattle.clap.specs.Words.{Row, Text}
 use Rattle.clap.specs.Walk.{all_of, first_of}
 use Rattle.conn_key.specs.Target.{GivesTarget, Refuses}
@@ -11,6 +11,7 @@ use Rattle.conn_key.specs.declared.target.KeyError.TheVariants.{Memory}
 use Rattle.conn_key.specs.declared.target.Target.{Target}
 use Rattle.script_text.specs.Words.{number}
 use Rattle.socket.specs.Hosts.{HasNoAddress}
+use Rattle.cli.specs.Inputs.{is_set}
 use Rattle.cli.specs.Printable.{is_unprintable}
 use Rattle.cli.specs.declared.get.words.GetWords.{GetWords}
 
@@ -20,10 +21,6 @@ pub record GetSaid : Type 0 where
   pub max_age : Option Text
   pub timeout : Option Text
   pub urls : List Text
-
--- a flag that is used has the value true
-abbrev pub is_set : Option Text → Bool
-is_set value = option_map_or (λ text. bytes_eq text (codes "true")) value false
 
 -- what the rows of the subcommand say
 abbrev pub get_said_in : List Row → GetSaid

@@ -1,3 +1,7 @@
+pub mod Inputs
+pub mod AuditWords
+pub mod ScriptWords
+pub mod Auditing
 pub mod Printable
 pub mod GetWords
 pub mod GetPlan

@@ -1,12 +1,14 @@
 //! The program's command line, and the words that it reads.
 
-ghost use Rattle.std.specs.Prelude.{◌≡◌, false, IfOk, map, string_bytes};
+ghost use Rattle.std.specs.Prelude.{◌≡◌, false, codes, IfOk, map, string_bytes};
 ghost use Rattle.clap.specs.Words.{FailsBy, app_of, kind_of, rule_of};
 ghost use Rattle.clap.specs.Words.{subcommand_rows_of, with_subcommand};
-ghost use Rattle.cli.specs.CommandLine.{curlpool, faults_of, get_app, head_rule, load_app};
+ghost use Rattle.cli.specs.CommandLine.{audit_app, curlpool, faults_of, flag_rule, get_app};
+ghost use Rattle.cli.specs.CommandLine.{load_app};
 ghost use Rattle.cli.specs.CommandLine.{read_words, said_after, said_by, said_in, script_app};
 ghost use Rattle.cli.specs.CommandLine.{url_rule, value_rule};
 
+pub(crate) mod flags;
 pub(crate) mod help;
 pub(crate) mod memory;
 pub(crate) mod mistake;
@@ -15,17 +17,23 @@ pub(crate) mod request;
 pub(crate) mod system_words;
 pub(crate) mod values;
 
+use crate::auditing::subcommand::audit_subcommand;
+use crate::auditing::words::{AuditWords, audit_words_of};
 use crate::get::words::{GetWords, get_words_of};
 use crate::loading::subcommand::load_subcommand;
 use crate::loading::words::{LoadWords, load_words_of};
-use crate::script::input::{ScriptInput, input_of};
+use crate::script::input::ScriptInput;
+use crate::script::words::{ScriptWords, script_words_of};
 use clap::error::ErrorKind;
 use clap::{Arg, ArgAction, ArgMatches, Command, Error};
+use flags::with_flag;
 use help::{COMMANDS, EXAMPLES, LINES};
 use std::alloc::{AllocError, Global};
 
-/// What `--help` says of the file.
+/// What `--help` says of the file and the flag of `script`.
 const FILE_HELP: &str = "The script's file; standard input if it is - or left out";
+
+const TRACE_HELP: &str = "Writes a trace: each line of the script, and what it causes";
 
 /// What `--help` says of the options and URLs of `get`.
 const HEAD_HELP: &str = "Sends HEAD in place of GET";
@@ -51,11 +59,13 @@ pub enum Words {
 #[derive(Drop)]
 pub enum Subcommand {
     /// To run the script that is read from there.
-    Script(ScriptInput),
+    Script(ScriptWords),
     /// To fetch URLs.
     Get(GetWords),
     /// To carry out a load.
     Load(LoadWords),
+    /// To judge a trace.
+    Audit(AuditWords),
 }
 
 /// The program's command line.
@@ -65,13 +75,14 @@ fn command<'a>(alloc: Global) -> Result<Command<'a>, AllocError>
     let program = Command::new(alloc, "curlpool")
         .bin_name("curlpool")?
         .version("0.2.0")
-        .about("libcurl's connection cache: fetches URLs, runs scripts, and carries out loads")
+        .about("libcurl's connection cache: fetches URLs, runs scripts and loads, audits pools")
         .after_help(EXAMPLES)
         .subcommand_required(true)
         .disable_help_subcommand(true);
     let program = with_script(alloc, program)?;
     let program = with_get(alloc, program)?;
     let program = with_load(alloc, program)?;
+    let program = with_audit(alloc, program)?;
     Ok(program)
 }
 
@@ -80,11 +91,13 @@ fn with_script<'a>(alloc: Global, program: Command<'a>) -> Result<Command<'a>, A
     ensures { IfOk result (λ command.
         app_of command ≡ with_subcommand (app_of program.entry) script_app.top) }
 {
+    let bare = Command::new(alloc, "script");
+    let with_trace = with_flag(alloc, bare, "trace", TRACE_HELP)?;
     let file = Arg::new(alloc, "FILE").help(FILE_HELP);
-    let script = Command::new(alloc, "script")
+    let with_file = with_trace.arg(file)?;
+    let script = with_file
         .about("Runs a script and writes its transcript")
-        .after_help(COMMANDS)
-        .arg(file)?;
+        .after_help(COMMANDS);
     let whole = program.subcommand(script)?;
     Ok(whole)
 }
@@ -119,9 +132,19 @@ fn with_load<'a>(alloc: Global, program: Command<'a>) -> Result<Command<'a>, All
     Ok(whole)
 }
 
+/// The command line with the subcommand `audit`.
+fn with_audit<'a>(alloc: Global, program: Command<'a>) -> Result<Command<'a>, AllocError>
+    ensures { IfOk result (λ command.
+        app_of command ≡ with_subcommand (app_of program.entry) audit_app.top) }
+{
+    let audit = audit_subcommand(alloc)?;
+    let whole = program.subcommand(audit)?;
+    Ok(whole)
+}
+
 /// The flag that asks for HEAD.
 fn head_flag<'a>(alloc: Global) -> Arg<'a>
-    ensures rule { rule_of result ≡ head_rule }
+    ensures rule { rule_of result ≡ flag_rule (codes "head") }
     ensures local { result.global ≡ false }
 {
     Arg::new(alloc, "head")
@@ -167,10 +190,17 @@ fn subcommand_of<'a>(alloc: Global, matches: &ArgMatches<'a>) -> Result<Subcomma
                 let words = load_words_of(alloc, given)?;
                 return Ok(Subcommand::Load(words));
             }
-            let input = input_of(alloc, given.get_str("FILE"))?;
-            Ok(Subcommand::Script(input))
+            if name == "audit" {
+                let words = audit_words_of(alloc, given)?;
+                return Ok(Subcommand::Audit(words));
+            }
+            let words = script_words_of(alloc, given)?;
+            Ok(Subcommand::Script(words))
         }
-        None => Ok(Subcommand::Script(ScriptInput::Standard)),
+        None => Ok(Subcommand::Script(ScriptWords {
+            is_traced: false,
+            input: ScriptInput::Standard,
+        })),
     }
 }
 

@@ -2,6 +2,7 @@
 //! is given and tells.
 #![tactic(auto)]
 
+mod auditing;
 mod command_line;
 mod get;
 mod loading;
@@ -9,6 +10,7 @@ mod program;
 mod script;
 mod worked;
 
+pub use auditing::words::AuditWords;
 pub use command_line::memory::{CountedWordsMemory, WordsMemory};
 pub use command_line::request::{Manner, Request, asked_by};
 pub use command_line::system_words::given_words;
@@ -29,4 +31,5 @@ pub use loading::system::{load_on_system, sites_at};
 pub use loading::words::LoadWords;
 pub use program::{answer_request, run_program};
 pub use script::input::ScriptInput;
-pub use worked::{worked_command_lines, worked_lines};
+pub use script::words::ScriptWords;
+pub use worked::{worked_audit_lines, worked_command_lines, worked_lines};

@@ -7,6 +7,7 @@ ghost use Rattle.cli.specs.Fetching.{RunsPlan};
 ghost use Rattle.cli.specs.Loading.{RunsLoad, WritesText};
 ghost use Rattle.script_run.specs.Streams.{CanCount};
 
+use crate::auditing::answer_audit;
 use crate::command_line::Words;
 use crate::command_line::memory::WordsMemory;
 use crate::command_line::request::{Request, asked_by};
@@ -17,6 +18,7 @@ use crate::loading::options::LoadOptions;
 use crate::loading::run_load;
 use crate::script::answer_script;
 use crate::script::input::ScriptInput;
+use crate::script::words::ScriptWords;
 use script_run::{ScriptFiles, Sink, Source};
 use std::alloc::Global;
 use std::io::Write;
@@ -35,15 +37,17 @@ const HOW_TO_END: &str = "Write a script, and end it with Ctrl-D on an empty lin
 
 /// Does what the words ask for, and answers the status with which the program ends:
 ///
-/// - 0: it was done;
+/// - 0: it was done, or the trace is lawful;
+/// - 1: the pool of the trace broke a rule;
 /// - 2: the words are refused;
-/// - 3: the script has a fault;
-/// - 4: memory ran out while the words were read, a URL has no good response or no line, or a
-///   load's report, help or the version was not written whole.
+/// - 3: the script has a fault, or the trace can't be read on;
+/// - 4: memory ran out while the words or the trace were read, a URL has no good response or no
+///   line, or a load's report, an audit's answer, help or the version was not written whole.
 ///
-/// The script is read from the file among `files` that the words name, or else from `input`. URLs
-/// are fetched over `network`, and `load` carries out loads. `output` gets the transcript, the
-/// lines of transfers, the report, the help or the version, and nothing else. `errors` gets what
+/// The script or the trace is read from the file among `files` that the words name, or else from
+/// `input`. URLs are fetched over `network`, and `load` carries out loads. `output` gets the
+/// transcript, the lines of transfers, the report, the answer, the help or the version, and
+/// nothing else. `errors` gets what
 /// goes wrong, and first how to end a script from `input` if that `is_typed` on a terminal.
 pub fn run_program<
     M: WordsMemory,
@@ -84,11 +88,17 @@ pub fn run_program<
 
 /// Whether the script on standard input is to be run.
 fn asks_for_input(request: &Request) -> bool {
-    matches!(request, Request::Script(ScriptInput::Standard))
+    matches!(
+        request,
+        Request::Script(ScriptWords {
+            input: ScriptInput::Standard,
+            ..
+        })
+    )
 }
 
 /// Does what is asked for, and answers the status: runs the script, fetches the URLs, carries out
-/// the load, tells help or the version on `output`, or tells on `errors` why nothing is done.
+/// the load, judges the trace, tells help or the version on `output`, or tells on `errors` why nothing is done.
 pub fn answer_request<
     F: ScriptFiles,
     N: Network,
@@ -116,9 +126,10 @@ pub fn answer_request<
     ensures unopened { request_file request ≡ None → files.new ≡ files.old }
 {
     match request {
-        Request::Script(from) => answer_script(alloc, from, files, input, output, errors),
+        Request::Script(words) => answer_script(alloc, words, files, input, output, errors),
         Request::Get(plan) => run_plan(alloc, plan, network, output, errors),
         Request::Load(options) => run_load(alloc, options, load, output, errors),
+        Request::Audit(words) => answer_audit(alloc, words, files, input, output, errors),
         Request::Tell(text) => tell(text.as_str(), output, errors),
         Request::Refuse(text) => {
             say(errors, text.as_str());

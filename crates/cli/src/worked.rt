@@ -7,6 +7,7 @@ ghost use Rattle.cli.specs.CommandLine.{RefusesAnotherWord};
 ghost use Rattle.cli.specs.CommandLine.{TakesFile, TakesStandardInput, TakesDash};
 ghost use Rattle.cli.specs.CommandLine.{TakesUrls, WantsUrl, RefusesTwice};
 ghost use Rattle.cli.specs.CommandLine.{TakesNumbers, WantsNumber, RefusesNumberTwice};
+ghost use Rattle.cli.specs.CommandLine.{TakesTrace, RefusesFlagTwice, TakesTraceFlag};
 ghost use Rattle.cli.specs.GetLines.{TellsResponses, TellsFaults};
 
 /// What is wrong with small command lines, by computation: with `script` alone, or a file after it,
@@ -32,6 +33,15 @@ pub fn worked_command_lines()
     ensures numbers { TakesNumbers }
     ensures no_number { WantsNumber }
     ensures number_twice { RefusesNumberTwice }
+{}
+
+/// The words of `audit`, by computation: it takes its flags before and after the file, and refuses a
+/// flag that is given twice. `script` takes its flag behind the file.
+#[tactic(auto, unfolding(clap::proofs::OnLiterals::clap_on_literals))]
+pub fn worked_audit_lines()
+    ensures trace { TakesTrace }
+    ensures twice { RefusesFlagTwice }
+    ensures script { TakesTraceFlag }
 {}
 
 /// The lines of transfers that ended so, by computation.

@@ -46,7 +46,7 @@ fn run_until(alloc: Global, script: &[u8], nth: u32, out: &mut Vec<u8>) -> Resul
         commands: 0,
         nth,
     };
-    let result = run_lines(alloc, &mut machine, script, out);
+    let result = run_lines(alloc, false, &mut machine, script, out);
     let Forgetful {
         engine,
         commands: _,

@@ -3,6 +3,7 @@
 ghost use Rattle.std.specs.Prelude.{⊤};
 ghost use Rattle.script_run.specs.Streams.{CanCount};
 
+use crate::audits::BROKEN;
 use crate::loads::FakeLoader;
 use crate::networks::FakeNetwork;
 use crate::streams::{Expecting, REUSE};
@@ -50,23 +51,20 @@ pub const ROW: Row = Row {
     status: 0,
 };
 
-// One file in memory.
+// Files in memory: a script, and a trace.
 #[derive(Drop)]
-struct OneFile {
-    name: &'static str,
-    bytes: &'static [u8],
-}
+struct TwoFiles;
 
-impl ScriptFiles for OneFile {
+impl ScriptFiles for TwoFiles {
     type File = &'static [u8];
 
     ghost opens = { λ _ _ _ _. ⊤ };
 
     fn open(&mut self, name: &str) -> Option<&'static [u8]> {
-        if name == self.name {
-            Some(self.bytes)
-        } else {
-            None
+        match name {
+            "reuse" => Some(REUSE.as_bytes()),
+            "broken" => Some(BROKEN.as_bytes()),
+            _ => None,
         }
     }
 }
@@ -83,8 +81,8 @@ pub fn words_of(alloc: Global, text: &str) -> Result<Words, AllocError> {
     Ok(Words::Given(words))
 }
 
-/// What the program does with these words and that script on standard input, where `reuse` is the
-/// one file that there is: its status, and what it writes on standard error.
+/// What the program does with these words and that script on standard input, where `reuse`
+/// and `broken` are the files that there are: its status, and what it writes on standard error.
 pub fn run<W: Sink>(
     alloc: Global,
     words: Words,
@@ -97,10 +95,7 @@ pub fn run<W: Sink>(
     requires { CanCount (W.sink output.old) }
 {
     let mut memory = CountedWordsMemory::new(alloc);
-    let mut files = OneFile {
-        name: "reuse",
-        bytes: REUSE.as_bytes(),
-    };
+    let mut files = TwoFiles;
     let mut input = script.as_bytes();
     let mut errors = Vec::new(alloc);
     let status = run_program(

@@ -51,7 +51,7 @@ fn a_reader_that_fails_in_the_middle(rt: HostRuntime) {
         line: 0,
         kind: FaultKind::Read,
     };
-    let result = run_script(rt.alloc(), &mut reader, &mut out);
+    let result = run_script(rt.alloc(), false, &mut reader, &mut out);
     assert!(rt; result == Err(fault) && out.is_empty());
 }
 
@@ -91,7 +91,7 @@ impl Write for Expecting {
 // Runs a script onto that writer.
 fn run_onto(alloc: Global, script: &str, writer: &mut Expecting) -> Result<(), ScriptFault> {
     let mut reader = script.as_bytes();
-    run_script(alloc, &mut reader, &mut Watched::new(writer))
+    run_script(alloc, false, &mut reader, &mut Watched::new(writer))
 }
 
 #[test]

@@ -4,11 +4,41 @@ use crate::running::{ROW, Row, Text, check_all, check_stopped, check_words};
 use crate::streams::{REUSE, REUSED};
 use cli::Words;
 
+/// A script with a comment and two limits, of which one is refused, and its trace.
+const TRACED_LIMIT: &str = "# two hosts\nlimits 4 0 4\nsite http://a.test/\n\nget 1 0 0 at 0\n\
+    limit 0 9 at 1\nlimit 7 1 at 2\nlook 0\n";
+
+const LIMIT_TRACED: &str = "# two hosts\nlimits 4 0 4\nsite http://a.test/\n\nget 1 0 0 at 0\n\
+    opened 0.1 for 1 at 0\nlimit 0 9 at 1\nrefused bad-site\nlook 0\n\
+    host 0 open 1 idle 0 leased 1 waiting 0 queued no\n";
+
 /// How to end a script, for who types it.
 const HOW_TO_END: &str = "Write a script, and end it with Ctrl-D on an empty line.\n";
 
 /// Words that ask for scripts, for help or for the version, and those that are refused.
-static ROWS: [Row; 21] = [
+static ROWS: [Row; 24] = [
+    Row {
+        name: "a trace has each line and what it causes",
+        words: "script --trace",
+        script: TRACED_LIMIT,
+        output: Text::Whole(LIMIT_TRACED),
+        ..ROW
+    },
+    Row {
+        name: "a trace of a file ends at a fault",
+        words: "script broken --trace",
+        output: Text::Whole(
+            "limits 2 0 4\nsite http://a.test/\nget 1 0 0 at 0\nopened 0.1 for 1 at 0\n",
+        ),
+        errors: Text::Whole("line 4: unknown command\n"),
+        status: 3,
+        ..ROW
+    },
+    Row {
+        name: "a flag twice is refused",
+        words: "script --trace --trace",
+        ..REFUSED
+    },
     Row {
         name: "words ask for a script",
         words: "script",

@@ -1,4 +1,4 @@
-//! What help says of scripts, and of what `get` and `load` write, with examples.
+//! What help says of scripts and traces, and of what `get` and `load` write, with examples.
 
 /// The end of help on the program: examples, and how to ask for more.
 pub const EXAMPLES: &str = "\
@@ -6,6 +6,7 @@ Examples:
   curlpool get http://localhost:8000/a http://localhost:8000/b
   curlpool load --jobs 1000 --workers 8
   curlpool script examples/claim-first.script
+  curlpool audit --all pool.trace
 
 curlpool help COMMAND tells all of a command, as curlpool COMMAND --help does.";
 
@@ -217,3 +218,53 @@ all        1       1       2       0       0       1
 jobs       3       0       2       0       6
 
 curlpool load --sites 4 --jobs 10000 --workers 64 --host-limit 2 --total 6";
+
+/// What a trace says, and what `audit` answers.
+pub const AUDITS: &str = "\
+A trace says what a connection pool was asked and what it did, line by line, in
+the order in which both happened. Lines, words, comments and numbers are those
+of a script (curlpool help script). First limits, then sites, then the rest.
+
+Line of trace       Meaning
+order host          First of all: lines are in order within each host alone
+limits H T C, site http://..
+                    As in a script
+get T S L at M .., back T S KIND at M
+                    As in a script: what the pool was asked. Each start needs a
+                    get before, each return a back
+claim, drop, leave, prune, look, upkeep
+                    As in a script: the pool was asked something else, and was
+                    at rest before
+opened, leased, returned, closed, waits, left, limit
+                    As in a transcript: what the pool did. A cause may be left
+                    out; a connection's number may be used again once closed
+rest                The pool is at rest here. A trace whose first line after
+                    its sites is rest is at rest at such lines alone, and at
+                    its end
+
+A line that breaks a rule is told with the rule and its numbers, and then the
+earlier line that matters, if there is one:
+
+FILE:LINE: EVENT: TEXT
+FILE:LINE: here TEXT
+FILE:LINE: host H: 0.1 idle since M, 0.2 leased to T; waiting T
+                    With --state: the host's connections, first opened first,
+                    and its waiters, first in, first out, before the event
+
+Without --all the first one is told alone. With it, an event that breaks a rule
+changes nothing. Standard input is called trace. JSON has the members lawful,
+events, hosts, open, violations, and of each violation line, rule, text,
+earlier; there is none if the trace can't be read on.
+
+Status              0: the trace is lawful; 1: a rule is broken; 2: the words
+                    are refused; 3: the trace can't be read on, line N: .. tells
+                    why; 4: memory ran out, or the answer was not written whole
+
+Examples
+curlpool audit pool.trace
+lawful: 1,204 events, 8 hosts, 3 still open
+
+curlpool audit --all --state <pool.trace
+trace:8: leased 0.1 to 7 at 260: idle for 121 seconds, and transfer 7 accepts 118
+trace:6: here 0.1 came back
+trace:8: host 0: 0.1 idle since 139";

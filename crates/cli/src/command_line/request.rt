@@ -7,13 +7,14 @@ ghost use Rattle.cli.specs.CommandLine.{said, word_faults};
 ghost use Rattle.cli.specs.GetWords.{get_said_by};
 ghost use Rattle.cli.specs.LoadWords.{load_said_by};
 
+use crate::auditing::words::AuditWords;
 use crate::command_line::memory::WordsMemory;
 use crate::command_line::{Subcommand, Words};
 use crate::get::plan::{GetPlan, GetRefusal};
 use crate::get::words::GetWords;
 use crate::loading::options::LoadOptions;
 use crate::loading::words::LoadWords;
-use crate::script::input::ScriptInput;
+use crate::script::words::ScriptWords;
 use clap::Error;
 use clap::error::ErrorKind;
 
@@ -21,11 +22,13 @@ use clap::error::ErrorKind;
 #[derive(Drop)]
 pub enum Request {
     /// To run the script that is read from there.
-    Script(ScriptInput),
+    Script(ScriptWords),
     /// To fetch URLs so.
     Get(GetPlan),
     /// To carry out a load with these numbers.
     Load(LoadOptions),
+    /// To judge the trace that is read from there.
+    Audit(AuditWords),
     /// To tell this on standard output: help, or the version.
     Tell(String),
     /// Nothing that the program does: this says why.
@@ -53,9 +56,10 @@ pub fn asked_by<M: WordsMemory>(memory: &mut M, words: Words) -> Request
 {
     match words {
         Words::Given(words) => match memory.parse(words.as_slice()) {
-            Ok(Subcommand::Script(input)) => Request::Script(input),
+            Ok(Subcommand::Script(words)) => Request::Script(words),
             Ok(Subcommand::Get(words)) => planned(memory, &words),
             Ok(Subcommand::Load(words)) => numbered(memory, &words),
+            Ok(Subcommand::Audit(words)) => Request::Audit(words),
             Err(error) => refused(memory, error),
         },
         Words::NotText => match memory.not_text() {

@@ -4,6 +4,7 @@ ghost use Rattle.std.specs.Prelude.{◌≡◌, ◌^◌, IfOk, option_map, string
 ghost use Rattle.std.specs.List.{list_all};
 ghost use Rattle.std.specs.Char.{is_ascii_digit};
 ghost use Rattle.script_text.specs.Words.{number};
+ghost use Rattle.cli.specs.Inputs.{is_set};
 
 use std::alloc::{AllocError, Global};
 
@@ -23,6 +24,16 @@ fn is_digits(text: &str) -> bool
     ensures { result ≡ list_all is_ascii_digit text.now }
 {
     text.as_bytes().iter().all(|byte| byte.is_ascii_digit())
+}
+
+/// Whether a flag's value says that it is used.
+pub(crate) fn is_set(value: Option<&str>) -> bool
+    ensures { result ≡ is_set (option_map (λ text. text.now) value.entry) }
+{
+    match value {
+        Some(text) => text == "true",
+        None => false,
+    }
 }
 
 /// A copy of a text, if there is one.

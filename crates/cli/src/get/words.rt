@@ -1,11 +1,10 @@
 //! What the words after `get` say.
 
-ghost use Rattle.std.specs.Prelude.{◌≡◌, map, option_map, string_bytes, IfOk};
+ghost use Rattle.std.specs.Prelude.{◌≡◌, map, string_bytes, IfOk};
 ghost use Rattle.clap.specs.Words.{found_of, rows_of};
-ghost use Rattle.clap.specs.Walk.{first_of};
-ghost use Rattle.cli.specs.GetWords.{get_said_by, get_said_in, is_set};
+ghost use Rattle.cli.specs.GetWords.{get_said_by, get_said_in};
 
-use crate::command_line::values::owned;
+use crate::command_line::values::{is_set, owned};
 use clap::ArgMatches;
 use std::alloc::{AllocError, Global};
 
@@ -37,16 +36,6 @@ pub fn get_words_of<'a>(alloc: Global, given: &ArgMatches<'a>) -> Result<GetWord
         timeout,
         urls,
     })
-}
-
-/// Whether a flag's value says that it is used.
-fn is_set(value: Option<&str>) -> bool
-    ensures { result ≡ is_set (option_map (λ text. text.now) value.entry) }
-{
-    match value {
-        Some(text) => text == "true",
-        None => false,
-    }
 }
 
 /// Copies of the texts.

@@ -1,11 +1,11 @@
-//! What a script is read from.
+//! What a script or a trace is read from.
 
 ghost use Rattle.std.specs.Prelude.{◌≡◌, IfOk, option_map};
-ghost use Rattle.cli.specs.CommandLine.{asked_file, name_of};
+ghost use Rattle.cli.specs.Inputs.{asked_file, name_of};
 
 use std::alloc::{AllocError, Global};
 
-/// What a script is read from.
+/// What a script or a trace is read from.
 #[derive(Drop)]
 pub enum ScriptInput {
     /// Standard input.
@@ -14,7 +14,7 @@ pub enum ScriptInput {
     File(String),
 }
 
-/// What a script is read from where the words name that file, or none.
+/// What is read where the words name that file, or none.
 pub fn input_of(alloc: Global, file: Option<&str>) -> Result<ScriptInput, AllocError>
     ensures { IfOk result (λ input.
         name_of input ≡ asked_file (option_map (λ name. name.now) file.entry)) }

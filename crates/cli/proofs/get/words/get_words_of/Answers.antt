@@ -3,7 +3,7 @@ use Rattle.std.specs.Option.{option_map}
 use Rattle.std.specs.Prelude.{unwrap_or}
 use Rattle.clap.specs.Words.{Text, found_of, rows_of}
 use Rattle.clap.proofs.WalkLemmas.{first_value-rows, raw_values-rows}
-use Rattle.cli.specs.GetWords.{is_set}
+use Rattle.cli.specs.Inputs.{is_set}
 use Rattle.cli.proofs.GetRows.{rows-say, urls-read}
 use Rattle.cli.proofs.get.words.get_words_of.Goals as goal
 

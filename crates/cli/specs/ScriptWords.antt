@@ -1,0 +1,18 @@
+-- What the words after `script` say.
+use Rattle.std.specs.Prelude.{Bool, codes, List, Option}
+use Rattle.clap.specs.Words.{Row, Text}
+use Rattle.clap.specs.Walk.{first_of}
+use Rattle.cli.specs.declared.script.words.ScriptWords.{ScriptWords}
+use Rattle.cli.specs.Inputs.{asked_file, is_set, name_of}
+
+-- whether a trace is to be written, and the file; none is standard input
+pub record ScriptSaid : Type 0 where
+  pub traced : Bool
+  pub file : Option Text
+
+-- what the rows of the subcommand say
+abbrev pub script_said_in : List Row → ScriptSaid
+script_said_in rows = record { traced = is_set (first_of (codes "trace") rows); file = asked_file (first_of (codes "FILE") rows) }
+
+abbrev pub script_said_by : ScriptWords → ScriptSaid
+script_said_by words = record { traced = words.is_traced; file = name_of words.input }

@@ -1,0 +1,41 @@
+//! The subcommand `audit`.
+
+ghost use Rattle.std.specs.Prelude.{◌≡◌, false, IfOk};
+ghost use Rattle.clap.specs.Words.{app_of};
+ghost use Rattle.clap.specs.declared.builder.command.Command.TheViews.{out-Command};
+ghost use Rattle.cli.specs.CommandLine.{audit_app};
+
+use crate::command_line::flags::with_flag;
+use crate::command_line::help::AUDITS;
+use clap::{Arg, Command};
+use std::alloc::{AllocError, Global};
+
+/// What `--help` says of the options and the file.
+const ALL_HELP: &str = "Tells each violation, in place of the first alone";
+
+const JSON_HELP: &str = "Prints one JSON object";
+
+const STATE_HELP: &str = "Adds what was open at the host, and what waited there";
+
+const FILE_HELP: &str = "The trace's file; standard input if it is - or left out";
+
+/// The subcommand `audit`: three flags, and a file.
+///
+/// # Errors
+///
+/// There is no memory for it.
+pub fn audit_subcommand<'a>(alloc: Global) -> Result<Command<'a>, AllocError>
+    ensures app { IfOk result (λ command. app_of command ≡ audit_app) }
+    ensures local { IfOk result (λ command. (out-Command command).has_globals ≡ false) }
+{
+    let bare = Command::new(alloc, "audit");
+    let with_all = with_flag(alloc, bare, "all", ALL_HELP)?;
+    let with_json = with_flag(alloc, with_all, "json", JSON_HELP)?;
+    let with_state = with_flag(alloc, with_json, "state", STATE_HELP)?;
+    let file = Arg::new(alloc, "FILE").help(FILE_HELP);
+    let with_file = with_state.arg(file)?;
+    let audit = with_file
+        .about("Tells whether what a connection pool did is lawful, by a trace of it")
+        .after_help(AUDITS);
+    Ok(audit)
+}

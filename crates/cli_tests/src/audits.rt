@@ -1,0 +1,362 @@
+//! Audits: what the words say, what is told of traces, and traces that come piece by piece.
+
+use crate::running::{ROW, Row, Text, check_all, check_stopped};
+use audit_run::{AuditStop, Telling, Verdict, audit_stream};
+use script_run::Watched;
+use std::alloc::{AllocError, Global};
+use std::fmt::Write;
+use std::io::Read;
+use std::{io, str};
+
+/// A connection that is reused too late.
+pub const BROKEN: &str = "limits 2 0 4\nsite http://a.test/\nget 1 0 0 at 0\n\
+    opened 0.1 for 1 at 0\nback 1 0 keep at 139\nreturned 0.1 by 1 at 139\n\
+    get 7 0 0 at 260\nleased 0.1 to 7 at 260\nclosed 0.1 at 261\n";
+
+const TOO_LATE: &str = "trace:8: leased 0.1 to 7 at 260: idle for 121 seconds, and transfer 7 \
+    accepts 118\ntrace:6: here 0.1 came back\n";
+
+const TOO_LATE_IN_FILE: &str = "broken:8: leased 0.1 to 7 at 260: idle for 121 seconds, and \
+    transfer 7 accepts 118\nbroken:6: here 0.1 came back\n";
+
+const WITH_STATE: &str = "trace:8: leased 0.1 to 7 at 260: idle for 121 seconds, and transfer 7 \
+    accepts 118\ntrace:6: here 0.1 came back\ntrace:8: host 0: 0.1 idle since 139\n";
+
+const AS_JSON: &str = "{\"lawful\": false, \"events\": 3, \"hosts\": 1, \"open\": 1, \
+    \"violations\": [{\"line\": 8, \"rule\": \"idle-too-long\", \"text\": \"idle for 121 seconds, \
+    and transfer 7 accepts 118\", \"earlier\": 6}]}\n";
+
+/// A start that passes the host limit, of which three lines tell, and one beside.
+const NOT_TAKEN: &str = "limits 1 0 4\r\nsite http://a.test/\r\nget 1 0 0 at 0\r\n\
+    opened 0.1 for 1 at 0\r\nget 2 0 0 at 0\r\nopened 0.2 for 2 at 0\r\nback 2 0 keep at 1\r\n\
+    returned 0.2 by 2 at 1\r\nclosed 0.2 at 2\r\nclosed 0.2 at 3\r\n";
+
+const TOO_MANY: &str = "trace:6: opened 0.2 for 2 at 0: past the host limit: 1 open, limit 1\n\
+    trace:10: closed 0.2 at 3: 0.2 isn't open\n\
+    and 2 lines of connections that were not taken\n";
+
+const LAWFUL: &str = "limits 2 0 4\nsite http://a.test/\n";
+
+/// Words that ask for audits, and those that are refused.
+static ROWS: [Row; 21] = [
+    Row {
+        name: "a lawful trace",
+        words: "audit",
+        script: LAWFUL,
+        output: Text::Whole("lawful: 0 events, 1 host, 0 still open, waits not told\n"),
+        ..ROW
+    },
+    Row {
+        name: "a dash stands for standard input, and nobody is told how to end it",
+        words: "audit -",
+        is_typed: true,
+        script: "",
+        output: Text::Whole("lawful: 0 events, 0 hosts, 0 still open, waits not told\n"),
+        ..ROW
+    },
+    Row {
+        name: "a file is read in place of standard input",
+        words: "audit reuse",
+        script: BROKEN,
+        output: Text::Whole("lawful: 0 events, 1 host, 0 still open, waits not told\n"),
+        ..ROW
+    },
+    Row {
+        name: "a file is named as the words have it",
+        words: "audit broken",
+        output: Text::Whole(TOO_LATE_IN_FILE),
+        status: 1,
+        ..ROW
+    },
+    Row {
+        name: "a file that is not there cannot be read",
+        words: "audit --all gone",
+        errors: Text::Whole("line 0: cannot read\n"),
+        status: 3,
+        ..ROW
+    },
+    Row {
+        name: "the first violation alone",
+        words: "audit",
+        script: BROKEN,
+        output: Text::Whole(TOO_LATE),
+        status: 1,
+        ..ROW
+    },
+    Row {
+        name: "with what was open",
+        words: "audit --state",
+        script: BROKEN,
+        output: Text::Whole(WITH_STATE),
+        status: 1,
+        ..ROW
+    },
+    Row {
+        name: "as JSON",
+        words: "audit --json",
+        script: BROKEN,
+        output: Text::Whole(AS_JSON),
+        status: 1,
+        ..ROW
+    },
+    Row {
+        name: "a lawful trace as JSON",
+        words: "audit --json",
+        script: LAWFUL,
+        output: Text::Whole(
+            "{\"lawful\": true, \"events\": 0, \"hosts\": 1, \"open\": 0, \"violations\": []}\n",
+        ),
+        ..ROW
+    },
+    Row {
+        name: "all violations, and lines that are passed by",
+        words: "audit --all",
+        script: NOT_TAKEN,
+        output: Text::Whole(TOO_MANY),
+        status: 1,
+        ..ROW
+    },
+    Row {
+        name: "the violations before a line that cannot be read",
+        words: "audit --all",
+        script: "limits 1 0 1\nsite http://a.test/\nleft 1 host 0 at 0\nleft 1 host 1 at 0\n",
+        output: Text::Whole("trace:3: left 1 host 0 at 0: transfer 1 doesn't wait\n"),
+        errors: Text::Whole("line 4: no such site\n"),
+        status: 3,
+        ..ROW
+    },
+    Row {
+        name: "no JSON if a line cannot be read",
+        words: "audit --json --all",
+        script: "limits 1 0 1\nsite http://a.test/\nleft 1 host 0 at 0\nlook x\n",
+        errors: Text::Whole("line 4: wrong form\n"),
+        status: 3,
+        ..ROW
+    },
+    Row {
+        name: "a last line without an end keeps its CR",
+        words: "audit",
+        script: "limits 1 0 1\nsite http://a.test/\nlook 0\r",
+        errors: Text::Whole("line 3: wrong form\n"),
+        status: 3,
+        ..ROW
+    },
+    Row {
+        name: "a number that a start lacks",
+        words: "audit",
+        script: "limits 1 0 1\nsite http://a.test/\nopened 0.1 for 7 at 0\n",
+        errors: Text::Whole("line 3: transfer 7 asked for nothing\n"),
+        status: 3,
+        ..ROW
+    },
+    Row {
+        name: "help on audit is told by a word",
+        words: "help audit",
+        output: Text::Start("Tells whether what a connection pool did is lawful"),
+        ..ROW
+    },
+    Row {
+        name: "help on audit is told on standard output",
+        words: "audit --help",
+        output: Text::Start("Tells whether what a connection pool did is lawful"),
+        ..ROW
+    },
+    Row {
+        name: "a flag twice is refused",
+        words: "audit --all --all",
+        ..REFUSED
+    },
+    Row {
+        name: "a flag of another command is refused",
+        words: "audit --head",
+        ..REFUSED
+    },
+    Row {
+        name: "a flag before the command is refused",
+        words: "--all audit",
+        ..REFUSED
+    },
+    Row {
+        name: "a value of a flag is refused",
+        words: "audit --json=yes",
+        ..REFUSED
+    },
+    Row {
+        name: "two files are refused",
+        words: "audit a b",
+        ..REFUSED
+    },
+];
+
+const REFUSED: Row = Row {
+    errors: Text::Start("curlpool: "),
+    status: 2,
+    ..ROW
+};
+
+#[test]
+fn words_ask_for_audits(rt: HostRuntime) {
+    check_all(&rt, &ROWS);
+}
+
+#[test]
+fn answers_that_cannot_be_written(rt: HostRuntime) {
+    for &(words, front) in &[
+        ("audit", "trace:8: leased 0.1 to"),
+        ("audit --json", "{\"lawful\": false, \"ev"),
+        ("audit --all", ""),
+    ] {
+        let row = Row {
+            name: words,
+            words,
+            script: BROKEN,
+            errors: Text::Whole("run: cannot write\n"),
+            status: 4,
+            ..ROW
+        };
+        check_stopped(&rt, &row, front, false);
+        check_stopped(&rt, &row, front, true);
+    }
+}
+
+/// How violations are told if no flag is given.
+const PLAIN: Telling = Telling {
+    all: false,
+    json: false,
+    state: false,
+};
+
+/// Gives so many bytes at a time, and then the end, or fails.
+#[derive(Drop)]
+struct Pieces<'a> {
+    bytes: &'a [u8],
+    size: usize,
+    fails: bool,
+}
+
+impl Read for Pieces<'_> {
+    fn read(&mut self, buf: &mut [u8]) -> io::Result<usize> {
+        let count = self.size.min(self.bytes.len()).min(buf.len());
+        if count == 0 && self.fails {
+            return Err(io::ErrorKind::Interrupted.into());
+        }
+        let (first, rest) = self.bytes.split_at(count);
+        buf[..count].copy_from_slice(first);
+        self.bytes = rest;
+        Ok(count)
+    }
+}
+
+/// The verdict on a trace that comes in pieces of that size, and the answer.
+fn verdict_on(
+    alloc: Global,
+    trace: &[u8],
+    size: usize,
+    fails: bool,
+) -> (Result<Verdict, AuditStop>, Vec<u8>) {
+    let mut reader = Watched::new(Pieces {
+        bytes: trace,
+        size,
+        fails,
+    });
+    let mut answer = Vec::new(alloc);
+    let verdict = audit_stream(alloc, "trace", PLAIN, &mut reader, &mut answer);
+    (verdict, answer)
+}
+
+#[test]
+fn traces_that_come_in_pieces(rt: HostRuntime) {
+    let rows = [
+        (BROKEN, TOO_LATE, Verdict::Broken),
+        (
+            NOT_TAKEN,
+            "trace:6: opened 0.2 for 2 at 0: past the host limit: 1 open, limit 1\n",
+            Verdict::Broken,
+        ),
+        (
+            "limits 2 0 4\r\nsite http://a.test/\r\nrest\r\n",
+            "lawful: 0 events, 1 host, 0 still open, waits not told\n",
+            Verdict::Lawful,
+        ),
+    ];
+    for &(trace, expected, verdict) in &rows {
+        for size in 1..20 {
+            let (found, answer) = verdict_on(rt.alloc(), trace.as_bytes(), size, false);
+            let text = str::from_utf8(answer.as_slice()).unwrap_or("no text");
+            assert!(rt; found == Ok(verdict) && text == expected, "{size}: {text}");
+        }
+    }
+}
+
+#[test]
+fn a_trace_whose_reader_fails(rt: HostRuntime) {
+    let (found, answer) = verdict_on(rt.alloc(), LAWFUL.as_bytes(), 7, true);
+    assert!(rt; found == Err(AuditStop::Read) && answer.is_empty());
+}
+
+/// A trace of so many starts, each of which is given back, with a comment of that many bytes.
+fn long_trace(alloc: Global, count: u64, comment: usize) -> Result<String, AllocError> {
+    let mut trace = String::from_str(alloc, LAWFUL)?;
+    trace.push('#')?;
+    for _ in 1..comment {
+        trace.push('x')?;
+    }
+    write!(trace, "\nget 0 0 0 at 0\nopened 0.1 for 0 at 0\n")?;
+    for transfer in 0..count {
+        let next = transfer + 1;
+        write!(
+            trace,
+            "back {transfer} 0 keep at 0\nreturned 0.1 by {transfer} at 0\n"
+        )?;
+        write!(trace, "get {next} 0 0 at 0\nleased 0.1 to {next} at 0\n")?;
+    }
+    Ok(trace)
+}
+
+#[test]
+fn a_trace_of_many_pieces(rt: HostRuntime) {
+    let expected = "lawful: 1,801 events, 1 host, 1 still open, waits not told\n";
+    // each piece has 65,536 bytes: its end falls on several places in a line
+    for &comment in &[1, 2, 7, 12, 17, 22] {
+        let trace = long_trace(rt.alloc(), 900, comment).expect(&rt, "memory");
+        let (found, answer) = verdict_on(rt.alloc(), trace.as_bytes(), usize::MAX, false);
+        let text = str::from_utf8(answer.as_slice()).unwrap_or("no text");
+        assert!(rt;
+            found == Ok(Verdict::Lawful) && text == expected,
+            "{comment}: {text}"
+        );
+    }
+}
+
+#[test]
+fn lines_as_long_as_they_may_be(rt: HostRuntime) {
+    let lawful = Ok(Verdict::Lawful);
+    for &(comment, is_read) in &[
+        (2_304, true),
+        (2_305, false),
+        (2_306, false),
+        (200_000, false),
+    ] {
+        let trace = long_trace(rt.alloc(), 1, comment).expect(&rt, "memory");
+        let (found, answer) = verdict_on(rt.alloc(), trace.as_bytes(), 1_000, false);
+        let text = format!(in rt.alloc(); "{:?}", found).expect(&rt, "memory");
+        let is_told = text.contains("LineTooLong") && answer.is_empty();
+        assert!(rt;
+            if is_read { found == lawful } else { is_told },
+            "{comment}: {text}"
+        );
+    }
+}
+
+// Under `rt try --test --fail-alloc N`: the answer is a front of the one in ample memory.
+#[test]
+fn want_of_memory_leaves_a_front_of_the_answer(rt: HostRuntime) {
+    let (found, answer) = verdict_on(rt.alloc(), BROKEN.as_bytes(), 40, false);
+    match found {
+        Ok(verdict) => assert!(rt;
+            verdict == Verdict::Broken && answer.as_slice() == TOO_LATE.as_bytes()
+        ),
+        Err(stop) => assert!(rt; stop == AuditStop::Memory),
+    }
+    assert!(rt; TOO_LATE.as_bytes().starts_with(&answer));
+}
