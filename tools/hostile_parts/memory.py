@@ -1,7 +1,7 @@
 """Memory that is refused: each request for it in turn, alone and from it on, until a run meets no such request.
 
 The scripts are tried by tools/failing-allocations, and calls by tools/failing-allocations-in-tests. Here curlpool get,
-curlpool load and words of the command line are tried the same way. Each run has to give all memory back.
+curlpool load, curlpool audit and words of the command line are tried the same way. Each run has to give all memory back.
 """
 import collections
 import contextlib
@@ -12,6 +12,7 @@ import re
 import tempfile
 
 from failing_malloc import Runner, misrefused, refuse_each
+from program import TOP
 from real_servers import servers
 from real_servers.servers import Server
 
@@ -35,6 +36,10 @@ WORDS = (
     ("load", "--jobs", "0"), ("load", "--sites", "9"), ("get", "--timeout", "0", "http://127.0.0.1/"),
     ("get", "ftp://a/"), ("get", "http://a.test/"), ("--help",),
 )
+# a trace that has several violations, and each way to tell them
+TRACE = os.path.join(TOP, "tools", "trace_model", "worked", "all-violations.trace")
+AUDITS = ([], ["--all", "--state"], ["--all", "--json"])
+BROKEN = 1
 FAULT = re.compile(r"(?:Memory|Refused|Dial)(?: retried)? (\S+)\n")
 ALLOCATIONS = re.compile(r"\b(\d+) allocations", re.MULTILINE)
 REFUSED = re.compile(r"^refused: (\d+) alone, (\d+) for good$", re.MULTILINE)
@@ -157,6 +162,18 @@ def load():
     return refuse_all([curlpool(), *WORDS_OF_LOAD], wrong_load, may_vary=True)
 
 
+def wrong_audit(run, ample):
+    """What is wrong with an audit, or nothing: it is the whole, or its lines so far and that there is no memory."""
+    if (run.status, run.output, run.errors) == (ample.status, ample.output, ample.errors):
+        return None
+    is_told = run.status == 4 and run.errors == b"run: out of memory\n" and ample.output.startswith(run.output)
+    return None if is_told else f"status {run.status}, {run.output!r}, {run.errors!r}"
+
+
+def audit(options):
+    return refuse_all([curlpool(), "audit", *options, TRACE], wrong_audit, statuses=(BROKEN,))
+
+
 def wrong_answer(run, ample):
     """What is wrong with an answer to words, or nothing: it is the one that ample memory gives, or that there is no
     memory, and then nothing else is written."""
@@ -175,4 +192,9 @@ PARTS = [
     Part("memory: curlpool get", get),
     Part("memory: curlpool load", load),
     *(Part(f"memory: curlpool {' '.join(words)}", functools.partial(words_of, words)) for words in WORDS),
+]
+
+# Not tried against a built program yet, so no run has them.
+AUDIT_PARTS = [
+    Part(" ".join(["memory: curlpool audit", *options]), functools.partial(audit, options)) for options in AUDITS
 ]

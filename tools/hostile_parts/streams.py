@@ -14,6 +14,8 @@ from .programs import curlpool, run
 
 SCRIPT = "limits 0 0 4\nsite http://a.test/\nget 1 0 0 at 0\n"
 TRANSCRIPT = "opened 0.1 for 1 at 0\n"
+# a trace that breaks a rule; a script that asks for connections is a lawful one
+TRACE = f"{SCRIPT}closed 0.1 at 0\n"
 SIGN = {0: "<", 1: ">", 2: ">"}
 
 
@@ -145,6 +147,26 @@ def load_others():
     return "report and status stay"
 
 
+def audit_output():
+    for options in ([], ["--all"], ["--json"]):
+        for text in (TRACE, SCRIPT):
+            for name, done in outputs([curlpool(), "audit", *options], text):
+                check_same((done.status, done.errors), (4, "run: cannot write\n"), name)
+    return "status 4, `cannot write`"
+
+
+def audit_input():
+    done = run(closing([0], [curlpool(), "audit"]))
+    check_same(done, (3, "", "line 0: cannot read\n"), "closed")
+    folder = os.open("/", os.O_RDONLY)
+    try:
+        check_same(run([curlpool(), "audit", "--json"], stdin=folder), (3, "", "line 0: cannot read\n"), "a folder")
+    finally:
+        os.close(folder)
+    check_same(run([curlpool(), "audit", "/"]), (3, "", "line 0: cannot read\n"), "a folder by name")
+    return "status 3, `cannot read`"
+
+
 PARTS = [
     Part("streams: script, no output", script_output),
     Part("streams: script, no input", script_input),
@@ -153,4 +175,6 @@ PARTS = [
     Part("streams: curlpool get, no input or errors", get_others),
     Part("streams: curlpool load, no output", load_output),
     Part("streams: curlpool load, no input or errors", load_others),
+    Part("streams: curlpool audit, no output", audit_output),
+    Part("streams: curlpool audit, no input", audit_input),
 ]

@@ -1,20 +1,23 @@
 #!/usr/bin/env python3
 """Checks the model of `curlpool audit`, or a program beside it.
 
-    tools/trace_model/check.py [--drawn COUNT] [--scripts COUNT] [--logs COUNT] [--beside PROGRAM]
+    tools/trace_model/check.py [--drawn COUNT] [--scripts COUNT] [--logs COUNT] [--jobs COUNT] [--beside PROGRAM]
 
 Each file worked/NAME.trace has the answer of worked/NAME.answer, whose first line has the options and the status. Those
 named for a rule break it alone, and no line of theirs can be left out. The scripts of `examples/` with their
 transcripts, and random scripts with what they caused, are lawful traces. Of random traces half and more break a rule,
 each rule in one of 100, and some are judged a second time, by searches of each host's log. With PROGRAM, `PROGRAM
-audit` has to give the model's answers to the worked traces and to the random ones.
+audit` has to give the model's answers to the worked traces and to the random ones, with each option, and `PROGRAM
+script --trace` the model's traces of scripts, which it has to call lawful.
 
 Each finding has a line. The last line is `N passed, M failed`; the status is 0 if nothing failed.
 """
 import argparse
 import collections
+import concurrent.futures
 import contextlib
 import dataclasses
+import functools
 import io
 import json
 import os
@@ -26,6 +29,8 @@ from typing import NamedTuple
 sys.dont_write_bytecode = True
 TOOLS = os.path.dirname(os.path.dirname(os.path.abspath(__file__)))
 sys.path.insert(0, TOOLS)
+from program import processors
+from script_model.generate import script
 from script_model.model import transcript
 from trace_model import answers, rules
 from trace_model.audit import audit, report_of
@@ -165,18 +170,54 @@ def check_by_logs(traces):
             yield f"by logs {number}", None
 
 
-def check_beside(program, traces):
-    """Whether the program answers as the model does: the first violation as text, all as JSON, and all as text if no
-    other connection may be named."""
-    for number, trace in enumerate(traces):
-        found = answer_of(program, trace)
-        complaint = None if found in possible_answers(trace) else f"{found} in place of {answer_of_model(trace)}"
-        report = audit(io.BytesIO(trace), tells_all=True)
-        complaint = complaint or complaint_of_all(trace, report, answer_of(program, trace, ["--all", "--json"]))
-        if not complaint and not any(violation.finding.others for violation in report.violations):
-            found, wanted = answer_of(program, trace, ["--all"]), answer_of_model(trace, ["--all"])
-            complaint = None if found == wanted else f"{found} in place of {wanted}"
-        yield f"beside {number}", complaint
+def check_beside(program, traces, jobs):
+    """Whether the program answers as the model does."""
+    with concurrent.futures.ProcessPoolExecutor(jobs) as pool:
+        complaints = pool.map(functools.partial(complaint_of, program), traces, chunksize=16)
+        for number, complaint in enumerate(complaints):
+            yield f"beside {number}", complaint
+
+
+def complaint_of(program, trace):
+    """What is wrong with a program's answers to a trace, or nothing: the first violation as text, all as JSON, and all
+    as text, with their states, if no other connection may be named."""
+    found = answer_of(program, trace)
+    if found not in possible_answers(trace):
+        return f"{found} in place of {answer_of_model(trace)}"
+    report = audit(io.BytesIO(trace), tells_all=True)
+    complaint = complaint_of_all(trace, report, answer_of(program, trace, ["--all", "--json"]))
+    if complaint or any(violation.finding.others for violation in report.violations):
+        return complaint
+    for options in (["--state"], ["--json"], ["--all"], ["--all", "--state"]):
+        found, wanted = answer_of(program, trace, options), answer_of_model(trace, options)
+        if found != wanted:
+            return f"{' '.join(options)}: {found} in place of {wanted}"
+    return None
+
+
+def random_scripts(count):
+    rng = random.Random(SEED)
+    for _ in range(count):
+        yield script(rng, rng.random() < 0.2)[0]
+
+
+def complaint_of_script(program, text):
+    """What is wrong with the trace that a program writes of a script, or nothing: it is the model's, and the program
+    calls it lawful."""
+    run = subprocess.run([program, "script", "--trace"], input=text.encode(), capture_output=True)
+    wanted = "".join(f"{line}\n" for line in trace_of(text.splitlines())).encode()
+    if (run.returncode, run.stdout, run.stderr) != (0, wanted, b""):
+        return f"status {run.returncode}, {run.stdout!r}, {run.stderr!r} in place of {wanted!r}"
+    found = answer_of(program, run.stdout)
+    return None if found == answer_of_model(wanted) else f"{found.output}{found.errors}".strip()
+
+
+def check_traced(program, scripts, jobs):
+    """Whether the traces of scripts are the model's, and lawful."""
+    with concurrent.futures.ProcessPoolExecutor(jobs) as pool:
+        names, texts = zip(*scripts)
+        for name, complaint in zip(names, pool.map(functools.partial(complaint_of_script, program), texts, chunksize=16)):
+            yield f"trace of {name}", complaint
 
 
 def possible_answers(trace):
@@ -217,7 +258,10 @@ def findings(options):
     yield from check_by_logs(traces[:options.logs])
     if options.beside:
         yield from check_worked(lambda trace, words: answer_of(options.beside, trace, words))
-        yield from check_beside(options.beside, traces)
+        scripts = [(name, read(EXAMPLES, f"{name}.script").decode()) for name in names_in(EXAMPLES, ".script")]
+        scripts += [(f"script {number}", text) for number, text in enumerate(random_scripts(options.scripts))]
+        yield from check_traced(options.beside, scripts, options.jobs)
+        yield from check_beside(options.beside, traces, options.jobs)
 
 
 def main():
@@ -225,6 +269,7 @@ def main():
     parser.add_argument("--drawn", type=int, default=2_000, metavar="COUNT", help="how many random traces")
     parser.add_argument("--scripts", type=int, default=1_000, metavar="COUNT", help="how many random scripts")
     parser.add_argument("--logs", type=int, default=500, metavar="COUNT", help="how many of them by logs too")
+    parser.add_argument("--jobs", type=int, default=processors(), metavar="COUNT", help="how many run side by side")
     parser.add_argument("--beside", metavar="PROGRAM", help="a program with the command audit")
     options = parser.parse_args()
     counts = collections.Counter()
