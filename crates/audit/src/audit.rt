@@ -294,7 +294,11 @@ impl Audit {
         if self.limits.is_none() || self.hosts.is_some() {
             return Err(AuditFault::Line(FaultKind::Place));
         }
-        let target = word.target(&mut CountedMemory::new(self.alloc))?;
+        let target = match word.target(&mut CountedMemory::new(self.alloc)) {
+            Ok(target) => target,
+            Err(FaultKind::Memory) => return Err(AuditFault::Memory),
+            Err(kind) => return Err(AuditFault::Line(kind)),
+        };
         match self.sites.add(&target) {
             Ok(_) => Ok(()),
             Err(SitesFault::TooMany) => Err(AuditFault::Line(FaultKind::TooManySites)),
