@@ -1,6 +1,7 @@
 //! Which places of a slab are polled next.
 
-ghost use Rattle.std.specs.Prelude.{◌≡◌, ℕ, ◌<◌, ◌≤◌, Some, None, IfSome, IfNone, IfOk, OnOk, false};
+ghost use Rattle.std.specs.Prelude.{◌≡◌, ℕ, ◌<◌, ◌≤◌, Some, None, IfSome, IfNone, IfOk, OnOk};
+ghost use Rattle.std.specs.Prelude.{false};
 ghost use Rattle.futures.specs.LinkedLists.{list_of, list_count, key_limit, IsEmpty, SameLists};
 ghost use Rattle.futures.specs.LinkedLists.{Moves};
 ghost use Rattle.exchange.specs.Scheduling.{free_list, most_lists, last_site, IsDueList};
@@ -229,10 +230,7 @@ impl Schedule {
         requires { place < key_limit self.old.lists }
         ensures { Becomes self.old.lists self.new.lists place IsDueList }
     {
-        if let Some(seat) = self.seats.get_mut(place) {
-            seat.is_told = false;
-        }
-        move_to(&mut self.lists, due_list(!self.is_odd), place);
+        self.moves(place, due_list(!self.is_odd));
     }
 
     /// The next place to be polled in this round.
