@@ -13,7 +13,7 @@ use Rattle.desk.specs.Desks.{DeskShown}
 use Rattle.desk.specs.Deeds.{DidAtDesk}
 use Rattle.run_loop.specs.declared.run_end.RunEnd.{RunEnd}
 use Rattle.run_loop.specs.declared.run_end.RunEnd.TheVariants.{Complete}
-use Rattle.run_loop.specs.Going.{may_stop_at, worse_end, TurnsAt, IfComplete}
+use Rattle.run_loop.specs.Going.{may_stop_at, worse_end, TurnsAt, IfComplete, IfStopped}
 use Rattle.run_loop.specs.Running.{IsRunning, numbers_of}
 use Rattle.run_loop.specs.Taking.{AllTaken}
 use Rattle.driver.specs.declared.fault.DriverFault.{DriverFault}
@@ -60,6 +60,7 @@ pub record IsLoopWork {W F : Type 0} (world : World W) (may_stop : ℕ → Type 
   pub of_cache : IsPassOf names work.pass
   pub taken : AllTaken took work.begun work.ended work.told
   pub running : IsRunning (DidAtDesk names) world (may_stop_at work.end may_stop) job_at before after work.drawn [] work.told
+  pub stopped : IfStopped work.end ((number : ℕ) → may_stop number)
   pub turns : TurnsAt work.end work.failed work.failed_now
 
 -- the worst of some ends

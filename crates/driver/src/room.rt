@@ -23,7 +23,7 @@ use std::random::RandomSource;
 use std::sync::Wait;
 
 /// The most jobs of a run: so many numbers can be drawn.
-const MOST_JOBS: usize = 0x7fff_ffff_ffff_ffff;
+pub(crate) const MOST_JOBS: u64 = 0x7fff_ffff_ffff_ffff;
 
 /// What a run keeps, made before it begins.
 pub(crate) struct Room<'d, W: Wire, D: Dial<W>> {
@@ -54,10 +54,11 @@ impl<'d, W: Wire, D: Dial<W>> Room<'d, W, D> {
         ensures workers { IfOk result (λ room. room.workers.items ≡ []) }
         ensures capacity { IfOk result (λ room. count ≤ vec_capacity room.workers) }
     {
-        if jobs > MOST_JOBS {
+        let count_of_jobs = jobs as u64;
+        if count_of_jobs > MOST_JOBS {
             return Err(AllocError);
         }
-        let (claim, seat) = Claim::new(alloc, jobs as u64)?;
+        let (claim, seat) = Claim::new(alloc, count_of_jobs)?;
         let results = vec![in alloc; Done::Bad(Fault::Cancelled); jobs]?;
         let tasks = tasks_for(rt, alloc, count)?;
         let workers = Vec::with_capacity(alloc, count)?;

@@ -30,7 +30,7 @@ use std::sync::Wait;
 use std::thread::{Threads, for_each_mut};
 
 /// The most workers of a run.
-const MOST_WORKERS: usize = 64;
+pub(crate) const MOST_WORKERS: usize = 64;
 
 /// What a run leaves.
 pub struct RunReport {

@@ -1,5 +1,5 @@
 -- How a run goes on over one cache, and how it ends.
-use Rattle.std.specs.Prelude.{◌≡◌, ℕ, ◌<◌, List, [], ◌∷◌, ◌++◌, Option, sum_by, Bool, true, false}
+use Rattle.std.specs.Prelude.{◌≡◌, ℕ, ◌<◌, List, [], ◌∷◌, ◌++◌, Option, sum_by, Bool, true, false, nat_le}
 use Rattle.std.specs.List.{All}
 use Rattle.conn_key.specs.Wants.{Rises}
 use Rattle.leasing.specs.Deeds.{Deed}
@@ -76,14 +76,16 @@ is_fault TurnFailed = true
 is_fault BrokenOff = true
 is_fault _ = false
 
--- the worse of two ends: no end is better than Complete, and none worse than TurnFailed
+-- how bad it is to end so
+abbrev pub badness : RunEnd → ℕ
+badness Complete = 0
+badness Stopped = 1
+badness BrokenOff = 2
+badness TurnFailed = 3
+
+-- the worse of two ends
 abbrev pub worse_end : RunEnd → RunEnd → RunEnd
-worse_end Complete other = other
-worse_end end Complete = end
-worse_end Stopped other = other
-worse_end end Stopped = end
-worse_end BrokenOff other = other
-worse_end TurnFailed other = TurnFailed
+worse_end end other = if nat_le (badness end) (badness other) then other else end
 
 -- this holds of a run that is complete, this of one that isn't, and this of one that was stopped
 abbrev pub IfComplete : RunEnd → Type 0 → Type 0

@@ -1,7 +1,7 @@
 //! How a run ends.
 
 ghost use Rattle.std.specs.Prelude.{◌≡◌};
-ghost use Rattle.run_loop.specs.Going.{is_complete, is_fault, worse_end};
+ghost use Rattle.run_loop.specs.Going.{is_complete, is_fault, badness, worse_end};
 
 /// How a run ends.
 #[derive(Clone, Copy, Debug, PartialEq, Eq)]
@@ -36,13 +36,22 @@ impl RunEnd {
     pub fn or_worse(self, other: RunEnd) -> RunEnd
         ensures { result ≡ worse_end self other }
     {
-        match (self, other) {
-            (RunEnd::Complete, _) => other,
-            (_, RunEnd::Complete) => self,
-            (RunEnd::Stopped, _) => other,
-            (_, RunEnd::Stopped) => self,
-            (RunEnd::BrokenOff, _) => other,
-            (RunEnd::TurnFailed, _) => self,
+        if self.badness() <= other.badness() {
+            other
+        } else {
+            self
+        }
+    }
+
+    /// How bad it is to end so: 0 is to be complete.
+    fn badness(self) -> u8
+        ensures { result ≡ badness self }
+    {
+        match self {
+            RunEnd::Complete => 0,
+            RunEnd::Stopped => 1,
+            RunEnd::BrokenOff => 2,
+            RunEnd::TurnFailed => 3,
         }
     }
 }

@@ -44,7 +44,7 @@ pub struct RunLoop<W: Wire> {
     swept: u64,
     spares: Spares,
     task: Solo,
-    /// How many rings were heard.
+    // How many rings were heard.
     heard: u64,
     ghost few: { sum_by one_if_some slab.slots.items ≤ places },
 }
@@ -136,6 +136,7 @@ impl<W: Wire> RunLoop<W> {
             (point cache.new (J.drawn jobs.new) [] results.new) }
         ensures fixed { J.kept jobs.new ≡ J.kept jobs.old }
         ensures complete { IfComplete result (J.is_over jobs.new) }
+        ensures stopped { IfStopped result ((number : ℕ) → T.may_stop timer.now number) }
         ensures incomplete { IfIncomplete result (J.holds_none jobs.new) }
         ensures turns { TurnsAt result (D.turn_failures dial.old) (D.turn_failures dial.new) }
     {

@@ -10,7 +10,7 @@ ghost use Rattle.shared_cache.specs.Passes.{IsPassOf, IsNewPass};
 ghost use Rattle.driver.specs.ManyWork.{IsHiredLoop, AllBegin, handed_in};
 
 use crate::many::worker::{Finished, LoopWorker, Ready, Tools};
-use crate::room::tasks_for;
+use crate::room::{MOST_JOBS, tasks_for};
 use budget::Pass;
 use bundle::Did;
 use claim::{Claim, ClaimSeat};
@@ -20,9 +20,6 @@ use run_loop::RunLoop;
 use shared_cache::Names;
 use std::alloc::{AllocError, AllocGlobal, Global};
 use std::random::RandomSource;
-
-/// The most jobs of a run: so many numbers can be drawn.
-const MOST_JOBS: u64 = 0x7fff_ffff_ffff_ffff;
 
 /// What a run keeps, made before it begins.
 pub(crate) struct ManyRoom<W: Wire, D: Dial<W>, F> {

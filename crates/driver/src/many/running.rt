@@ -20,6 +20,7 @@ use crate::many::room::{ManyRoom, hire_all};
 use crate::many::run_timer::RunTimer;
 use crate::many::worker::{Finished, Left, LoopWorker, Ready, Tools};
 use crate::room::passes_for;
+use crate::running::MOST_WORKERS;
 use budget::Pass;
 use bundle::Did;
 use claim::Claim;
@@ -31,9 +32,6 @@ use std::alloc::{AllocGlobal, Global};
 use std::random::RandomSource;
 use std::sync::Wait;
 use std::thread::{Threads, for_each_mut};
-
-/// The most workers of a run.
-const MOST_WORKERS: usize = 64;
 
 /// What a run leaves.
 pub struct ManyReport<D, F> {
@@ -47,6 +45,7 @@ pub struct ManyReport<D, F> {
 
 /// What comes back of a run that did not begin.
 pub struct NotBegun<D, F> {
+    /// Why it did not begin.
     pub fault: DriverFault,
     /// What was handed in.
     pub tools: Vec<Tools<D, F>>,
@@ -97,11 +96,12 @@ pub fn run_many<
         report.end report.drawn) }
     ensures passes_back { IfOk result (λ report. HavePasses N.names report.workers.items) }
     ensures bad_workers { are_bad_tools (vec_len tools) places ≡ true → IsErrAnd result
-        (λ refused. refused.fault ≡ DriverFault.BadWorkers) }
+        (λ refused. (refused.fault ≡ DriverFault.BadWorkers) × (refused.passes.items ≡ [])) }
     ensures err { IfErr result (λ refused.
         IsNotBegunFor (vec_len tools) places refused.fault) }
     ensures tools { IfErr result (λ refused. refused.tools ≡ tools) }
     ensures passes { IfErr result (λ refused. All (IsPassOf N.names) refused.passes.items) }
+    ensures fewer { IfErr result (λ refused. vec_len refused.passes ≤ vec_len tools) }
 {
     let count = tools.len();
     if count == 0 || count > MOST_WORKERS || count > places {

@@ -14,13 +14,17 @@ use std::mem;
 /// What a worker is handed: its dial, and what takes its results.
 #[derive(Drop)]
 pub struct Tools<D, F> {
+    /// It opens the worker's connections.
     pub dial: D,
+    /// It takes the results of the worker's jobs.
     pub results: F,
 }
 
 /// What a worker hands back.
 pub struct Finished<D, F> {
+    /// The dial that was handed in.
     pub dial: D,
+    /// What took the results, with all of them.
     pub results: F,
     /// What its desk was told at each site.
     pub pass: Pass<Did>,

@@ -52,6 +52,7 @@ returns g c =
         taken = is.taken;
         running = subst (λ s. IsRunning did world (may_stop_at run.result may_stop) (g.S.JobSource.job_at s) desk run.new.cache drew.seat.drawn [] is.told) source
             (subst (λ (l : List ℕ). IsRunning did world (may_stop_at run.result may_stop) job_of desk run.new.cache l [] is.told) drawn is.running);
+        stopped = run.ensures.stopped;
         turns = run.ensures.turns;
       };
       leaves = record {
