@@ -12,7 +12,7 @@ use crate::making::{cache_of, gathered_with, pass_of, plan_of, push};
 use budget::Pass;
 use bundle::Did;
 use cache_report::totals;
-use driver::{Finished, JobSource, ManyReport, NotBegun, Tools, run_many};
+use driver::{DriverFault, Finished, JobSource, ManyReport, NotBegun, Tools, run_many};
 use exchange::{Clock, Done, Job, Prepared};
 use run_loop::{Results, RunEnd, Timer};
 use shared_cache::{Names, Plan, SharedCache};
@@ -152,7 +152,7 @@ const ROW: Row = Row {
     },
 };
 
-static ROWS: [Row; 4] = [
+static ROWS: [Row; 5] = [
     ROW,
     Row {
         name: "each job gets its own answer, at many places",
@@ -192,6 +192,23 @@ static ROWS: [Row; 4] = [
         end: RunEnd::Stopped,
         drawn: 0,
         tally: NOTHING,
+        ..ROW
+    },
+    Row {
+        name: "a turn fails: the jobs of all places end",
+        setup: Setup {
+            workers: 1,
+            peer: Peer::KeepsSilent,
+            fails_turns: true,
+            ..SETUP
+        },
+        end: RunEnd::TurnFailed,
+        drawn: 3,
+        tally: Tally {
+            good: 0,
+            bad: 3,
+            bytes: 0,
+        },
         ..ROW
     },
 ];
@@ -234,6 +251,51 @@ fn check_row<N: Names + Send + Sync, R: Threads + Wait + Abort + RandomSource + 
             check_balance(rt, cache, passes, name);
         }
         Err(NotBegun { fault, .. }) => panic!(rt; "{name}: {fault:?}"),
+    }
+}
+
+// Workers and places: no worker, more than a run has, more than there are places.
+static BAD: [(u32, usize); 3] = [(0, 4), (65, 100), (3, 2)];
+
+#[test]
+fn bad_workers_get_their_tools_back(rt: HostRuntime) {
+    for (workers, places) in &BAD {
+        let setup = Setup {
+            workers: *workers,
+            ..SETUP
+        };
+        let plan = plan_of(&rt, 0, setup.total, setup.hosts);
+        check_refused::<Brand, HostRuntime>(&rt, plan, &setup, *places);
+    }
+}
+
+// The run doesn't begin, and all that was handed in comes back.
+fn check_refused<
+    N: Names + Send + Sync,
+    R: Threads + Wait + Abort + RandomSource + AllocGlobal + Sync,
+>(rt: &R, plan: Plan<PeerWire>, setup: &Setup, places: usize)
+    requires { plan ≡ N.names }
+{
+    let cache = cache_of::<PeerWire, N, R>(rt, plan);
+    let source = source_of(rt, setup);
+    let timer = Standing { is_over: false };
+    let tools = tools_of(rt, setup);
+    let alloc = rt.alloc();
+    match run_many(
+        rt, alloc, &cache, &source, setup.jobs, places, tools, &timer,
+    ) {
+        Ok(_) => panic!(rt; "{places}: it began"),
+        Err(
+            NotBegun {
+                fault,
+                tools,
+                passes,
+            },
+        ) => {
+            assert_eq!(rt; fault, DriverFault::BadWorkers, "{places}");
+            assert_eq!(rt; tools.len(), setup.workers as usize, "{places}");
+            check_balance(rt, cache, passes, "refused");
+        }
     }
 }
 
