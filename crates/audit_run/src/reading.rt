@@ -145,8 +145,8 @@ impl Run<'_> {
         Err(AuditStop::Memory)
     }
 
-    /// Reads the lines whose ends are there, and answers what follows them; nothing if one violation
-    /// is enough.
+    /// Reads the lines whose ends are there, and answers what follows them; nothing if one
+    /// violation is enough.
     fn read_complete<'b, W: Sink>(
         &mut self,
         text: &'b [u8],

@@ -98,7 +98,8 @@ fn asks_for_input(request: &Request) -> bool {
 }
 
 /// Does what is asked for, and answers the status: runs the script, fetches the URLs, carries out
-/// the load, judges the trace, tells help or the version on `output`, or tells on `errors` why nothing is done.
+/// the load, judges the trace, tells help or the version on `output`, or tells on `errors` why
+/// nothing is done.
 pub fn answer_request<
     F: ScriptFiles,
     N: Network,

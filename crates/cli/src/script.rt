@@ -33,7 +33,8 @@ pub(crate) fn answer_script<F: ScriptFiles, R: Source, W: Sink, E: Write>(
     requires input { CanCount (R.source input.old) }
     requires output { CanCount (W.sink output.old) }
     ensures answers { AnswersScript (F.opens files.old files.new) (name_of words.input)
-        words.is_traced (R.source input.old) (R.source input.new) (W.sink output.old) (W.sink output.new) result }
+        words.is_traced (R.source input.old) (R.source input.new) (W.sink output.old)
+        (W.sink output.new) result }
     ensures unopened { name_of words.input ≡ None → files.new ≡ files.old }
 {
     let ScriptWords {

@@ -35,8 +35,8 @@ pub fn worked_command_lines()
     ensures number_twice { RefusesNumberTwice }
 {}
 
-/// The words of `audit`, by computation: it takes its flags before and after the file, and refuses a
-/// flag that is given twice. `script` takes its flag behind the file.
+/// The words of `audit`, by computation: it takes its flags before and after the file, and refuses
+/// a flag that is given twice. `script` takes its flag behind the file.
 #[tactic(auto, unfolding(clap::proofs::OnLiterals::clap_on_literals))]
 pub fn worked_audit_lines()
     ensures trace { TakesTrace }

@@ -199,13 +199,16 @@ fn words_ask_for_audits(rt: HostRuntime) {
     check_all(&rt, &ROWS);
 }
 
+// Words, and what stands before the write that fails.
+static FRONTS: [(&str, &str); 3] = [
+    ("audit", "trace:8: leased 0.1 to"),
+    ("audit --json", "{\"lawful\": false, \"ev"),
+    ("audit --all", ""),
+];
+
 #[test]
 fn answers_that_cannot_be_written(rt: HostRuntime) {
-    for &(words, front) in &[
-        ("audit", "trace:8: leased 0.1 to"),
-        ("audit --json", "{\"lawful\": false, \"ev"),
-        ("audit --all", ""),
-    ] {
+    for (words, front) in &FRONTS {
         let row = Row {
             name: words,
             words,
@@ -264,26 +267,31 @@ fn verdict_on(
     (verdict, answer)
 }
 
+// A trace, the answer, and the verdict.
+static PIECES: [(&str, &str, Verdict); 3] = [
+    (BROKEN, TOO_LATE, Verdict::Broken),
+    (
+        NOT_TAKEN,
+        "trace:6: opened 0.2 for 2 at 0: past the host limit: 1 open, limit 1\n",
+        Verdict::Broken,
+    ),
+    (
+        "limits 2 0 4\r\nsite http://a.test/\r\nrest\r\n",
+        "lawful: 0 events, 1 host, 0 still open, waits not told\n",
+        Verdict::Lawful,
+    ),
+];
+
 #[test]
 fn traces_that_come_in_pieces(rt: HostRuntime) {
-    let rows = [
-        (BROKEN, TOO_LATE, Verdict::Broken),
-        (
-            NOT_TAKEN,
-            "trace:6: opened 0.2 for 2 at 0: past the host limit: 1 open, limit 1\n",
-            Verdict::Broken,
-        ),
-        (
-            "limits 2 0 4\r\nsite http://a.test/\r\nrest\r\n",
-            "lawful: 0 events, 1 host, 0 still open, waits not told\n",
-            Verdict::Lawful,
-        ),
-    ];
-    for &(trace, expected, verdict) in &rows {
+    for (trace, expected, verdict) in &PIECES {
         for size in 1..20 {
             let (found, answer) = verdict_on(rt.alloc(), trace.as_bytes(), size, false);
             let text = str::from_utf8(answer.as_slice()).unwrap_or("no text");
-            assert!(rt; found == Ok(verdict) && text == expected, "{size}: {text}");
+            assert!(rt;
+                found == Ok(*verdict) && text == *expected,
+                "{size}: {text}"
+            );
         }
     }
 }
@@ -313,12 +321,14 @@ fn long_trace(alloc: Global, count: u64, comment: usize) -> Result<String, Alloc
     Ok(trace)
 }
 
+// Bytes of a comment. Each piece has 65,536 bytes: its end falls on several places in a line.
+static COMMENTS: [usize; 6] = [1, 2, 7, 12, 17, 22];
+
 #[test]
 fn a_trace_of_many_pieces(rt: HostRuntime) {
     let expected = "lawful: 1,801 events, 1 host, 1 still open, waits not told\n";
-    // each piece has 65,536 bytes: its end falls on several places in a line
-    for &comment in &[1, 2, 7, 12, 17, 22] {
-        let trace = long_trace(rt.alloc(), 900, comment).expect(&rt, "memory");
+    for comment in &COMMENTS {
+        let trace = long_trace(rt.alloc(), 900, *comment).expect(&rt, "memory");
         let (found, answer) = verdict_on(rt.alloc(), trace.as_bytes(), usize::MAX, false);
         let text = str::from_utf8(answer.as_slice()).unwrap_or("no text");
         assert!(rt;
@@ -328,21 +338,24 @@ fn a_trace_of_many_pieces(rt: HostRuntime) {
     }
 }
 
+// Bytes of a comment, and whether its line is read.
+static LONG: [(usize, bool); 4] = [
+    (2_304, true),
+    (2_305, false),
+    (2_306, false),
+    (200_000, false),
+];
+
 #[test]
 fn lines_as_long_as_they_may_be(rt: HostRuntime) {
     let lawful = Ok(Verdict::Lawful);
-    for &(comment, is_read) in &[
-        (2_304, true),
-        (2_305, false),
-        (2_306, false),
-        (200_000, false),
-    ] {
-        let trace = long_trace(rt.alloc(), 1, comment).expect(&rt, "memory");
+    for (comment, is_read) in &LONG {
+        let trace = long_trace(rt.alloc(), 1, *comment).expect(&rt, "memory");
         let (found, answer) = verdict_on(rt.alloc(), trace.as_bytes(), 1_000, false);
         let text = format!(in rt.alloc(); "{:?}", found).expect(&rt, "memory");
         let is_told = text.contains("LineTooLong") && answer.is_empty();
         assert!(rt;
-            if is_read { found == lawful } else { is_told },
+            if *is_read { found == lawful } else { is_told },
             "{comment}: {text}"
         );
     }

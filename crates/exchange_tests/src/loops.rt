@@ -355,15 +355,15 @@ static LIMITS: [(u64, &str); 4] = [
 
 #[test]
 fn a_job_over_its_limit_is_cancelled(rt: HostRuntime) {
-    for &(number, lines) in &LIMITS {
+    for (number, lines) in &LIMITS {
         let mut dial = slow_dial(&rt);
         let timer = Limited {
             micros: AtomicU64::new(0),
-            number,
+            number: *number,
             limit: 100_000,
         };
         let (end, report) = run_by(&rt, 4, &timer, &mut dial);
         assert_eq!(rt; end, RunEnd::Complete);
-        assert_eq!(rt; report.text.as_str(), lines);
+        assert_eq!(rt; report.text.as_str(), *lines);
     }
 }

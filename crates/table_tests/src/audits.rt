@@ -147,7 +147,8 @@ const ROWS: [Row; 39] = [
              returned 0.1 by 1 at 1\n\
              get 2 0 0 at 120\n\
              leased 0.1 to 2 at 120\n",
-        answer: "trace:8: leased 0.1 to 2 at 120: idle for 119 seconds, and transfer 2 accepts 118\n\
+        answer: "trace:8: leased 0.1 to 2 at 120: idle for 119 seconds, and transfer 2 accepts \
+             118\n\
              trace:6: here 0.1 came back\n",
     },
     Row {
@@ -229,14 +230,16 @@ const ROWS: [Row; 39] = [
              waits 2 host 0 at 0\n\
              back 1 0 keep at 0\n\
              returned 0.1 by 1 at 0\n",
-        answer: "trace:8: returned 0.1 by 1 at 0: a waiter beside an idle connection: transfer 2 waits, 0.1 is idle\n\
+        answer: "trace:8: returned 0.1 by 1 at 0: a waiter beside an idle connection: transfer 2 \
+             waits, 0.1 is idle\n\
              trace:6: here transfer 2 began to wait\n",
     },
     Row {
         limits: "0 0 1",
         begins: WAITS,
         lines: "",
-        answer: "trace:4: waits 1 host 0 at 0: a waiter beside room: transfer 1 waits, 0 of 65535 are open at host 0\n\
+        answer: "trace:4: waits 1 host 0 at 0: a waiter beside room: transfer 1 waits, 0 of 65535 \
+             are open at host 0\n\
              trace:4: here transfer 1 began to wait\n",
     },
     Row {
@@ -290,7 +293,8 @@ const ROWS: [Row; 39] = [
              returned 0.1 by 1 at 3\n\
              get 2 0 0 at 3\n\
              leased 0.1 to 2 at 4\n",
-        answer: "trace:8: leased 0.1 to 2 at 4: reused after a response that lasted until the connection ended\n\
+        answer: "trace:8: leased 0.1 to 2 at 4: reused after a response that lasted until the \
+             connection ended\n\
              trace:6: here 0.1 came back\n",
     },
     Row {
@@ -394,7 +398,8 @@ const ROWS: [Row; 39] = [
 /// Traces of more hosts, or with comments between their lines, and their answers.
 const WHOLE: [(&str, &str); 8] = [
     (
-        "# Between the lines that ask, the pool isn't at rest: the first line after the sites says that the trace tells its rests.\n\
+        "# Between the lines that ask, the pool isn't at rest: the first line after the sites \
+             says that the trace tells its rests.\n\
              limits 1 0 1\n\
              site http://a.test/\n\
              rest\n\
@@ -410,11 +415,13 @@ const WHOLE: [(&str, &str); 8] = [
              returned 0.1 by 1 at 2\n\
              rest\n\
              leased 0.1 to 2 at 2\n",
-        "trace:14: returned 0.1 by 1 at 2: a waiter beside an idle connection: transfer 2 waits, 0.1 is idle\n\
+        "trace:14: returned 0.1 by 1 at 2: a waiter beside an idle connection: transfer 2 waits, \
+             0.1 is idle\n\
              trace:8: here transfer 2 began to wait\n",
     ),
     (
-        "# The second get of transfer 2 is one of a waiter: it has no say in the start, and stands for the one after.\n\
+        "# The second get of transfer 2 is one of a waiter: it has no say in the start, and \
+             stands for the one after.\n\
              limits 1 0 1\n\
              site http://a.test/\n\
              get 1 0 0 at 0\n\
@@ -471,7 +478,8 @@ const WHOLE: [(&str, &str); 8] = [
         "lawful: 9 events, 2 hosts, 3 still open, waits not told\n",
     ),
     (
-        "# Between the return and the close of 0.1, transfer 2 begins, and the moment of the return is passed.\n\
+        "# Between the return and the close of 0.1, transfer 2 begins, and the moment of the \
+             return is passed.\n\
              limits 2 0 1\n\
              site http://a.test/\n\
              get 1 0 0 at 0\n\
@@ -490,7 +498,8 @@ const WHOLE: [(&str, &str); 8] = [
         "lawful: 6 events, 1 host, 2 still open, waits not told\n",
     ),
     (
-        "# The close that makes room stands after the start that it made room for: the total is judged at rest.\n\
+        "# The close that makes room stands after the start that it made room for: the total is \
+             judged at rest.\n\
              limits 0 1 4\n\
              site http://a.test/\n\
              site http://b.test/\n\
