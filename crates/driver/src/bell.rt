@@ -33,12 +33,13 @@ impl Bell {
         self.rings.load(Ordering::SeqCst)
     }
 
-    /// Rings it.
-    pub(crate) fn ring(&self) {
-        self.rings.fetch_add(1, Ordering::SeqCst);
+    /// Rings it. How often it was rung before.
+    pub(crate) fn ring(&self) -> u64 {
+        let before = self.rings.fetch_add(1, Ordering::SeqCst);
         if self.waiting.load(Ordering::SeqCst) != 0 {
             self.rings.wake_all();
         }
+        before
     }
 
     /// Waits until it was rung more often than that, 10 milliseconds at most.

@@ -1,6 +1,7 @@
 //! One request and its response over a connection of a cache.
 #![tactic(auto)]
 
+mod alarm;
 mod connecting;
 mod done;
 mod ended;
@@ -16,6 +17,7 @@ mod transfer;
 mod transferring;
 mod wire;
 
+pub use alarm::Alarm;
 pub use done::{Answer, Done, Fault};
 pub use ended::Ended;
 pub use exchange::Exchange;

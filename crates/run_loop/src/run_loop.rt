@@ -144,8 +144,8 @@ impl<W: Wire> RunLoop<W> {
         let end = run.go_on(rt, cache, dial, jobs, results, timer);
         run.drop_early(end, cache, jobs, results, timer);
         run.close_all(end, cache, dial, jobs, results, timer);
+        let _ = timer.ring(run.heard);
         run.destroy_empty();
-        timer.ring();
         end
     }
 
@@ -336,7 +336,8 @@ impl<W: Wire> RunLoop<W> {
     }
 
     // Stops the jobs that the timer stops, if it was not asked for ten milliseconds; each has its
-    // result.
+    // result. The first transfer that waits at each site asks for its connection, though no bell
+    // rang.
     fn sweep<C: Cache<W>, D: Dial<W>, J: Jobs, R: Results, T: Timer>(
         &mut self,
         cache: &mut C,
@@ -361,6 +362,7 @@ impl<W: Wire> RunLoop<W> {
             return;
         }
         self.swept = now;
+        self.slab.ask_sites();
         for place in 0..self.slab.places() {
             self.stop_at(place, cache, dial, _jobs, results, timer);
         }
@@ -438,6 +440,7 @@ impl<W: Wire> RunLoop<W> {
     }
 
     // Waits for what may bring a transfer on, or until the next job is due, by a turn of the dial.
+    // It looks whether the bell rang once the bell can end the turn: so no ring is missed.
     fn rest<D: Dial<W>, T: Timer>(&mut self, dial: &mut D, timer: &T, next: Next) -> Turned
         ensures turns { CountsTurn result (D.turn_failures dial.old) (D.turn_failures dial.new) }
         ensures slots { self.new.slab.slots ≡ self.old.slab.slots }
@@ -447,7 +450,14 @@ impl<W: Wire> RunLoop<W> {
             Next::At(due) => Duration::from_micros(due.saturating_sub(timer.micros())),
         };
         self.tell_spent(timer);
+        timer.fall_asleep();
+        let most = if timer.rings() == self.heard {
+            most
+        } else {
+            Duration::ZERO
+        };
         let turned = self.slab.turn(dial, most);
+        timer.wake_up();
         self.hear(timer.rings());
         turned
     }
@@ -457,7 +467,7 @@ impl<W: Wire> RunLoop<W> {
         ensures slots { self.new.slab.slots ≡ self.old.slab.slots }
     {
         if self.slab.take_spent() {
-            timer.ring();
+            self.heard = timer.ring(self.heard);
         }
     }
 

@@ -36,6 +36,15 @@ pub trait Timer: Clock {
         0
     }
 
-    /// Rings that bell: leases or tickets were spent in this loop.
-    fn ring(&self) {}
+    /// Rings that bell: leases or tickets were spent in this loop, which has heard so many rings.
+    /// Answers how many it has heard then: its own too, unless another loop's came between.
+    fn ring(&self, heard: u64) -> u64 {
+        heard
+    }
+
+    /// From now on the bell ends the turn of the loop's dial.
+    fn fall_asleep(&self) {}
+
+    /// The bell has no turn to end any more.
+    fn wake_up(&self) {}
 }

@@ -3,6 +3,7 @@
 #![tactic(auto)]
 
 mod addresses;
+mod alarm;
 mod begun;
 mod clock;
 mod connection;
@@ -14,6 +15,7 @@ mod polled;
 mod waiting;
 
 pub use addresses::{AddressFault, Addresses};
+pub use alarm::PolledAlarm;
 pub use clock::SystemClock;
 pub use polled::{PolledDial, PolledWire};
 pub use waiting::{WaitingDial, WaitingWire};

@@ -1,5 +1,6 @@
 //! Whose sockets are whose: which transfer of a slab each descriptor belongs to.
 
+use crate::alarm::ALARM;
 use exchange::{Place, Ready};
 use mio::Token;
 use std::alloc::Global;
@@ -9,6 +10,12 @@ use std::os::fd::AsRawFd;
 pub(crate) fn token_of<S: AsRawFd>(socket: &S) -> Token {
     Token(usize::try_from(socket.as_raw_fd()).unwrap_or(usize::MAX))
 }
+
+/// A place that no slab has: an alarm brings no transfer on.
+const NOWHERE: Place = Place {
+    index: u32::MAX,
+    joined: 0,
+};
 
 /// The place that each socket belongs to, by token.
 #[derive(Drop)]
@@ -48,6 +55,7 @@ impl Places {
     pub(crate) fn ready(&self, token: Token) -> Ready {
         match self.rows.get(token.0) {
             Some(Some(place)) => Ready::At(*place),
+            _ if token == ALARM => Ready::At(NOWHERE),
             _ => Ready::All,
         }
     }

@@ -3,6 +3,7 @@
 ghost use Rattle.std.specs.Prelude.{◌≡◌, IfSome, IfOk};
 
 use crate::addresses::Addresses;
+use crate::alarm::PolledAlarm;
 use crate::connection::{Connection, is_readable};
 use crate::connector::Connector;
 use crate::dialled_socket::DialledSocket;
@@ -184,6 +185,15 @@ impl<'n, N: Net> PolledDial<'n, N> {
             places: Places::new(alloc),
             source: Source::new(),
         })
+    }
+
+    /// What ends its turns from another thread.
+    ///
+    /// # Errors
+    ///
+    /// The system gives no descriptor for it.
+    pub fn alarm(&self) -> io::Result<PolledAlarm> {
+        PolledAlarm::new(&self.registry)
     }
 
     /// How many connections it has opened; the count stays at the greatest `u64`.

@@ -2,23 +2,34 @@
 
 use crate::bell::Bell;
 use crate::faults::Faults;
-use exchange::Clock;
+use exchange::{Alarm, Clock};
 use run_loop::Timer;
 
-/// The longest that a transfer waits before it asks whether it has its connection, in
-/// microseconds, though no bell rang.
-const ASKS_EACH: u64 = 10_000;
-
 /// A run's timer, for one of its workers: a fault that another worker met breaks the run off, and
-/// the run's bell rings.
+/// the run's bell ends the turns of the others that sleep.
 #[derive(Drop)]
-pub(crate) struct RunTimer<'a, T: Timer> {
+pub(crate) struct RunTimer<'a, T: Timer, A: Alarm> {
     pub(crate) timer: &'a T,
     pub(crate) faults: &'a Faults,
     pub(crate) bell: &'a Bell,
+    /// Of each worker, as far as their dials have some.
+    pub(crate) alarms: &'a [A],
+    /// The worker's number, from 0.
+    pub(crate) own: usize,
 }
 
-impl<'a, T: Timer> Clock for RunTimer<'a, T> {
+impl<'a, T: Timer, A: Alarm> RunTimer<'a, T, A> {
+    // Ends the turns of all others that sleep.
+    fn wake_others(&self) {
+        for (number, alarm) in self.alarms.iter().enumerate() {
+            if number != self.own {
+                alarm.ring();
+            }
+        }
+    }
+}
+
+impl<'a, T: Timer, A: Alarm> Clock for RunTimer<'a, T, A> {
     ghost tells = { λ timer moment. T.tells timer.timer.now moment };
 
     fn now(&self) -> u64 {
@@ -26,7 +37,7 @@ impl<'a, T: Timer> Clock for RunTimer<'a, T> {
     }
 }
 
-impl<'a, T: Timer> Timer for RunTimer<'a, T> {
+impl<'a, T: Timer, A: Alarm> Timer for RunTimer<'a, T, A> {
     ghost may_stop = { λ timer job. T.may_stop timer.timer.now job };
 
     fn micros(&self) -> u64 {
@@ -46,12 +57,28 @@ impl<'a, T: Timer> Timer for RunTimer<'a, T> {
     }
 
     fn rings(&self) -> u64 {
-        self.bell
-            .rings()
-            .wrapping_add(self.timer.micros() / ASKS_EACH)
+        self.bell.rings()
     }
 
-    fn ring(&self) {
-        self.bell.ring();
+    fn ring(&self, heard: u64) -> u64 {
+        let before = self.bell.ring();
+        self.wake_others();
+        if before == heard {
+            heard.wrapping_add(1)
+        } else {
+            heard
+        }
+    }
+
+    fn fall_asleep(&self) {
+        if let Some(alarm) = self.alarms.get(self.own) {
+            alarm.fall_asleep();
+        }
+    }
+
+    fn wake_up(&self) {
+        if let Some(alarm) = self.alarms.get(self.own) {
+            alarm.wake_up();
+        }
     }
 }

@@ -127,6 +127,9 @@ impl Timer for Standing {
     }
 }
 
+// These dials' turns don't wait.
+static ALARMS: [(); 0] = [];
+
 // A run, and what it leaves.
 struct Row {
     name: &'static str,
@@ -238,7 +241,9 @@ fn check_row<N: Names + Send + Sync, R: Threads + Wait + Abort + RandomSource + 
     let alloc = rt.alloc();
     let jobs = row.setup.jobs;
     let name = row.name;
-    match run_many(rt, alloc, &cache, &source, jobs, row.places, tools, &timer) {
+    match run_many(
+        rt, alloc, &cache, &source, jobs, row.places, tools, &ALARMS, &timer,
+    ) {
         Ok(report) => {
             let ManyReport {
                 end,
@@ -282,7 +287,7 @@ fn check_refused<
     let tools = tools_of(rt, setup);
     let alloc = rt.alloc();
     match run_many(
-        rt, alloc, &cache, &source, setup.jobs, places, tools, &timer,
+        rt, alloc, &cache, &source, setup.jobs, places, tools, &ALARMS, &timer,
     ) {
         Ok(_) => panic!(rt; "{places}: it began"),
         Err(
