@@ -17,5 +17,5 @@ mod worker;
 
 pub use fault::DriverFault;
 pub use gate::{Gate, NoGate};
-pub use many::{Finished, JobSource, ManyReport, NotBegun, Tools, run_many};
+pub use many::{Finished, JobSource, ListedJobs, ManyReport, NotBegun, Tools, run_many};
 pub use running::{RunReport, run};

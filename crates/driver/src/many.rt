@@ -3,11 +3,13 @@
 mod drawn_jobs;
 mod gathering;
 mod job_source;
+mod listed_jobs;
 mod room;
 mod run_timer;
 mod running;
 mod worker;
 
 pub use job_source::JobSource;
+pub use listed_jobs::ListedJobs;
 pub use running::{ManyReport, NotBegun, run_many};
 pub use worker::{Finished, Tools};

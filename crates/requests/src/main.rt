@@ -1,11 +1,14 @@
 //! A program that tries and measures what sends requests: it requests URLs one by one, or paths by
-//! threads that share a cache, for a number of jobs or of seconds, of servers that run elsewhere;
+//! threads that share a cache, one or many at once each, for a number of jobs or of seconds, of
+//! servers that run elsewhere;
 //! and it fuzzes the reader of responses. It is not a part of the product.
 #![tactic(auto)]
 
+mod addresses;
 mod fuzzing;
 mod jobs;
 mod loading;
+mod many;
 mod soaking;
 mod sockets;
 mod statuses;
@@ -14,6 +17,7 @@ mod words;
 
 use crate::fuzzing::fuzz;
 use crate::loading::load_sites;
+use crate::many::load_many;
 use crate::soaking::soak;
 use crate::sockets::request_urls;
 use crate::statuses::{BAD_WORDS, FAILED, PASSED};
@@ -28,6 +32,7 @@ use std::thread::Threads;
 const USAGE: &str = "\
     requests: sockets waiting|polled PAUSE LIMIT ROUNDS URL..\n\
     requests: load [each] WORKERS TOTAL JOBS PORT..\n\
+    requests: many WORKERS PLACES TOTAL JOBS PORT..\n\
     requests: soak SECONDS THREADS TOTAL PORT..\n\
     requests: fuzz SEED COUNT [LIST] < CORPUS\n\
     requests: COMMAND then COMMAND..\n";
@@ -74,6 +79,7 @@ fn run<R: Threads + Wait + RandomSource + AllocGlobal + Sync>(
     match command.as_str() {
         "sockets" => request_urls(rt, words),
         "load" => load_sites(threads, rt, words),
+        "many" => load_many(threads, rt, words),
         "soak" => soak(threads, rt, words),
         "fuzz" => fuzz(rt, words),
         _ => BAD_WORDS,

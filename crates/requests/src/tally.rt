@@ -1,6 +1,9 @@
 //! What came of requests.
 
+ghost use Rattle.std.specs.Prelude.{⊤};
+
 use exchange::Done;
+use run_loop::Results;
 
 /// What came of requests.
 #[derive(Drop)]
@@ -29,6 +32,15 @@ impl Tally {
         }
     }
 
+    /// Counts what another one has counted.
+    pub(crate) fn join(&mut self, other: &Tally) {
+        self.good = self.good.saturating_add(other.good);
+        self.failed = self.failed.saturating_add(other.failed);
+        self.reused = self.reused.saturating_add(other.reused);
+        self.retried = self.retried.saturating_add(other.retried);
+        self.bytes = self.bytes.saturating_add(other.bytes);
+    }
+
     /// Counts what came of a request.
     pub(crate) fn add(&mut self, done: &Done) {
         match done {
@@ -40,5 +52,13 @@ impl Tally {
             }
             Done::Bad(_) => self.failed = self.failed.saturating_add(1),
         }
+    }
+}
+
+impl Results for Tally {
+    ghost took = { λ old new number done. ⊤ };
+
+    fn take(&mut self, _number: u64, done: Done) {
+        self.add(&done);
     }
 }

@@ -4,15 +4,15 @@ ghost use Rattle.std.specs.Prelude.{◌≡◌, ◌+◌, ◌<◌, ◌≤◌, IfSo
 ghost use Rattle.std.specs.List.{All};
 ghost use Rattle.shared_cache.specs.Passes.{IsPassOf};
 
+use crate::addresses::addresses_of;
 use crate::soaking::carrier::Carrier;
 use crate::soaking::course::Course;
 use crate::soaking::worker::Worker;
 use budget::Pass;
 use bundle::Did;
 use shared_cache::{Gathered, Names, Plan, SharedCache, discard_all};
-use socket::{Addresses, WaitingWire};
+use socket::WaitingWire;
 use std::alloc::Global;
-use std::net::{IpAddr, Ipv4Addr, SocketAddr};
 use std::sync::Wait;
 use std::thread;
 use std::thread::Threads;
@@ -86,17 +86,6 @@ fn worker_of<'n, N: Names, R: Wait>(
     let carrier = Carrier::new(course.system, addresses)?;
     let pass = cache.pass(rt, alloc).ok()?;
     Some(Worker::new(u64::from(index), pass, carrier))
-}
-
-// The addresses of the hosts at these ports.
-fn addresses_of(alloc: Global, ports: &[u16]) -> Option<Addresses> {
-    let mut addresses = Addresses::new(alloc);
-    for port in ports {
-        let place = SocketAddr::new(IpAddr::V4(Ipv4Addr::LOCALHOST), *port);
-        let one = vec![in alloc; place; 1].ok()?;
-        addresses.add_resolved(one).ok()?;
-    }
-    Some(addresses)
 }
 
 // Each makes requests in a thread of its own.

@@ -12,8 +12,8 @@ use crate::making::{cache_of, gathered_with, pass_of, plan_of, push};
 use budget::Pass;
 use bundle::Did;
 use cache_report::totals;
-use driver::{DriverFault, Finished, JobSource, ManyReport, NotBegun, Tools, run_many};
-use exchange::{Clock, Done, Job, Prepared};
+use driver::{DriverFault, Finished, ListedJobs, ManyReport, NotBegun, Tools, run_many};
+use exchange::{Clock, Done};
 use run_loop::{Results, RunEnd, Timer};
 use shared_cache::{Names, Plan, SharedCache};
 use std::alloc::{AllocGlobal, Global};
@@ -22,38 +22,6 @@ use std::process::Abort;
 use std::random::RandomSource;
 use std::sync::Wait;
 use std::thread::Threads;
-
-// Jobs that are due at once; each has its place as its number.
-#[derive(Drop)]
-struct Listed {
-    alloc: Global,
-    jobs: Vec<Job>,
-    // What the job of a number would be that has no place.
-    other: Job,
-}
-
-impl JobSource for Listed {
-    ghost use Rattle.std.specs.Prelude.{slice_index_or};
-
-    ghost job_at = { λ listed number. slice_index_or listed.jobs.items number listed.other };
-
-    fn due(&self, _number: u64) -> u64 {
-        0
-    }
-
-    fn prepare(&self, number: u64, spare: Option<Prepared>) -> Result<Prepared, Option<Prepared>> {
-        let Some(job) = self.jobs.get(number as usize) else {
-            return Err(spare);
-        };
-        if job.want.transfer != number {
-            return Err(spare);
-        }
-        let Some(used) = spare else {
-            return Prepared::new(self.alloc, job).map_err(|_| None);
-        };
-        used.again(job).map_err(|(left, _)| Some(left))
-    }
-}
 
 // How many ended well, and how many otherwise; the sum of the bodies' lengths.
 #[derive(Clone, Copy, Debug, PartialEq, Eq, Drop)]
@@ -233,16 +201,17 @@ fn check_row<N: Names + Send + Sync, R: Threads + Wait + Abort + RandomSource + 
     requires { plan ≡ N.names }
 {
     let cache = cache_of::<PeerWire, N, R>(rt, plan);
-    let source = source_of(rt, &row.setup);
+    let jobs = jobs_of(rt, row.setup.jobs, row.setup.hosts, row.setup.for_bytes);
+    let source = ListedJobs::new(rt.alloc(), &jobs).expect(rt, "jobs");
     let timer = Standing {
         is_over: row.is_over,
     };
     let tools = tools_of(rt, &row.setup);
     let alloc = rt.alloc();
-    let jobs = row.setup.jobs;
+    let count = row.setup.jobs;
     let name = row.name;
     match run_many(
-        rt, alloc, &cache, &source, jobs, row.places, tools, &ALARMS, &timer,
+        rt, alloc, &cache, &source, count, row.places, tools, &ALARMS, &timer,
     ) {
         Ok(report) => {
             let ManyReport {
@@ -282,7 +251,8 @@ fn check_refused<
     requires { plan ≡ N.names }
 {
     let cache = cache_of::<PeerWire, N, R>(rt, plan);
-    let source = source_of(rt, setup);
+    let jobs = jobs_of(rt, setup.jobs, setup.hosts, setup.for_bytes);
+    let source = ListedJobs::new(rt.alloc(), &jobs).expect(rt, "jobs");
     let timer = Standing { is_over: false };
     let tools = tools_of(rt, setup);
     let alloc = rt.alloc();
@@ -346,15 +316,6 @@ fn check_balance<N: Names, R: Wait + Abort + AllocGlobal>(
     let left = (gathered.total, gathered.kept, all.alive);
     assert_eq!(rt; left, (0, 0, 0), "{name}");
     assert_eq!(rt; all.opened, all.closed, "{name}");
-}
-
-// The jobs of that setup.
-fn source_of<R: Abort + AllocGlobal>(rt: &R, setup: &Setup) -> Listed {
-    Listed {
-        alloc: rt.alloc(),
-        jobs: jobs_of(rt, setup.jobs, setup.hosts, setup.for_bytes),
-        other: jobs_of(rt, 1, 1, false).pop().expect(rt, "a job"),
-    }
 }
 
 // A dial and a tally for each worker.

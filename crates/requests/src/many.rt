@@ -1,0 +1,128 @@
+//! The command `many`: threads request paths over one shared cache, each many at once.
+
+ghost use Rattle.std.specs.Prelude.{◌≡◌};
+
+mod run_clock;
+mod task;
+mod tools;
+
+use crate::many::run_clock::RunClock;
+use crate::many::task::{Task, task_of};
+use crate::many::tools::{alarms_of, tools_of};
+use crate::statuses::{BAD_WORDS, status_of};
+use crate::tally::Tally;
+use budget::Limits;
+use cli::load_jobs;
+use driver::{Finished, ListedJobs, ManyReport, NotBegun, run_many};
+use exchange::Job;
+use run_loop::RunEnd;
+use shared_cache::{Names, Plan, SharedCache, discard_all};
+use socket::{PolledDial, PolledWire};
+use std::alloc::AllocGlobal;
+use std::io::Write;
+use std::marker::Brand;
+use std::random::RandomSource;
+use std::sync::Wait;
+use std::thread::Threads;
+
+/// The most connections that are kept while they are idle.
+const KEPT: u32 = 65_535;
+
+/// Does what the words ask for, and prints what came of it: the status.
+pub(crate) fn load_many<R: Threads + Wait + RandomSource + AllocGlobal + Sync>(
+    threads: &R,
+    rt: &HostRuntime,
+    words: &[String],
+) -> u8 {
+    match task_of(rt.alloc(), words) {
+        Some(task) => status_of(done(threads, rt, &task)),
+        None => BAD_WORDS,
+    }
+}
+
+// Does the task, and prints what came of it; whether it is complete. None if it can't.
+fn done<R: Threads + Wait + RandomSource + AllocGlobal + Sync>(
+    threads: &R,
+    rt: &HostRuntime,
+    task: &Task,
+) -> Option<bool> {
+    let alloc = rt.alloc();
+    let limits = Limits::new(0, task.total, KEPT).ok()?;
+    let hosts = u32::try_from(task.ports.len()).ok()?;
+    let plan: Plan<PolledWire> = Plan::new(alloc, limits, hosts).ok()?;
+    let jobs = load_jobs(alloc, task.jobs, &task.ports).ok()?;
+    let (end, tally) = carried::<Brand, R>(threads, rt, task, plan, &jobs)?;
+    let Tally {
+        good,
+        failed,
+        reused,
+        retried,
+        bytes,
+    } = tally;
+    println!(rt;
+        "good {good} failed {failed} reused {reused} retried {retried} bytes {bytes}"
+    ).ok()?;
+    Some(end.is_complete() && failed == 0)
+}
+
+// Carries the jobs out over a cache of that plan: how the run ended, and what came of the jobs.
+// None if it did not begin.
+fn carried<N: Names + Send + Sync, R: Threads + Wait + RandomSource + AllocGlobal + Sync>(
+    threads: &R,
+    rt: &HostRuntime,
+    task: &Task,
+    plan: Plan<PolledWire>,
+    jobs: &[Job],
+) -> Option<(RunEnd, Tally)>
+    requires { plan ≡ N.names }
+{
+    let alloc = rt.alloc();
+    let Ok(cache) = SharedCache::<PolledWire, N>::new(alloc, plan) else {
+        return None;
+    };
+    let source = ListedJobs::new(alloc, jobs)?;
+    let clock = RunClock::new(rt)?;
+    let tools = tools_of(rt, task)?;
+    let alarms = alarms_of(alloc, &tools)?;
+    let count = jobs.len() as u64;
+    let places = task.places as usize;
+    match run_many(
+        threads, alloc, &cache, &source, count, places, tools, &alarms, &clock,
+    ) {
+        Ok(report) => {
+            let ManyReport {
+                end,
+                drawn: _,
+                workers,
+            } = report;
+            Some((end, tally_of(workers)))
+        }
+        Err(
+            NotBegun {
+                fault: _,
+                tools: _,
+                passes,
+            },
+        ) => {
+            discard_all(passes);
+            None
+        }
+    }
+}
+
+// What came of all jobs; the passes are given up.
+fn tally_of(workers: Vec<Finished<PolledDial<'_, HostRuntime>, Tally>>) -> Tally {
+    let mut workers = workers;
+    let mut tally = Tally::new();
+    while let Some(last) = workers.pop() {
+        let Finished {
+            dial: _,
+            results,
+            pass,
+        } = last;
+        tally.join(&results);
+        pass.discard();
+    }
+    workers.destroy_empty();
+    tally
+}
