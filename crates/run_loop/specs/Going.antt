@@ -1,5 +1,5 @@
 -- How a run goes on over one cache, and how it ends.
-use Rattle.std.specs.Prelude.{◌≡◌, ℕ, ◌<◌, List, [], ◌∷◌, ◌++◌, Option, sum_by, Bool, true, false, nat_le}
+use Rattle.std.specs.Prelude.{◌≡◌, ℕ, ◌<◌, List, [], ◌∷◌, ◌++◌, Option, sum_by, Bool, true, false, nat_le, if◌then◌else◌}
 use Rattle.std.specs.List.{All}
 use Rattle.conn_key.specs.Wants.{Rises}
 use Rattle.leasing.specs.Deeds.{Deed}
