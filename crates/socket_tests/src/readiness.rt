@@ -10,7 +10,9 @@ use crate::peer::{Behaviour, Peer};
 use crate::requests::{peer_of, prepared};
 use budget::Limits;
 use cache::Pool;
-use exchange::{Clock, Dial, Dialled, Done, Place, Prepared, Read, Ready, Slab, Wire, Written};
+use exchange::{
+    Alarm, Clock, Dial, Dialled, Done, Place, Prepared, Read, Ready, Slab, Wire, Written,
+};
 use futures::task::{Doorbell, Poll, Solo};
 use socket::{PolledDial, PolledWire, SystemClock};
 use std::alloc::{AllocGlobal, Global};
@@ -70,6 +72,39 @@ fn pass_turns(dial: &mut PolledDial<'_, HostRuntime>) {
             return;
         }
     }
+}
+
+/// The place that an alarm tells of: no slab has it.
+const NOWHERE: Place = Place {
+    index: u32::MAX,
+    joined: 0,
+};
+
+// What the next turn tells first.
+fn told_next(dial: &mut PolledDial<'_, HostRuntime>) -> Ready {
+    let _ = dial.turn(Duration::ZERO);
+    dial.next_ready()
+}
+
+#[test]
+fn an_alarm_ends_a_turn_of_who_sleeps(rt: HostRuntime) {
+    let (_peer, addresses) = peer_of(&rt).expect(&rt, "a server");
+    let mut dial = PolledDial::new(&rt, rt.alloc(), addresses).expect(&rt, "a dial");
+    let alarm = dial.alarm().expect(&rt, "an alarm");
+    alarm.ring();
+    let awake = told_next(&mut dial);
+    alarm.fall_asleep();
+    alarm.ring();
+    alarm.ring();
+    let (asleep, after) = (told_next(&mut dial), dial.next_ready());
+    let once = told_next(&mut dial);
+    alarm.fall_asleep();
+    alarm.wake_up();
+    alarm.ring();
+    let woken = told_next(&mut dial);
+    assert_eq!(rt; (awake, asleep), (Ready::Nothing, Ready::At(NOWHERE)));
+    assert_eq!(rt; (after, once), (Ready::Nothing, Ready::Nothing));
+    assert_eq!(rt; woken, Ready::Nothing);
 }
 
 #[test]
