@@ -17,7 +17,7 @@ pub struct ListedJobs<'a> {
 impl<'a> ListedJobs<'a> {
     /// The jobs in that list; none if it is empty.
     pub fn new(alloc: Global, jobs: &'a [Job]) -> Option<ListedJobs<'a>>
-        ensures { IfSome result (λ source. source.jobs ≡ jobs) }
+        ensures { IfSome result (λ source. source.jobs.now ≡ jobs.now) }
     {
         let (first, _) = jobs.split_first()?;
         Some(ListedJobs { alloc, jobs, first })
