@@ -1,0 +1,137 @@
+"""Wrong bodies that are tried together: `tools/wrong-bodies --together`.
+
+Edits of a crate that change different functions are put in at once, and `rt check` checks the crate: each function by
+the contracts of those that it calls, so one that is refused takes no other with it. An edit counts as refused if the
+check says of its own function that something there is not proved. If it says less (only that the function calls one
+that is not proved, or that a proof file names what the edit took away), nothing is said of the edit here.
+"""
+import contextlib
+import os
+import re
+from typing import NamedTuple
+
+FILE, OLD, NEW = "file: ", "old: ", "new: "
+FUNCTION = re.compile(r'(\s*)(?:pub(?:\([^)]*\))? )?(?:const )?(?:unsafe )?(?:extern "C" )?fn (\w+)')
+# what the check says as it goes on stands behind these words, and once more at its end
+SO_FAR = "so far: "
+NOTE = re.compile(r"note: (?:\./)?(src/\S+?):(\d+):\d+: it is not proved")
+ERROR = re.compile(r"(?:\./)?proofs/(\S+)/\w+\.antt:\d+:\d+: error: (.*)")
+VERDICT = re.compile(r"fn (\S+): (not proved|no proof)(.*)")
+BY_NAMES = ("that can be named from here", "not in scope", "has no field")
+
+
+class Change(NamedTuple):
+    """An edit's change of a line: the file, the line's index, what it is instead, and its function's first and last
+    line and name."""
+
+    path: str
+    line: int
+    text: str
+    first: int
+    last: int
+    function: str
+
+
+def function_around(lines, at):
+    """The innermost function around a line: its first and last line and its name; the line alone outside of all."""
+    for first in range(at, -1, -1):
+        begins = FUNCTION.match(lines[first])
+        if begins:
+            last = next((line for line in range(first, len(lines)) if lines[line] == f"{begins[1]}}}"), first)
+            if last >= at:
+                return first, last, begins[2]
+    return at, at, None
+
+
+def changes_of(folder, edit):
+    """The changes that an edit makes to a crate; none if it can't be read, or a text doesn't stand there once."""
+    with open(edit, encoding="utf8") as file:
+        words = file.read().splitlines()
+    changes, path, old = [], None, None
+    for word in words:
+        if word.startswith(FILE):
+            path = word.removeprefix(FILE)
+        elif word.startswith(OLD):
+            old = word.removeprefix(OLD)
+        elif word.startswith(NEW) and path is not None and old is not None:
+            with open(os.path.join(folder, path), encoding="utf8") as file:
+                lines = file.read().split("\n")
+            places = [place for place, line in enumerate(lines) if old in line]
+            if len(places) != 1:
+                return []
+            text = lines[places[0]].replace(old, word.removeprefix(NEW))
+            changes.append(Change(path, places[0], text, *function_around(lines, places[0])))
+    return changes
+
+
+def rounds_of(edits):
+    """Parts the edits: in no part do two change the same function, or something outside of all functions of a file."""
+    rounds = []
+    for edit, changes in edits.items():
+        keys = {(change.path, change.first if change.function else None) for change in changes}
+        for together, taken in rounds:
+            if not keys & taken:
+                together.append(edit)
+                taken |= keys
+                break
+        else:
+            rounds.append(([edit], keys))
+    return [together for together, _ in rounds]
+
+
+@contextlib.contextmanager
+def put_in(folder, changes):
+    """The crate with all these changes, as long as it is needed."""
+    before = {}
+    for change in changes:
+        path = os.path.join(folder, change.path)
+        with open(path, encoding="utf8") as file:
+            text = file.read()
+        before.setdefault(path, text)
+        lines = text.split("\n")
+        lines[change.line] = change.text
+        write(path, "\n".join(lines))
+    try:
+        yield
+    finally:
+        for path, text in before.items():
+            write(path, text)
+
+
+def write(path, text):
+    # a new file, since the old one may be another's too
+    os.remove(path)
+    with open(path, "w", encoding="utf8") as file:
+        file.write(text)
+
+
+class Said:
+    """What a check said: where something is not proved, which proofs it refused, and which functions it says that of."""
+
+    def __init__(self, lines):
+        self.notes, self.proofs, self.own = set(), set(), set()
+        for line in lines:
+            words = line.removeprefix(SO_FAR)
+            if note := NOTE.match(words):
+                self.notes.add((note[1], int(note[2])))
+            elif (error := ERROR.match(words)) and not any(names in error[2] for names in BY_NAMES):
+                self.proofs.add(error[1].rsplit("/", 1)[-1])
+            elif (verdict := VERDICT.match(words)) and (verdict[2] == "not proved" or "did not prove" in verdict[3]):
+                self.own.add(verdict[1].rsplit("::", 1)[-1])
+
+    def refuses(self, change):
+        """Whether the function of a change is refused for something of its own that is not proved."""
+        noted = any(path == change.path and change.first < line <= change.last + 1 for path, line in self.notes)
+        return change.function in self.own and (noted or change.function in self.proofs)
+
+
+def refused_together(folder, edits, check):
+    """Those of the edits, by name and path, that a check of the crate with others refuses; `check` gives its lines."""
+    changed = {name: changes_of(folder, path) for name, path in edits.items()}
+    changed = {name: changes for name, changes in changed.items() if changes and all(c.function for c in changes)}
+    refused = set()
+    for together in rounds_of(changed):
+        with put_in(folder, [change for name in together for change in changed[name]]):
+            said = Said(check())
+        refused |= {name for name in together if any(said.refuses(change) for change in changed[name])}
+    return refused
