@@ -2,8 +2,9 @@
 
 Edits of a crate that change different functions are put in at once, and `rt check` checks the crate: each function by
 the contracts of those that it calls, so one that is refused takes no other with it. An edit counts as refused if the
-check says of its own function that something there is not proved. If it says less (only that the function calls one
-that is not proved, or that a proof file names what the edit took away), nothing is said of the edit here.
+check says of its own function that something there is not proved; the edit of a constant, which is put in alone, if it
+says so of any. If it says less (only that the function calls one that is not proved, or that a proof file names what
+the edit took away), nothing is said of the edit here.
 """
 import contextlib
 import os
@@ -65,10 +66,13 @@ def changes_of(folder, edit):
 
 
 def rounds_of(edits):
-    """Parts the edits: in no part do two change the same function, or something outside of all functions of a file."""
+    """Parts the edits: in no part do two change the same function, and what changes none is alone."""
+    alone = [edit for edit, changes in edits.items() if any(change.function is None for change in changes)]
     rounds = []
     for edit, changes in edits.items():
-        keys = {(change.path, change.first if change.function else None) for change in changes}
+        if edit in alone:
+            continue
+        keys = {(change.path, change.first) for change in changes}
         for together, taken in rounds:
             if not keys & taken:
                 together.append(edit)
@@ -76,7 +80,7 @@ def rounds_of(edits):
                 break
         else:
             rounds.append(([edit], keys))
-    return [together for together, _ in rounds]
+    return [*(together for together, _ in rounds), *([edit] for edit in alone)]
 
 
 @contextlib.contextmanager
@@ -120,7 +124,10 @@ class Said:
                 self.own.add(verdict[1].rsplit("::", 1)[-1])
 
     def refuses(self, change):
-        """Whether the function of a change is refused for something of its own that is not proved."""
+        """Whether the function of a change is refused for something of its own that is not proved; if it has none,
+        whether any function is."""
+        if change.function is None:
+            return bool(self.own and (self.notes or self.proofs))
         noted = any(path == change.path and change.first < line <= change.last + 1 for path, line in self.notes)
         return change.function in self.own and (noted or change.function in self.proofs)
 
@@ -128,7 +135,7 @@ class Said:
 def refused_together(folder, edits, check):
     """Those of the edits, by name and path, that a check of the crate with others refuses; `check` gives its lines."""
     changed = {name: changes_of(folder, path) for name, path in edits.items()}
-    changed = {name: changes for name, changes in changed.items() if changes and all(c.function for c in changes)}
+    changed = {name: changes for name, changes in changed.items() if changes}
     refused = set()
     for together in rounds_of(changed):
         with put_in(folder, [change for name in together for change in changed[name]]):
