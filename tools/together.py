@@ -6,6 +6,7 @@ check says of its own function that something there is not proved; the edit of a
 says so of any. If it says less (only that the function calls one that is not proved, or that a proof file names what
 the edit took away), nothing is said of the edit here.
 """
+import collections
 import contextlib
 import os
 import re
@@ -22,8 +23,8 @@ BY_NAMES = ("that can be named from here", "not in scope", "has no field")
 
 
 class Change(NamedTuple):
-    """An edit's change of a line: the file, the line's index, what it is instead, and its function's first and last
-    line and name."""
+    """An edit's change of a line: the file, the line's index, what it is instead, its function's first and last line
+    and name, and whether no other function of the crate is named so."""
 
     path: str
     line: int
@@ -31,6 +32,13 @@ class Change(NamedTuple):
     first: int
     last: int
     function: str
+    is_only: bool
+
+    def is_proof(self, path):
+        """Whether proofs stand there of its function: by its name, and its file unless the name is the only one."""
+        module, _, name = path.rpartition("/")
+        of_file = self.path.removeprefix("src/").removesuffix(".rt")
+        return name == self.function and (self.is_only or f"{module}/".startswith(f"{of_file}/"))
 
 
 def function_around(lines, at):
@@ -44,8 +52,19 @@ def function_around(lines, at):
     return at, at, None
 
 
-def changes_of(folder, edit):
-    """The changes that an edit makes to a crate; none if it can't be read, or a text doesn't stand there once."""
+def names_in(folder):
+    """How many functions of a crate have each name."""
+    names = collections.Counter()
+    for at, _, files in os.walk(os.path.join(folder, "src")):
+        for name in files:
+            with open(os.path.join(at, name), encoding="utf8") as file:
+                names.update(begins[2] for begins in map(FUNCTION.match, file) if begins)
+    return names
+
+
+def changes_of(folder, names, edit):
+    """The changes that an edit makes to a crate with these names of functions; none if it can't be read, or a text
+    doesn't stand there once."""
     with open(edit, encoding="utf8") as file:
         words = file.read().splitlines()
     changes, path, old = [], None, None
@@ -61,7 +80,8 @@ def changes_of(folder, edit):
             if len(places) != 1:
                 return []
             text = lines[places[0]].replace(old, word.removeprefix(NEW))
-            changes.append(Change(path, places[0], text, *function_around(lines, places[0])))
+            first, last, function = function_around(lines, places[0])
+            changes.append(Change(path, places[0], text, first, last, function, names[function] == 1))
     return changes
 
 
@@ -119,7 +139,7 @@ class Said:
             if note := NOTE.match(words):
                 self.notes.add((note[1], int(note[2])))
             elif (error := ERROR.match(words)) and not any(names in error[2] for names in BY_NAMES):
-                self.proofs.add(error[1].rsplit("/", 1)[-1])
+                self.proofs.add(error[1])
             elif (verdict := VERDICT.match(words)) and (verdict[2] == "not proved" or "did not prove" in verdict[3]):
                 self.own.add(verdict[1].rsplit("::", 1)[-1])
 
@@ -129,12 +149,13 @@ class Said:
         if change.function is None:
             return bool(self.own and (self.notes or self.proofs))
         noted = any(path == change.path and change.first < line <= change.last + 1 for path, line in self.notes)
-        return change.function in self.own and (noted or change.function in self.proofs)
+        return change.function in self.own and (noted or any(map(change.is_proof, self.proofs)))
 
 
 def refused_together(folder, edits, check):
     """Those of the edits, by name and path, that a check of the crate with others refuses; `check` gives its lines."""
-    changed = {name: changes_of(folder, path) for name, path in edits.items()}
+    names = names_in(folder)
+    changed = {name: changes_of(folder, names, path) for name, path in edits.items()}
     changed = {name: changes for name, changes in changed.items() if changes}
     refused = set()
     for together in rounds_of(changed):
