@@ -23,3 +23,13 @@ OfHeld (Some held) status Does = Does held
 pub record SameBeside (old new : Inner) : Type 0 where
   pub closing : new.closing ≡ old.closing
   pub told : new.told ≡ old.told
+
+-- the same behind a handle: beside the pool, all stays
+abbrev pub OnBehind : Option Inner → Option Inner → ℕ → (HeldShown → HeldShown → Type 0) → Type 0
+OnBehind None new status Does = (new ≡ None) × (status ≡ CLOSED)
+OnBehind (Some old) (Some new) status Does = OnHeld old.held new.held status Does × SameBeside old new
+OnBehind (Some old) None status Does = ⊥
+
+abbrev pub OfBehind : Option Inner → Option Inner → ℕ → (HeldShown → Type 0) → Type 0
+OfBehind None new status Does = (new ≡ None) × (status ≡ CLOSED)
+OfBehind (Some old) new status Does = (new ≡ Some old) × OfHeld old.held status Does

@@ -1,14 +1,57 @@
--- What telling and cutting logs does to a pool.
-use Rattle.std.specs.Prelude.{◌≡◌, ◌⊎◌, ℕ}
-use Rattle.cache.specs.Pools.{all_hosts, cut_at}
+-- What telling and cutting logs does: the lines that are written, how much of each log is told then, and which logs are
+-- cut.
+use Rattle.std.specs.Prelude.{◌≡◌, ◌⊎◌, ℕ, ◌+◌, ◌<◌, ◌≤◌, nat_lt, if◌then◌else◌, List, ◌++◌, length, take, drop, map, slice_get, slice_set, Option, Some, None}
+use Rattle.bundle.specs.Lease.{cut_refusal}
+use Rattle.cache.specs.Pools.{PoolShown, host_at, cut_at, cut_host}
+use Rattle.log_lines.specs.declared.writing.Stop.{Stop}
+use Rattle.log_lines.specs.declared.writing.Stop.TheVariants.{Small, Memory}
+use Rattle.log_lines.specs.declared.writing.Told.{Told}
+use Rattle.log_lines.specs.Lines.{WritesLines}
 use Rattle.held_pool.specs.Calls.{HeldShown}
-use Rattle.curlpool_c.specs.declared.status.TheConstants.{OK}
+use Rattle.curlpool_c.specs.declared.inner.Inner.{Inner}
+use Rattle.curlpool_c.specs.declared.status.TheConstants.{OK, MORE, NO_MEMORY, BAD_SITE, CLOSED, SMALL}
+use Rattle.curlpool_c.specs.Statuses.{refusal_status}
 
--- the log of a site was told: it is cut once all of it was; else the pool is as before
-abbrev pub TellsLog : HeldShown → HeldShown → ℕ → ℕ → Type 0
-TellsLog old new site status = ((status ≡ OK) × (new ≡ record old { pool = cut_at site old.pool })) ⊎ (new ≡ old)
+-- the status where not all was told: there is more, or, if nothing was written, why
+abbrev pub reason_status : Stop → ℕ
+reason_status Small = SMALL
+reason_status Memory = NO_MEMORY
 
--- logs were cut, and nothing else changed
-pub record CutsAll (old new : HeldShown) : Type 0 where
-  pub all : all_hosts new.pool ≡ all_hosts old.pool
-  pub rest : new ≡ record old { pool = new.pool }
+abbrev pub stop_status : Stop → ℕ → ℕ
+stop_status stop written = if nat_lt 0 written then MORE else reason_status stop
+
+-- once all was told the log is cut, and its rest is told from its beginning the next time; or it cannot be cut
+abbrev pub CutsTold : HeldShown → HeldShown → ℕ → ℕ → ℕ → ℕ → Type 0
+CutsTold old new site place told_new status =
+    ((status ≡ OK) × ((new ≡ record old { pool = cut_at site old.pool }) × (told_new ≡ 0)))
+    ⊎ ((status ≡ refusal_status (cut_refusal (host_at old.pool site))) × ((new ≡ old) × (told_new ≡ place)))
+
+-- what follows the lines that were written: where not all was told, nothing changes but how much was
+abbrev pub EndsTelling : HeldShown → HeldShown → ℕ → Told → ℕ → ℕ → Option Stop → Type 0
+EndsTelling old new site told told_new status None = CutsTold old new site told.place told_new status
+EndsTelling old new site told told_new status (Some stop) = (new ≡ old) × ((told_new ≡ told.place) × (status ≡ stop_status stop told.written))
+
+-- the lines of a site's log were written, from the place up to which it was told on, as many whole ones as fit
+pub record TellsLines (old new : HeldShown) (site from told_new status : ℕ) (buffer buffer_new : List ℕ) (written : ℕ) : Type 0 where
+  pub told : Told
+  pub there : site < length old.pool.hosts
+  pub writes : WritesLines site (host_at old.pool site).log (host_at old.pool site).cut_away from told buffer buffer_new
+  pub count : written ≡ told.written
+  pub ends : EndsTelling old new site told told_new status told.stop
+
+-- what a call writes stays
+pub record WritesNothing (buffer buffer_new : List ℕ) (written written_new : ℕ) : Type 0 where
+  pub buffer_is : buffer_new ≡ buffer
+  pub written_is : written_new ≡ written
+
+-- there is no such site, and nothing changes
+pub record HasNoSite (old new : HeldShown) (from told_new status : ℕ) (buffer buffer_new : List ℕ) (written written_new : ℕ) : Type 0 where
+  pub answer : status ≡ BAD_SITE
+  pub same : new ≡ old
+  pub told : told_new ≡ from
+  pub writes : WritesNothing buffer buffer_new written written_new
+
+abbrev pub TellsLog : HeldShown → HeldShown → ℕ → ℕ → ℕ → ℕ → List ℕ → List ℕ → ℕ → ℕ → Type 0
+TellsLog old new site from told_new status buffer buffer_new written written_new =
+    TellsLines old new site from told_new status buffer buffer_new written_new
+    ⊎ ((length old.pool.hosts ≤ site) × HasNoSite old new from told_new status buffer buffer_new written written_new)

@@ -9,7 +9,7 @@ use Rattle.budget.specs.declared.refusal.Refusal.TheVariants as refusals
 use Rattle.conn_log.specs.declared.entry.Entry.{Entry}
 use Rattle.conn_log.specs.declared.entry.Want.{Want}
 use Rattle.conn_log.specs.Connections.{holds, holder_want, held_number}
-use Rattle.conn_log.specs.Legal.{LimitAndFirst}
+use Rattle.conn_log.specs.Legal.{LimitAndFirst, IsLegal}
 use Rattle.conn_log.specs.Sound.{IsSound}
 use Rattle.conn_log.specs.Waiting.{waiting, waits}
 use Rattle.conn_log.proofs.Soundness.{holds_is}
@@ -78,6 +78,9 @@ module _ {S : Type 0} (pool : PoolShown S) (rest : IsAtRest pool.limits (all_hos
       let logged : site < length (all_hosts pool).logs = subst (λ (n : ℕ). site < n) (sym (length-map pool.hosts (λ (h : HostShown S). h.log))) there in
       let sound : IsSound (terms pool.limits) (host_at pool site).log = subst (λ (log : List Entry). IsSound (terms pool.limits) log) (log_is pool site) (rest.lawful.settled site logged).sound in
       subst (λ (settings : LimitAndFirst). IsSound settings (host_at pool site).log) (sym (places site there).settings) sound
+
+  pub legal_at : IsLegal (host_at pool site).settings (host_at pool site).log
+  legal_at = sound_at.legal
 
   accepted : {A : Type 0} (want : Want) (result : Result A Refusal) (a : A) → result ≡ Ok a → IfSome (refusal (host_at pool site).settings (host_at pool site).log [] want) (λ reason. result ≡ Err reason)
       → HasNothing (host_at pool site) want.transfer

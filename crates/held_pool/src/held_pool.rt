@@ -10,6 +10,7 @@ ghost use Rattle.cache.specs.Pools.{IsNewPool, KeepsHosts, StaysPool, all_hosts,
 ghost use Rattle.cache.specs.Pools.{cut_at};
 ghost use Rattle.bundle.specs.Lease.{IsPartOf, cut_refusal};
 ghost use Rattle.conn_log.specs.Counts.{counts as counts_of};
+ghost use Rattle.conn_log.specs.Legal.{IsLegal};
 ghost use Rattle.cache.specs.Deeds.{DidToPool};
 ghost use Rattle.slot_table.specs.Slots.{value_in};
 ghost use Rattle.closed_tokens.specs.Numbers.{IsNext};
@@ -349,6 +350,8 @@ impl HeldPool {
             × (log.now.entries ≡ (host_at self.now.pool site).log)) }
         ensures cut { IfSome result (λ log.
             log.now.cut_away ≡ (host_at self.now.pool site).cut_away) }
+        ensures legal { let host = host_at self.now.pool site in
+            site < length self.now.pool.hosts → IsLegal host.settings host.log }
         ensures none { IfNone result (length self.now.pool.hosts ≤ site) }
     {
         self.pool.log(site)
