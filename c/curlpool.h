@@ -201,7 +201,8 @@ uint32_t curlpool_feed(curlpool *pool, uint64_t slot, const uint8_t *bytes, size
  * OK; UNREAD; CLOSED. */
 uint32_t curlpool_end(curlpool *pool, uint64_t slot);
 
-/* Tells what the response says so far.
+/* Tells what the response says so far. It has no length of the head: if you need it, feed a response up to each line end,
+ * until `status` is not 0. All that was fed is its heads then, an interim one of a status from 100 to 199 among them.
  *
  * OK; UNREAD; CLOSED. */
 uint32_t curlpool_response(curlpool *pool, uint64_t slot, struct curlpool_response *response);
@@ -262,7 +263,8 @@ uint32_t curlpool_closed(curlpool *pool, uint64_t *token);
 /* Writes what happened at a site since the last call, as lines of a transcript: as many whole lines as fit, and how
  * many bytes. The site's log is cut once all of it was told. A buffer of 128 bytes has room for any line.
  *
- * OK, all was told; MORE, call again; SMALL, the next line does not fit; NO_MEMORY; EXHAUSTED; BAD_SITE; CLOSED. */
+ * OK, all was told; MORE, call again; SMALL, the next line does not fit; NO_MEMORY or EXHAUSTED, and then too `written`
+ * says how much was, since there may be no memory to cut the log; BAD_SITE; CLOSED. */
 uint32_t curlpool_take_log(curlpool *pool, uint32_t site, uint8_t *buffer, size_t length, size_t *written);
 
 /* Forgets what happened, so that the logs take no more memory: 48 bytes an event, two events a transfer.

@@ -1,1 +1,3 @@
-mod AsBox
+pub mod AsBox
+-- cuts of one log after the other
+pub mod Cuts

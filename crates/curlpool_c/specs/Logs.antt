@@ -1,6 +1,6 @@
 -- What telling and cutting logs does: the lines that are written, how much of each log is told then, and which logs are
 -- cut.
-use Rattle.std.specs.Prelude.{◌≡◌, ◌⊎◌, ℕ, ◌+◌, ◌<◌, ◌≤◌, nat_lt, if◌then◌else◌, List, ◌++◌, length, take, drop, map, slice_get, slice_set, Option, Some, None}
+use Rattle.std.specs.Prelude.{◌≡◌, ◌⊎◌, ℕ, ◌<◌, ◌≤◌, nat_lt, if◌then◌else◌, List, ◌++◌, length, take, drop, map, slice_index_or, slice_set, Option, Some, None}
 use Rattle.bundle.specs.Lease.{cut_refusal}
 use Rattle.cache.specs.Pools.{PoolShown, host_at, cut_at, cut_host}
 use Rattle.log_lines.specs.declared.writing.Stop.{Stop}
@@ -55,3 +55,61 @@ abbrev pub TellsLog : HeldShown → HeldShown → ℕ → ℕ → ℕ → ℕ �
 TellsLog old new site from told_new status buffer buffer_new written written_new =
     TellsLines old new site from told_new status buffer buffer_new written_new
     ⊎ ((length old.pool.hosts ≤ site) × HasNoSite old new from told_new status buffer buffer_new written written_new)
+
+-- the log of a site is told to the caller of an open pool, and how much of it was told is noted; nothing is written
+-- without an open pool, or where it is not noted for the site how much was told
+pub record TakesLog (held held_new : HeldShown) (old new : Inner) (site status : ℕ) (buffer buffer_new : List ℕ) (written written_new : ℕ) : Type 0 where
+  pub there : site < length old.told.items
+  pub told_new : ℕ
+  pub noted : new.told.items ≡ slice_set old.told.items site told_new
+  pub tells : TellsLog held held_new site (slice_index_or old.told.items site 0) told_new status buffer buffer_new written written_new
+
+abbrev pub TakesHeld : HeldShown → Option HeldShown → Inner → Inner → ℕ → ℕ → List ℕ → List ℕ → ℕ → ℕ → Type 0
+TakesHeld held None old new site status buffer buffer_new written written_new = ⊥
+TakesHeld held (Some held_new) old new site status buffer buffer_new written written_new =
+    TakesLog held held_new old new site status buffer buffer_new written written_new
+    ⊎ (((length old.told.items ≤ site) × (status ≡ BAD_SITE)) × ((new ≡ old) × WritesNothing buffer buffer_new written written_new))
+
+abbrev pub TakesIn : Inner → Inner → ℕ → ℕ → List ℕ → List ℕ → ℕ → ℕ → Option HeldShown → Type 0
+TakesIn old new site status buffer buffer_new written written_new None = ((new ≡ old) × (status ≡ CLOSED)) × WritesNothing buffer buffer_new written written_new
+TakesIn old new site status buffer buffer_new written written_new (Some held) = TakesHeld held new.held old new site status buffer buffer_new written written_new × (new.closing ≡ old.closing)
+
+abbrev pub TakesBehind : Option Inner → Option Inner → ℕ → ℕ → List ℕ → List ℕ → ℕ → ℕ → Type 0
+TakesBehind None new site status buffer buffer_new written written_new = ((new ≡ None) × (status ≡ CLOSED)) × WritesNothing buffer buffer_new written written_new
+TakesBehind (Some old) (Some new) site status buffer buffer_new written written_new = TakesIn old new site status buffer buffer_new written written_new old.held
+TakesBehind (Some old) None site status buffer buffer_new written written_new = ⊥
+
+-- the log of one site was cut, and nothing of its rest is told
+pub record CutsOne (old new : HeldShown) (site : ℕ) (told told_new : List ℕ) : Type 0 where
+  pub cut : new ≡ record old { pool = cut_at site old.pool }
+  pub noted : told_new ≡ slice_set told site 0
+
+-- a pool once the logs of its first hosts are cut, so many: nothing else changes; and of their rests nothing is told
+abbrev pub cut_first : ℕ → PoolShown ℕ → PoolShown ℕ
+cut_first count pool = record pool { hosts = map cut_host (take count pool.hosts) ++ drop count pool.hosts }
+
+abbrev pub untold : ℕ → ℕ
+untold told = 0
+
+abbrev pub untold_first : ℕ → List ℕ → List ℕ
+untold_first count told = map untold (take count told) ++ drop count told
+
+-- each log was cut, or those before one that cannot be
+pub record DropsLogs (old new : HeldShown) (told told_new : List ℕ) (status : ℕ) : Type 0 where
+  pub count : ℕ
+  pub cuts : new ≡ record old { pool = cut_first count old.pool }
+  pub noted : told_new ≡ untold_first count told
+  pub ends : ((status ≡ OK) × (count ≡ length old.pool.hosts)) ⊎ ((count < length old.pool.hosts) × (status ≡ refusal_status (cut_refusal (host_at old.pool count))))
+
+abbrev pub DropsHeld : HeldShown → Option HeldShown → Inner → Inner → ℕ → Type 0
+DropsHeld held None old new status = ⊥
+DropsHeld held (Some held_new) old new status = DropsLogs held held_new old.told.items new.told.items status
+
+abbrev pub DropsIn : Inner → Inner → ℕ → Option HeldShown → Type 0
+DropsIn old new status None = (new ≡ old) × (status ≡ CLOSED)
+DropsIn old new status (Some held) = DropsHeld held new.held old new status × (new.closing ≡ old.closing)
+
+abbrev pub DropsBehind : Option Inner → Option Inner → ℕ → Type 0
+DropsBehind None new status = (new ≡ None) × (status ≡ CLOSED)
+DropsBehind (Some old) (Some new) status = DropsIn old new status old.held
+DropsBehind (Some old) None status = ⊥

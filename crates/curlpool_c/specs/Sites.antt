@@ -114,13 +114,14 @@ TellsLeft None new status token token_new = (new ≡ None) × ((status ≡ CLOSE
 TellsLeft (Some old) (Some new) status token token_new = TellsNext old new status token token_new
 TellsLeft (Some old) None status token token_new = ⊥
 
-abbrev pub TellsOpen : Option HeldShown → Option HeldShown → Type 0 → ℕ → ℕ → ℕ → Type 0
-TellsOpen None new Left status token token_new = (new ≡ None) × Left
-TellsOpen (Some old) (Some new) Left status token token_new = TellsNext old.closed new.closed status token token_new × (new ≡ record old { closed = new.closed })
-TellsOpen (Some old) None Left status token token_new = ⊥
+abbrev pub TellsOpen : Option HeldShown → Option HeldShown → Type 0 → Type 0 → ℕ → ℕ → ℕ → Type 0
+TellsOpen None new Left Stays status token token_new = (new ≡ None) × Left
+TellsOpen (Some old) (Some new) Left Stays status token token_new = (TellsNext old.closed new.closed status token token_new × (new ≡ record old { closed = new.closed })) × Stays
+TellsOpen (Some old) None Left Stays status token token_new = ⊥
 
+-- nothing else behind the handle changes
 abbrev pub TellsClosed : Inner → Inner → ℕ → ℕ → ℕ → Type 0
-TellsClosed old new status token token_new = TellsOpen old.held new.held (TellsLeft old.closing new.closing status token token_new) status token token_new
+TellsClosed old new status token token_new = TellsOpen old.held new.held (TellsLeft old.closing new.closing status token token_new) (new.closing ≡ old.closing) status token token_new × (new.told ≡ old.told)
 
 abbrev pub TellsClosedBehind : Option Inner → Option Inner → ℕ → ℕ → ℕ → Type 0
 TellsClosedBehind None new status token token_new = (new ≡ None) × ((status ≡ CLOSED) × (token_new ≡ token))

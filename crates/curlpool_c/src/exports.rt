@@ -1,8 +1,8 @@
 //! The calls that C sees, as `c/curlpool.h` declares them. Each states its definition.
 
-ghost use Rattle.std.specs.Prelude.{◌≡◌, length};
 ghost use Rattle.persistence.specs.Reader.{new_reader};
-ghost use Rattle.curlpool_c.specs.Behind.{OfHeld, OnHeld, held_behind};
+ghost use Rattle.std.specs.Prelude.{◌≡◌, IfNone};
+ghost use Rattle.curlpool_c.specs.Behind.{OfBehind, OnBehind, held_behind};
 ghost use Rattle.curlpool_c.specs.Numbers.{method_of, slot_of, wanted};
 ghost use Rattle.curlpool_c.specs.Structs.{facts_of};
 ghost use Rattle.curlpool_c.specs.Lifecycle.{Closes, EndsBehind, Opens};
@@ -13,7 +13,7 @@ ghost use Rattle.curlpool_c.specs.Transfers.{TellsWithdraw};
 ghost use Rattle.curlpool_c.specs.Sites.{TellsClosedBehind, TellsCounts, TellsLimit, TellsLook};
 ghost use Rattle.curlpool_c.specs.Sites.{TellsPrune, TellsResponse, TellsSite, TellsUpkeep};
 ghost use Rattle.curlpool_c.specs.Sites.{key_of};
-ghost use Rattle.curlpool_c.specs.Logs.{CutsAll, TellsLog};
+ghost use Rattle.curlpool_c.specs.Logs.{DropsBehind, TakesBehind};
 ghost use Rattle.curlpool_c.specs.Targets.{TellsTarget};
 
 use crate::handle::Handle;
@@ -58,9 +58,9 @@ pub extern "C" fn curlpool_site(
     port: u16,
     site: &mut u32,
 ) -> u32
-    ensures done { OnHeld (held_behind pool.old.held.value) (held_behind pool.new.held.value)
-        result (λ old new. TellsSite old new (key_of host.now port)
-        result site.old site.new) }
+    ensures done { OnBehind pool.old.held.value pool.new.held.value result (λ old new.
+        TellsSite old new (key_of host.now port) result site.old site.new) }
+    ensures unwritten { IfNone (held_behind pool.old.held.value) (site.new ≡ site.old) }
 {
     let Some(mut inner) = pool.take(alloc) else {
         return CLOSED;
@@ -85,10 +85,11 @@ pub extern "C" fn curlpool_acquire(
     slot: &mut u64,
     token: &mut u64,
 ) -> u32
-    ensures done { OnHeld (held_behind pool.old.held.value) (held_behind pool.new.held.value)
-        result (λ old new. TellsAcquireOf old new site
-        (wanted transfer lane max_age max_life flags) now result
+    ensures done { OnBehind pool.old.held.value pool.new.held.value result (λ old new.
+        TellsAcquireOf old new site (wanted transfer lane max_age max_life flags) now result
         slot.old slot.new token.old token.new) }
+    ensures unwritten { IfNone (held_behind pool.old.held.value)
+        ((slot.new ≡ slot.old) × (token.new ≡ token.old)) }
 {
     let Some(mut inner) = pool.take(alloc) else {
         return CLOSED;
@@ -107,8 +108,8 @@ pub extern "C" fn curlpool_acquire(
 /// Gives the new connection of a slot its token.
 #[unsafe(no_mangle)]
 pub extern "C" fn curlpool_attach(pool: &mut Handle, alloc: Global, slot: u64, token: u64) -> u32
-    ensures done { OnHeld (held_behind pool.old.held.value) (held_behind pool.new.held.value)
-        result (λ old new. TellsAttach old new (slot_of slot) token result) }
+    ensures { OnBehind pool.old.held.value pool.new.held.value result (λ old new.
+        TellsAttach old new (slot_of slot) token result) }
 {
     let Some(mut inner) = pool.take(alloc) else {
         return CLOSED;
@@ -126,9 +127,9 @@ pub extern "C" fn curlpool_claim(
     slot: u64,
     token: &mut u64,
 ) -> u32
-    ensures done { OnHeld (held_behind pool.old.held.value) (held_behind pool.new.held.value)
-        result (λ old new. TellsClaim old new (slot_of slot) result
-        token.old token.new) }
+    ensures done { OnBehind pool.old.held.value pool.new.held.value result (λ old new.
+        TellsClaim old new (slot_of slot) result token.old token.new) }
+    ensures unwritten { IfNone (held_behind pool.old.held.value) (token.new ≡ token.old) }
 {
     let Some(mut inner) = pool.take(alloc) else {
         return CLOSED;
@@ -141,8 +142,9 @@ pub extern "C" fn curlpool_claim(
 /// Tells the next waiter that has its connection.
 #[unsafe(no_mangle)]
 pub extern "C" fn curlpool_granted(pool: &mut Handle, alloc: Global, slot: &mut u64) -> u32
-    ensures done { OnHeld (held_behind pool.old.held.value) (held_behind pool.new.held.value)
-        result (λ old new. TellsGranted old new result slot.old slot.new) }
+    ensures done { OnBehind pool.old.held.value pool.new.held.value result (λ old new.
+        TellsGranted old new result slot.old slot.new) }
+    ensures unwritten { IfNone (held_behind pool.old.held.value) (slot.new ≡ slot.old) }
 {
     let Some(mut inner) = pool.take(alloc) else {
         return CLOSED;
@@ -161,9 +163,9 @@ pub extern "C" fn curlpool_begin(
     is_head: bool,
     request_close: bool,
 ) -> u32
-    ensures done { OnHeld (held_behind pool.old.held.value) (held_behind pool.new.held.value)
-        result (λ old new. TellsBegin old new (slot_of slot)
-        (new_reader (method_of is_head) request_close) result) }
+    ensures { OnBehind pool.old.held.value pool.new.held.value result (λ old new.
+        TellsBegin old new (slot_of slot) (new_reader (method_of is_head) request_close)
+        result) }
 {
     let Some(mut inner) = pool.take(alloc) else {
         return CLOSED;
@@ -176,8 +178,8 @@ pub extern "C" fn curlpool_begin(
 /// Reads one piece more of a response.
 #[unsafe(no_mangle)]
 pub extern "C" fn curlpool_feed(pool: &mut Handle, alloc: Global, slot: u64, bytes: &[u8]) -> u32
-    ensures done { OnHeld (held_behind pool.old.held.value) (held_behind pool.new.held.value)
-        result (λ old new. TellsFeed old new (slot_of slot) bytes.now result) }
+    ensures { OnBehind pool.old.held.value pool.new.held.value result (λ old new.
+        TellsFeed old new (slot_of slot) bytes.now result) }
 {
     let Some(mut inner) = pool.take(alloc) else {
         return CLOSED;
@@ -190,8 +192,8 @@ pub extern "C" fn curlpool_feed(pool: &mut Handle, alloc: Global, slot: u64, byt
 /// Tells that the connection of a response has ended.
 #[unsafe(no_mangle)]
 pub extern "C" fn curlpool_end(pool: &mut Handle, alloc: Global, slot: u64) -> u32
-    ensures done { OnHeld (held_behind pool.old.held.value) (held_behind pool.new.held.value)
-        result (λ old new. TellsEnd old new (slot_of slot) result) }
+    ensures { OnBehind pool.old.held.value pool.new.held.value result (λ old new.
+        TellsEnd old new (slot_of slot) result) }
 {
     let Some(mut inner) = pool.take(alloc) else {
         return CLOSED;
@@ -209,9 +211,9 @@ pub extern "C" fn curlpool_response(
     slot: u64,
     response: &mut CResponse,
 ) -> u32
-    ensures { OfHeld (held_behind pool.old.held.value) result (λ held.
-        TellsResponse held (slot_of slot)
-        result response.old response.new) }
+    ensures done { OfBehind pool.old.held.value pool.new.held.value result (λ held.
+        TellsResponse held (slot_of slot) result response.old response.new) }
+    ensures unwritten { IfNone (held_behind pool.old.held.value) (response.new ≡ response.old) }
 {
     let Some(mut inner) = pool.take(alloc) else {
         return CLOSED;
@@ -224,8 +226,8 @@ pub extern "C" fn curlpool_response(
 /// Gives a connection back with the facts of the response that was read.
 #[unsafe(no_mangle)]
 pub extern "C" fn curlpool_give_back(pool: &mut Handle, alloc: Global, slot: u64, now: u64) -> u32
-    ensures done { OnHeld (held_behind pool.old.held.value) (held_behind pool.new.held.value)
-        result (λ old new. TellsGiveBack old new (slot_of slot) now result) }
+    ensures { OnBehind pool.old.held.value pool.new.held.value result (λ old new.
+        TellsGiveBack old new (slot_of slot) now result) }
 {
     let Some(mut inner) = pool.take(alloc) else {
         return CLOSED;
@@ -244,9 +246,8 @@ pub extern "C" fn curlpool_give_back_as(
     facts: &CFacts,
     now: u64,
 ) -> u32
-    ensures done { OnHeld (held_behind pool.old.held.value) (held_behind pool.new.held.value)
-        result (λ old new. TellsGiveBackOf old new (slot_of slot)
-        (facts_of facts.now) now result) }
+    ensures { OnBehind pool.old.held.value pool.new.held.value result (λ old new.
+        TellsGiveBackOf old new (slot_of slot) (facts_of facts.now) now result) }
 {
     let Some(mut inner) = pool.take(alloc) else {
         return CLOSED;
@@ -259,8 +260,8 @@ pub extern "C" fn curlpool_give_back_as(
 /// Closes the connection of a slot.
 #[unsafe(no_mangle)]
 pub extern "C" fn curlpool_abandon(pool: &mut Handle, alloc: Global, slot: u64, now: u64) -> u32
-    ensures done { OnHeld (held_behind pool.old.held.value) (held_behind pool.new.held.value)
-        result (λ old new. TellsAbandon old new (slot_of slot) now result) }
+    ensures { OnBehind pool.old.held.value pool.new.held.value result (λ old new.
+        TellsAbandon old new (slot_of slot) now result) }
 {
     let Some(mut inner) = pool.take(alloc) else {
         return CLOSED;
@@ -273,8 +274,8 @@ pub extern "C" fn curlpool_abandon(pool: &mut Handle, alloc: Global, slot: u64, 
 /// Ends the wait of a slot.
 #[unsafe(no_mangle)]
 pub extern "C" fn curlpool_withdraw(pool: &mut Handle, alloc: Global, slot: u64, now: u64) -> u32
-    ensures done { OnHeld (held_behind pool.old.held.value) (held_behind pool.new.held.value)
-        result (λ old new. TellsWithdraw old new (slot_of slot) now result) }
+    ensures { OnBehind pool.old.held.value pool.new.held.value result (λ old new.
+        TellsWithdraw old new (slot_of slot) now result) }
 {
     let Some(mut inner) = pool.take(alloc) else {
         return CLOSED;
@@ -294,9 +295,9 @@ pub extern "C" fn curlpool_prune(
     now: u64,
     closed: &mut u32,
 ) -> u32
-    ensures done { OnHeld (held_behind pool.old.held.value) (held_behind pool.new.held.value)
-        result (λ old new. TellsPrune old new now max_age max_life
-        result closed.new) }
+    ensures done { OnBehind pool.old.held.value pool.new.held.value result (λ old new.
+        TellsPrune old new now max_age max_life result closed.new) }
+    ensures unwritten { IfNone (held_behind pool.old.held.value) (closed.new ≡ closed.old) }
 {
     let Some(mut inner) = pool.take(alloc) else {
         return CLOSED;
@@ -309,8 +310,9 @@ pub extern "C" fn curlpool_prune(
 /// Keeps connections alive.
 #[unsafe(no_mangle)]
 pub extern "C" fn curlpool_upkeep(pool: &mut Handle, alloc: Global, kept: &mut u32) -> u32
-    ensures done { OnHeld (held_behind pool.old.held.value) (held_behind pool.new.held.value)
-        result (λ old new. TellsUpkeep old new result kept.new) }
+    ensures done { OnBehind pool.old.held.value pool.new.held.value result (λ old new.
+        TellsUpkeep old new result kept.new) }
+    ensures unwritten { IfNone (held_behind pool.old.held.value) (kept.new ≡ kept.old) }
 {
     let Some(mut inner) = pool.take(alloc) else {
         return CLOSED;
@@ -329,8 +331,8 @@ pub extern "C" fn curlpool_set_host_limit(
     limit: u32,
     now: u64,
 ) -> u32
-    ensures done { OnHeld (held_behind pool.old.held.value) (held_behind pool.new.held.value)
-        result (λ old new. TellsLimit old new site limit now result) }
+    ensures { OnBehind pool.old.held.value pool.new.held.value result (λ old new.
+        TellsLimit old new site limit now result) }
 {
     let Some(mut inner) = pool.take(alloc) else {
         return CLOSED;
@@ -348,8 +350,9 @@ pub extern "C" fn curlpool_look(
     site: u32,
     look: &mut CLook,
 ) -> u32
-    ensures { OfHeld (held_behind pool.old.held.value) result (λ held.
+    ensures done { OfBehind pool.old.held.value pool.new.held.value result (λ held.
         TellsLook held site result look.old look.new) }
+    ensures unwritten { IfNone (held_behind pool.old.held.value) (look.new ≡ look.old) }
 {
     let Some(mut inner) = pool.take(alloc) else {
         return CLOSED;
@@ -367,8 +370,9 @@ pub extern "C" fn curlpool_counts(
     site: u32,
     counts: &mut CCounts,
 ) -> u32
-    ensures { OfHeld (held_behind pool.old.held.value) result (λ held.
+    ensures done { OfBehind pool.old.held.value pool.new.held.value result (λ held.
         TellsCounts held site result counts.old counts.new) }
+    ensures unwritten { IfNone (held_behind pool.old.held.value) (counts.new ≡ counts.old) }
 {
     let Some(mut inner) = pool.take(alloc) else {
         return CLOSED;
@@ -387,9 +391,8 @@ pub extern "C" fn curlpool_take_log(
     buffer: &mut [u8],
     written: &mut usize,
 ) -> u32
-    ensures done { OnHeld (held_behind pool.old.held.value) (held_behind pool.new.held.value)
-        result (λ old new. TellsLog old new site result) }
-    ensures len { length buffer.new ≡ length buffer.old }
+    ensures { TakesBehind pool.old.held.value pool.new.held.value site result
+        buffer.old buffer.new written.old written.new }
 {
     let Some(mut inner) = pool.take(alloc) else {
         return CLOSED;
@@ -402,8 +405,7 @@ pub extern "C" fn curlpool_take_log(
 /// Cuts all logs.
 #[unsafe(no_mangle)]
 pub extern "C" fn curlpool_drop_logs(pool: &mut Handle, alloc: Global) -> u32
-    ensures done { OnHeld (held_behind pool.old.held.value) (held_behind pool.new.held.value)
-        result (λ old new. CutsAll old new) }
+    ensures { DropsBehind pool.old.held.value pool.new.held.value result }
 {
     let Some(mut inner) = pool.take(alloc) else {
         return CLOSED;

@@ -1,6 +1,6 @@
 //! What lies behind a handle.
 
-ghost use Rattle.std.specs.Prelude.{◌≡◌, ◌⊎◌, [], None, Some, IfErr, IfOk, OnErr, OnOk};
+ghost use Rattle.std.specs.Prelude.{◌≡◌, None, Some, IfOk, replicate};
 
 use budget::Limits;
 use closed_tokens::ClosedTokens;
@@ -34,6 +34,7 @@ impl Inner {
     pub(crate) fn open(held: HeldPool, told: Vec<usize>) -> Inner
         ensures held { result.held ≡ Some held }
         ensures closing { result.closing ≡ None }
+        ensures told { result.told ≡ told }
     {
         Inner {
             held: Some(held),
@@ -44,6 +45,8 @@ impl Inner {
 }
 
 /// Of so many sites nothing was told.
-pub(crate) fn nothing_told(alloc: Global, sites: u32) -> Result<Vec<usize>, AllocError> {
+pub(crate) fn nothing_told(alloc: Global, sites: u32) -> Result<Vec<usize>, AllocError>
+    ensures { IfOk result (λ told. told.items ≡ replicate sites 0) }
+{
     Vec::from_elem(alloc, 0, sites as usize)
 }

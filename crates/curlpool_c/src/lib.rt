@@ -7,7 +7,6 @@ mod handle;
 mod held;
 mod inner;
 mod lifecycle;
-mod lines;
 mod logs;
 mod sites;
 mod slots;

@@ -1,7 +1,7 @@
 //! How a pool is opened, ended and closed.
 
-ghost use Rattle.std.specs.Prelude.{◌≡◌, [], true, None, IfErr, IfOk, IfSome};
-ghost use Rattle.curlpool_c.specs.Lifecycle.{EndsAll, IsOpenFault, IsOpened};
+ghost use Rattle.std.specs.Prelude.{◌≡◌, [], true, false, None, IfErr, IfOk, IfSome};
+ghost use Rattle.curlpool_c.specs.Lifecycle.{EndsAll, IsNewInner, IsOpenFault, KeepsTokens};
 
 use crate::inner::{Inner, nothing_told};
 use crate::status::{BAD_LIMIT, CLOSED, NO_MEMORY, OK};
@@ -21,7 +21,7 @@ pub(crate) fn opened(
     connects: u32,
 ) -> Result<Box<Inner>, u32>
     ensures ok { IfOk result (λ inner.
-        IsOpened hosts host_limit total connects inner.value.held) }
+        IsNewInner hosts host_limit total connects inner.value) }
     ensures err { IfErr result (IsOpenFault hosts host_limit total connects) }
 {
     let Ok(limits) = Limits::new(host_limit, total, connects) else {
@@ -62,6 +62,7 @@ impl Inner {
     pub(crate) fn is_told(&mut self) -> bool
         ensures ended { result ≡ true → self.old.held ≡ None }
         ensures told { result ≡ true → IfSome self.old.closing (λ tokens. tokens ≡ []) }
+        ensures tokens { result ≡ false → KeepsTokens self.old.closing self.new.closing }
         ensures kept { self.new.held ≡ self.old.held }
         ensures rest { self.new.told ≡ self.old.told }
     {

@@ -1,6 +1,6 @@
 //! What is asked of sites, and what is told of them.
 
-ghost use Rattle.std.specs.Prelude.{◌≡◌, IfOk, string_bytes, unwrap_or};
+ghost use Rattle.std.specs.Prelude.{◌≡◌, IfNone, IfOk, string_bytes, unwrap_or};
 ghost use Rattle.curlpool_c.specs.Behind.{OfHeld, OnHeld, SameBeside};
 ghost use Rattle.curlpool_c.specs.Numbers.{slot_of};
 ghost use Rattle.curlpool_c.specs.Sites.{TellsClosed, TellsCounts, TellsLimit, TellsLook};
@@ -63,6 +63,7 @@ impl Inner {
         ensures done { OnHeld self.old.held self.new.held result (λ old new.
             TellsSite old new (key_of host.now port) result site.old site.new) }
         ensures rest { SameBeside self.old self.new }
+        ensures unwritten { IfNone self.old.held (site.new ≡ site.old) }
     {
         let Some(held) = &mut self.held else {
             return CLOSED;
@@ -75,6 +76,7 @@ impl Inner {
         ensures done { OnHeld self.old.held self.new.held result (λ old new.
             TellsPrune old new now max_age max_life result closed.new) }
         ensures rest { SameBeside self.old self.new }
+        ensures unwritten { IfNone self.old.held (closed.new ≡ closed.old) }
     {
         let Some(held) = &mut self.held else {
             return CLOSED;
@@ -88,6 +90,7 @@ impl Inner {
         ensures done { OnHeld self.old.held self.new.held result (λ old new.
             TellsUpkeep old new result kept.new) }
         ensures rest { SameBeside self.old self.new }
+        ensures unwritten { IfNone self.old.held (kept.new ≡ kept.old) }
     {
         let Some(held) = &mut self.held else {
             return CLOSED;
@@ -113,8 +116,9 @@ impl Inner {
 
     // The counts of a site at this moment.
     pub(crate) fn look(&self, site: u32, look: &mut CLook) -> u32
-        ensures { OfHeld self.now.held result (λ held.
+        ensures done { OfHeld self.now.held result (λ held.
             TellsLook held site result look.old look.new) }
+        ensures unwritten { IfNone self.now.held (look.new ≡ look.old) }
     {
         let Some(held) = &self.held else {
             return CLOSED;
@@ -130,8 +134,9 @@ impl Inner {
 
     // What happened at a site.
     pub(crate) fn counts(&self, site: u32, told: &mut CCounts) -> u32
-        ensures { OfHeld self.now.held result (λ held.
+        ensures done { OfHeld self.now.held result (λ held.
             TellsCounts held site result told.old told.new) }
+        ensures unwritten { IfNone self.now.held (told.new ≡ told.old) }
     {
         let Some(held) = &self.held else {
             return CLOSED;
@@ -147,8 +152,9 @@ impl Inner {
 
     // What the response of a slot's lease tells.
     pub(crate) fn response(&self, slot: u64, told: &mut CResponse) -> u32
-        ensures { OfHeld self.now.held result (λ held.
+        ensures done { OfHeld self.now.held result (λ held.
             TellsResponse held (slot_of slot) result told.old told.new) }
+        ensures unwritten { IfNone self.now.held (told.new ≡ told.old) }
     {
         let Some(held) = &self.held else {
             return CLOSED;

@@ -1,13 +1,13 @@
 //! How transfers get connections, and how these come back.
 
-ghost use Rattle.std.specs.Prelude.{◌≡◌};
+ghost use Rattle.std.specs.Prelude.{◌≡◌, IfNone};
 ghost use Rattle.persistence.specs.Reader.{new_reader};
 ghost use Rattle.curlpool_c.specs.Behind.{OnHeld, SameBeside};
 ghost use Rattle.curlpool_c.specs.Numbers.{slot_of};
 ghost use Rattle.curlpool_c.specs.Transfers.{TellsAcquire, TellsAcquireOf, TellsAttach};
 ghost use Rattle.curlpool_c.specs.Transfers.{TellsClaim, TellsGranted, TellsBegin, TellsFeed};
-ghost use Rattle.curlpool_c.specs.Transfers.{TellsEnd, TellsGiveBack, TellsGiveBackAs, TellsGiveBackOf};
-ghost use Rattle.curlpool_c.specs.Transfers.{TellsAbandon, TellsWithdraw, done_status, token_told};
+ghost use Rattle.curlpool_c.specs.Transfers.{TellsEnd, TellsGiveBack, TellsGiveBackAs};
+ghost use Rattle.curlpool_c.specs.Transfers.{TellsGiveBackOf, TellsAbandon, TellsWithdraw, done_status, token_told};
 
 use crate::inner::Inner;
 use crate::slots::{number_of, slot_of};
@@ -88,6 +88,8 @@ impl Inner {
         ensures done { OnHeld self.old.held self.new.held result (λ old new.
             TellsAcquireOf old new site want now result slot.old slot.new token.old token.new) }
         ensures rest { SameBeside self.old self.new }
+        ensures unwritten { IfNone self.old.held
+            ((slot.new ≡ slot.old) × (token.new ≡ token.old)) }
     {
         let Some(held) = &mut self.held else {
             return CLOSED;
@@ -116,6 +118,7 @@ impl Inner {
         ensures done { OnHeld self.old.held self.new.held result (λ old new.
             TellsClaim old new (slot_of slot) result token.old token.new) }
         ensures rest { SameBeside self.old self.new }
+        ensures unwritten { IfNone self.old.held (token.new ≡ token.old) }
     {
         let Some(held) = &mut self.held else {
             return CLOSED;
@@ -134,6 +137,7 @@ impl Inner {
         ensures done { OnHeld self.old.held self.new.held result (λ old new.
             TellsGranted old new result slot.old slot.new) }
         ensures rest { SameBeside self.old self.new }
+        ensures unwritten { IfNone self.old.held (slot.new ≡ slot.old) }
     {
         let Some(held) = &mut self.held else {
             return CLOSED;
