@@ -50,5 +50,5 @@ untold_more told site = by_case (slice_get_cases told site).1
     by_case : ((x : ℕ) × (site < length told) × (slice_get told site ≡ Some x) × (get_or told site x ≡ x)) ⊎ ((length told ≤ site) × (slice_get told site ≡ None)) → set (untold_first site told) site 0 ≡ untold_first (site + 1) told
     by_case (inl some) = one_more untold told site some.1 0
     by_case (inr past) =
-      let short : length (map untold told) ≤ site = omega (arith, past.0, length-map told untold) in
-      ap (λ front. set front site 0) (past_first site past.0) ∙ set_past (map untold told) site 0 short ∙ sym (past_first (site + 1) (omega (arith, past.0)))
+        let short : length (map untold told) ≤ site = omega (arith, past.0, length-map told untold) in
+        ap (λ front. set front site 0) (past_first site past.0) ∙ set_past (map untold told) site 0 short ∙ sym (past_first (site + 1) (omega (arith, past.0)))

@@ -3,8 +3,8 @@
 ghost use Rattle.std.specs.Prelude.{◌≡◌, ◌<◌, length, IfErr, OnErr, OnOk};
 ghost use Rattle.bundle.specs.Lease.{cut_refusal};
 ghost use Rattle.cache.specs.Pools.{host_at};
-ghost use Rattle.curlpool_c.specs.Logs.{CutsOne, DropsIn, DropsLogs, TakesIn, TellsLog};
-ghost use Rattle.curlpool_c.specs.Logs.{stop_status};
+ghost use Rattle.curlpool_c.specs.Logs.{CutsOne, CutsTold, DropsIn, DropsLogs, TakesIn};
+ghost use Rattle.curlpool_c.specs.Logs.{TellsLog, stop_status};
 
 use crate::inner::Inner;
 use crate::status::{BAD_SITE, CLOSED, MORE, NO_MEMORY, OK, SMALL, refusal_status};
@@ -26,6 +26,23 @@ fn stop_status(stop: Stop, written: usize) -> u32
     }
 }
 
+// Cuts a log of which all was told, up to that place: its rest is told from its beginning then.
+fn cut_told(held: &mut HeldPool, site: u32, place: usize, told: &mut usize) -> u32
+    requires { site < length held.old.pool.hosts }
+    ensures { CutsTold held.old held.new site place told.new result }
+{
+    match held.cut(site) {
+        Ok(_) => {
+            *told = 0;
+            OK
+        }
+        Err(refusal) => {
+            *told = place;
+            refusal_status(refusal)
+        }
+    }
+}
+
 // Tells a log from the place up to which it was told, and cuts it once all was told.
 fn tell_log(
     held: &mut HeldPool,
@@ -42,18 +59,12 @@ fn tell_log(
         return BAD_SITE;
     };
     let lines = write_lines(alloc, site, log, *told, buffer);
-    *told = lines.place;
     *written = lines.written;
-    if let Some(stop) = lines.stop {
-        return stop_status(stop, lines.written);
-    }
-    match held.cut(site) {
-        Ok(_) => {
-            *told = 0;
-            OK
-        }
-        Err(refusal) => refusal_status(refusal),
-    }
+    let Some(stop) = lines.stop else {
+        return cut_told(held, site, lines.place, told);
+    };
+    *told = lines.place;
+    stop_status(stop, lines.written)
 }
 
 // Cuts the log of a site, of which nothing is told from then on.
