@@ -21,13 +21,13 @@ int main(int count, char **words) {
         if (curlpool_attach(&pool, slot, transfer) != CURLPOOL_OK) return 1;
     }
     if (curlpool_give_back_as(&pool, slot, &kept, 1) != CURLPOOL_OK) return 1;
-    for (uint64_t round = 0; round < rounds; round++) {
-        if (curlpool_acquire(&pool, 0, 0, 0, 118, 0, 0, 1, &slot, &token) != CURLPOOL_REUSED) return 1;
+    for (uint64_t now = 2; now < rounds + 2; now++) {
+        if (curlpool_acquire(&pool, 0, 0, 0, 118, 0, 0, now, &slot, &token) != CURLPOOL_REUSED) return 1;
         if (is_read) {
             if (curlpool_begin(&pool, slot, false, false) != CURLPOOL_OK) return 1;
             if (curlpool_feed(&pool, slot, answer, sizeof answer - 1) != CURLPOOL_WHOLE) return 1;
-            if (curlpool_give_back(&pool, slot, 1) != CURLPOOL_OK) return 1;
-        } else if (curlpool_give_back_as(&pool, slot, &kept, 1) != CURLPOOL_OK) {
+            if (curlpool_give_back(&pool, slot, now) != CURLPOOL_OK) return 1;
+        } else if (curlpool_give_back_as(&pool, slot, &kept, now) != CURLPOOL_OK) {
             return 1;
         }
     }

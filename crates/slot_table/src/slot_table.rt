@@ -52,6 +52,7 @@ impl<T> SlotTable<T> {
     }
 
     /// Puts a value into a new slot.
+    #[inline(always)]
     pub fn put(&mut self, value: T) -> Slot
         requires room { vec_len self.old.places < vec_capacity self.old.places }
         requires few { vec_len self.old.places < 4294967295 }
