@@ -1,0 +1,4 @@
+-- what is held, and by whom
+pub mod Holdings
+-- lines, one after the other
+pub mod LogLines
