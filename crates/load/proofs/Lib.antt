@@ -1,3 +1,4 @@
+pub mod CutLogs
 pub mod WhatIsLoaded
 pub mod Refusals
 pub mod SiteAddresses

@@ -10,13 +10,15 @@ use Rattle.driver.specs.Running.{IsRun, IsRefusedFor}
 use Rattle.load.specs.declared.error.LoadError.{LoadError}
 use Rattle.load.specs.declared.error.LoadError.TheVariants.{Run, Gather}
 use Rattle.load.specs.declared.loading.Loaded.{Loaded}
+use Rattle.load.specs.Logs.{AreLogsOf}
 
--- The results are those of a run over the cache of those names, which no gate stopped; the account is that of this cache
--- at its end, with the passes of the run.
+-- The results are those of a run over the cache of those names, which no gate stopped; the logs are cut from those of this
+-- cache, and the account is its own at its end, with the passes of the run.
 pub record IsLoadedBy {W : Type 0} (world : World W) (names : CacheNames) (jobs : List Job) (workers : ℕ) (loaded : Loaded) : Type 0 where
   pub report : RunReport
   pub ran : IsRun world (λ job. ⊥) names jobs workers report
   pub results_are : loaded.results ≡ report.results
+  pub logs_are : AreLogsOf names loaded.logs.items
   pub gathered_is : IsGathered names report.passes.items loaded.gathered
 
 -- and that cache was made under these limits, for so many hosts

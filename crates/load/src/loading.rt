@@ -7,10 +7,12 @@ ghost use Rattle.shared_cache.specs.Gathering.{IsGathered};
 ghost use Rattle.exchange.specs.Worlds.{world_of};
 ghost use Rattle.driver.specs.Faults.{are_bad_workers};
 ghost use Rattle.load.specs.Loading.{IsLoaded, IsLoadedBy, IsLoadRefusedFor};
+ghost use Rattle.load.specs.Logs.{AreLogsOf};
 
 use crate::dials::dials_for;
 use crate::error::LoadError;
 use budget::{Limits, Refusal};
+use conn_log::Entry;
 use driver::{DriverFault, NoGate, RunReport, run};
 use exchange::{Done, Job, Wire};
 use shared_cache::{Gathered, Names, Plan, SharedCache, discard_all};
@@ -27,13 +29,15 @@ use std::thread::Threads;
 pub struct Loaded {
     /// How each job ended, in the order of the jobs.
     pub results: Vec<Done>,
+    /// What happened at each site, oldest first: the logs of the hosts, as they were cut.
+    pub logs: Vec<Vec<Entry>>,
     /// The account of the cache. The connections that it left open close with it.
     pub gathered: Gathered<WaitingWire>,
 }
 
 /// Carries out the jobs by so many threads, which share one cache under these limits, cuts the log
 /// of every host, and gathers the cache: its account is of all that happened, though no log has
-/// entries left. There are at most 1,024 sites, and connections to each are opened to its address;
+/// entries left. What was cut is handed out. There are at most 1,024 sites, and connections to each are opened to its address;
 /// a read or a write waits ten milliseconds at most. Its clock tells 0 if the system tells no time.
 ///
 /// # Errors
@@ -108,17 +112,25 @@ fn account_of<N: Names, R: Wait>(
 ) -> Result<Loaded, LoadError>
     requires { All (IsPassOf N.names) report.passes.items }
     ensures results { IfOk result (λ loaded. loaded.results ≡ report.results) }
+    ensures logs { IfOk result (λ loaded. AreLogsOf N.names loaded.logs.items) }
     ensures gathered { IfOk result (λ loaded.
         IsGathered N.names report.passes.items loaded.gathered) }
     ensures refused { (workers : ℕ) → IfErr result (IsLoadRefusedFor workers) }
 {
     let RunReport { results, passes } = report;
-    if let Err(refusal) = cut_logs(rt, &cache) {
-        discard_all(passes);
-        return Err(error_of(refusal));
-    }
+    let logs = match cut_logs(rt, alloc, &cache) {
+        Ok(logs) => logs,
+        Err(refusal) => {
+            discard_all(passes);
+            return Err(error_of(refusal));
+        }
+    };
     match cache.gather(alloc, passes) {
-        Ok(gathered) => Ok(Loaded { results, gathered }),
+        Ok(gathered) => Ok(Loaded {
+            results,
+            logs,
+            gathered,
+        }),
         Err((_cache, passes, refusal)) => {
             discard_all(passes);
             Err(error_of(refusal))
@@ -126,12 +138,24 @@ fn account_of<N: Names, R: Wait>(
     }
 }
 
-// Cuts the log of every host. What is handed out is not kept.
-fn cut_logs<N: Names, R: Wait>(rt: &R, cache: &SharedCache<WaitingWire, N>) -> Result<(), Refusal> {
-    for site in 0..cache.hosts() {
-        let _part = cache.cut(rt, site)?;
+// Cuts the log of every host: what is handed out, in the order of the hosts.
+fn cut_logs<N: Names, R: Wait>(
+    rt: &R,
+    alloc: Global,
+    cache: &SharedCache<WaitingWire, N>,
+) -> Result<Vec<Vec<Entry>>, Refusal>
+    ensures { IfOk result (λ logs. AreLogsOf N.names logs.items) }
+{
+    let hosts = cache.hosts();
+    let Ok(logs) = Vec::with_capacity(alloc, hosts as usize) else {
+        return Err(Refusal::Memory);
+    };
+    let mut logs = logs;
+    for site in 0..hosts {
+        let log = cache.cut(rt, site)?;
+        logs.push_reserved(log);
     }
-    Ok(())
+    Ok(logs)
 }
 
 // Why there is no account, if a cut or the gathering was refused so.
