@@ -7,11 +7,15 @@ _curlpool() {
     else
         case $command in
             get) options="--head --max-age --timeout --help" ;;
-            load) options="--sites --jobs --workers --host-limit --total --connects --help" ;;
+            load) options="--sites --jobs --workers --host-limit --total --connects --trace --help" ;;
             script) options="--trace --help" ;;
             audit) options="--all --json --state --help" ;;
             help) options="get load script audit" ;;
         esac
+    fi
+    if [ "$command" = load ] && [ "${COMP_WORDS[COMP_CWORD - 1]}" = --trace ]; then
+        mapfile -t COMPREPLY < <(compgen -f -- "$word")
+        return
     fi
     case $command in
         script | audit)

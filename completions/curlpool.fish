@@ -16,6 +16,7 @@ complete -c curlpool -n '__fish_seen_subcommand_from load' -x -l workers -d 'thr
 complete -c curlpool -n '__fish_seen_subcommand_from load' -x -l host-limit -d 'connections open to one site'
 complete -c curlpool -n '__fish_seen_subcommand_from load' -x -l total -d 'connections open in all'
 complete -c curlpool -n '__fish_seen_subcommand_from load' -x -l connects -d 'connections kept idle'
+complete -c curlpool -n '__fish_seen_subcommand_from load' -r -F -l trace -d 'write a trace to a file'
 complete -c curlpool -n '__fish_seen_subcommand_from script' -F
 complete -c curlpool -n '__fish_seen_subcommand_from script' -l trace -d 'print a trace'
 complete -c curlpool -n '__fish_seen_subcommand_from audit' -F

@@ -41,7 +41,7 @@ pub asks : (faults : Kinds) (said : Said) (kind : ErrorKind) (before mid after :
     → (kind ≡ kinds.OutOfMemory → Rises before mid) → before ≤ mid → AnswersError (manner_of kind) mid after request → Asks faults said before after request
 asks faults said kind before mid after (requests.Script asked) fails wants kept answers = absurd answers
 asks faults said kind before mid after (requests.Get plan) fails wants kept answers = absurd answers
-asks faults said kind before mid after (requests.Load options) fails wants kept answers = absurd answers
+asks faults said kind before mid after (requests.Load plan) fails wants kept answers = absurd answers
 asks faults said kind before mid after (requests.Audit words) fails wants kept answers = absurd answers
 asks faults said kind before mid after (requests.Tell text) fails wants kept answers = among faults kind manners.Asked fails answers (λ e. cc)
 asks faults said kind before mid after (requests.Refuse text) fails wants kept answers = inl (among faults kind manners.Mistake fails answers (λ e. cc))
@@ -53,7 +53,7 @@ pub asks-get : (faults : Kinds) (words : GetSaid) (before mid after : ℕ) (requ
     → Asks faults (get words) before after request
 asks-get faults words before mid after (requests.Script input) none kept answers = absurd answers
 asks-get faults words before mid after (requests.Get plan) none kept answers = (none, answers)
-asks-get faults words before mid after (requests.Load options) none kept answers = absurd answers
+asks-get faults words before mid after (requests.Load plan) none kept answers = absurd answers
 asks-get faults words before mid after (requests.Audit asked) none kept answers = absurd answers
 asks-get faults words before mid after (requests.Tell text) none kept answers = absurd answers
 asks-get faults words before mid after (requests.Refuse text) none kept answers = inr (none, answers)
@@ -64,7 +64,7 @@ pub asks-load : (faults : Kinds) (words : LoadSaid) (before mid after : ℕ) (re
     → Asks faults (load words) before after request
 asks-load faults words before mid after (requests.Script input) none kept answers = absurd answers
 asks-load faults words before mid after (requests.Get plan) none kept answers = absurd answers
-asks-load faults words before mid after (requests.Load options) none kept answers = (none, answers)
+asks-load faults words before mid after (requests.Load plan) none kept answers = (none, answers)
 asks-load faults words before mid after (requests.Audit asked) none kept answers = absurd answers
 asks-load faults words before mid after (requests.Tell text) none kept answers = absurd answers
 asks-load faults words before mid after (requests.Refuse text) none kept answers = inr (none, answers)
@@ -75,7 +75,7 @@ pub answers-load : (words : LoadSaid) (error : Error) (before mid after : ℕ) (
     → AnswersError (manner_of (kind_of error)) mid after request → AnswersLoad words before after request
 answers-load words error before mid after (requests.Script input) why wants kept answers = absurd answers
 answers-load words error before mid after (requests.Get plan) why wants kept answers = absurd answers
-answers-load words error before mid after (requests.Load options) why wants kept answers = absurd answers
+answers-load words error before mid after (requests.Load plan) why wants kept answers = absurd answers
 answers-load words error before mid after (requests.Audit asked) why wants kept answers = absurd answers
 answers-load words error before mid after (requests.Tell text) (inl lacks) wants kept answers = let no : manners.Memory ≡ manners.Asked = sym (ap manner_of lacks) ∙ answers in cc
 answers-load words error before mid after (requests.Tell text) (inr (is, refused)) wants kept answers = let no : manners.Mistake ≡ manners.Asked = sym (ap manner_of is) ∙ answers in cc
@@ -89,7 +89,7 @@ answers-load words error before mid after requests.NoMemory why wants kept (inr 
 pub asks-no-file : (faults : Kinds) (said : Said) (before after : ℕ) (request : Request) → Asks faults said before after request → file_said said ≡ None → request_file request ≡ None
 asks-no-file faults said before after (requests.Script input) asks none = ap file_said (sym asks.1) ∙ none
 asks-no-file faults said before after (requests.Get plan) asks none = refl
-asks-no-file faults said before after (requests.Load options) asks none = refl
+asks-no-file faults said before after (requests.Load plan) asks none = refl
 asks-no-file faults said before after (requests.Audit words) asks none = ap file_said (sym asks.1) ∙ none
 asks-no-file faults said before after (requests.Tell text) asks none = refl
 asks-no-file faults said before after (requests.Refuse text) asks none = refl

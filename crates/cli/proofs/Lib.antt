@@ -5,3 +5,4 @@ pub mod GetRows
 pub mod LoadRows
 pub mod LoadPlans
 pub mod FlagRows
+pub mod LoadTraces

@@ -13,7 +13,7 @@ use Rattle.cli.specs.declared.command_line.Subcommand.TheVariants as subcommands
 use Rattle.cli.specs.declared.command_line.Words.{Words}
 use Rattle.cli.specs.declared.command_line.Words.TheVariants.{Given, NotText, NoMemory}
 use Rattle.cli.specs.declared.get.plan.GetPlan.{GetPlan}
-use Rattle.cli.specs.declared.loading.options.LoadOptions.{LoadOptions}
+use Rattle.cli.specs.declared.loading.plan.LoadPlan.{LoadPlan}
 use Rattle.cli.specs.declared.command_line.request.Manner.{Manner}
 use Rattle.cli.specs.declared.command_line.request.Manner.TheVariants as manners
 use Rattle.cli.specs.declared.command_line.request.Request.{Request}
@@ -24,7 +24,7 @@ use Rattle.script_run.specs.Files.{RunsFile}
 use Rattle.cli.specs.GetPlan.{IsPlanOf}
 use Rattle.cli.specs.GetWords.{GetSaid, IsRefused, get_said_by, get_said_in}
 use Rattle.cli.specs.Loading.{WritesText}
-use Rattle.cli.specs.LoadWords.{IsLoadOf, IsLoadRefused, LoadSaid, load_said_by, load_said_in}
+use Rattle.cli.specs.LoadWords.{IsLoadPlanOf, IsLoadRefused, LoadSaid, load_said_by, load_said_in}
 use Rattle.cli.specs.Inputs.{name_of}
 use Rattle.cli.specs.ScriptWords.{ScriptSaid, script_said_by, script_said_in}
 use Rattle.cli.specs.AuditWords.{AuditSaid, audit_said_by, audit_said_in}
@@ -52,10 +52,10 @@ url_rule = record (new_rule (codes "URL")) { range = Some (record { start_inclus
 abbrev pub get_app : App
 get_app = with_rule (with_rule (with_rule (with_rule (new_app (codes "get")) (flag_rule (codes "head"))) (value_rule (codes "max-age"))) (value_rule (codes "timeout"))) url_rule
 
--- load has six options of one value each
+-- load has seven options of one value each
 abbrev pub load_app : App
-load_app = with_rule (with_rule (with_rule (with_rule (with_rule (with_rule (new_app (codes "load")) (value_rule (codes "sites"))) (value_rule (codes "jobs"))) (value_rule (codes "workers")))
-    (value_rule (codes "host-limit"))) (value_rule (codes "total"))) (value_rule (codes "connects"))
+load_app = with_rule (with_rule (with_rule (with_rule (with_rule (with_rule (with_rule (new_app (codes "load")) (value_rule (codes "sites"))) (value_rule (codes "jobs"))) (value_rule (codes "workers")))
+    (value_rule (codes "host-limit"))) (value_rule (codes "total"))) (value_rule (codes "connects"))) (value_rule (codes "trace"))
 
 -- audit has three flags, and may be given a file
 abbrev pub audit_app : App
@@ -126,7 +126,7 @@ manner_of _ = manners.Mistake
 abbrev pub AnswersError : Manner → ℕ → ℕ → Request → Type 0
 AnswersError manner before after (requests.Script words) = ⊥
 AnswersError manner before after (requests.Get plan) = ⊥
-AnswersError manner before after (requests.Load options) = ⊥
+AnswersError manner before after (requests.Load plan) = ⊥
 AnswersError manner before after (requests.Audit words) = ⊥
 AnswersError manner before after (requests.Tell text) = manner ≡ manners.Asked
 AnswersError manner before after (requests.Refuse text) = manner ≡ manners.Mistake
@@ -145,7 +145,7 @@ AnswersGet said before after request = ⊥
 
 -- what the words after load make the words ask for
 abbrev pub AnswersLoad : LoadSaid → ℕ → ℕ → Request → Type 0
-AnswersLoad said before after (requests.Load options) = IsLoadOf said options
+AnswersLoad said before after (requests.Load plan) = IsLoadPlanOf said plan
 AnswersLoad said before after (requests.Refuse text) = IsLoadRefused said
 AnswersLoad said before after requests.NoMemory = Rises before after
 AnswersLoad said before after request = ⊥
@@ -162,16 +162,16 @@ abbrev pub PlansGet : Said → GetPlan → Type 0
 PlansGet (get said) plan = IsPlanOf said plan
 PlansGet _ plan = ⊥
 
-abbrev pub SaysLoad : Said → LoadOptions → Type 0
-SaysLoad (load said) options = IsLoadOf said options
-SaysLoad _ options = ⊥
+abbrev pub SaysLoad : Said → LoadPlan → Type 0
+SaysLoad (load said) plan = IsLoadPlanOf said plan
+SaysLoad _ plan = ⊥
 
 -- what words with these faults, that say so, may ask for, where so many wants of memory were counted before they were
 -- read and after
 abbrev pub Asks : Kinds → Said → ℕ → ℕ → Request → Type 0
 Asks faults said before after (requests.Script words) = (faults ≡ []) × (said ≡ script (script_said_by words))
 Asks faults said before after (requests.Get plan) = (faults ≡ []) × PlansGet said plan
-Asks faults said before after (requests.Load options) = (faults ≡ []) × SaysLoad said options
+Asks faults said before after (requests.Load plan) = (faults ≡ []) × SaysLoad said plan
 Asks faults said before after (requests.Audit words) = (faults ≡ []) × (said ≡ audit (audit_said_by words))
 Asks faults said before after (requests.Tell text) = HasManner faults manners.Asked
 Asks faults said before after (requests.Refuse text) = HasManner faults manners.Mistake ⊎ ((faults ≡ []) × RefusesSaid said)
@@ -228,7 +228,7 @@ pub record AnswersPlan (Runs : Stream → Stream → ℕ → Type 0) (unread lef
 
 -- what carrying out a load may write, and its status
 abbrev pub LoadRun : Type 1
-LoadRun = LoadOptions → Stream → Stream → ℕ → Type 0
+LoadRun = LoadPlan → Stream → Stream → ℕ → Type 0
 
 -- what is done for a request, and the status: a script is run, a plan or a load carried out, or a trace judged; help or the
 -- version is told; words that are refused, and want of memory while they are read, end the program at once; the network is left alone,
@@ -306,11 +306,11 @@ abbrev pub RefusesTwice : Type 0
 RefusesTwice = faults_after (codes "get" ∷ codes "--max-age=1" ∷ codes "--max-age=2" ∷ codes "a" ∷ []) ≡ kinds.ArgumentConflict ∷ []
 
 abbrev pub a_load : List (List ℕ)
-a_load = codes "load" ∷ codes "--jobs" ∷ codes "3" ∷ codes "--connects=07" ∷ []
+a_load = codes "load" ∷ codes "--jobs" ∷ codes "3" ∷ codes "--connects=07" ∷ codes "--trace" ∷ codes "a" ∷ []
 
 abbrev pub TakesNumbers : Type 0
 TakesNumbers = (faults_after a_load ≡ [])
-    × (small_said a_load ≡ load (record { sites = None; jobs = Some (codes "3"); workers = None; host_limit = None; total = None; connects = Some (codes "07") }))
+    × (small_said a_load ≡ load (record { sites = None; jobs = Some (codes "3"); workers = None; host_limit = None; total = None; connects = Some (codes "07"); trace = Some (codes "a") }))
 
 abbrev pub RefusesNumberTwice : Type 0
 RefusesNumberTwice = faults_after (codes "load" ∷ codes "--total=1" ∷ codes "--total=1" ∷ []) ≡ kinds.ArgumentConflict ∷ []

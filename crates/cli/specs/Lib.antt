@@ -13,3 +13,4 @@ pub mod LoadJobs
 pub mod Loading
 pub mod CommandLine
 pub mod SystemLoads
+pub mod LoadTraces

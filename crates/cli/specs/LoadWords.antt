@@ -8,10 +8,11 @@ use Rattle.clap.specs.declared.error.kind.ErrorKind.TheVariants.{OutOfMemory, Va
 use Rattle.script_text.specs.Words.{number}
 use Rattle.cli.specs.LoadRanges.{connects_for, connects_range, jobs_range, limit_range, sites_range, workers_range}
 use Rattle.cli.specs.declared.loading.options.LoadOptions.{LoadOptions}
+use Rattle.cli.specs.declared.loading.plan.LoadPlan.{LoadPlan}
 use Rattle.cli.specs.declared.loading.range.NumberRange.{NumberRange}
 use Rattle.cli.specs.declared.loading.words.LoadWords.{LoadWords}
 
--- the six numbers, as they were given
+-- the six numbers, as they were given, and the file that the trace is to be written to
 pub record LoadSaid : Type 0 where
   pub sites : Option Text
   pub jobs : Option Text
@@ -19,6 +20,7 @@ pub record LoadSaid : Type 0 where
   pub host_limit : Option Text
   pub total : Option Text
   pub connects : Option Text
+  pub trace : Option Text
 
 -- what the rows of the subcommand say
 abbrev pub load_said_in : List Row → LoadSaid
@@ -29,6 +31,7 @@ load_said_in rows = record {
   host_limit = first_of (codes "host-limit") rows;
   total = first_of (codes "total") rows;
   connects = first_of (codes "connects") rows;
+  trace = first_of (codes "trace") rows;
 }
 
 abbrev pub load_said_by : LoadWords → LoadSaid
@@ -39,6 +42,7 @@ load_said_by words = record {
   host_limit = option_map string_bytes words.host_limit;
   total = option_map string_bytes words.total;
   connects = option_map string_bytes words.connects;
+  trace = option_map string_bytes words.trace;
 }
 
 -- the number of a range that a text is: one or more decimal digits, leading zeros too
@@ -67,6 +71,11 @@ pub record IsLoadOf (said : LoadSaid) (options : LoadOptions) : Type 0 where
   pub host_limit_said : number_said limit_range 0 said.host_limit ≡ Some options.host_limit
   pub total_said : number_said limit_range 0 said.total ≡ Some options.total
   pub connects_said : number_said connects_range (connects_for options.jobs) said.connects ≡ Some options.connects
+
+-- a load with these numbers, whose trace is written to that file
+pub record IsLoadPlanOf (said : LoadSaid) (plan : LoadPlan) : Type 0 where
+  pub options_said : IsLoadOf said plan.options
+  pub trace_said : option_map string_bytes plan.trace ≡ said.trace
 
 -- one of them is out of its range, or no number
 abbrev pub IsLoadRefused : LoadSaid → Type 0

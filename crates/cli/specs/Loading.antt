@@ -4,7 +4,7 @@ use Rattle.std.specs.Global.{Global}
 use Rattle.clap.specs.Words.{Text}
 use Rattle.script_text.specs.declared.fault.FaultKind.{FaultKind}
 use Rattle.script_run.specs.Streams.{Stream, Puts}
-use Rattle.cli.specs.declared.loading.options.LoadOptions.{LoadOptions}
+use Rattle.cli.specs.declared.loading.plan.LoadPlan.{LoadPlan}
 use Rattle.cli.specs.declared.loading.fault.LoadFault.{LoadFault}
 use Rattle.cli.specs.declared.loading.fault.LoadFault.TheVariants.{Memory, BadWorkers, Poll, Doubled, Missing, Spawn, Listen, Gather, Write}
 
@@ -20,9 +20,9 @@ load_fault_text Listen = codes "cannot listen"
 load_fault_text Gather = codes "cannot gather"
 load_fault_text Write = codes "cannot write"
 
--- a load with these numbers gives this report, or has this fault
+-- a load of that plan gives this report, or has this fault
 abbrev pub Loading : Type 1
-Loading = LoadOptions → Result (String Global) LoadFault → Type 0
+Loading = LoadPlan → Result (String Global) LoadFault → Type 0
 
 -- 0 if a text was written whole, else 4
 abbrev pub written_status : {A : Type 0} → Result A FaultKind → ℕ
@@ -39,7 +39,7 @@ WritesReport (Ok report) old new status = WritesText (string_bytes report) old n
 WritesReport (Err fault) old new status = (new ≡ old) × (status ≡ 4)
 
 -- a load was carried out, and its report written
-pub record RunsLoad (Loads : Loading) (options : LoadOptions) (old new : Stream) (status : ℕ) : Type 0 where
+pub record RunsLoad (Loads : Loading) (plan : LoadPlan) (old new : Stream) (status : ℕ) : Type 0 where
   pub outcome : Result (String Global) LoadFault
-  pub loads : Loads options outcome
+  pub loads : Loads plan outcome
   pub writes : WritesReport outcome old new status

@@ -7,14 +7,16 @@ ghost use Rattle.script_run.specs.Streams.{CanCount};
 pub(crate) mod fault;
 pub(crate) mod numbers;
 pub(crate) mod options;
+pub(crate) mod plan;
 pub(crate) mod planning;
 pub(crate) mod range;
 pub(crate) mod subcommand;
 pub(crate) mod system;
+pub(crate) mod tracing;
 pub(crate) mod words;
 
 use fault::LoadFault;
-use options::LoadOptions;
+use plan::LoadPlan;
 use script_run::Sink;
 use script_text::FaultKind;
 use std::alloc::Global;
@@ -26,21 +28,21 @@ const DONE: u8 = 0;
 /// There is no report, or it was not written whole.
 const FAILED: u8 = 4;
 
-/// Carries out a load with these numbers by `load`, and writes its report on `output`. Answers the
+/// Carries out the load of that plan by `load`, and writes its report on `output`. Answers the
 /// status: 0 if the report was written whole, else 4. What goes wrong is told on `errors`.
-pub fn run_load<L: FnOnce(Global, LoadOptions) -> Result<String, LoadFault>, W: Sink, E: Write>(
+pub fn run_load<L: FnOnce(Global, LoadPlan) -> Result<String, LoadFault>, W: Sink, E: Write>(
     alloc: Global,
-    options: LoadOptions,
+    plan: LoadPlan,
     load: L,
     output: &mut W,
     errors: &mut E,
 ) -> u8
     requires output { CanCount (W.sink output.old) }
     requires load { L.IsAlwaysCallable load }
-    ensures { RunsLoad (L.post load alloc) options
+    ensures { RunsLoad (L.post load alloc) plan
         (W.sink output.old) (W.sink output.new) result }
 {
-    match load(alloc, options) {
+    match load(alloc, plan) {
         Ok(report) => match output.put(report.as_bytes()) {
             Ok(()) => DONE,
             Err(FaultKind::Memory) => failed(errors, LoadFault::Memory),

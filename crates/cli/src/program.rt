@@ -14,7 +14,7 @@ use crate::command_line::request::{Request, asked_by};
 use crate::get::fetching::Network;
 use crate::get::run_plan;
 use crate::loading::fault::LoadFault;
-use crate::loading::options::LoadOptions;
+use crate::loading::plan::LoadPlan;
 use crate::loading::run_load;
 use crate::script::answer_script;
 use crate::script::input::ScriptInput;
@@ -53,7 +53,7 @@ pub fn run_program<
     M: WordsMemory,
     F: ScriptFiles,
     N: Network,
-    L: FnOnce(Global, LoadOptions) -> Result<String, LoadFault> + Drop,
+    L: FnOnce(Global, LoadPlan) -> Result<String, LoadFault> + Drop,
     R: Source,
     W: Sink,
     E: Write,
@@ -103,7 +103,7 @@ fn asks_for_input(request: &Request) -> bool {
 pub fn answer_request<
     F: ScriptFiles,
     N: Network,
-    L: FnOnce(Global, LoadOptions) -> Result<String, LoadFault> + Drop,
+    L: FnOnce(Global, LoadPlan) -> Result<String, LoadFault> + Drop,
     R: Source,
     W: Sink,
     E: Write,
@@ -129,7 +129,7 @@ pub fn answer_request<
     match request {
         Request::Script(words) => answer_script(alloc, words, files, input, output, errors),
         Request::Get(plan) => run_plan(alloc, plan, network, output, errors),
-        Request::Load(options) => run_load(alloc, options, load, output, errors),
+        Request::Load(plan) => run_load(alloc, plan, load, output, errors),
         Request::Audit(words) => answer_audit(alloc, words, files, input, output, errors),
         Request::Tell(text) => tell(text.as_str(), output, errors),
         Request::Refuse(text) => {

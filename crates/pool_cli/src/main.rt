@@ -36,7 +36,7 @@ fn main(rt: HostRuntime) -> ExitCode {
         is_typed,
         &mut files,
         &mut network,
-        |alloc, options| load_on_system(&rt, &rt, alloc, options),
+        |alloc, plan| load_on_system(&rt, &rt, alloc, plan),
         &mut input,
         &mut output,
         &mut errors,

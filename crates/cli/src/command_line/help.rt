@@ -185,7 +185,8 @@ pub const REPORT: &str = "\
 A server in this process listens on 127.0.0.1, on a port for each site, and
 answers each request with the body ok. Threads that share one cache of
 connections draw the jobs 0, 1, 2 ..; job K asks for /K of site K modulo the
-number of sites. A number is decimal digits, without a sign.
+number of sites. A number is decimal digits, without a sign. With --trace, what
+the cache was asked and did is written to a file, as curlpool audit reads it.
 
 Line of report      Its numbers in order
 host                Of each site: its index; connections opened; how often one
@@ -205,7 +206,7 @@ job missing         No result came of a job
 cannot start thread A thread was refused
 cannot listen       The server's ports were refused
 cannot gather       What the threads did could not be brought together
-cannot write        The report could not be written
+cannot write        The report or the trace could not be written
 
 Status              0: the report is written, whatever became of the requests;
                     2: the words are refused, and nothing was done; 4: there is
@@ -217,7 +218,10 @@ host       0       1       2       0       0       1
 all        1       1       2       0       0       1
 jobs       3       0       2       0       6
 
-curlpool load --sites 4 --jobs 10000 --workers 64 --host-limit 2 --total 6";
+curlpool load --sites 4 --jobs 10000 --workers 64 --host-limit 2 --total 6
+
+curlpool load --total 1 --trace load.trace
+curlpool audit load.trace";
 
 /// What a trace says, and what `audit` answers.
 pub const AUDITS: &str = "\

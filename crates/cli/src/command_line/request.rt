@@ -12,7 +12,7 @@ use crate::command_line::memory::WordsMemory;
 use crate::command_line::{Subcommand, Words};
 use crate::get::plan::{GetPlan, GetRefusal};
 use crate::get::words::GetWords;
-use crate::loading::options::LoadOptions;
+use crate::loading::plan::LoadPlan;
 use crate::loading::words::LoadWords;
 use crate::script::words::ScriptWords;
 use clap::Error;
@@ -25,8 +25,8 @@ pub enum Request {
     Script(ScriptWords),
     /// To fetch URLs so.
     Get(GetPlan),
-    /// To carry out a load with these numbers.
-    Load(LoadOptions),
+    /// To carry out a load so.
+    Load(LoadPlan),
     /// To judge the trace that is read from there.
     Audit(AuditWords),
     /// To tell this on standard output: help, or the version.
@@ -58,7 +58,7 @@ pub fn asked_by<M: WordsMemory>(memory: &mut M, words: Words) -> Request
         Words::Given(words) => match memory.parse(words.as_slice()) {
             Ok(Subcommand::Script(words)) => Request::Script(words),
             Ok(Subcommand::Get(words)) => planned(memory, &words),
-            Ok(Subcommand::Load(words)) => numbered(memory, &words),
+            Ok(Subcommand::Load(words)) => numbered(memory, words),
             Ok(Subcommand::Audit(words)) => Request::Audit(words),
             Err(error) => refused(memory, error),
         },
@@ -83,12 +83,15 @@ fn planned<M: WordsMemory>(memory: &mut M, words: &GetWords) -> Request
 }
 
 /// What the words after `load` ask for.
-fn numbered<M: WordsMemory>(memory: &mut M, words: &LoadWords) -> Request
-    ensures { AnswersLoad (load_said_by words.now) (M.wants memory.old) (M.wants memory.new)
+fn numbered<M: WordsMemory>(memory: &mut M, words: LoadWords) -> Request
+    ensures { AnswersLoad (load_said_by words) (M.wants memory.old) (M.wants memory.new)
         result }
 {
-    match memory.load_options(words) {
-        Ok(options) => Request::Load(options),
+    match memory.load_options(&words) {
+        Ok(options) => {
+            let LoadWords { trace, .. } = words;
+            Request::Load(LoadPlan { options, trace })
+        }
         Err(error) => refused(memory, error),
     }
 }

@@ -9,6 +9,9 @@ use crate::command_line::help::REPORT;
 use clap::{Arg, Command};
 use std::alloc::{AllocError, Global};
 
+/// What the value of an option is called that is a number.
+const NUMBER: &str = "NUMBER";
+
 /// What `--help` says of the options.
 const SITES_HELP: &str = "Ports that the server has, 1 to 8; 2 if left out";
 
@@ -23,7 +26,9 @@ const TOTAL_HELP: &str = "Most connections open in all, 0 (no limit) to 65535; 0
 
 const CONNECTS_HELP: &str = "Most connections kept idle, 1 to 65535; 4 times the jobs if left out";
 
-/// The subcommand `load`: six options, each with one value.
+const TRACE_HELP: &str = "Writes a trace of the connections to a file";
+
+/// The subcommand `load`: seven options, each with one value.
 ///
 /// # Errors
 ///
@@ -33,23 +38,25 @@ pub fn load_subcommand<'a>(alloc: Global) -> Result<Command<'a>, AllocError>
     ensures local { IfOk result (λ command. (out-Command command).has_globals ≡ false) }
 {
     let bare = Command::new(alloc, "load");
-    let with_sites = with_number(alloc, bare, "sites", SITES_HELP)?;
-    let with_jobs = with_number(alloc, with_sites, "jobs", JOBS_HELP)?;
-    let with_workers = with_number(alloc, with_jobs, "workers", WORKERS_HELP)?;
-    let with_host_limit = with_number(alloc, with_workers, "host-limit", HOST_LIMIT_HELP)?;
-    let with_total = with_number(alloc, with_host_limit, "total", TOTAL_HELP)?;
-    let with_connects = with_number(alloc, with_total, "connects", CONNECTS_HELP)?;
-    let load = with_connects
+    let with_sites = with_value(alloc, bare, "sites", NUMBER, SITES_HELP)?;
+    let with_jobs = with_value(alloc, with_sites, "jobs", NUMBER, JOBS_HELP)?;
+    let with_workers = with_value(alloc, with_jobs, "workers", NUMBER, WORKERS_HELP)?;
+    let with_host_limit = with_value(alloc, with_workers, "host-limit", NUMBER, HOST_LIMIT_HELP)?;
+    let with_total = with_value(alloc, with_host_limit, "total", NUMBER, TOTAL_HELP)?;
+    let with_connects = with_value(alloc, with_total, "connects", NUMBER, CONNECTS_HELP)?;
+    let with_trace = with_value(alloc, with_connects, "trace", "FILE", TRACE_HELP)?;
+    let load = with_trace
         .about("Sends requests by threads to a server of its own, and reports what came of them")
         .after_help(REPORT);
     Ok(load)
 }
 
-/// The command with an option of that name, whose value is a number.
-fn with_number<'a>(
+/// The command with an option of that name, whose value is called so.
+fn with_value<'a>(
     alloc: Global,
     command: Command<'a>,
     name: &'a str,
+    value: &'a str,
     help: &'a str,
 ) -> Result<Command<'a>, AllocError>
     ensures app { IfOk result (λ longer.
@@ -57,10 +64,10 @@ fn with_number<'a>(
     ensures local { (out-Command command.entry).has_globals ≡ false
         → IfOk result (λ longer. (out-Command longer).has_globals ≡ false) }
 {
-    let number = Arg::new(alloc, name)
+    let option = Arg::new(alloc, name)
         .long(name)
-        .value_name("NUMBER")
+        .value_name(value)
         .help(help);
-    let longer = command.arg(number)?;
+    let longer = command.arg(option)?;
     Ok(longer)
 }

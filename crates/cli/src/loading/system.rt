@@ -1,17 +1,22 @@
 //! Loads over the system's threads and sockets.
 
-ghost use Rattle.std.specs.Prelude.{◌≡◌, ◌≤◌, length, string_bytes, IfOk};
+ghost use Rattle.std.specs.Prelude.{◌≡◌, ◌≤◌, length, string_bytes, IfOk, IfSome};
 ghost use Rattle.cli.specs.SystemLoads.{CarriesOutLoad, ReportsLoad};
 
 use crate::loading::fault::LoadFault;
 use crate::loading::options::LoadOptions;
+use crate::loading::plan::LoadPlan;
 use crate::loading::planning::load_jobs;
+use crate::loading::tracing::write_trace;
 use cache_report::report;
+use conn_log::Entry;
 use driver::DriverFault;
 use exchange::Job;
 use load::{LoadError, Loaded, load};
 use loopback_server::Server;
+use script_run::Watched;
 use std::alloc::{AllocError, AllocGlobal, Global};
+use std::fs::{self, File};
 use std::io::{Error, ErrorKind};
 use std::net::{IpAddr, Ipv4Addr, SocketAddr};
 use std::random::RandomSource;
@@ -20,23 +25,26 @@ use std::sync::atomic::{AtomicBool, Ordering};
 use std::thread;
 use std::thread::{Builder, Threads, scope_env};
 
-/// Carries out a load with these numbers by threads and sockets of the system, and answers its
-/// report. The requests go to a server of its own, which has one port of 127.0.0.1 for each site.
-/// Nobody knows beforehand how they end; the report says how they did.
+/// Carries out the load of that plan by threads and sockets of the system, and answers its report.
+/// The requests go to a server of its own, which has one port of 127.0.0.1 for each site. Nobody
+/// knows beforehand how they end; the report says how they did. If the plan names a file, it is made
+/// before, and gets the trace of the logs after the requests.
 ///
 /// `threads` starts the threads: it is the same system, lent once more by who may start some.
 ///
 /// # Errors
 ///
-/// Why there is no report; any fault but `Write`.
+/// Why there is no report; `Write` if the trace's file could not be made or written.
 pub fn load_on_system<T: Threads + Wait + RandomSource + AllocGlobal + Sync>(
     threads: &T,
     system: &HostRuntime,
     alloc: Global,
-    options: LoadOptions,
+    plan: LoadPlan,
 ) -> Result<String, LoadFault>
-    ensures { IfOk result (λ report. ReportsLoad options (string_bytes report)) }
+    ensures { IfOk result (λ report. ReportsLoad plan.options (string_bytes report)) }
 {
+    let LoadPlan { options, trace } = plan;
+    let traced = trace_file(system, &trace)?;
     let server = match Server::listen(system, alloc, options.sites) {
         Ok(server) => server,
         Err(error) => return Err(fault_of(&error, LoadFault::Listen)),
@@ -47,7 +55,11 @@ pub fn load_on_system<T: Threads + Wait + RandomSource + AllocGlobal + Sync>(
     let Ok(jobs) = load_jobs(alloc, options.jobs, server.ports()) else {
         return Err(LoadFault::Memory);
     };
+    let Ok(ports) = ports_of(alloc, server.ports()) else {
+        return Err(LoadFault::Memory);
+    };
     let loaded = load_beside(threads, system, alloc, server, &sites, &jobs, options)?;
+    write_to(alloc, options, &ports, &loaded.logs, traced)?;
     match report(alloc, &loaded.gathered, &loaded.results) {
         Ok(text) => Ok(text),
         Err(_refusal) => Err(LoadFault::Memory),
@@ -68,6 +80,49 @@ pub fn sites_at(alloc: Global, ports: &[u16]) -> Result<Vec<SocketAddr>, AllocEr
         sites.push(site)?;
     }
     Ok(sites)
+}
+
+// The file of the trace, made anew, if one is named.
+fn trace_file(
+    system: &HostRuntime,
+    name: &Option<String>,
+) -> Result<Option<Watched<File>>, LoadFault>
+    ensures { IfOk result (λ traced. IfSome traced (λ file. file.failures ≡ 0)) }
+{
+    let Some(name) = name else {
+        return Ok(None);
+    };
+    match fs::create(system, name.as_str()) {
+        Ok(file) => Ok(Some(Watched::new(file))),
+        Err(error) => Err(fault_of(&error, LoadFault::Write)),
+    }
+}
+
+// Writes the trace to that file, if it is to be written.
+fn write_to(
+    alloc: Global,
+    options: LoadOptions,
+    ports: &[u16],
+    logs: &[Vec<Entry>],
+    traced: Option<Watched<File>>,
+) -> Result<(), LoadFault>
+    requires few { length logs.now ≤ 1024 }
+    requires counts { IfSome traced (λ file. file.failures ≡ 0) }
+{
+    match traced {
+        None => Ok(()),
+        Some(file) => {
+            let mut file = file;
+            write_trace(alloc, options, ports, logs, &mut file)
+        }
+    }
+}
+
+// A copy of the ports.
+fn ports_of(alloc: Global, given: &[u16]) -> Result<Vec<u16>, AllocError> {
+    let mut ports = Vec::new(alloc);
+    ports.extend_from_slice(given)?;
+    Ok(ports)
 }
 
 // Carries out the jobs, while the server serves on a thread of its own; it ends after them.

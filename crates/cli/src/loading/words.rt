@@ -8,7 +8,7 @@ use crate::command_line::values::owned;
 use clap::ArgMatches;
 use std::alloc::{AllocError, Global};
 
-/// The numbers after `load` as they were given, before it is known whether they make sense.
+/// The words after `load` as they were given, before it is known whether their numbers make sense.
 #[derive(Drop)]
 pub struct LoadWords {
     /// How many sites there are.
@@ -23,6 +23,8 @@ pub struct LoadWords {
     pub total: Option<String>,
     /// The most connections that are kept while they are idle.
     pub connects: Option<String>,
+    /// The file that the trace is written to.
+    pub trace: Option<String>,
 }
 
 /// What the matches of `load` say.
@@ -40,6 +42,7 @@ pub fn load_words_of<'a>(alloc: Global, given: &ArgMatches<'a>) -> Result<LoadWo
     let host_limit = owned(alloc, given.get_str("host-limit"))?;
     let total = owned(alloc, given.get_str("total"))?;
     let connects = owned(alloc, given.get_str("connects"))?;
+    let trace = owned(alloc, given.get_str("trace"))?;
     Ok(LoadWords {
         sites,
         jobs,
@@ -47,5 +50,6 @@ pub fn load_words_of<'a>(alloc: Global, given: &ArgMatches<'a>) -> Result<LoadWo
         host_limit,
         total,
         connects,
+        trace,
     })
 }

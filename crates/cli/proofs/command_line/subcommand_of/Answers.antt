@@ -1,4 +1,4 @@
-use Rattle.std.proofs.Common.{◌∙◌, ap, sym, codes}
+use Rattle.std.proofs.Common.{◌∙◌, ap, sym}
 use Rattle.clap.specs.Words.{found_of, rows_of, subcommand_rows_of}
 use Rattle.cli.specs.CommandLine.{script}
 use Rattle.cli.proofs.CommandLines.{name-of-rows, says-script}

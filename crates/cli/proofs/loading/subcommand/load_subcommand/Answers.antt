@@ -6,4 +6,5 @@ returns-clause-local c =
     let two = c.in_ok-with_jobs.ensures.local (c.in_ok-with_sites.ensures.local c.new-bare.ensures.local) in
     let four = c.in_ok-with_host_limit.ensures.local (c.in_ok-with_workers.ensures.local two) in
     let six = c.in_ok-with_connects.ensures.local (c.in_ok-with_total.ensures.local four) in
-    search (rules, six)
+    let seven = c.in_ok-with_trace.ensures.local six in
+    search (rules, seven)

@@ -1,0 +1,12 @@
+//! A load that is asked for.
+
+use crate::loading::options::LoadOptions;
+
+/// A load that is asked for.
+#[derive(Drop)]
+pub struct LoadPlan {
+    /// Its numbers.
+    pub options: LoadOptions,
+    /// The file that its trace is written to, if one is.
+    pub trace: Option<String>,
+}
