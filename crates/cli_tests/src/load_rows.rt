@@ -47,8 +47,31 @@ fn words_give_numbers(rt: HostRuntime) {
     }
 }
 
+/// Words, and the file that the trace of a load is written to.
+static TRACES: [(&str, Option<&str>); 4] = [
+    ("load", None),
+    ("load --trace a.trace", Some("a.trace")),
+    ("load --trace=- --sites 3", Some("-")),
+    ("load --total 1 --trace trace", Some("trace")),
+];
+
+#[test]
+fn words_give_a_file(rt: HostRuntime) {
+    for &(words, trace) in &TRACES {
+        let row = Row {
+            name: words,
+            words,
+            output: Text::Whole("all\n"),
+            ..ROW
+        };
+        let (_, loader) = check(&rt, &row);
+        let named = loader.trace.as_ref().map(|name| name.as_str());
+        assert_eq!(rt; named, trace, "{words}");
+    }
+}
+
 /// Words that are refused, and how the message begins.
-static REFUSED: [(&str, &str); 27] = [
+static REFUSED: [(&str, &str); 29] = [
     (
         "load --sites 0",
         "curlpool: invalid value '0' for '--sites <NUMBER>': not a number from 1 to 8\n",
@@ -104,6 +127,14 @@ static REFUSED: [(&str, &str); 27] = [
     (
         "load --jobs",
         "curlpool: a value is required for '--jobs <NUMBER>'",
+    ),
+    (
+        "load --trace",
+        "curlpool: a value is required for '--trace <FILE>'",
+    ),
+    (
+        "load --trace a --trace a",
+        "curlpool: the argument '--trace <FILE>' cannot be used",
     ),
     (
         "load --sites 1 --sites 1",

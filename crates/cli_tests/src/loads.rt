@@ -1,14 +1,15 @@
-//! What carries out no load: it keeps the numbers, and answers what it is told to.
+//! What carries out no load: it keeps the plan, and answers what it is told to.
 
-use cli::{LoadFault, LoadOptions};
+use cli::{LoadFault, LoadPlan};
 use std::alloc::Global;
 
-/// Which report or fault it answers, how often it was asked, and with which numbers last.
+/// Which report or fault it answers, how often it was asked, and with which numbers and file last.
 #[derive(Drop)]
 pub struct FakeLoader<'a> {
     answer: Result<&'a str, LoadFault>,
     pub asked: u32,
     pub numbers: [u32; 6],
+    pub trace: Option<String>,
 }
 
 impl<'a> FakeLoader<'a> {
@@ -17,11 +18,14 @@ impl<'a> FakeLoader<'a> {
             answer,
             asked: 0,
             numbers: [0; 6],
+            trace: None,
         }
     }
 
     /// Carries out no load.
-    pub fn load(&mut self, alloc: Global, options: LoadOptions) -> Result<String, LoadFault> {
+    pub fn load(&mut self, alloc: Global, plan: LoadPlan) -> Result<String, LoadFault> {
+        let LoadPlan { options, trace } = plan;
+        self.trace = trace;
         self.asked = self.asked.saturating_add(1);
         self.numbers = [
             options.sites,

@@ -105,7 +105,7 @@ pub fn run<W: Sink>(
         is_typed,
         &mut files,
         network,
-        |alloc, options| loader.load(alloc, options),
+        |alloc, plan| loader.load(alloc, plan),
         &mut input,
         output,
         &mut errors,

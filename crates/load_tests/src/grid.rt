@@ -1,7 +1,7 @@
 //! Loads whose numbers are drawn: small limits are met often.
 
 use crate::account::account_of;
-use cli::{LoadOptions, load_on_system};
+use cli::{LoadOptions, LoadPlan, load_on_system};
 use rand_core::utils::NextWord;
 use rand_pcg::Pcg32;
 use std::alloc::AllocGlobal;
@@ -26,7 +26,11 @@ fn reports_of_drawn_loads_add_up(rt: HostRuntime) {
     let mut random = Pcg32::new(38, 0);
     for _ in 0..LOADS {
         let options = drawn_options(&mut random);
-        let report = match load_on_system(&rt, &rt, rt.alloc(), options) {
+        let plan = LoadPlan {
+            options,
+            trace: None,
+        };
+        let report = match load_on_system(&rt, &rt, rt.alloc(), plan) {
             Ok(report) => report,
             Err(fault) => panic!(rt; "{options:?}: {fault}"),
         };

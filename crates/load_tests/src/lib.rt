@@ -14,3 +14,5 @@ mod rows;
 mod running;
 #[cfg(test)]
 mod sites;
+#[cfg(test)]
+mod traces;

@@ -55,7 +55,7 @@ pub(crate) fn run_words<T: Threads + Wait + RandomSource + AllocGlobal + Sync>(
         false,
         &mut files,
         &mut network,
-        |alloc, options| load_on_system(threads, rt, alloc, options),
+        |alloc, plan| load_on_system(threads, rt, alloc, plan),
         &mut input,
         &mut output,
         &mut errors,

@@ -133,6 +133,7 @@ fn results_of<R: Threads + Wait + RandomSource + AllocGlobal + Sync + Abort>(
         Ok(
             Loaded {
                 results,
+                logs: _,
                 gathered: _,
             },
         ) => results,

@@ -1,0 +1,43 @@
+//! Traces of loads: an audit finds each lawful.
+
+use crate::running::run_words;
+use std::fs;
+use std::str::from_utf8;
+
+/// A file that each trace is written to.
+const FILE: &str = "load.trace";
+
+/// Words of loads, less the file.
+static LOADS: [&str; 6] = [
+    "load --sites 1 --jobs 3 --workers 1",
+    "load --sites 2 --jobs 4 --workers 1 --total 1",
+    "load --sites 3 --jobs 60 --workers 8 --host-limit 2 --total 3 --connects 2",
+    "load --sites 8 --jobs 200 --workers 16 --host-limit 1 --total 4",
+    "load --sites 1 --jobs 100 --workers 12 --host-limit 3 --connects 1",
+    "load --sites 4 --jobs 100 --workers 64",
+];
+
+#[test]
+fn traces_are_lawful(rt: HostRuntime) {
+    for load in &LOADS {
+        let words = format!(in rt.alloc(); "{load} --trace {FILE}").expect(&rt, "memory");
+        let loaded = run_words(&rt, &rt, words.as_str()).expect(&rt, "memory");
+        assert_eq!(rt; loaded.status, 0, "{words}");
+        let audit = format!(in rt.alloc(); "audit {FILE}").expect(&rt, "memory");
+        let audited = run_words(&rt, &rt, audit.as_str()).expect(&rt, "memory");
+        let told = from_utf8(audited.output.as_slice()).expect(&rt, "a text");
+        assert!(rt; told.starts_with("lawful: "), "{words}: {told}");
+        assert_eq!(rt; audited.status, 0, "{words}");
+    }
+    let removed = fs::remove_file(&rt, FILE);
+    assert!(rt; removed.is_ok());
+}
+
+#[test]
+fn a_trace_without_a_file_is_told(rt: HostRuntime) {
+    let text = "load --trace no-such-folder/load.trace";
+    let ran = run_words(&rt, &rt, text).expect(&rt, "memory");
+    assert_eq!(rt; ran.status, 4);
+    assert!(rt; ran.output.is_empty());
+    assert_eq!(rt; ran.errors.as_slice(), b"run: cannot write\n".as_slice());
+}
