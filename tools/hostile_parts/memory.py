@@ -158,8 +158,8 @@ def get():
         return refuse_all([curlpool(), "get", *urls], functools.partial(wrong_get, urls=urls), may_vary=True)
 
 
-def load():
-    return refuse_all([curlpool(), *WORDS_OF_LOAD], wrong_load, may_vary=True)
+def load(words):
+    return refuse_all([curlpool(), *words], wrong_load, may_vary=True)
 
 
 def wrong_audit(run, ample):
@@ -190,7 +190,8 @@ PARTS = [
     Part("memory: scripts", scripts),
     *(Part(f"memory: calls, in {crate}", functools.partial(calls_of, crate, least)) for crate, least in CRATES.items()),
     Part("memory: curlpool get", get),
-    Part("memory: curlpool load", load),
+    Part("memory: curlpool load", functools.partial(load, WORDS_OF_LOAD)),
+    Part("memory: curlpool load --trace", functools.partial(load, [*WORDS_OF_LOAD, "--trace", os.devnull])),
     *(Part(f"memory: curlpool {' '.join(words)}", functools.partial(words_of, words)) for words in WORDS),
 ]
 

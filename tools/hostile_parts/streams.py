@@ -5,6 +5,7 @@ import re
 import threading
 import time
 
+from program import TOP
 from real_servers import servers
 from real_servers.servers import nobody
 
@@ -137,6 +138,14 @@ def load_output():
     return "status 4, `cannot write`"
 
 
+def load_trace():
+    """A trace that can't be written is told, and then there is no report; its file is made before the load."""
+    words = [curlpool(), "load", "--sites", "1", "--jobs", "3", "--workers", "1", "--trace"]
+    for name in ("/dev/full", "/", os.path.join(TOP, "no-such-folder", "load.trace")):
+        check_same(run([*words, name]), (4, "", "run: cannot write\n"), name)
+    return "status 4, `cannot write`"
+
+
 def load_others():
     words = [curlpool(), "load", "--sites", "1", "--jobs", "3", "--workers", "1"]
     ample = run(words)
@@ -174,6 +183,7 @@ PARTS = [
     Part("streams: curlpool get, no output", get_output),
     Part("streams: curlpool get, no input or errors", get_others),
     Part("streams: curlpool load, no output", load_output),
+    Part("streams: curlpool load, no file of a trace", load_trace),
     Part("streams: curlpool load, no input or errors", load_others),
     Part("streams: curlpool audit, no output", audit_output),
     Part("streams: curlpool audit, no input", audit_input),

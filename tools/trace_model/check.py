@@ -1,14 +1,16 @@
 #!/usr/bin/env python3
 """Checks the model of `curlpool audit`, or a program beside it.
 
-    tools/trace_model/check.py [--drawn COUNT] [--scripts COUNT] [--logs COUNT] [--jobs COUNT] [--beside PROGRAM]
+    tools/trace_model/check.py [--drawn COUNT] [--scripts COUNT] [--loads COUNT] [--logs COUNT]
+        [--options COUNT] [--jobs COUNT] [--beside PROGRAM]
 
 Each file worked/NAME.trace has the answer of worked/NAME.answer, whose first line has the options and the status. Those
 named for a rule break it alone, and no line of theirs can be left out. The scripts of `examples/` with their
 transcripts, and random scripts with what they caused, are lawful traces. Of random traces half and more break a rule,
 each rule in one of 100, and some are judged a second time, by searches of each host's log. With PROGRAM, `PROGRAM
-audit` has to give the model's answers to the worked traces and to the random ones, with each option, and `PROGRAM
-script --trace` the model's traces of scripts, which it has to call lawful.
+audit` has to give the model's answers to the worked traces and to the random ones, to 2,000 of these with each option.
+`PROGRAM script --trace` has to write the model's traces of scripts, and `PROGRAM load --trace` lawful traces of random
+loads, which tell what its reports count.
 
 Each finding has a line. The last line is `N passed, M failed`; the status is 0 if nothing failed.
 """
@@ -24,6 +26,7 @@ import os
 import random
 import subprocess
 import sys
+import tempfile
 from typing import NamedTuple
 
 sys.dont_write_bytecode = True
@@ -170,20 +173,23 @@ def check_by_logs(traces):
             yield f"by logs {number}", None
 
 
-def check_beside(program, traces, jobs):
-    """Whether the program answers as the model does."""
+def check_beside(program, traces, jobs, thorough):
+    """Whether the program answers as the model does, with each option to so many of the traces."""
     with concurrent.futures.ProcessPoolExecutor(jobs) as pool:
-        complaints = pool.map(functools.partial(complaint_of, program), traces, chunksize=16)
+        each_option = (number < thorough for number in range(len(traces)))
+        complaints = pool.map(functools.partial(complaint_of, program), traces, each_option, chunksize=16)
         for number, complaint in enumerate(complaints):
             yield f"beside {number}", complaint
 
 
-def complaint_of(program, trace):
-    """What is wrong with a program's answers to a trace, or nothing: the first violation as text, all as JSON, and all
-    as text, with their states, if no other connection may be named."""
+def complaint_of(program, trace, with_each_option):
+    """What is wrong with a program's answers to a trace, or nothing: the first violation as text, and with each option
+    all as JSON, and all as text, with their states, if no other connection may be named."""
     found = answer_of(program, trace)
     if found not in possible_answers(trace):
         return f"{found} in place of {answer_of_model(trace)}"
+    if not with_each_option:
+        return None
     report = audit(io.BytesIO(trace), tells_all=True)
     complaint = complaint_of_all(trace, report, answer_of(program, trace, ["--all", "--json"]))
     if complaint or any(violation.finding.others for violation in report.violations):
@@ -218,6 +224,37 @@ def check_traced(program, scripts, jobs):
         names, texts = zip(*scripts)
         for name, complaint in zip(names, pool.map(functools.partial(complaint_of_script, program), texts, chunksize=16)):
             yield f"trace of {name}", complaint
+
+
+def random_load(rng):
+    """Words of a load."""
+    return ["--sites", str(rng.randint(1, 8)), "--jobs", str(rng.randint(1, 400)), "--workers", str(rng.randint(1, 32)),
+            "--host-limit", str(rng.choice((0, 1, 2, 3, 8))), "--total", str(rng.choice((0, 1, 2, 4, 9))),
+            "--connects", str(rng.choice((1, 2, 5, 100)))]
+
+
+def complaint_of_load(program, words):
+    """What is wrong with the trace that a program writes of a load, or nothing."""
+    with tempfile.NamedTemporaryFile() as file:
+        run = subprocess.run([program, "load", *words, "--trace", file.name], capture_output=True, text=True)
+        trace = file.read()
+    if run.returncode:
+        return f"status {run.returncode}, {run.stderr}"
+    model, found = answer_of_model(trace), answer_of(program, trace)
+    if model.status != answers.LAWFUL or found != model:
+        return f"{' '.join(words)}: {model.output}{model.errors}{found.output}{found.errors}".strip()
+    firsts = collections.Counter(line.split()[0].decode() for line in trace.splitlines())
+    opened, reused, closed, waited, alive = map(int, run.stdout.splitlines()[-2].split()[2:])
+    told = *(firsts[word] for word in ("opened", "leased", "closed", "waits")), firsts["opened"] - firsts["closed"]
+    wanted = opened, reused, closed, waited, alive
+    return None if told == wanted else f"{' '.join(words)}: the trace tells {told}, and the report {wanted}"
+
+
+def check_loads(program, count):
+    """Whether the traces of loads are lawful, and tell what their reports count."""
+    rng = random.Random(SEED)
+    for number in range(count):
+        yield f"trace of load {number}", complaint_of_load(program, random_load(rng))
 
 
 def possible_answers(trace):
@@ -261,14 +298,17 @@ def findings(options):
         scripts = [(name, read(EXAMPLES, f"{name}.script").decode()) for name in names_in(EXAMPLES, ".script")]
         scripts += [(f"script {number}", text) for number, text in enumerate(random_scripts(options.scripts))]
         yield from check_traced(options.beside, scripts, options.jobs)
-        yield from check_beside(options.beside, traces, options.jobs)
+        yield from check_loads(options.beside, options.loads)
+        yield from check_beside(options.beside, traces, options.jobs, options.options)
 
 
 def main():
     parser = argparse.ArgumentParser(description=__doc__, formatter_class=argparse.RawDescriptionHelpFormatter)
     parser.add_argument("--drawn", type=int, default=2_000, metavar="COUNT", help="how many random traces")
     parser.add_argument("--scripts", type=int, default=1_000, metavar="COUNT", help="how many random scripts")
+    parser.add_argument("--loads", type=int, default=40, metavar="COUNT", help="how many random loads of a program")
     parser.add_argument("--logs", type=int, default=500, metavar="COUNT", help="how many of them by logs too")
+    parser.add_argument("--options", type=int, default=2_000, metavar="COUNT", help="how many with each option too")
     parser.add_argument("--jobs", type=int, default=processors(), metavar="COUNT", help="how many run side by side")
     parser.add_argument("--beside", metavar="PROGRAM", help="a program with the command audit")
     options = parser.parse_args()
