@@ -192,10 +192,6 @@ PARTS = [
     Part("memory: curlpool get", get),
     Part("memory: curlpool load", functools.partial(load, WORDS_OF_LOAD)),
     Part("memory: curlpool load --trace", functools.partial(load, [*WORDS_OF_LOAD, "--trace", os.devnull])),
+    *(Part(" ".join(["memory: curlpool audit", *options]), functools.partial(audit, options)) for options in AUDITS),
     *(Part(f"memory: curlpool {' '.join(words)}", functools.partial(words_of, words)) for words in WORDS),
-]
-
-# Not tried against a built program yet, so no run has them.
-AUDIT_PARTS = [
-    Part(" ".join(["memory: curlpool audit", *options]), functools.partial(audit, options)) for options in AUDITS
 ]

@@ -1,5 +1,6 @@
 """What an audit takes: time and memory of long traces."""
 import os
+import re
 import statistics
 import subprocess
 import tempfile
@@ -9,6 +10,9 @@ from measuring.commands import PLAIN_CLEARS, show, stop
 from program import BUILT, build_unless_current
 
 RUNS = 5
+# how long to wait before the memory of an audit is asked for again
+PAUSE = 0.002
+PEAK = re.compile(r"^VmHWM:\s+(\d+) kB$", re.MULTILINE)
 # how many bytes of a trace are written at a time
 PIECE = 1 << 20
 HEAD = "limits 0 0 65535\n"
@@ -79,16 +83,25 @@ def written(pieces, path):
     return lines
 
 
+def peak_of(pid):
+    """The most bytes of memory that a process had so far; 0 once it has ended."""
+    with open(f"/proc/{pid}/status", encoding="ascii") as file:
+        found = PEAK.search(file.read())
+    return int(found[1]) * 1024 if found else 0
+
+
 def measured(path):
-    """Seconds and most bytes of memory of an audit of that trace, which has to be lawful."""
-    began = time.perf_counter()
-    child = subprocess.Popen([BUILT, "audit", path], stdout=subprocess.PIPE, env={**os.environ, **PLAIN_CLEARS})
-    said = child.stdout.read()
-    _, status, used = os.wait4(child.pid, 0)
-    child.returncode = os.waitstatus_to_exitcode(status)
+    """Seconds and most bytes of memory of an audit of that trace, which has to be lawful. What the system tells of a
+    child's memory counts that of Python, which it began as, so it is asked while the audit runs."""
+    began, peak = time.perf_counter(), 0
+    with subprocess.Popen([BUILT, "audit", path], stdout=subprocess.PIPE, env={**os.environ, **PLAIN_CLEARS}) as child:
+        while child.poll() is None:
+            peak = max(peak, peak_of(child.pid))
+            time.sleep(PAUSE)
+        seconds, said = time.perf_counter() - began, child.stdout.read()
     if child.returncode != 0:
         stop(f"an audit ended with {child.returncode}: {said[-200:]!r}")
-    return time.perf_counter() - began, used.ru_maxrss * 1024
+    return seconds, peak
 
 
 def audits():

@@ -27,8 +27,8 @@ use std::thread::{Builder, Threads, scope_env};
 
 /// Carries out the load of that plan by threads and sockets of the system, and answers its report.
 /// The requests go to a server of its own, which has one port of 127.0.0.1 for each site. Nobody
-/// knows beforehand how they end; the report says how they did. If the plan names a file, it is made
-/// before, and gets the trace of the logs after the requests.
+/// knows beforehand how they end; the report says how they did. If the plan names a file, it is
+/// made before, and gets the trace of the logs after the requests.
 ///
 /// `threads` starts the threads: it is the same system, lent once more by who may start some.
 ///

@@ -13,8 +13,8 @@ use script_run::Sink;
 use script_text::{FaultKind, Limits};
 use std::alloc::Global;
 
-/// Writes the trace of a load with these numbers, over sites that listen at these ports, whose hosts
-/// have these logs.
+/// Writes the trace of a load with these numbers, over sites that listen at these ports, whose
+/// hosts have these logs.
 ///
 /// # Errors
 ///
