@@ -7,26 +7,42 @@ use std::str::from_utf8;
 /// A file that each trace is written to.
 const FILE: &str = "load.trace";
 
-/// Words of loads, less the file.
-static LOADS: [&str; 6] = [
-    "load --sites 1 --jobs 3 --workers 1",
-    "load --sites 2 --jobs 4 --workers 1 --total 1",
-    "load --sites 3 --jobs 60 --workers 8 --host-limit 2 --total 3 --connects 2",
-    "load --sites 8 --jobs 200 --workers 16 --host-limit 1 --total 4",
-    "load --sites 1 --jobs 100 --workers 12 --host-limit 3 --connects 1",
-    "load --sites 4 --jobs 100 --workers 64",
+/// Words of loads, less the file, and the hosts that an audit of the trace tells of.
+static LOADS: [(&str, &str); 6] = [
+    ("load --sites 1 --jobs 3 --workers 1", " events, 1 host, "),
+    (
+        "load --sites 2 --jobs 4 --workers 1 --total 1",
+        " events, 2 hosts, ",
+    ),
+    (
+        "load --sites 3 --jobs 60 --workers 8 --host-limit 2 --total 3 --connects 2",
+        " events, 3 hosts, ",
+    ),
+    (
+        "load --sites 8 --jobs 200 --workers 16 --host-limit 1 --total 4",
+        " events, 8 hosts, ",
+    ),
+    (
+        "load --sites 1 --jobs 100 --workers 12 --host-limit 3 --connects 1",
+        " events, 1 host, ",
+    ),
+    (
+        "load --sites 4 --jobs 100 --workers 64",
+        " events, 4 hosts, ",
+    ),
 ];
 
 #[test]
 fn traces_are_lawful(rt: HostRuntime) {
-    for load in &LOADS {
+    for &(load, hosts) in &LOADS {
         let words = format!(in rt.alloc(); "{load} --trace {FILE}").expect(&rt, "memory");
         let loaded = run_words(&rt, &rt, words.as_str()).expect(&rt, "memory");
         assert_eq!(rt; loaded.status, 0, "{words}");
         let audit = format!(in rt.alloc(); "audit {FILE}").expect(&rt, "memory");
         let audited = run_words(&rt, &rt, audit.as_str()).expect(&rt, "memory");
         let told = from_utf8(audited.output.as_slice()).expect(&rt, "a text");
-        assert!(rt; told.starts_with("lawful: "), "{words}: {told}");
+        let is_lawful = told.starts_with("lawful: ") && !told.starts_with("lawful: 0 ");
+        assert!(rt; is_lawful && told.contains(hosts), "{words}: {told}");
         assert_eq!(rt; audited.status, 0, "{words}");
     }
     let removed = fs::remove_file(&rt, FILE);
