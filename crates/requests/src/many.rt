@@ -25,6 +25,9 @@ use std::random::RandomSource;
 use std::sync::Wait;
 use std::thread::Threads;
 
+/// The most sites that there may be; there is one at least.
+const MOST_SITES: usize = 1_024;
+
 /// The most connections that are kept while they are idle.
 const KEPT: u32 = 65_535;
 
@@ -48,7 +51,10 @@ fn done<R: Threads + Wait + RandomSource + AllocGlobal + Sync>(
 ) -> Option<bool> {
     let alloc = rt.alloc();
     let limits = Limits::new(0, task.total, KEPT).ok()?;
-    let hosts = u32::try_from(task.ports.len()).ok()?;
+    if task.ports.is_empty() || task.ports.len() > MOST_SITES {
+        return None;
+    }
+    let hosts = task.ports.len() as u32;
     let plan: Plan<PolledWire> = Plan::new(alloc, limits, hosts).ok()?;
     let jobs = load_jobs(alloc, task.jobs, &task.ports).ok()?;
     let (end, tally) = carried::<Brand, R>(threads, rt, task, plan, &jobs)?;

@@ -1,6 +1,6 @@
 //! The time of a run that stops no job.
 
-ghost use Rattle.std.specs.Prelude.{⊤, ⊥};
+ghost use Rattle.std.specs.Prelude.{⊤};
 
 use exchange::Clock;
 use run_loop::Timer;
@@ -33,7 +33,7 @@ impl<'n> Timer for RunClock<'n> {
 
     fn micros(&self) -> u64 {
         match self.clock.elapsed() {
-            Some(elapsed) => elapsed.as_micros() as u64,
+            Some(elapsed) => u64::try_from(elapsed.as_micros()).unwrap_or(u64::MAX),
             None => 0,
         }
     }

@@ -3,9 +3,6 @@
 use crate::words::{count_at, ports_of};
 use std::alloc::Global;
 
-/// The most sites that there may be.
-const MOST_SITES: usize = 1_024;
-
 /// What is requested.
 #[derive(Drop)]
 pub(crate) struct Task {
@@ -26,9 +23,6 @@ pub(crate) fn task_of(alloc: Global, words: &[String]) -> Option<Task> {
     let (workers, places) = (count_at(words, 0)?, count_at(words, 1)?);
     let (total, jobs) = (count_at(words, 2)?, count_at(words, 3)?);
     let ports = ports_of(alloc, words.get(4..)?)?;
-    if ports.is_empty() || ports.len() > MOST_SITES {
-        return None;
-    }
     Some(Task {
         workers,
         places,
