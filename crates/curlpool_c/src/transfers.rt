@@ -7,7 +7,8 @@ ghost use Rattle.curlpool_c.specs.Numbers.{slot_of};
 ghost use Rattle.curlpool_c.specs.Transfers.{TellsAcquire, TellsAcquireOf, TellsAttach};
 ghost use Rattle.curlpool_c.specs.Transfers.{TellsClaim, TellsGranted, TellsBegin, TellsFeed};
 ghost use Rattle.curlpool_c.specs.Transfers.{TellsEnd, TellsGiveBack, TellsGiveBackAs};
-ghost use Rattle.curlpool_c.specs.Transfers.{TellsGiveBackOf, TellsAbandon, TellsWithdraw, done_status, token_told};
+ghost use Rattle.curlpool_c.specs.Transfers.{TellsGiveBackOf, TellsAbandon, TellsWithdraw};
+ghost use Rattle.curlpool_c.specs.Transfers.{done_status, token_told};
 
 use crate::inner::Inner;
 use crate::slots::{number_of, slot_of};

@@ -18,7 +18,8 @@ ghost use Rattle.held_pool.specs.Calls.{AbandonsSlot, AcquiresSlot, Attaches, Cl
 ghost use Rattle.held_pool.specs.Calls.{GivesBackSlot, HasSameRest, RefusesSlot, WithdrawsSlot};
 ghost use Rattle.held_pool.specs.Calls.{attach_fault, back_fault, endings_in, lease_fault};
 ghost use Rattle.held_pool.specs.Calls.{BeginsResponse, FeedsHeld, GivesBackRead, GrantsSlot};
-ghost use Rattle.held_pool.specs.Calls.{HoldsSame, is_unused_site, read_fault, reading_for, ticket_fault};
+ghost use Rattle.held_pool.specs.Calls.{HoldsSame, is_unused_site, read_fault, reading_for};
+ghost use Rattle.held_pool.specs.Calls.{ticket_fault};
 ghost use Rattle.persistence.specs.Reader.{new_reader};
 ghost use Rattle.slot_readers.specs.Readers.{EndsSlot, SameReaders, TellsSome, reading_in};
 ghost use Rattle.site_table.specs.Giving.{Gives, Refuses};
@@ -330,8 +331,8 @@ impl HeldPool {
         self.pool.look(site)
     }
 
-    /// The counts of a site since the pool was made. [`Refusal::BadSite`] exactly if there is no such
-    /// site. It scans the entries of the site's log since the last cut.
+    /// The counts of a site since the pool was made. [`Refusal::BadSite`] exactly if there is no
+    /// such site. It scans the entries of the site's log since the last cut.
     pub fn counts(&self, site: u32) -> Result<Counts, Refusal>
         ensures ok { IfOk result (λ told. (site < length self.now.pool.hosts)
             × (told ≡ counts_of (host_at self.now.pool site).log)) }

@@ -38,8 +38,8 @@ pub struct Loaded {
 /// Carries out the jobs by so many threads, which share one cache under these limits, cuts the log
 /// of every host, and gathers the cache: its account is of all that happened, though no log has
 /// entries left. What was cut is handed out. There are at most 1,024 sites, and connections to each
-/// are opened to its address; a read or a write waits ten milliseconds at most. Its clock tells 0 if
-/// the system tells no time.
+/// are opened to its address; a read or a write waits ten milliseconds at most. Its clock tells 0
+/// if the system tells no time.
 ///
 /// # Errors
 ///
