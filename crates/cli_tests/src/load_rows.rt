@@ -57,7 +57,7 @@ static TRACES: [(&str, Option<&str>); 4] = [
 
 #[test]
 fn words_give_a_file(rt: HostRuntime) {
-    for &(words, trace) in &TRACES {
+    for (words, trace) in &TRACES {
         let row = Row {
             name: words,
             words,
@@ -66,7 +66,7 @@ fn words_give_a_file(rt: HostRuntime) {
         };
         let (_, loader) = check(&rt, &row);
         let named = loader.trace.as_ref().map(|name| name.as_str());
-        assert_eq!(rt; named, trace, "{words}");
+        assert_eq!(rt; named, *trace, "{words}");
     }
 }
 

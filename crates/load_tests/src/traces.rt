@@ -34,7 +34,7 @@ static LOADS: [(&str, &str); 6] = [
 
 #[test]
 fn traces_are_lawful(rt: HostRuntime) {
-    for &(load, hosts) in &LOADS {
+    for (load, hosts) in &LOADS {
         let words = format!(in rt.alloc(); "{load} --trace {FILE}").expect(&rt, "memory");
         let loaded = run_words(&rt, &rt, words.as_str()).expect(&rt, "memory");
         assert_eq!(rt; loaded.status, 0, "{words}");
