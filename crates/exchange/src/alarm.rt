@@ -10,8 +10,8 @@ pub trait Alarm {
     /// The next turn may be ended.
     fn fall_asleep(&self);
 
-    /// The turn has ended.
-    fn wake_up(&self);
+    /// The turn has ended. Whether an alarm ended it.
+    fn wake_up(&self) -> bool;
 
     /// Ends the turn, if whoever drives the dial has said since the last one that it falls asleep.
     fn ring(&self);
@@ -21,7 +21,9 @@ pub trait Alarm {
 impl Alarm for () {
     fn fall_asleep(&self) {}
 
-    fn wake_up(&self) {}
+    fn wake_up(&self) -> bool {
+        false
+    }
 
     fn ring(&self) {}
 }

@@ -144,6 +144,8 @@ pub(crate) struct Schedule {
     is_to_ask: bool,
     // One was since the slab's owner asked.
     has_spent: bool,
+    // How many transfers had their connection after a wait since the slab's owner asked.
+    granted: u64,
     ghost count: { list_count lists ≡ most_lists },
     ghost sites_count: { list_count sites ≡ 3 },
     ghost sites_room: { last_site < key_limit sites },
@@ -162,6 +164,7 @@ impl Schedule {
             is_odd: false,
             is_to_ask: false,
             has_spent: false,
+            granted: 0,
         })
     }
 
@@ -276,6 +279,7 @@ impl Schedule {
         }
         self.moves(place, list);
         if waited {
+            self.granted = self.granted.saturating_add(1);
             self.ask(site);
         } else if transfer.has_ticket() && self.sites.list_of(site).is_none() {
             self.moves_site(site, QUIET);
@@ -415,6 +419,15 @@ impl Schedule {
         let has_spent = self.has_spent;
         self.has_spent = false;
         has_spent
+    }
+
+    /// How many transfers had their connection after a wait since the last call.
+    pub(crate) fn take_granted(&mut self) -> u64
+        ensures { self.new.lists ≡ self.old.lists }
+    {
+        let granted = self.granted;
+        self.granted = 0;
+        granted
     }
 
     /// Ends the round: the next one polls those that are due by then, and behind them, if a lease

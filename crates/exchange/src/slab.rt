@@ -425,6 +425,14 @@ impl<W: Wire> Slab<W> {
         self.schedule.take_spent()
     }
 
+    /// How many transfers had their connection after a wait, and went on, since the last call.
+    pub fn take_granted(&mut self) -> u64
+        ensures slots { self.new.slots ≡ self.old.slots }
+        ensures room { self.new.room ≡ self.old.room }
+    {
+        self.schedule.take_granted()
+    }
+
     /// Closes one of the transfers that are left, as [`Transfer::close`] does, at the time that the
     /// clock tells: how it ended, or that it was cancelled, and what was prepared. `None` where
     /// none is left.

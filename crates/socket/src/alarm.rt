@@ -30,8 +30,8 @@ impl Alarm for PolledAlarm {
         self.is_asleep.store(true, Ordering::SeqCst);
     }
 
-    fn wake_up(&self) {
-        self.is_asleep.store(false, Ordering::SeqCst);
+    fn wake_up(&self) -> bool {
+        !self.is_asleep.swap(false, Ordering::SeqCst)
     }
 
     fn ring(&self) {

@@ -99,12 +99,16 @@ fn an_alarm_ends_a_turn_of_who_sleeps(rt: HostRuntime) {
     let (asleep, after) = (told_next(&mut dial), dial.next_ready());
     let once = told_next(&mut dial);
     alarm.fall_asleep();
-    alarm.wake_up();
+    let was_rung = alarm.wake_up();
     alarm.ring();
     let woken = told_next(&mut dial);
+    alarm.fall_asleep();
+    alarm.ring();
+    let is_rung = alarm.wake_up();
     assert_eq!(rt; (awake, asleep), (Ready::Nothing, Ready::At(NOWHERE)));
     assert_eq!(rt; (after, once), (Ready::Nothing, Ready::Nothing));
     assert_eq!(rt; woken, Ready::Nothing);
+    assert_eq!(rt; (was_rung, is_rung), (false, true));
 }
 
 #[test]
