@@ -1,7 +1,9 @@
 //! A worker's loop: any number of jobs at once over one cache, each carried out by a transfer.
 #![tactic(auto)]
 
+mod begins;
 mod jobs;
+mod late;
 mod results;
 mod run_end;
 mod run_loop;
@@ -9,7 +11,7 @@ mod spares;
 mod timer;
 
 pub use jobs::{Draw, Jobs};
-pub use results::Results;
+pub use results::{Results, Span};
 pub use run_end::RunEnd;
 pub use run_loop::RunLoop;
 pub use timer::Timer;

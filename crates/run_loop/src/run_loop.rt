@@ -8,7 +8,9 @@ ghost use Rattle.run_loop.specs.Going.{rules_of, rules_at, point, RunsOn, RunsOn
 ghost use Rattle.run_loop.specs.Going.{MayClose, IfStopped, IfComplete, IfIncomplete, TurnsAt};
 ghost use Rattle.run_loop.specs.Steps.{JoinsIf, IfNever};
 
+use crate::begins::{Begins, no_span};
 use crate::jobs::{Draw, Jobs};
+use crate::late::LateGrants;
 use crate::results::Results;
 use crate::run_end::RunEnd;
 use crate::spares::Spares;
@@ -22,6 +24,9 @@ use std::time::Duration;
 
 /// How often the timer is asked which jobs it stops, in microseconds.
 const SWEEP_MICROS: u64 = 10_000;
+
+/// The most rounds between two turns of the dial, beside the first one.
+const MORE_ROUNDS: u32 = 7;
 
 /// When the next job may begin.
 #[derive(Clone, Copy)]
@@ -38,14 +43,16 @@ enum Next {
 pub struct RunLoop<W: Wire> {
     slab: Slab<W>,
     places: usize,
-    // By place, the moment at which the last job began there.
-    began: Vec<u64>,
+    begins: Begins,
     // The moment at which the timer was asked last.
     swept: u64,
     spares: Spares,
     task: Solo,
     // How many rings were heard.
     heard: u64,
+    late: LateGrants,
+    // How many rounds there were since the last turn of the dial, beside the first one.
+    rounds: u32,
     ghost few: { sum_by one_if_some slab.slots.items ≤ places },
 }
 
@@ -53,6 +60,7 @@ pub struct RunLoop<W: Wire> {
 fn poll_round<W: Wire, C: Cache<W>, D: Dial<W>, J: Jobs, R: Results, T: Timer>(
     slab: &mut Slab<W>,
     spares: &mut Spares,
+    begins: &Begins,
     context: &mut Context<'_>,
     cache: &mut C,
     dial: &mut D,
@@ -74,20 +82,9 @@ fn poll_round<W: Wire, C: Cache<W>, D: Dial<W>, J: Jobs, R: Results, T: Timer>(
     ensures turns { D.turn_failures dial.new ≡ D.turn_failures dial.old }
 {
     while let Some(ended) = slab.poll_next(context, cache, dial, timer) {
-        let Ended {
-            place: _,
-            done,
-            parts,
-        } = ended;
-        results.take(parts.transfer(), done);
+        let Ended { place, done, parts } = ended;
+        results.take(parts.transfer(), done, begins.span(place, timer));
         spares.keep(Some(parts));
-    }
-}
-
-// The job at that place began at that moment.
-fn note_begin(began: &mut Vec<u64>, place: usize, now: u64) {
-    if let Some(moment) = began.get_mut(place) {
-        *moment = now;
     }
 }
 
@@ -101,16 +98,17 @@ impl<W: Wire> RunLoop<W> {
         ensures { IfOk result (λ made. made.slab.slots.items ≡ []) }
     {
         let spares = Spares::new(alloc, places)?;
-        let mut began = Vec::with_capacity(alloc, places)?;
-        began.resize(places, 0)?;
+        let begins = Begins::new(alloc, places)?;
         Ok(RunLoop {
             slab: Slab::with_room(alloc, places)?,
             places,
-            began,
+            begins,
             swept: 0,
             spares,
             task,
             heard: 0,
+            late: LateGrants::new(),
+            rounds: 0,
         })
     }
 
@@ -145,6 +143,7 @@ impl<W: Wire> RunLoop<W> {
         run.drop_early(end, cache, jobs, results, timer);
         run.close_all(end, cache, dial, jobs, results, timer);
         let _ = timer.ring(run.heard);
+        timer.fall_asleep();
         run.destroy_empty();
         end
     }
@@ -156,11 +155,13 @@ impl<W: Wire> RunLoop<W> {
         let RunLoop {
             slab,
             places: _,
-            began: _,
+            begins: _,
             swept: _,
             spares: _,
             task: _,
             heard: _,
+            late: _,
+            rounds: _,
         } = self;
         slab.destroy_empty();
     }
@@ -296,7 +297,7 @@ impl<W: Wire> RunLoop<W> {
         if self.joins(number, cache, jobs, timer) {
             return;
         }
-        results.take(number, Done::Bad(Fault::Memory));
+        results.take(number, Done::Bad(Fault::Memory), no_span(timer));
     }
 
     // Lets a transfer of the job of that number join, if there is memory for it; whether it did.
@@ -325,7 +326,7 @@ impl<W: Wire> RunLoop<W> {
         };
         match self.slab.join(parts, cache, timer) {
             Ok(place) => {
-                note_begin(&mut self.began, place, timer.micros());
+                self.begins.begin(place, timer.micros());
                 true
             }
             Err(unused) => {
@@ -362,6 +363,10 @@ impl<W: Wire> RunLoop<W> {
             return;
         }
         self.swept = now;
+        timer.sweep();
+        if !self.slab.has_due() {
+            self.late.sweep(timer, self.heard);
+        }
         self.slab.ask_sites();
         for place in 0..self.slab.places() {
             self.stop_at(place, cache, dial, _jobs, results, timer);
@@ -393,14 +398,13 @@ impl<W: Wire> RunLoop<W> {
         let Some(number) = self.slab.transfer_at(place) else {
             return;
         };
-        let began = self.began.get(place).copied().unwrap_or(0);
-        if !timer.stops(number, began) {
+        if !timer.stops(number, self.begins.began(place)) {
             return;
         }
         let Some((done, used)) = self.slab.close_at(place, cache, dial, timer) else {
             return;
         };
-        results.take(used.transfer(), done);
+        results.take(used.transfer(), done, self.begins.span(place, timer));
         self.spares.keep(Some(used));
     }
 
@@ -428,6 +432,7 @@ impl<W: Wire> RunLoop<W> {
         poll_round(
             &mut self.slab,
             &mut self.spares,
+            &self.begins,
             &mut context,
             cache,
             dial,
@@ -437,28 +442,60 @@ impl<W: Wire> RunLoop<W> {
         );
         let turn: Poll<()> = context.yield_now();
         context.end(&turn);
+        let granted = self.slab.take_granted();
+        self.late.grant(granted, timer, self.heard);
     }
 
-    // Waits for what may bring a transfer on, or until the next job is due, by a turn of the dial.
-    // It looks whether the bell rang once the bell can end the turn: so no ring is missed.
+    // Waits, if nothing can be done at once, or eight rounds were taken since the last turn.
     fn rest<D: Dial<W>, T: Timer>(&mut self, dial: &mut D, timer: &T, next: Next) -> Turned
         ensures turns { CountsTurn result (D.turn_failures dial.old) (D.turn_failures dial.new) }
         ensures slots { self.new.slab.slots ≡ self.old.slab.slots }
     {
-        let most = match next {
-            Next::Free | Next::Never => Duration::MAX,
-            Next::At(due) => Duration::from_micros(due.saturating_sub(timer.micros())),
-        };
         self.tell_spent(timer);
+        if self.rounds < MORE_ROUNDS && self.goes_on(next) {
+            self.rounds += 1;
+            return Turned::Done;
+        }
+        self.rounds = 0;
+        self.wait(dial, timer, next)
+    }
+
+    // Whether a transfer is due, or a job that may begin at once has a place.
+    fn goes_on(&self, next: Next) -> bool {
+        match next {
+            Next::Free if self.slab.len() < self.places => true,
+            _ => self.slab.has_due(),
+        }
+    }
+
+    // How long a turn of the dial may wait, if no transfer becomes due.
+    fn most_wait<T: Timer>(&self, timer: &T, next: Next) -> Duration {
+        match next {
+            Next::At(due) => Duration::from_micros(due.saturating_sub(timer.micros())),
+            Next::Free if self.goes_on(next) => Duration::ZERO,
+            Next::Free | Next::Never => Duration::MAX,
+        }
+    }
+
+    // Waits for what may bring a transfer on, or until the next job is due, by a turn of the dial.
+    // It looks whether the bell rang once the bell can end the turn: so no ring is missed.
+    fn wait<D: Dial<W>, T: Timer>(&mut self, dial: &mut D, timer: &T, next: Next) -> Turned
+        ensures turns { CountsTurn result (D.turn_failures dial.old) (D.turn_failures dial.new) }
+        ensures slots { self.new.slab.slots ≡ self.old.slab.slots }
+    {
+        let most = self.most_wait(timer, next);
+        if !self.slab.has_due() {
+            self.late.settle();
+        }
         timer.fall_asleep();
-        let most = if timer.rings() == self.heard {
-            most
-        } else {
-            Duration::ZERO
-        };
-        let turned = self.slab.turn(dial, most);
-        timer.wake_up();
         self.hear(timer.rings());
+        let turned = self.slab.turn(dial, most);
+        let rings = timer.rings();
+        let was_rung = timer.wake_up();
+        if rings != self.heard && !was_rung && !self.slab.has_due() {
+            self.late.miss();
+        }
+        self.hear(rings);
         turned
     }
 
@@ -507,7 +544,7 @@ impl<W: Wire> RunLoop<W> {
         let Some(number) = jobs.draw_early() else {
             return;
         };
-        results.take(number, Done::Bad(Fault::Cancelled));
+        results.take(number, Done::Bad(Fault::Cancelled), no_span(_timer));
     }
 
     // Closes what is under way; each job of it has its result.
@@ -532,7 +569,9 @@ impl<W: Wire> RunLoop<W> {
         ensures turns { D.turn_failures dial.new ≡ D.turn_failures dial.old }
     {
         while let Some((done, used)) = self.slab.close_last(cache, dial, timer) {
-            results.take(used.transfer(), done);
+            // it stood behind all places that are left
+            let span = self.begins.span(self.slab.places(), timer);
+            results.take(used.transfer(), done, span);
         }
     }
 }

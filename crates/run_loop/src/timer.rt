@@ -45,6 +45,22 @@ pub trait Timer: Clock {
     /// From now on the bell ends the turn of the loop's dial.
     fn fall_asleep(&self) {}
 
-    /// The bell has no turn to end any more.
-    fn wake_up(&self) {}
+    /// The bell has no turn to end any more. Whether it ended one, or is about to.
+    fn wake_up(&self) -> bool {
+        false
+    }
+
+    /// How often the other loops over the cache have woken up, if all of them are asleep now: then
+    /// each ring for what they gave up has come.
+    fn others_asleep(&self) -> Option<u64> {
+        None
+    }
+
+    /// So many transfers had their connection after a wait, and no ring had told of it: only the
+    /// loop's sweep, or the end of a turn's time, found it.
+    fn note_late(&self, _grants: u64) {}
+
+    /// Does what else is to be done from time to time. A loop calls it at each sweep, every ten
+    /// milliseconds at most, while none of its transfers is polled.
+    fn sweep(&self) {}
 }
