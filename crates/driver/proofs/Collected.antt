@@ -21,8 +21,9 @@ use Rattle.shared_cache.specs.Passes.{IsPassOf}
 use Rattle.driver.specs.declared.quit.Quit.{Quit}
 use Rattle.driver.specs.declared.quit.Quit.TheVariants.{Memory, Poll, Told}
 use Rattle.driver.specs.Quits.{first_quit}
+use Rattle.run_loop.specs.Running.{numbers_of}
 use Rattle.driver.specs.Results.{IsResultOf, IsResultAt}
-use Rattle.driver.specs.Workers.{WorkerShown, left_with, AreResults, numbers_of}
+use Rattle.driver.specs.Workers.{WorkerShown, left_with, AreResults}
 use Rattle.driver.specs.Running.{Work, IsWork, results_of, results_of_all, pass_of}
 use Rattle.driver.specs.Hiring.{HasWorked, IsPlaced}
 
@@ -131,7 +132,7 @@ module _ {W : Type 0} (world : World W) (may_stop : ℕ → Type 0) (names : Cac
   -- what some of the workers have done: their passes, what they drew, and where their results are
   pub record IsCollected (seat : Drawn) (results : List Done) (passes : List Accounts) : Type 0 where
     pub all_work : List Work
-    pub worked : All (IsWork world names jobs) all_work
+    pub worked : All (IsWork world may_stop names jobs) all_work
     pub passes_are : passes ≡ map pass_of all_work
     pub drawn : seat.drawn ≡ numbers_of (results_of_all all_work)
     pub held : AreHeld results (results_of_all all_work)
@@ -141,7 +142,7 @@ module _ {W : Type 0} (world : World W) (may_stop : ℕ → Type 0) (names : Cac
   pub none_collected : (seat : Drawn) (results : List Done) → seat.drawn ≡ [] → IsCollected seat results []
   none_collected seat results none = record {
     all_work = [];
-    worked = All-nil (IsWork world names jobs);
+    worked = All-nil (IsWork world may_stop names jobs);
     passes_are = refl;
     drawn = none;
     held = λ job stands. absurd (omega (arith, stands));
@@ -150,14 +151,14 @@ module _ {W : Type 0} (world : World W) (may_stop : ℕ → Type 0) (names : Cac
 
   -- one worker more
   pub collected_more : (seat other : Drawn) (old new : List Done) (passes : List Accounts) (work : Work) → IsCollected seat old passes
-      → IsWork world names jobs work → other.drawn ≡ numbers_of work.results → AreResults world may_stop jobs work.results → IsPlaced work.results old new
+      → IsWork world may_stop names jobs work → other.drawn ≡ numbers_of work.results → AreResults world may_stop jobs work.results → IsPlaced work.results old new
       → IsCollected (together seat other) new (passes ++ work.pass ∷ [])
   collected_more seat other old new passes work so_far does drawn fits placed =
       let all = results_of_all so_far.all_work in
       let last : results_of_all (so_far.all_work ++ work ∷ []) ≡ all ++ work.results = results_last so_far.all_work work in
       record {
         all_work = so_far.all_work ++ work ∷ [];
-        worked = All-push (IsWork world names jobs) so_far.all_work work so_far.worked does;
+        worked = All-push (IsWork world may_stop names jobs) so_far.all_work work so_far.worked does;
         passes_are = ap (λ (some : List Accounts). some ++ work.pass ∷ []) so_far.passes_are ∙ sym (map-append pass_of so_far.all_work (work ∷ []));
         drawn = ap (λ (some : List ℕ). some ++ other.drawn) so_far.drawn ∙ ap (λ (more : List ℕ). numbers_of all ++ more) drawn ∙ sym (numbers_both all work.results) ∙ ap numbers_of (sym last);
         held = subst (AreHeld new) (sym last) (held_more old new all work.results so_far.held placed);

@@ -2,13 +2,12 @@
 use Rattle.std.proofs.Common.{◌≡◌, refl, sym, subst, ap, ◌∙◌, ℕ, ◌+◌, ◌<◌, ◌≤◌, ◌==◌, ◌⊎◌, inl, inr, List, [], ◌∷◌, ◌++◌, length, map, reverse, Option, Some, None, IsSomeAnd, arith}
 use Rattle.std.specs.Prelude.{IsSome}
 use Rattle.std.specs.List.{All, flat_map}
-use Rattle.std.proofs.lemmas.List.{append-nil, map-append, length-append, length-map, reverse-append, append_assoc}
-use Rattle.std.proofs.lemmas.List.Elements.{All-nil, All-push, All-append, All-pop, All-head, All-tail}
+use Rattle.std.proofs.lemmas.List.{append-nil, map-append, length-map, reverse-append, append_assoc}
+use Rattle.std.proofs.lemmas.List.Elements.{All-nil, All-push, All-pop, All-head, All-tail}
 use Rattle.std.proofs.lemmas.List.Sums.{sum_by-append}
 use Rattle.std.proofs.lemmas.List.Concat.{flat_map-append, flat_map-cons}
 use Rattle.budget.proofs.Sums.{one_if}
-use Rattle.budget.specs.Words.{whole}
-use Rattle.claim.specs.Draws.{Jobs, Drawn, times, AreFirst, first_seat, together}
+use Rattle.claim.specs.Draws.{Jobs, Drawn, times, AreFirst, together}
 use Rattle.bundle.specs.Passes.{Accounts}
 use Rattle.exchange.specs.declared.job.Job.{Job}
 use Rattle.exchange.specs.declared.done.Done.{Done}

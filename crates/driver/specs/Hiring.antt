@@ -7,7 +7,8 @@ use Rattle.exchange.specs.declared.done.Done.{Done}
 use Rattle.exchange.specs.Worlds.{World}
 use Rattle.shared_cache.specs.Names.{CacheNames}
 use Rattle.shared_cache.specs.Passes.{IsPassOf, IsNewPass}
-use Rattle.driver.specs.Workers.{WorkerShown, AreResults, numbers_of}
+use Rattle.run_loop.specs.Running.{numbers_of}
+use Rattle.driver.specs.Workers.{WorkerShown, AreResults}
 use Rattle.driver.specs.Running.{IsWork}
 
 -- a worker before its work: it has a new pass of the cache, and a seat with which it has drawn nothing
@@ -25,7 +26,7 @@ pub record HasWorked {W : Type 0} (world : World W) (may_stop : ℕ → Type 0) 
   pub claim_is : worker.seat.claim ≡ claim
   pub share_is : worker.seat.share ≡ 1
   pub fit : AreResults world may_stop jobs worker.results
-  pub work : IfNone worker.quit (IsSomeAnd worker.pass (λ pass. IsWork world names jobs (record { results = worker.results; pass = pass })))
+  pub work : IfNone worker.quit (IsSomeAnd worker.pass (λ pass. IsWork world may_stop names jobs (record { results = worker.results; pass = pass })))
   pub drawn : IfNone worker.quit (worker.seat.drawn ≡ numbers_of worker.results)
   pub past : IfNone worker.quit (0 < worker.seat.past)
 

@@ -1,10 +1,10 @@
 -- Why a worker gives up, and what that says of its dial's failed turns.
-use Rattle.std.specs.Prelude.{◌≡◌, ℕ, Option, Some, None, Result, Ok, Err}
+use Rattle.std.specs.Prelude.{◌≡◌, ℕ, Option, Some, None, Result, Err}
 use Rattle.conn_key.specs.Wants.{Rises}
 use Rattle.driver.specs.declared.fault.DriverFault.{DriverFault}
 use Rattle.driver.specs.declared.fault.DriverFault.TheVariants as fault
 use Rattle.driver.specs.declared.quit.Quit.{Quit}
-use Rattle.driver.specs.declared.quit.Quit.TheVariants.{Memory, Poll, Told}
+use Rattle.driver.specs.declared.quit.Quit.TheVariants.{Poll, Told}
 
 -- the count of failed turns rises if a failed turn made the worker give up, and only then
 abbrev pub QuitsSo : Option Quit → ℕ → ℕ → Type 0

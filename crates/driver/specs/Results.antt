@@ -1,5 +1,5 @@
 -- Which result is a job's, and what carrying jobs out is, one after another.
-use Rattle.std.specs.Prelude.{◌≡◌, ℕ, List, [], ◌∷◌, slice_get, IsSomeAnd}
+use Rattle.std.specs.Prelude.{◌≡◌, ℕ, List, [], ◌∷◌, slice_get, slice_index_or, IsSomeAnd}
 use Rattle.leasing.specs.Deeds.{Deed}
 use Rattle.exchange.specs.declared.job.Job.{Job}
 use Rattle.exchange.specs.declared.job.Prepared.{Prepared}
@@ -9,6 +9,7 @@ use Rattle.exchange.specs.declared.done.Fault.TheVariants.{Cancelled}
 use Rattle.exchange.specs.Worlds.{World}
 use Rattle.exchange.specs.Standing.{Ends}
 use Rattle.exchange.specs.Carrying.{IsForJob, CarriesOut}
+use Rattle.run_loop.specs.Running.{IsRunning, numbers_of}
 
 -- A transfer of that job ended so, by what was done for it. A good one sent the job's request whole on one wire; its
 -- status, its facts and its body's length are those of exactly the bytes that this wire received since its lease was given
@@ -36,3 +37,14 @@ CarriesOutAt did world jobs number before after done = IsSomeAnd (slice_get jobs
 abbrev pub CarriesOutAll : {C W : Type 0} → (C → C → Deed W → Type 0) → World W → List Job → C → C → List (ℕ × Done) → Type 0
 CarriesOutAll did world jobs before after [] = after ≡ before
 CarriesOutAll {C} did world jobs before after (result ∷ others) = (middle : C) × CarriesOutAt did world jobs result.0 before middle result.1 × CarriesOutAll did world jobs middle after others
+
+-- the job of each number; past the list it is another one
+abbrev pub job_in : List Job → Job → ℕ → Job
+job_in jobs other number = slice_index_or jobs number other
+
+-- From the one time to the other the cache carried out the jobs of these results, and did nothing else. What it did is one
+-- list of deeds, each with the number of its job, as in a run with many jobs at once; and it carried out one job after
+-- another.
+pub record RunsInTurn {C W : Type 0} (did : C → C → Deed W → Type 0) (world : World W) (may_stop : ℕ → Type 0) (jobs : List Job) (before after : C) (results : List (ℕ × Done)) : Type 0 where
+  pub running : (other : Job) → IsRunning did world may_stop (job_in jobs other) before after (numbers_of results) [] results
+  pub in_turn : CarriesOutAll did world jobs before after results

@@ -10,11 +10,11 @@ use Rattle.shared_cache.specs.Names.{CacheNames}
 use Rattle.shared_cache.specs.Passes.{IsPassOf, IsNewPass}
 use Rattle.desk.specs.Desks.{DeskShown}
 use Rattle.desk.specs.Deeds.{DidAtDesk}
+use Rattle.run_loop.specs.Running.{numbers_of}
 use Rattle.driver.specs.declared.fault.DriverFault.{DriverFault}
 use Rattle.driver.specs.declared.fault.DriverFault.TheVariants.{BadWorkers}
 use Rattle.driver.specs.declared.running.RunReport.{RunReport}
-use Rattle.driver.specs.Results.{IsResultAt, CarriesOutAll}
-use Rattle.driver.specs.Workers.{numbers_of}
+use Rattle.driver.specs.Results.{IsResultAt, RunsInTurn}
 use Rattle.driver.specs.Faults.{IsWorkerFault, are_bad_workers}
 
 -- what a worker has done: the results of the jobs that it drew, each with its number, and its pass
@@ -30,12 +30,12 @@ pass_of work = work.pass
 
 -- with a new pass the worker carried out the jobs of these results, one after another, and did nothing else, and left the
 -- pass so
-pub record IsWork {W : Type 0} (world : World W) (names : CacheNames) (jobs : List Job) (work : Work) : Type 0 where
+pub record IsWork {W : Type 0} (world : World W) (may_stop : ℕ → Type 0) (names : CacheNames) (jobs : List Job) (work : Work) : Type 0 where
   pub before : DeskShown W
   pub after : DeskShown W
   pub new_pass : IsNewPass before.pass
   pub pass_is : work.pass ≡ after.pass
-  pub carried : CarriesOutAll (DidAtDesk names) world jobs before after work.results
+  pub carried : RunsInTurn (DidAtDesk names) world may_stop jobs before after work.results
 
 -- the results of all workers
 abbrev pub results_of_all : List Work → List (ℕ × Done)
@@ -46,7 +46,7 @@ results_of_all all_work = flat_map results_of all_work
 -- workers left them.
 pub record IsRun {W : Type 0} (world : World W) (may_stop : ℕ → Type 0) (names : CacheNames) (jobs : List Job) (workers : ℕ) (report : RunReport) : Type 0 where
   pub all_work : List Work
-  pub worked : All (IsWork world names jobs) all_work
+  pub worked : All (IsWork world may_stop names jobs) all_work
   pub once : AreFirst (length jobs) (numbers_of (results_of_all all_work))
   pub number : length report.results.items ≡ length jobs
   pub each : (job : ℕ) → job < length jobs → IsSomeAnd (slice_get report.results.items job) (λ done.

@@ -1,5 +1,5 @@
 -- What a worker does, by the numbers that it draws.
-use Rattle.std.specs.Prelude.{◌≡◌, ℕ, ◌+◌, ◌∷◌, ◌++◌, List, [], map, Bool, true, false, Result, Ok, Err, Option, Some}
+use Rattle.std.specs.Prelude.{◌≡◌, ℕ, ◌+◌, ◌<◌, ◌∷◌, ◌++◌, List, [], Bool, true, false, Result, Ok, Err, Option, Some}
 use Rattle.std.specs.List.{All}
 use Rattle.leasing.specs.Deeds.{Deed}
 use Rattle.bundle.specs.Passes.{Accounts}
@@ -24,18 +24,16 @@ pub record WorkerShown : Type 0 where
 abbrev pub left_with : ℕ → ℕ → Drawn → Accounts → List (ℕ × Done) → Option Quit → WorkerShown
 left_with opened failed seat pass results quit = record { opened = opened; failed = failed; seat = seat; pass = Some pass; results = results; quit = quit }
 
--- the numbers of the jobs of these results
-abbrev pub numbers_of : List (ℕ × Done) → List ℕ
-numbers_of results = map (λ (result : ℕ × Done). result.0) results
-
 -- each result is that of the job whose number it bears
 abbrev pub AreResults : {W : Type 0} → World W → (ℕ → Type 0) → List Job → List (ℕ × Done) → Type 0
 AreResults world may_stop jobs results = All (λ (result : ℕ × Done). IsResultAt world may_stop jobs result.0 result.1) results
 
--- a worker drew the number of a job and carried it out, and has its result behind the others
+-- a worker drew the number of a job, which is above all that it drew before, and carried the job out; it has its result
+-- behind the others
 pub record DrawsOne {C W : Type 0} (did : C → C → Deed W → Type 0) (world : World W) (may_stop : ℕ → Type 0) (jobs : List Job) (before after : C) (seat next : Drawn) (results more : List (ℕ × Done)) : Type 0 where
   pub number : ℕ
   pub done : Done
+  pub above : All (λ n. n < number) seat.drawn
   pub drawn : next ≡ record seat { drawn = seat.drawn ++ number ∷ [] }
   pub added : more ≡ results ++ (number, done) ∷ []
   pub result_is : IsResultAt world may_stop jobs number done

@@ -4,6 +4,7 @@ mod drawn_jobs;
 mod gathering;
 mod job_source;
 mod listed_jobs;
+mod loop_states;
 mod room;
 mod run_timer;
 mod running;

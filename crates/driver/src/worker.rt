@@ -4,8 +4,9 @@ ghost use Rattle.std.specs.Prelude.{◌≡◌, ◌+◌, ◌<◌, ◌≤◌, leng
 ghost use Rattle.std.specs.Prelude.{Some, None, []};
 ghost use Rattle.exchange.specs.Worlds.{world_of};
 ghost use Rattle.driver.specs.Quits.{QuitsOn, QuitsSo};
-ghost use Rattle.driver.specs.Results.{CarriesOutAll};
-ghost use Rattle.driver.specs.Workers.{AreResults, numbers_of, Goes, left_with};
+ghost use Rattle.run_loop.specs.Running.{numbers_of};
+ghost use Rattle.driver.specs.Results.{RunsInTurn};
+ghost use Rattle.driver.specs.Workers.{AreResults, Goes, left_with};
 
 use crate::carrier::Carrier;
 use crate::gate::Gate;
@@ -139,9 +140,9 @@ impl<'d, W: Wire, D: Dial<W>> Worker<'d, W, D> {
         requires no_results { self.old.results ≡ [] }
         requires well { self.old.quit ≡ None }
         ensures home { C.home cache.new ≡ C.home cache.old }
-        ensures carried { IfNone self.new.quit (CarriesOutAll C.did (world_of W.untouched
-            W.happened (K.tells shared.now.clock.now)) shared.now.jobs.now cache.old cache.new
-            self.new.results) }
+        ensures carried { IfNone self.new.quit (RunsInTurn C.did (world_of W.untouched W.happened
+            (K.tells shared.now.clock.now)) (G.may_stop shared.now.gate.now) shared.now.jobs.now
+            cache.old cache.new self.new.results) }
         ensures claim { self.new.seat.claim ≡ self.old.seat.claim }
         ensures share { self.new.seat.share ≡ self.old.seat.share }
         ensures drawn { IfNone self.new.quit (

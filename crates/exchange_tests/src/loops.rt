@@ -8,7 +8,7 @@ use exchange::{Clock, Done, Job, Prepared, Ready};
 use exchange_memory::{Halt, MemoryDial, MemoryWire};
 use futures::task::{Doorbell, Solo};
 use persistence::Method;
-use run_loop::{Draw, Jobs, Results, RunEnd, RunLoop, Timer};
+use run_loop::{Draw, Jobs, Results, RunEnd, RunLoop, Span, Timer};
 use std::alloc::{AllocGlobal, Global};
 use std::fmt::Write;
 use std::process::Abort;
@@ -101,7 +101,7 @@ impl Results for Report {
 
     ghost took = { λ old new number done. ⊤ };
 
-    fn take(&mut self, number: u64, done: Done) {
+    fn take(&mut self, number: u64, done: Done, _span: Span) {
         self.lines = self.lines.saturating_add(1);
         let _ = match done {
             Done::Good(answer) => {

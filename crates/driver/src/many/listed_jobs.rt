@@ -25,10 +25,10 @@ impl<'a> ListedJobs<'a> {
 }
 
 impl JobSource for ListedJobs<'_> {
-    ghost use Rattle.std.specs.Prelude.{slice_index_or};
+    ghost use Rattle.driver.specs.Results.{job_in};
 
     // past the list it is the first one, which is not prepared
-    ghost job_at = { λ listed number. slice_index_or listed.jobs.now number listed.first.now };
+    ghost job_at = { λ listed number. job_in listed.jobs.now listed.first.now number };
 
     fn due(&self, _number: u64) -> u64 {
         0

@@ -2,8 +2,10 @@
 
 use crate::bell::Bell;
 use crate::faults::Faults;
+use crate::many::loop_states::LoopStates;
 use exchange::{Alarm, Clock};
 use run_loop::Timer;
+use std::sync::atomic::{AtomicU64, Ordering};
 
 /// A run's timer, for one of its workers: a fault that another worker met breaks the run off, and
 /// the run's bell ends the turns of the others that sleep.
@@ -12,10 +14,13 @@ pub(crate) struct RunTimer<'a, T: Timer, A: Alarm> {
     pub(crate) timer: &'a T,
     pub(crate) faults: &'a Faults,
     pub(crate) bell: &'a Bell,
+    pub(crate) states: &'a LoopStates,
     /// Of each worker, as far as their dials have some.
     pub(crate) alarms: &'a [A],
-    /// The worker's number, from 0.
+    /// The worker's number, from 0: the place of its alarm.
     pub(crate) own: usize,
+    /// How often its loop has woken up.
+    pub(crate) woken: AtomicU64,
 }
 
 impl<'a, T: Timer, A: Alarm> RunTimer<'a, T, A> {
@@ -61,8 +66,10 @@ impl<'a, T: Timer, A: Alarm> Timer for RunTimer<'a, T, A> {
     }
 
     fn ring(&self, heard: u64) -> u64 {
+        self.states.begin_ring();
         let before = self.bell.ring();
         self.wake_others();
+        self.states.end_ring();
         if before == heard {
             heard.wrapping_add(1)
         } else {
@@ -74,11 +81,31 @@ impl<'a, T: Timer, A: Alarm> Timer for RunTimer<'a, T, A> {
         if let Some(alarm) = self.alarms.get(self.own) {
             alarm.fall_asleep();
         }
+        self.states.fall_asleep();
     }
 
-    fn wake_up(&self) {
-        if let Some(alarm) = self.alarms.get(self.own) {
-            alarm.wake_up();
+    fn wake_up(&self) -> bool {
+        self.woken.fetch_add(1, Ordering::SeqCst);
+        self.states.wake_up();
+        let is_ringing = self.states.is_ringing();
+        match self.alarms.get(self.own) {
+            Some(alarm) => alarm.wake_up() || is_ringing,
+            None => is_ringing,
+        }
+    }
+
+    fn others_asleep(&self) -> Option<u64> {
+        let woken = self.states.woken_if_alone()?;
+        Some(woken.saturating_sub(self.woken.load(Ordering::SeqCst)))
+    }
+
+    fn note_late(&self, grants: u64) {
+        self.timer.note_late(grants);
+    }
+
+    fn sweep(&self) {
+        if self.own == 0 {
+            self.timer.sweep();
         }
     }
 }

@@ -16,6 +16,7 @@ use crate::faults::Faults;
 use crate::many::drawn_jobs::DrawnJobs;
 use crate::many::gathering::gather_work;
 use crate::many::job_source::JobSource;
+use crate::many::loop_states::LoopStates;
 use crate::many::room::{ManyRoom, hire_all};
 use crate::many::run_timer::RunTimer;
 use crate::many::worker::{Finished, Left, LoopWorker, Ready, Tools};
@@ -31,6 +32,7 @@ use shared_cache::{Names, SharedCache};
 use std::alloc::{AllocGlobal, Global};
 use std::random::RandomSource;
 use std::sync::Wait;
+use std::sync::atomic::AtomicU64;
 use std::thread::{Threads, for_each_mut};
 
 /// What a run leaves.
@@ -60,6 +62,7 @@ pub(crate) struct Common<'s, S: JobSource, T: Timer> {
     pub(crate) source: &'s S,
     pub(crate) timer: &'s T,
     pub(crate) bell: Bell,
+    pub(crate) states: LoopStates,
     pub(crate) faults: Faults,
 }
 
@@ -188,6 +191,7 @@ fn carry_all<
         source,
         timer,
         bell: Bell::new(),
+        states: LoopStates::new(workers.len() as u64),
         faults: Faults::new(),
     };
     loop_at_once(rt, cache, &common, alarms, &mut workers);
@@ -230,11 +234,25 @@ fn loop_at_once<
                 common.entry.now.timer.now)) (T.may_stop common.entry.now.timer.now) N.names
                 (S.job_at common.entry.now.source.now) F.took common.entry.now.claim.now
                 worker.entry.now worker.exit.now }
-        { work_in_loop(rt, cache, common, alarms, number, worker) },
+        {
+            work_in_loop(
+                rt,
+                cache,
+                common,
+                alarms,
+                alarm_place(number, threads),
+                worker,
+            )
+        },
     );
 }
 
-// Lets the worker of that number work, at a desk of its own.
+// The place of a worker's alarm: the first worker was hired with the last tools.
+fn alarm_place(number: usize, workers: usize) -> usize {
+    workers.saturating_sub(number).saturating_sub(1)
+}
+
+// Lets a worker work, at a desk of its own. Its alarm has that place.
 fn work_in_loop<
     W: Wire,
     N: Names,
@@ -249,7 +267,7 @@ fn work_in_loop<
     cache: &SharedCache<W, N>,
     common: &Common<'_, S, T>,
     alarms: &[A],
-    number: usize,
+    alarm: usize,
     worker: &mut LoopWorker<W, D, F>,
 )
     requires hired { IsHiredLoop N.names common.now.claim.now worker.old }
@@ -258,7 +276,7 @@ fn work_in_loop<
         common.now.claim.now worker.old worker.new }
 {
     let ready = worker.begin();
-    let left = ready.work(rt, cache, common, alarms, number);
+    let left = ready.work(rt, cache, common, alarms, alarm);
     if left.end.is_fault() {
         common.faults.meet();
     }
@@ -273,7 +291,7 @@ impl<W: Wire, D: Dial<W>, F: Results> Ready<W, D, F> {
         cache: &SharedCache<W, N>,
         common: &Common<'_, S, T>,
         alarms: &[A],
-        number: usize,
+        alarm: usize,
     ) -> Left<D, F>
         requires empty { self.places.slab.slots.items ≡ [] }
         requires of_cache { IsPassOf N.names self.pass }
@@ -298,8 +316,10 @@ impl<W: Wire, D: Dial<W>, F: Results> Ready<W, D, F> {
             timer: common.timer,
             faults: &common.faults,
             bell: &common.bell,
+            states: &common.states,
             alarms,
-            own: number,
+            own: alarm,
+            woken: AtomicU64::new(0),
         };
         let end = places.run(rt, &mut desk, &mut dial, &mut jobs, &mut results, &timer);
         Left {

@@ -14,7 +14,7 @@ use bundle::Did;
 use cache_report::totals;
 use driver::{DriverFault, Finished, ListedJobs, ManyReport, NotBegun, Tools, run_many};
 use exchange::{Clock, Done};
-use run_loop::{Results, RunEnd, Timer};
+use run_loop::{Results, RunEnd, Span, Timer};
 use shared_cache::{Names, Plan, SharedCache};
 use std::alloc::{AllocGlobal, Global};
 use std::marker::Brand;
@@ -50,7 +50,7 @@ impl Results for Tally {
 
     ghost took = { λ old new number done. ⊤ };
 
-    fn take(&mut self, _number: u64, done: Done) {
+    fn take(&mut self, _number: u64, done: Done, _span: Span) {
         match done {
             Done::Good(answer) => {
                 self.good = self.good.saturating_add(1);

@@ -1,4 +1,4 @@
-use Rattle.std.proofs.Common.{rules, ◌≡◌, subst}
+use Rattle.std.proofs.Common.{rules, subst}
 use Rattle.std.specs.List.{sum_by}
 use Rattle.driver.specs.Turns.{TurnedTogether}
 use Rattle.driver.proofs.running.run.Goals as goal

@@ -1,5 +1,5 @@
 -- All that workers leave is gathered.
-use Rattle.std.proofs.Common.{rules, ◌≡◌, List, reverse, subst}
+use Rattle.std.proofs.Common.{reverse, subst}
 use Rattle.std.proofs.lemmas.List.{reverse-reverse}
 use Rattle.exchange.specs.Worlds.{world_of}
 use Rattle.driver.specs.ManyWork.{IsManyRun, handed_in, handed_back}

@@ -1,5 +1,5 @@
 -- Each worker has left after its work.
-use Rattle.std.proofs.Common.{rules, ◌≡◌, ◌++◌, List, length, take, drop, slice_index_or, subst, sym}
+use Rattle.std.proofs.Common.{rules, ◌≡◌, length, drop, slice_index_or, subst, sym}
 use Rattle.std.proofs.lemmas.List.{take_at}
 use Rattle.exchange.specs.Worlds.{world_of}
 use Rattle.driver.specs.ManyWork.{AllBegin, LoopsFrom, HaveLooped}

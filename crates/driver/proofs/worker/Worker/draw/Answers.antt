@@ -9,6 +9,7 @@ returns-clause-goes g c =
     record {
       number = c.in-Some.number;
       done = c.in_ok-done.done;
+      above = search rules;
       drawn = search rules;
       added = c.push_reserved.ensures.items ∙ (ap (λ (some : List (ℕ × Done)). some ++ one ∷ []) c.reserve.ensures.items ∙ ap (λ (worker : WorkerShown). worker.results ++ one ∷ []) c.self.view_is);
       result_is = search rules;

@@ -1,5 +1,5 @@
 -- A loop that ran at a new desk did what its end tells.
-use Rattle.std.proofs.Common.{rules, ◌≡◌, refl, sym, subst, ◌∙◌, ℕ, ◌<◌, List, [], None}
+use Rattle.std.proofs.Common.{rules, ◌≡◌, refl, sym, subst, ℕ, ◌<◌, List, [], None}
 use Rattle.exchange.specs.Worlds.{world_of}
 use Rattle.leasing.specs.Deeds.{Deed}
 use Rattle.desk.specs.Desks.{DeskShown}
@@ -8,7 +8,7 @@ use Rattle.run_loop.specs.Going.{may_stop_at}
 use Rattle.run_loop.specs.Running.{IsRunning}
 use Rattle.run_loop.proofs.Going.{running_first}
 use Rattle.driver.specs.ManyJobs.{given_out}
-use Rattle.driver.proofs.ManyWork.{nothing_held, none_left}
+use Rattle.driver.proofs.ManyWork.{nothing_held}
 use Rattle.driver.proofs.many.worker.Ready.work.Goals as goal
 
 pub returns : goal.returns
