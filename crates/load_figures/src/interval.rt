@@ -1,0 +1,170 @@
+//! What is counted in one interval of a load.
+
+ghost use Rattle.std.specs.Prelude.{◌≡◌, ◌+◌, ◌*◌, ◌/◌, ◌<◌, ◌≤◌, length, max, sum, IfNone, IfOk};
+ghost use Rattle.std.specs.Prelude.{IfSome};
+ghost use Rattle.histogram.specs.Percentiles.{IsBucketAt};
+ghost use Rattle.load_figures.specs.Counts.{capped, each_with};
+ghost use Rattle.load_figures.specs.Intervals.{both, capped_slices, no_interval, with_job};
+ghost use Rattle.load_figures.specs.Intervals.{IsLatencyAt};
+
+use histogram::{bucket_of, highest_of};
+use std::alloc::{AllocError, Global};
+use std::marker::Model;
+
+/// How many buckets of a histogram are one slice of an interval.
+const BUCKETS_OF_A_SLICE: usize = 4;
+
+/// How many slices an interval has.
+const SLICES: usize = 832;
+
+/// The greatest latency that has a slice, in microseconds: some 71 minutes. A greater one is
+/// counted in that slice.
+const GREATEST: u64 = 4_294_967_295;
+
+/// What is counted in one interval of a load. Latencies fall into slices of four buckets of a
+/// histogram, so that a percentile is known to 3 microseconds or 3.2 percent. Its memory, some
+/// 3.3 KB, is taken as it is made. A count that would pass its greatest stays there.
+#[derive(Drop)]
+pub(crate) struct Interval {
+    requests: u64,
+    failed: u64,
+    greatest: u64,
+    slices: Vec<u32>,
+}
+
+impl Model for Interval {
+    ghost use Rattle.std.specs.Prelude.{◌≡◌, length};
+    ghost use Rattle.load_figures.specs.Intervals.{IntervalCounts};
+
+    ghost Value = { IntervalCounts };
+
+    ghost view = { λ i. record {
+      requests = i.requests;
+      failed = i.failed;
+      greatest = i.greatest;
+      slices = i.slices.items;
+    } };
+
+    ghost invariant = { λ i. length i.slices.items ≡ 832 };
+}
+
+impl Interval {
+    /// No job yet.
+    pub(crate) fn new(alloc: Global) -> Result<Interval, AllocError>
+        ensures { IfOk result (λ interval. interval ≡ no_interval) }
+    {
+        let mut slices = Vec::new(alloc);
+        slices.resize(SLICES, 0)?;
+        Ok(Interval {
+            requests: 0,
+            failed: 0,
+            greatest: 0,
+            slices,
+        })
+    }
+
+    /// Counts a job that was done.
+    pub(crate) fn count(&mut self, has_failed: bool, latency_us: u64)
+        ensures { self.new ≡ with_job has_failed latency_us self.old }
+    {
+        self.requests = self.requests.saturating_add(1);
+        if has_failed {
+            self.failed = self.failed.saturating_add(1);
+        }
+        self.greatest = self.greatest.max(latency_us);
+        let slice = bucket_of(latency_us.min(GREATEST)) / BUCKETS_OF_A_SLICE;
+        if slice < SLICES {
+            self.slices[slice] = self.slices[slice].saturating_add(1);
+        }
+    }
+
+    /// Adds what another interval counted.
+    pub(crate) fn join(&mut self, other: &Interval)
+        ensures { self.new ≡ both self.old other.now }
+    {
+        self.requests = self.requests.saturating_add(other.requests);
+        self.failed = self.failed.saturating_add(other.failed);
+        self.greatest = self.greatest.max(other.greatest);
+        add_slices(&mut self.slices, &other.slices);
+    }
+
+    /// Forgets all that it counted.
+    pub(crate) fn clear(&mut self)
+        ensures { self.new ≡ no_interval }
+    {
+        self.requests = 0;
+        self.failed = 0;
+        self.greatest = 0;
+        self.slices.fill(0);
+    }
+
+    /// How many jobs were done.
+    pub(crate) fn requests(&self) -> u64
+        ensures { result ≡ self.now.requests }
+    {
+        self.requests
+    }
+
+    /// How many of them failed.
+    pub(crate) fn failed(&self) -> u64
+        ensures { result ≡ self.now.failed }
+    {
+        self.failed
+    }
+
+    /// The greatest latency in microseconds, 0 if no job was done.
+    pub(crate) fn greatest(&self) -> u64
+        ensures { result ≡ self.now.greatest }
+    {
+        self.greatest
+    }
+
+    /// The latency that so many hundredths of the jobs do not pass, in microseconds: the greatest
+    /// of its slice, or the greatest of all latencies if it is less. `None` if no job was done.
+    pub(crate) fn latency_at(&self, hundredths: u64) -> Option<u64>
+        ensures { IfSome result (IsLatencyAt self.now hundredths) }
+    {
+        let share = (slice_sum(&self.slices) as u128 * hundredths as u128 + 99) / 100;
+        let slice = slice_at(&self.slices, share.max(1))?;
+        let last = slice * BUCKETS_OF_A_SLICE + (BUCKETS_OF_A_SLICE - 1);
+        Some(highest_of(last).min(self.greatest))
+    }
+}
+
+/// Adds the other counts, slice by slice.
+fn add_slices(slices: &mut [u32], others: &[u32])
+    requires { length slices.old ≡ length others.now }
+    ensures { slices.new ≡ each_with capped_slices slices.old others.now }
+{
+    for (place, other) in others.iter().enumerate() {
+        slices[place] = slices[place].saturating_add(*other);
+    }
+}
+
+/// How many latencies are counted in all slices.
+fn slice_sum(slices: &[u32]) -> u64
+    ensures { result ≡ capped (sum slices.now) }
+{
+    let mut sum: u64 = 0;
+    for count in slices {
+        sum = sum.saturating_add(*count as u64);
+    }
+    sum
+}
+
+/// The least slice that so many latencies do not pass, if there are as many.
+fn slice_at(slices: &[u32], rank: u128) -> Option<usize>
+    requires { 0 < rank }
+    ensures some { IfSome result (IsBucketAt slices.now rank) }
+    ensures none { IfNone result (sum slices.now < rank) }
+{
+    let mut left = rank;
+    for (slice, count) in slices.iter().enumerate() {
+        let count = *count as u128;
+        if left <= count {
+            return Some(slice);
+        }
+        left -= count;
+    }
+    None
+}
