@@ -14,7 +14,7 @@ use Rattle.load.specs.Loading.{IsLoadedBy, IsLoaded}
 
 module _ {W : Type 0} (world : World W) (names : CacheNames) (jobs : List Job) where
   pub loaded_by : (dials workers : ℕ) (report : RunReport) (result : Result Loaded LoadError) → dials ≡ workers → IsRun world (λ job. ⊥) names jobs dials report
-      → IfOk result (λ loaded. loaded.results ≡ report.results) → IfOk result (λ loaded. AreLogsOf names loaded.logs.items) → IfOk result (λ loaded. IsGathered names report.passes.items loaded.gathered) → IfOk result (IsLoadedBy world names jobs workers)
+      → IfOk result (λ loaded. loaded.results ≡ report.results) → IfOk result (λ loaded. AreLogsOf W names loaded.logs.items) → IfOk result (λ loaded. IsGathered names report.passes.items loaded.gathered) → IfOk result (IsLoadedBy world names jobs workers)
   loaded_by dials workers report (Ok loaded) same ran results logs gathered = record {
     report = report;
     ran = subst (λ (n : ℕ). IsRun world (λ job. ⊥) names jobs n report) same ran;

@@ -18,7 +18,7 @@ pub record IsLoadedBy {W : Type 0} (world : World W) (names : CacheNames) (jobs 
   pub report : RunReport
   pub ran : IsRun world (λ job. ⊥) names jobs workers report
   pub results_are : loaded.results ≡ report.results
-  pub logs_are : AreLogsOf names loaded.logs.items
+  pub logs_are : AreLogsOf W names loaded.logs.items
   pub gathered_is : IsGathered names report.passes.items loaded.gathered
 
 -- and that cache was made under these limits, for so many hosts

@@ -5,6 +5,8 @@
 mod dials;
 mod error;
 mod loading;
+mod many;
 
 pub use error::LoadError;
 pub use loading::{Loaded, load};
+pub use many::{LoadTimes, LoadedMany, ManyPlan, Rate, Seen, Unwatched, Watch, load_many};

@@ -8,6 +8,8 @@ ghost use Rattle.exchange.specs.Worlds.{world_of};
 ghost use Rattle.driver.specs.Faults.{are_bad_workers};
 ghost use Rattle.load.specs.Loading.{IsLoaded, IsLoadedBy, IsLoadRefusedFor};
 ghost use Rattle.load.specs.Logs.{AreLogsOf};
+ghost use Rattle.std.specs.declared.net.TcpStream.{TcpStream};
+ghost use Rattle.socket.specs.declared.waiting.WaitingWire.{WaitingWire};
 
 use crate::dials::dials_for;
 use crate::error::LoadError;
@@ -113,7 +115,8 @@ fn account_of<N: Names, R: Wait>(
 ) -> Result<Loaded, LoadError>
     requires { All (IsPassOf N.names) report.passes.items }
     ensures results { IfOk result (λ loaded. loaded.results ≡ report.results) }
-    ensures logs { IfOk result (λ loaded. AreLogsOf N.names loaded.logs.items) }
+    ensures logs { IfOk result (λ loaded. AreLogsOf (WaitingWire TcpStream) N.names
+        loaded.logs.items) }
     ensures gathered { IfOk result (λ loaded.
         IsGathered N.names report.passes.items loaded.gathered) }
     ensures refused { (workers : ℕ) → IfErr result (IsLoadRefusedFor workers) }
@@ -140,12 +143,12 @@ fn account_of<N: Names, R: Wait>(
 }
 
 // Cuts the log of every host: what is handed out, in the order of the hosts.
-fn cut_logs<N: Names, R: Wait>(
+pub(crate) fn cut_logs<S: Drop, N: Names, R: Wait>(
     rt: &R,
     alloc: Global,
-    cache: &SharedCache<WaitingWire, N>,
+    cache: &SharedCache<S, N>,
 ) -> Result<Vec<Vec<Entry>>, Refusal>
-    ensures { IfOk result (λ logs. AreLogsOf N.names logs.items) }
+    ensures { IfOk result (λ logs. AreLogsOf S N.names logs.items) }
 {
     let hosts = cache.hosts();
     let Ok(logs) = Vec::with_capacity(alloc, hosts as usize) else {
@@ -160,7 +163,7 @@ fn cut_logs<N: Names, R: Wait>(
 }
 
 // Why there is no account, if a cut or the gathering was refused so.
-fn error_of(refusal: Refusal) -> LoadError
+pub(crate) fn error_of(refusal: Refusal) -> LoadError
     ensures { (workers : ℕ) → IsLoadRefusedFor workers result }
 {
     match refusal {

@@ -4,7 +4,7 @@ use Rattle.load.proofs.loading.cut_logs.Given as goal
 
 abbrev pub invariant-loop-site : goal.invariant-loop-site
 invariant-loop-site g l = record {
-  so_far : AreLogsFrom g.N.Names.names 0 l.logs.items;
+  so_far : AreLogsFrom g.row.S.Denot g.N.Names.names 0 l.logs.items;
   count_is : length l.logs.items ≡ l.site;
   room : l.hosts ≤ vec_capacity l.logs;
 }
