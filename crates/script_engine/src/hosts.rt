@@ -1,9 +1,11 @@
 //! The hosts of a script: their pool, and what the transfers have at each of them.
 
 ghost use Rattle.std.specs.Prelude.{◌≡◌, ◌<◌, ◌≤◌, length, string_bytes, IfOk, IfErr};
+ghost use Rattle.std.specs.Prelude.{IfNone, IfSome};
 ghost use Rattle.budget.specs.Limits.{Bounds};
 ghost use Rattle.cache.specs.Pools.{all_hosts, StaysPool};
 ghost use Rattle.script_text.specs.declared.command.Action.TheVariants as actions;
+ghost use Rattle.pool_rules.specs.AllHosts.{log_at};
 ghost use Rattle.script_rules.specs.Meaning.{new_hosts, at_site};
 ghost use Rattle.script_rules.specs.Ending.{IsEnding};
 ghost use Rattle.script_engine.specs.Hosted.{GivesAt, GivesAll, asked_answer};
@@ -15,7 +17,7 @@ use crate::telling::lines;
 use budget::{Limits, Refusal};
 use bundle::Snapshot;
 use cache::Pool;
-use conn_log::Want;
+use conn_log::{Log, Want};
 use script_text::{Ending, FaultKind, LookLine, reply, too_many_leased, upkeep};
 use std::alloc::Global;
 use std::marker::Model;
@@ -70,6 +72,15 @@ impl PooledHosts {
         ensures { result ≡ length self.now.hosts.all.logs }
     {
         self.pool.hosts()
+    }
+
+    /// The log of a site's host.
+    pub fn log(&self, site: u32) -> Option<&Log>
+        ensures there { IfSome result (λ log.
+            log.now.entries ≡ log_at self.now.hosts.all site) }
+        ensures none { IfNone result (length self.now.hosts.all.logs ≤ site) }
+    {
+        self.pool.log(site)
     }
 
     /// The transfer acquires a connection of the site, or begins to wait for one.

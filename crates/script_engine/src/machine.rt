@@ -1,8 +1,9 @@
 //! What a script's commands do, one after another.
 
-ghost use Rattle.std.specs.Prelude.{◌≡◌, ◌<◌, ◌⊎◌, IfErr, IfOk, OnOk, IfSome, length};
+ghost use Rattle.std.specs.Prelude.{◌≡◌, ◌<◌, ◌≤◌, ◌⊎◌, IfErr, IfOk, OnOk, IfNone, IfSome, length};
 ghost use Rattle.std.specs.Prelude.{IsSome, Some, None, true, string_bytes};
 ghost use Rattle.cache.specs.Pools.{all_hosts};
+ghost use Rattle.pool_rules.specs.AllHosts.{log_at};
 ghost use Rattle.script_text.specs.Printing.{GivesText};
 ghost use Rattle.script_text.specs.declared.command.Limits.{Limits};
 ghost use Rattle.script_rules.specs.Meaning.{Run, start, step, begun, with_limits, with_url};
@@ -16,6 +17,7 @@ use crate::asked::Asked;
 use crate::hosts::PooledHosts;
 use cache::Pool;
 use conn_key::{CountedMemory, Sites, SitesFault};
+use conn_log::Log;
 use script_text::{Action, Command, FaultKind, Limits, SiteWord, reply};
 use std::alloc::Global;
 use std::marker::Model;
@@ -119,6 +121,32 @@ impl Engine {
                 hosts: None,
             }),
             Err(_) => Err(FaultKind::Memory),
+        }
+    }
+
+    /// The limits, if the script gave them.
+    pub fn limits(&self) -> Option<Limits>
+        ensures { result ≡ self.now.limits }
+    {
+        self.limits
+    }
+
+    /// The sites, in the order in which the script named them.
+    pub fn sites(&self) -> &Sites
+        ensures { result.now ≡ self.now.sites }
+    {
+        &self.sites
+    }
+
+    /// The log of a site's host; none before the first command after the sites, and at no site.
+    pub fn log(&self, site: u32) -> Option<&Log>
+        ensures there { IfSome result (λ log.
+            log.now.entries ≡ log_at self.now.hosts.all site) }
+        ensures none { IfNone result (length self.now.hosts.all.logs ≤ site) }
+    {
+        match &self.hosts {
+            Some(hosts) => hosts.log(site),
+            None => None,
         }
     }
 

@@ -2,18 +2,21 @@
 
 ghost use Rattle.std.specs.Prelude.{⊤};
 
-use crate::streams::Source;
+use crate::streams::{Sink, Source};
 use crate::watched::Watched;
 use std::fs;
 use std::fs::File;
 
-/// What opens the files that words name.
+/// What opens and makes the files that words name.
 pub trait ScriptFiles {
     ghost use Rattle.std.specs.Prelude.{ℕ, List, Option, IfSome, option_map};
     ghost use Rattle.script_run.specs.Streams.{CanCount, Stream};
 
     /// A file that is open.
     type File: Source + Drop;
+
+    /// A file that was made.
+    type Made: Sink + Drop;
 
     /// Whether opening the file of that name gives that stream, or none if it can't be opened, and
     /// leaves the files so.
@@ -23,6 +26,10 @@ pub trait ScriptFiles {
     fn open(&mut self, name: &str) -> Option<Self::File>
         ensures opened { opens self.old self.new name.now (option_map Self.File.source result) }
         ensures counts { IfSome result (λ file. CanCount (Self.File.source file)) };
+
+    /// Makes the file of that name, or empties it if it is there; none, if that can't be done.
+    fn create(&self, name: &str) -> Option<Self::Made>
+        ensures counts { IfSome result (λ file. CanCount (Self.Made.sink file)) };
 }
 
 /// The files of the system. Which bytes they give nobody knows.
@@ -41,10 +48,19 @@ impl<'a> SystemFiles<'a> {
 impl ScriptFiles for SystemFiles<'_> {
     type File = Watched<File>;
 
+    type Made = Watched<File>;
+
     ghost opens = { λ _ _ _ _. ⊤ };
 
     fn open(&mut self, name: &str) -> Option<Watched<File>> {
         match fs::open(self.rt, name) {
+            Ok(file) => Some(Watched::new(file)),
+            Err(_) => None,
+        }
+    }
+
+    fn create(&self, name: &str) -> Option<Watched<File>> {
+        match fs::create(self.rt, name) {
             Ok(file) => Some(Watched::new(file)),
             Err(_) => None,
         }

@@ -5,9 +5,14 @@
 mod files;
 mod script;
 mod streams;
+mod viewer;
 mod watched;
 
 pub use files::{ScriptFiles, SystemFiles};
-pub use script::{run_bytes, run_file, run_lines, run_script, untraced_outputs_are_transcripts};
+pub use script::{
+    run_bytes, run_file, run_file_for, run_lines, run_script, run_script_for,
+    untraced_outputs_are_transcripts,
+};
 pub use streams::{SCRIPT_LIMIT, Sink, Source, read_script};
+pub use viewer::{Unseen, Viewer};
 pub use watched::{ReadFailed, Watched, WriteFailed};

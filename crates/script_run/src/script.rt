@@ -13,6 +13,7 @@ ghost use Rattle.script_run.specs.Traces.{AnUntracedOutputIsTheTranscript};
 
 use crate::files::ScriptFiles;
 use crate::streams::{Sink, Source, read_script};
+use crate::viewer::{Unseen, Viewer};
 use script_engine::{Engine, Machine, line_text};
 use script_text::{Action, Command, FaultKind, ScriptFault, first_line, read_line};
 use std::alloc::{AllocError, Global};
@@ -33,8 +34,25 @@ pub fn run_script<R: Source, W: Sink>(
     ensures { RunsScript is_traced (R.source reader.old) (R.source reader.new) (W.sink writer.old)
         (W.sink writer.new) result }
 {
+    run_script_for(alloc, is_traced, reader, writer, &mut Unseen)
+}
+
+/// Runs the script that the reader gives, as [`run_script`] does. The viewer sees its hosts before
+/// they are given up; nothing, if the script could not be read, or there was no memory to begin.
+pub fn run_script_for<R: Source, W: Sink, V: Viewer>(
+    alloc: Global,
+    is_traced: bool,
+    reader: &mut R,
+    writer: &mut W,
+    viewer: &mut V,
+) -> Result<(), ScriptFault>
+    requires reader { CanCount (R.source reader.old) }
+    requires writer { CanCount (W.sink writer.old) }
+    ensures { RunsScript is_traced (R.source reader.old) (R.source reader.new) (W.sink writer.old)
+        (W.sink writer.new) result }
+{
     match read_script(alloc, reader) {
-        Ok(script) => run_engine(alloc, is_traced, script.as_slice(), writer),
+        Ok(script) => run_engine(alloc, is_traced, script.as_slice(), writer, viewer),
         Err(kind) => Err(ScriptFault { line: 0, kind }),
     }
 }
@@ -52,8 +70,25 @@ pub fn run_file<F: ScriptFiles, W: Sink>(
     ensures { RunsFile is_traced (F.opens files.old files.new name.now) (W.sink writer.old)
         (W.sink writer.new) result }
 {
+    run_file_for(alloc, is_traced, files, name, writer, &mut Unseen)
+}
+
+/// Runs the script in the file of that name, as [`run_file`] does. The viewer sees what it sees of
+/// [`run_script_for`].
+pub fn run_file_for<F: ScriptFiles, W: Sink, V: Viewer>(
+    alloc: Global,
+    is_traced: bool,
+    files: &mut F,
+    name: &str,
+    writer: &mut W,
+    viewer: &mut V,
+) -> Result<(), ScriptFault>
+    requires { CanCount (W.sink writer.old) }
+    ensures { RunsFile is_traced (F.opens files.old files.new name.now) (W.sink writer.old)
+        (W.sink writer.new) result }
+{
     match files.open(name) {
-        Some(mut file) => run_script(alloc, is_traced, &mut file, writer),
+        Some(mut file) => run_script_for(alloc, is_traced, &mut file, writer, viewer),
         None => Err(ScriptFault {
             line: 0,
             kind: FaultKind::Read,
@@ -72,12 +107,13 @@ pub fn run_bytes(alloc: Global, script: &[u8], out: &mut Vec<u8>) -> Result<(), 
     run_script(alloc, false, &mut reader, out)
 }
 
-/// Runs the lines of a script on an engine of its own.
-fn run_engine<W: Sink>(
+/// Runs the lines of a script on an engine of its own, which that viewer sees at the end.
+fn run_engine<W: Sink, V: Viewer>(
     alloc: Global,
     is_traced: bool,
     script: &[u8],
     writer: &mut W,
+    viewer: &mut V,
 ) -> Result<(), ScriptFault>
     requires short { length script.now ≤ 1048576 }
     requires writer { CanCount (W.sink writer.old) }
@@ -89,6 +125,7 @@ fn run_engine<W: Sink>(
         Err(kind) => return Err(ScriptFault { line: 0, kind }),
     };
     let result = run_lines(alloc, is_traced, &mut engine, script, writer);
+    viewer.see(&engine);
     let _ = engine.end();
     result
 }
