@@ -15,7 +15,11 @@ use Rattle.cli.specs.declared.command_line.request.Request.{Request}
 use Rattle.cli.specs.declared.command_line.request.Request.TheVariants as requests
 use Rattle.cli.specs.declared.command_line.Words.{Words}
 use Rattle.cli.specs.declared.command_line.Words.TheVariants.{NoMemory}
-use Rattle.cli.specs.CommandLine.{AnswersError, AnswersGet, AnswersLoad, Asks, HasManner, Said, audit, file_said, get, load, manner_of, request_file, said_in, script, word_faults}
+use Rattle.cli.specs.CommandLine.{AnswersError, AnswersGet, AnswersLoad, Asks, HasManner, PlansGet, Said, audit, file_said, get, load, manner_of, nothing, request_file, said_in, script, word_faults}
+use Rattle.cli.specs.GetPlan.{plan_file}
+use Rattle.cli.specs.Inputs.{asked_file}
+use Rattle.cli.specs.declared.get.plan.GetPlan.{GetPlan}
+use Rattle.cli.specs.declared.get.plan.GetPlan.TheVariants.{InTurn, Crawl}
 use Rattle.cli.specs.ScriptWords.{script_said_in}
 use Rattle.cli.specs.AuditWords.{audit_said_in}
 use Rattle.cli.specs.GetWords.{GetSaid, get_said_in}
@@ -85,10 +89,19 @@ answers-load words error before mid after requests.NoMemory (inl lacks) wants ke
 answers-load words error before mid after requests.NoMemory (inr (kind_is, refused)) wants kept (inl (is, same)) = let no : manners.Mistake ≡ manners.Memory = sym (ap manner_of kind_is) ∙ is in cc
 answers-load words error before mid after requests.NoMemory why wants kept (inr rises) = rises-from before mid after kept rises
 
+-- a plan of words that say no file reads none
+plan-reads : (said : Said) (plan : GetPlan) → PlansGet said plan → file_said said ≡ None → plan_file plan ≡ None
+plan-reads (get said) (InTurn plan) is none = refl
+plan-reads (get said) (Crawl plan) is none = ap asked_file is.file_said ∙ none
+plan-reads nothing plan is none = absurd is
+plan-reads (script said) plan is none = absurd is
+plan-reads (load said) plan is none = absurd is
+plan-reads (audit said) plan is none = absurd is
+
 -- words that say no file make a request that asks for none
 pub asks-no-file : (faults : Kinds) (said : Said) (before after : ℕ) (request : Request) → Asks faults said before after request → file_said said ≡ None → request_file request ≡ None
 asks-no-file faults said before after (requests.Script input) asks none = ap file_said (sym asks.1) ∙ none
-asks-no-file faults said before after (requests.Get plan) asks none = refl
+asks-no-file faults said before after (requests.Get plan) asks none = plan-reads said plan asks.1 none
 asks-no-file faults said before after (requests.Load plan) asks none = refl
 asks-no-file faults said before after (requests.Audit words) asks none = ap file_said (sym asks.1) ∙ none
 asks-no-file faults said before after (requests.Tell text) asks none = refl

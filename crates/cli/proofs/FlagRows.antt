@@ -12,6 +12,6 @@ pub flags-say : (rows : List Row) (all json state : Bool) (file : Option Text) �
     → (let said : AuditSaid = record { telling = record { all = all; json = json; state = state }; file = file } in said ≡ audit_said_in rows)
 flags-say rows all json state file a b c d = rw (a, b, c, d) refl
 
-pub traced-says : (rows : List Row) (traced : Bool) (file : Option Text) → traced ≡ is_set (first_of (codes "trace") rows) → file ≡ asked_file (first_of (codes "FILE") rows)
-    → (let said : ScriptSaid = record { traced = traced; file = file } in said ≡ script_said_in rows)
-traced-says rows traced file a b = rw (a, b) refl
+pub traced-says : (rows : List Row) (traced : Bool) (picture file : Option Text) → traced ≡ is_set (first_of (codes "trace") rows) → picture ≡ first_of (codes "picture") rows
+    → file ≡ asked_file (first_of (codes "FILE") rows) → (let said : ScriptSaid = record { traced = traced; picture = picture; file = file } in said ≡ script_said_in rows)
+traced-says rows traced picture file a b c = rw (a, b, c) refl

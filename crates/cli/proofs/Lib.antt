@@ -1,8 +1,10 @@
 pub mod CommandLines
 pub mod Fetches
 pub mod Plans
+pub mod Crawls
 pub mod GetRows
 pub mod LoadRows
 pub mod LoadPlans
 pub mod FlagRows
 pub mod LoadTraces
+pub mod LoadRefusals

@@ -1,9 +1,10 @@
 -- The program's command line: what its words ask for, and what the program then does.
 use Rattle.std.specs.Prelude.{◌≡◌, ◌⊎◌, ℕ, Bool, true, false, codes, List, [], ◌∷◌, ◌++◌, map, string_bytes, Option, Some, None, if◌then◌else◌, Result, Ok, Err}
 use Rattle.std.specs.Str.{bytes_eq}
+use Rattle.std.specs.Option.{option_map}
 use Rattle.clap.specs.Words.{App, Kinds, IsAmong, Row, Rule, Text, fault_of, new_app, new_rule, subcommand_of, with_rule, with_subcommand}
 use Rattle.clap.specs.Lexer.{usize_max}
-use Rattle.clap.specs.declared.builder.action.ArgAction.TheVariants.{SetTrue}
+use Rattle.clap.specs.declared.builder.action.ArgAction.TheVariants.{Append, SetTrue}
 use Rattle.clap.specs.declared.error.kind.ErrorKind.{ErrorKind}
 use Rattle.clap.specs.declared.error.kind.ErrorKind.TheVariants as kinds
 use Rattle.conn_key.specs.Wants.{Rises}
@@ -21,10 +22,12 @@ use Rattle.cli.specs.declared.command_line.request.Request.TheVariants as reques
 use Rattle.script_run.specs.Streams.{Stream}
 use Rattle.script_run.specs.Running.{RunsScript}
 use Rattle.script_run.specs.Files.{RunsFile}
-use Rattle.cli.specs.GetPlan.{IsPlanOf}
-use Rattle.cli.specs.GetWords.{GetSaid, IsRefused, get_said_by, get_said_in}
+use Rattle.cli.specs.GetPlan.{IsPlanOf, plan_file}
+use Rattle.cli.specs.GetWords.{GetSaid, IsRefused, crawl_file, get_said_by, get_said_in}
+use Rattle.cli.specs.CrawlWords.{no_crawl}
 use Rattle.cli.specs.Loading.{WritesText}
 use Rattle.cli.specs.LoadWords.{IsLoadPlanOf, IsLoadRefused, LoadSaid, load_said_by, load_said_in}
+use Rattle.cli.specs.MoreWords.{no_more}
 use Rattle.cli.specs.Inputs.{name_of}
 use Rattle.cli.specs.ScriptWords.{ScriptSaid, script_said_by, script_said_in}
 use Rattle.cli.specs.AuditWords.{AuditSaid, audit_said_by, audit_said_in}
@@ -38,24 +41,52 @@ needing_a_subcommand app = record app { top = record app.top { has_version = tru
 abbrev pub flag_rule : Text → Rule
 flag_rule name = record (new_rule name) { long = Some name; action = Some SetTrue }
 
--- script has a flag, and may be given a file
-abbrev pub script_app : App
-script_app = with_rule (with_rule (new_app (codes "script")) (flag_rule (codes "trace"))) (new_rule (codes "FILE"))
-
+-- an option of one value, which may be used once
 abbrev pub value_rule : Text → Rule
 value_rule name = record (new_rule name) { long = Some name; value_names = 1 }
 
--- get has a flag, two options of one value each, and takes one URL or more
+-- script has a flag and an option of one value, and may be given a file
+abbrev pub script_app : App
+script_app = with_rule (with_rule (with_rule (new_app (codes "script")) (flag_rule (codes "trace"))) (value_rule (codes "picture"))) (new_rule (codes "FILE"))
+
+-- get has flags, options of one value each, one that may be repeated, and takes URLs
 abbrev pub url_rule : Rule
-url_rule = record (new_rule (codes "URL")) { range = Some (record { start_inclusive = 1; end_inclusive = usize_max }); required = true }
+url_rule = record (new_rule (codes "URL")) { range = Some (record { start_inclusive = 1; end_inclusive = usize_max }) }
+
+abbrev pub resolve_rule : Rule
+resolve_rule = record (value_rule (codes "resolve")) { action = Some Append }
+
+abbrev pub with_crawl_limits : App → App
+with_crawl_limits app = with_rule (with_rule (with_rule (with_rule (with_rule (with_rule app (value_rule (codes "file"))) (value_rule (codes "parallel"))) (value_rule (codes "host-limit"))) (value_rule (codes "total")))
+    (value_rule (codes "max-life"))) resolve_rule
+
+abbrev pub with_crawl_flags : App → App
+with_crawl_flags app = with_rule (with_rule (with_rule (with_rule app (flag_rule (codes "fresh"))) (flag_rule (codes "skip-bad"))) (flag_rule (codes "fail"))) (flag_rule (codes "json"))
 
 abbrev pub get_app : App
-get_app = with_rule (with_rule (with_rule (with_rule (new_app (codes "get")) (flag_rule (codes "head"))) (value_rule (codes "max-age"))) (value_rule (codes "timeout"))) url_rule
+get_app = with_rule (with_crawl_flags (with_crawl_limits (with_rule (with_rule (with_rule (new_app (codes "get")) (flag_rule (codes "head"))) (value_rule (codes "max-age"))) (value_rule (codes "timeout"))))) url_rule
 
--- load has seven options of one value each
+-- load has seven options of one value each; and options that may be repeated, others of one value, and flags
+abbrev pub list_rule : Text → Rule
+list_rule name = record (value_rule name) { action = Some Append }
+
+abbrev pub with_lists : App → App
+with_lists app = with_rule (with_rule app (list_rule (codes "url"))) (list_rule (codes "resolve"))
+
+abbrev pub with_times : App → App
+with_times app = with_rule (with_rule (with_rule (with_rule (with_rule (with_rule app (value_rule (codes "connections"))) (value_rule (codes "seconds"))) (value_rule (codes "warmup")))
+    (value_rule (codes "rate"))) (value_rule (codes "timeout"))) (value_rule (codes "fail-above"))
+
+abbrev pub with_load_flags : App → App
+with_load_flags app = with_rule (with_rule (with_rule (with_rule (with_rule (with_rule app (flag_rule (codes "head"))) (flag_rule (codes "forbid-reuse"))) (flag_rule (codes "fail")))
+    (flag_rule (codes "json"))) (flag_rule (codes "quiet"))) (flag_rule (codes "no-progress"))
+
+abbrev pub with_numbers : App → App
+with_numbers app = with_rule (with_rule (with_rule (with_rule (with_rule (with_rule (with_rule (with_rule app (value_rule (codes "sites"))) (value_rule (codes "jobs"))) (value_rule (codes "workers")))
+    (value_rule (codes "host-limit"))) (value_rule (codes "total"))) (value_rule (codes "connects"))) (value_rule (codes "trace"))) (value_rule (codes "picture"))
+
 abbrev pub load_app : App
-load_app = with_rule (with_rule (with_rule (with_rule (with_rule (with_rule (with_rule (new_app (codes "load")) (value_rule (codes "sites"))) (value_rule (codes "jobs"))) (value_rule (codes "workers")))
-    (value_rule (codes "host-limit"))) (value_rule (codes "total"))) (value_rule (codes "connects"))) (value_rule (codes "trace"))
+load_app = with_load_flags (with_times (with_lists (with_numbers (new_app (codes "load")))))
 
 -- audit has three flags, and may be given a file
 abbrev pub audit_app : App
@@ -89,7 +120,7 @@ pub data Said : Type 0 where
 
 -- what matches say, by the name and the rows of the subcommand
 abbrev pub said_in : Option (Text × List Row) → Said
-said_in None = script (record { traced = false; file = None })
+said_in None = script (record { traced = false; picture = None; file = None })
 said_in (Some entered) =
     if bytes_eq entered.0 (codes "get") then get (get_said_in entered.1)
     else (if bytes_eq entered.0 (codes "load") then load (load_said_in entered.1)
@@ -107,6 +138,7 @@ said NoMemory = nothing
 abbrev pub file_said : Said → Option Text
 file_said (script said) = said.file
 file_said (audit said) = said.file
+file_said (get said) = crawl_file said
 file_said _ = None
 
 abbrev pub said_by : Subcommand → Said
@@ -181,6 +213,7 @@ Asks faults said before after requests.NoMemory = HasManner faults manners.Memor
 abbrev pub request_file : Request → Option Text
 request_file (requests.Script words) = name_of words.input
 request_file (requests.Audit words) = name_of words.input
+request_file (requests.Get plan) = plan_file plan
 request_file _ = None
 
 -- the status of a program that ran a script
@@ -217,11 +250,25 @@ pub record EndsAtOnce (ending : ℕ) (unread left old new : Stream) (status : �
   pub unwritten : new ≡ old
   pub ends : status ≡ ending
 
--- what carrying out a plan may write, and its status
-abbrev pub PlanRun : Type 1
-PlanRun = GetPlan → Stream → Stream → ℕ → Type 0
+-- the file of a picture could not be made, and nothing was read or written; or the script was run as it is without the
+-- picture, and the status is 4 if the picture was not written
+abbrev pub IsRunOrUnwritten : ℕ → ℕ → Type 0
+IsRunOrUnwritten ran status = (status ≡ ran) ⊎ (status ≡ 4)
 
--- a plan or a load was carried out: nothing was read
+abbrev pub AnswersPictured : Opening → Option Text → Bool → Stream → Stream → Stream → Stream → ℕ → Type 0
+AnswersPictured Opens file traced unread left old new status =
+    EndsAtOnce 4 unread left old new status ⊎ ((ran : ℕ) × AnswersScript Opens file traced unread left old new ran × IsRunOrUnwritten ran status)
+
+-- a script is run, with a picture if one is asked for
+abbrev pub AnswersDrawn : Option Text → Opening → Option Text → Bool → Stream → Stream → Stream → Stream → ℕ → Type 0
+AnswersDrawn None Opens file traced unread left old new status = AnswersScript Opens file traced unread left old new status
+AnswersDrawn (Some picture) Opens file traced unread left old new status = AnswersPictured Opens file traced unread left old new status
+
+-- what carrying out a plan may read and write, and its status
+abbrev pub PlanRun : Type 1
+PlanRun = GetPlan → Stream → Stream → Stream → Stream → ℕ → Type 0
+
+-- a load was carried out: nothing was read
 pub record AnswersPlan (Runs : Stream → Stream → ℕ → Type 0) (unread left old new : Stream) (status : ℕ) : Type 0 where
   pub unread_yet : left ≡ unread
   pub runs : Runs old new status
@@ -234,8 +281,8 @@ LoadRun = LoadPlan → Stream → Stream → ℕ → Type 0
 -- version is told; words that are refused, and want of memory while they are read, end the program at once; the network is left alone,
 -- but for a plan
 abbrev pub AnswersRequest : Opening → PlanRun → Type 0 → LoadRun → Request → Stream → Stream → Stream → Stream → ℕ → Type 0
-AnswersRequest Opens Runs Alone Loads (requests.Script words) unread left old new status = AnswersScript Opens (name_of words.input) words.is_traced unread left old new status × Alone
-AnswersRequest Opens Runs Alone Loads (requests.Get plan) unread left old new status = AnswersPlan (Runs plan) unread left old new status
+AnswersRequest Opens Runs Alone Loads (requests.Script words) unread left old new status = AnswersDrawn (option_map string_bytes words.picture) Opens (name_of words.input) words.is_traced unread left old new status × Alone
+AnswersRequest Opens Runs Alone Loads (requests.Get plan) unread left old new status = Runs plan unread left old new status
 AnswersRequest Opens Runs Alone Loads (requests.Load options) unread left old new status = AnswersPlan (Loads options) unread left old new status × Alone
 AnswersRequest Opens Runs Alone Loads (requests.Audit words) unread left old new status = AnswersAudit Opens (name_of words.input) words.telling unread left old new status × Alone
 AnswersRequest Opens Runs Alone Loads (requests.Tell text) unread left old new status = TellsText (string_bytes text) unread left old new status × Alone
@@ -278,10 +325,10 @@ abbrev pub small_said : List (List ℕ) → Said
 small_said words = said_after (codes "curlpool" ∷ words)
 
 abbrev pub TakesFile : Type 0
-TakesFile = (faults_after (codes "script" ∷ codes "a" ∷ []) ≡ []) × (small_said (codes "script" ∷ codes "a" ∷ []) ≡ script (record { traced = false; file = Some (codes "a") }))
+TakesFile = (faults_after (codes "script" ∷ codes "a" ∷ []) ≡ []) × (small_said (codes "script" ∷ codes "a" ∷ []) ≡ script (record { traced = false; picture = None; file = Some (codes "a") }))
 
 abbrev pub from_input : ScriptSaid
-from_input = record { traced = false; file = None }
+from_input = record { traced = false; picture = None; file = None }
 
 abbrev pub TakesStandardInput : Type 0
 TakesStandardInput = (small_said (codes "script" ∷ []) ≡ script from_input) × (small_said (codes "script" ∷ codes "-" ∷ []) ≡ script from_input)
@@ -291,16 +338,24 @@ TakesDash = faults_after (codes "script" ∷ codes "-" ∷ []) ≡ []
 
 abbrev pub TakesTraceFlag : Type 0
 TakesTraceFlag = (faults_after (codes "script" ∷ codes "a" ∷ codes "--trace" ∷ []) ≡ [])
-    × (small_said (codes "script" ∷ codes "a" ∷ codes "--trace" ∷ []) ≡ script (record { traced = true; file = Some (codes "a") }))
+    × (small_said (codes "script" ∷ codes "a" ∷ codes "--trace" ∷ []) ≡ script (record { traced = true; picture = None; file = Some (codes "a") }))
+
+abbrev pub TakesPicture : Type 0
+TakesPicture = (faults_after (codes "script" ∷ codes "--picture" ∷ codes "a" ∷ codes "b" ∷ []) ≡ [])
+    × (small_said (codes "script" ∷ codes "--picture" ∷ codes "a" ∷ codes "b" ∷ []) ≡ script (record { traced = false; picture = Some (codes "a"); file = Some (codes "b") }))
 
 abbrev pub a_get : List (List ℕ)
 a_get = codes "get" ∷ codes "--head" ∷ codes "a" ∷ codes "--timeout" ∷ codes "9" ∷ codes "b" ∷ []
 
 abbrev pub TakesUrls : Type 0
-TakesUrls = (faults_after a_get ≡ []) × (small_said a_get ≡ get (record { head = true; max_age = None; timeout = Some (codes "9"); urls = codes "a" ∷ codes "b" ∷ [] }))
+TakesUrls = (faults_after a_get ≡ []) × (small_said a_get ≡ get (record { head = true; max_age = None; timeout = Some (codes "9"); urls = codes "a" ∷ codes "b" ∷ []; crawl = no_crawl }))
 
-abbrev pub WantsUrl : Type 0
-WantsUrl = faults_after (codes "get" ∷ []) ≡ kinds.MissingRequiredArgument ∷ []
+abbrev pub a_crawl : List (List ℕ)
+a_crawl = codes "get" ∷ codes "--file=-" ∷ codes "--parallel" ∷ codes "8" ∷ codes "--resolve" ∷ codes "a:1:::1" ∷ codes "--fail" ∷ codes "--resolve=b:2:::1" ∷ []
+
+abbrev pub TakesCrawl : Type 0
+TakesCrawl = (faults_after a_crawl ≡ [])
+    × (small_said a_crawl ≡ get (record { head = false; max_age = None; timeout = None; urls = []; crawl = record no_crawl { file = Some (codes "-"); parallel = Some (codes "8"); resolve = codes "a:1:::1" ∷ codes "b:2:::1" ∷ []; fail = true } }))
 
 abbrev pub RefusesTwice : Type 0
 RefusesTwice = faults_after (codes "get" ∷ codes "--max-age=1" ∷ codes "--max-age=2" ∷ codes "a" ∷ []) ≡ kinds.ArgumentConflict ∷ []
@@ -310,7 +365,14 @@ a_load = codes "load" ∷ codes "--jobs" ∷ codes "3" ∷ codes "--connects=07"
 
 abbrev pub TakesNumbers : Type 0
 TakesNumbers = (faults_after a_load ≡ [])
-    × (small_said a_load ≡ load (record { sites = None; jobs = Some (codes "3"); workers = None; host_limit = None; total = None; connects = Some (codes "07"); trace = Some (codes "a") }))
+    × (small_said a_load ≡ load (record { sites = None; jobs = Some (codes "3"); workers = None; host_limit = None; total = None; connects = Some (codes "07"); trace = Some (codes "a"); more = no_more }))
+
+abbrev pub a_long_load : List (List ℕ)
+a_long_load = codes "load" ∷ codes "--url" ∷ codes "a" ∷ codes "--seconds=1" ∷ codes "--json" ∷ codes "--url=b" ∷ codes "--fail-above" ∷ codes "1.5" ∷ []
+
+abbrev pub TakesMore : Type 0
+TakesMore = (faults_after a_long_load ≡ [])
+    × (small_said a_long_load ≡ load (record { sites = None; jobs = None; workers = None; host_limit = None; total = None; connects = None; trace = None; more = record no_more { urls = codes "a" ∷ codes "b" ∷ []; seconds = Some (codes "1"); fail_above = Some (codes "1.5"); json = true } }))
 
 abbrev pub RefusesNumberTwice : Type 0
 RefusesNumberTwice = faults_after (codes "load" ∷ codes "--total=1" ∷ codes "--total=1" ∷ []) ≡ kinds.ArgumentConflict ∷ []

@@ -1,5 +1,6 @@
 -- What fetching the URLs does, and what is written of it.
-use Rattle.std.specs.Prelude.{◌≡◌, ◌==◌, ℕ, List, [], ◌∷◌, ◌++◌, length, string_bytes, count_by, if◌then◌else◌, Result, Ok, Err}
+use Rattle.std.specs.Option.{option_map}
+use Rattle.std.specs.Prelude.{◌≡◌, ◌==◌, ℕ, Option, Some, None, List, [], ◌∷◌, ◌++◌, length, string_bytes, count_by, if◌then◌else◌, Result, Ok, Err}
 use Rattle.std.specs.Io.KnownBytes.{Appends}
 use Rattle.clap.specs.Words.{Text}
 use Rattle.client.specs.declared.fetched.Fetched.{Fetched}
@@ -10,7 +11,11 @@ use Rattle.socket.specs.declared.addresses.Addresses.{Addresses}
 use Rattle.cli.specs.GetLines.{has_failed, line_of}
 use Rattle.script_run.specs.Streams.{Stream, PutsFront, SameFailures, OneMoreFailed}
 use Rattle.cli.specs.declared.get.fetching.NetworkFault.{NetworkFault}
+use Rattle.cli.specs.declared.get.plan.TurnPlan.{TurnPlan}
+use Rattle.cli.specs.Inputs.{asked_file}
+use Rattle.cli.specs.declared.get.crawl.plan.CrawlPlan.{CrawlPlan}
 use Rattle.cli.specs.declared.get.plan.GetPlan.{GetPlan}
+use Rattle.cli.specs.declared.get.plan.GetPlan.TheVariants.{InTurn, Crawl}
 use Rattle.cli.specs.declared.get.plan.UrlJob.{UrlJob}
 
 -- from the one time to the other a job was carried out, and this came of it
@@ -92,8 +97,22 @@ RunsOpened Carries Closes mid left jobs (Ok first) old new status = RunsFetcher 
 RunsOpened Carries Closes mid left jobs (Err fault) old new status = (left ≡ mid) × (new ≡ old) × (status ≡ 4)
 
 -- the jobs of a plan are carried out by one fetcher, of the network that is opened for its addresses
-pub record RunsPlan {N F : Type 0} (Opens : Connecting N F) (Carries : Carrying F) (Closes : Closing N F) (network left : N) (plan : GetPlan) (old new : Stream) (status : ℕ) : Type 0 where
+pub record RunsPlan {N F : Type 0} (Opens : Connecting N F) (Carries : Carrying F) (Closes : Closing N F) (network left : N) (plan : TurnPlan) (old new : Stream) (status : ℕ) : Type 0 where
   pub mid : N
   pub opened : Result F NetworkFault
   pub opens : Opens network mid plan.addresses plan.timeout opened
   pub runs : RunsOpened Carries Closes mid left plan.jobs.items opened old new status
+
+-- standard input is read only if it is the plan's file
+abbrev pub ReadsIfAsked : Option Text → Stream → Stream → Type 0
+ReadsIfAsked None unread left = left ≡ unread
+ReadsIfAsked (Some name) unread left = asked_file (Some name) ≡ Some name → left ≡ unread
+
+-- a crawl is carried out
+pub record RunsCrawl (plan : CrawlPlan) (unread left : Stream) : Type 0 where
+  pub reads : ReadsIfAsked (option_map string_bytes plan.file) unread left
+
+-- URLs are fetched in turn, and nothing is read; or a crawl is carried out
+abbrev pub RunsGet : {N F : Type 0} → Connecting N F → Carrying F → Closing N F → N → N → GetPlan → Stream → Stream → Stream → Stream → ℕ → Type 0
+RunsGet Opens Carries Closes network end (InTurn plan) unread left old new status = (left ≡ unread) × RunsPlan Opens Carries Closes network end plan old new status
+RunsGet Opens Carries Closes network end (Crawl plan) unread left old new status = RunsCrawl plan unread left

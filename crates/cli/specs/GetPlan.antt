@@ -1,5 +1,5 @@
 -- The transfers that the words after `get` ask for.
-use Rattle.std.specs.Prelude.{◌≡◌, ◌≤◌, ◌+◌, ℕ, Bool, false, List, [], ◌∷◌, length, string_bytes, Option, None, Some, if◌then◌else◌, Result, Ok, Err}
+use Rattle.std.specs.Prelude.{◌≡◌, ◌≤◌, ◌<◌, ◌+◌, ℕ, Bool, true, false, map, List, [], ◌∷◌, length, string_bytes, Option, None, Some, if◌then◌else◌, Result, Ok, Err}
 use Rattle.std.specs.Global.{Vec}
 use Rattle.std.specs.List.{Any}
 use Rattle.std.specs.declared.net.socket_addr.SocketAddr.{SocketAddr}
@@ -13,7 +13,16 @@ use Rattle.conn_key.specs.declared.site.Site.{Site}
 use Rattle.conn_key.specs.declared.target.Target.{Target}
 use Rattle.conn_log.specs.declared.entry.Want.{Want}
 use Rattle.socket.specs.Hosts.{Names}
+use Rattle.std.specs.Option.{option_map}
 use Rattle.cli.specs.GetWords.{GetSaid, IsBadUrl, IsPrintable, IsRefused, max_age_said, timeout_said}
+use Rattle.cli.specs.CrawlWords.{asks_crawl, flags_said, is_empty_list, max_life_said, parallel_range}
+use Rattle.cli.specs.Inputs.{asked_file}
+use Rattle.cli.specs.LoadRanges.{limit_range}
+use Rattle.cli.specs.LoadWords.{number_said}
+use Rattle.cli.specs.declared.get.crawl.plan.CrawlOptions.{CrawlOptions}
+use Rattle.cli.specs.declared.get.crawl.plan.CrawlPlan.{CrawlPlan}
+use Rattle.cli.specs.declared.get.plan.TurnPlan.{TurnPlan}
+use Rattle.cli.specs.declared.get.plan.GetPlan.TheVariants.{InTurn, Crawl}
 use Rattle.cli.specs.declared.get.plan.GetPlan.{GetPlan}
 use Rattle.cli.specs.declared.get.plan.GetRefusal.{GetRefusal}
 use Rattle.cli.specs.declared.get.plan.GetRefusal.TheVariants.{Memory, Wrong}
@@ -56,14 +65,45 @@ HaveAddresses [] [] = Unit {0}
 HaveAddresses (site ∷ sites) (list ∷ lists) = Names site.0 site.1 list.items × HaveAddresses sites lists
 HaveAddresses _ _ = ⊥
 
--- the jobs of the URLs, numbered from 1, with the addresses of their sites, and the seconds after which each is cancelled
-pub record IsPlanOf (said : GetSaid) (plan : GetPlan) : Type 0 where
+-- the jobs of the URLs, numbered from 1, with the addresses of their sites, and the seconds after which each is cancelled:
+-- no word of a crawl is used
+pub record IsTurnPlanOf (said : GetSaid) (plan : TurnPlan) : Type 0 where
+  pub plain : asks_crawl said.crawl ≡ false
+  pub some : 0 < length said.urls
   pub max_age : ℕ
   pub age_said : max_age_said said.max_age ≡ Some max_age
   pub seconds_said : timeout_said said.timeout ≡ Some plan.timeout
   pub few : length said.urls ≤ 1024
   pub jobs : AreJobs (method_said said.head) max_age [] 1 said.urls plan.jobs.items
   pub addresses : HaveAddresses (sites_with [] plan.jobs.items) plan.addresses.hosts.items
+
+-- a crawl fetches by the numbers and flags that the words say
+pub record AreOptionsOf (said : GetSaid) (options : CrawlOptions) : Type 0 where
+  pub method : options.method ≡ method_said said.head
+  pub age_said : max_age_said said.max_age ≡ Some options.max_age
+  pub seconds_said : timeout_said said.timeout ≡ Some options.timeout
+  pub parallel_said : number_said parallel_range 1 said.crawl.parallel ≡ Some options.parallel
+  pub host_limit_said : number_said limit_range 0 said.crawl.host_limit ≡ Some options.host_limit
+  pub total_said : number_said limit_range 0 said.crawl.total ≡ Some options.total
+  pub life_said : max_life_said said.crawl.max_life ≡ Some options.max_life
+  pub flags : options.flags ≡ flags_said said.crawl
+
+-- a crawl by these, of the URLs and the file that the words say
+pub record IsCrawlPlanOf (said : GetSaid) (plan : CrawlPlan) : Type 0 where
+  pub crawls : asks_crawl said.crawl ≡ true
+  pub options : AreOptionsOf said plan.options
+  pub urls_said : map string_bytes plan.urls.items ≡ said.urls
+  pub file_said : option_map string_bytes plan.file ≡ said.crawl.file
+
+-- URLs in turn, or a crawl
+abbrev pub IsPlanOf : GetSaid → GetPlan → Type 0
+IsPlanOf said (InTurn plan) = IsTurnPlanOf said plan
+IsPlanOf said (Crawl plan) = IsCrawlPlanOf said plan
+
+-- the file that a plan reads URLs from; none is standard input, or none
+abbrev pub plan_file : GetPlan → Option Text
+plan_file (InTurn plan) = None
+plan_file (Crawl plan) = asked_file (option_map string_bytes plan.file)
 
 -- why there is no plan: the words are refused, or memory ran out
 abbrev pub IsWhy : GetSaid → GetRefusal → Type 0
@@ -101,3 +141,8 @@ pub record AddsJob (method : Method) (want : Want) (old new : List Site) (lists 
 pub record Plans (method : Method) (max_age : ℕ) (urls : List Text) (jobs : List UrlJob) (lists : List (Vec SocketAddr)) : Type 0 where
   pub are_jobs : AreJobs method max_age [] 1 urls jobs
   pub addresses : HaveAddresses (sites_with [] jobs) lists
+
+-- if memory did not run out, an address of a host is not of its form
+abbrev pub IsWhyOfHosts : List Text → GetRefusal → Type 0
+IsWhyOfHosts given Memory = Unit {0}
+IsWhyOfHosts given (Wrong text) = is_empty_list given ≡ false

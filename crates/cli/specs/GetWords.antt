@@ -11,7 +11,8 @@ use Rattle.conn_key.specs.declared.target.KeyError.TheVariants.{Memory}
 use Rattle.conn_key.specs.declared.target.Target.{Target}
 use Rattle.script_text.specs.Words.{number}
 use Rattle.socket.specs.Hosts.{HasNoAddress}
-use Rattle.cli.specs.Inputs.{is_set}
+use Rattle.cli.specs.Inputs.{asked_file, is_set}
+use Rattle.cli.specs.CrawlWords.{CrawlSaid, IsCrawlRefused, crawl_said_by, crawl_said_in}
 use Rattle.cli.specs.Printable.{is_unprintable}
 use Rattle.cli.specs.declared.get.words.GetWords.{GetWords}
 
@@ -21,6 +22,7 @@ pub record GetSaid : Type 0 where
   pub max_age : Option Text
   pub timeout : Option Text
   pub urls : List Text
+  pub crawl : CrawlSaid
 
 -- what the rows of the subcommand say
 abbrev pub get_said_in : List Row → GetSaid
@@ -29,6 +31,7 @@ get_said_in rows = record {
   max_age = first_of (codes "max-age") rows;
   timeout = first_of (codes "timeout") rows;
   urls = unwrap_or (all_of (codes "URL") rows) [];
+  crawl = crawl_said_in rows;
 }
 
 abbrev pub get_said_by : GetWords → GetSaid
@@ -37,6 +40,7 @@ get_said_by words = record {
   max_age = option_map string_bytes words.max_age;
   timeout = option_map string_bytes words.timeout;
   urls = map string_bytes words.urls.items;
+  crawl = crawl_said_by words.crawl;
 }
 
 -- the most seconds idle for reuse: any number of 64 bits, 118 where none is given
@@ -62,6 +66,15 @@ abbrev pub IsBadUrl : Text → Type 0
 IsBadUrl url = ((error : KeyError) × Refuses url error × (error ≢ Memory))
     ⊎ (((target : Target) × GivesTarget url target × HasNoAddress (string_bytes target.host)) ⊎ (list_any is_unprintable (chars url) ≡ true))
 
--- a number is out of its range, the URLs are more than 1,024, or one of them is bad
+-- there is neither a URL nor a file of them
+abbrev pub NamesNone : GetSaid → Type 0
+NamesNone said = (said.urls ≡ []) × (said.crawl.file ≡ None)
+
+-- a number is out of its range, the URLs are more than 1,024, one of them is bad, or there is none
 abbrev pub IsRefused : GetSaid → Type 0
-IsRefused said = ((max_age_said said.max_age ≡ None) ⊎ (timeout_said said.timeout ≡ None)) ⊎ ((1024 < length said.urls) ⊎ Any IsBadUrl said.urls)
+IsRefused said = ((max_age_said said.max_age ≡ None) ⊎ (timeout_said said.timeout ≡ None))
+    ⊎ (((1024 < length said.urls) ⊎ Any IsBadUrl said.urls) ⊎ (NamesNone said ⊎ IsCrawlRefused said.crawl))
+
+-- the file that a crawl reads; none is standard input, or none
+abbrev pub crawl_file : GetSaid → Option Text
+crawl_file said = asked_file said.crawl.file

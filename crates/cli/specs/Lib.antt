@@ -3,10 +3,12 @@ pub mod AuditWords
 pub mod ScriptWords
 pub mod Auditing
 pub mod Printable
+pub mod CrawlWords
 pub mod GetWords
 pub mod GetPlan
 pub mod GetLines
 pub mod Fetching
+pub mod Crawling
 pub mod LoadRanges
 pub mod LoadWords
 pub mod LoadJobs
@@ -14,3 +16,4 @@ pub mod Loading
 pub mod CommandLine
 pub mod SystemLoads
 pub mod LoadTraces
+pub mod MoreWords

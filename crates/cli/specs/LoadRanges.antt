@@ -1,5 +1,5 @@
 -- The numbers that a load is given, and their ranges.
-use Rattle.std.specs.Prelude.{ℕ, ◌≤◌, ◌*◌}
+use Rattle.std.specs.Prelude.{ℕ, ◌≤◌, ◌*◌, min}
 use Rattle.cli.specs.declared.loading.range.NumberRange.{NumberRange}
 
 abbrev pub sites_range : NumberRange
@@ -7,6 +7,10 @@ sites_range = record { least = 1; greatest = 8 }
 
 abbrev pub jobs_range : NumberRange
 jobs_range = record { least = 1; greatest = 10000 }
+
+-- with URLs or seconds
+abbrev pub many_jobs_range : NumberRange
+many_jobs_range = record { least = 1; greatest = 4294967295 }
 
 abbrev pub workers_range : NumberRange
 workers_range = record { least = 1; greatest = 64 }
@@ -18,9 +22,10 @@ limit_range = record { least = 0; greatest = 65535 }
 abbrev pub connects_range : NumberRange
 connects_range = record { least = 1; greatest = 65535 }
 
--- as many connections are kept as CURLMOPT_MAXCONNECTS of libcurl has it by default: four for each transfer
+-- as many connections are kept as CURLMOPT_MAXCONNECTS of libcurl has it by default: four for each transfer, but no more
+-- than may be
 abbrev pub connects_for : ℕ → ℕ
-connects_for jobs = 4 * jobs
+connects_for jobs = min (4 * jobs) 65535
 
 abbrev pub IsIn : NumberRange → ℕ → Type 0
 IsIn range number = (range.least ≤ number) × (number ≤ range.greatest)
@@ -28,7 +33,7 @@ IsIn range number = (range.least ≤ number) × (number ≤ range.greatest)
 -- the six numbers of a load
 pub record AreInRange (sites jobs workers host_limit total connects : ℕ) : Type 0 where
   pub sites_in : IsIn sites_range sites
-  pub jobs_in : IsIn jobs_range jobs
+  pub jobs_in : IsIn many_jobs_range jobs
   pub workers_in : IsIn workers_range workers
   pub host_limit_in : IsIn limit_range host_limit
   pub total_in : IsIn limit_range total

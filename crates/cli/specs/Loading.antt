@@ -1,10 +1,10 @@
 -- What a load does, and what is written of it.
-use Rattle.std.specs.Prelude.{◌≡◌, ℕ, codes, String, string_bytes, Result, Ok, Err}
-use Rattle.std.specs.Global.{Global}
+use Rattle.std.specs.Prelude.{◌≡◌, ℕ, codes, string_bytes, Result, Ok, Err}
 use Rattle.clap.specs.Words.{Text}
 use Rattle.script_text.specs.declared.fault.FaultKind.{FaultKind}
 use Rattle.script_run.specs.Streams.{Stream, Puts}
 use Rattle.cli.specs.declared.loading.plan.LoadPlan.{LoadPlan}
+use Rattle.cli.specs.declared.loading.outcome.LoadOutcome.{LoadOutcome}
 use Rattle.cli.specs.declared.loading.fault.LoadFault.{LoadFault}
 use Rattle.cli.specs.declared.loading.fault.LoadFault.TheVariants.{Memory, BadWorkers, Poll, Doubled, Missing, Spawn, Listen, Gather, Write}
 
@@ -20,9 +20,9 @@ load_fault_text Listen = codes "cannot listen"
 load_fault_text Gather = codes "cannot gather"
 load_fault_text Write = codes "cannot write"
 
--- a load of that plan gives this report, or has this fault
+-- a load of that plan comes to this, or has this fault
 abbrev pub Loading : Type 1
-Loading = LoadPlan → Result (String Global) LoadFault → Type 0
+Loading = LoadPlan → Result LoadOutcome LoadFault → Type 0
 
 -- 0 if a text was written whole, else 4
 abbrev pub written_status : {A : Type 0} → Result A FaultKind → ℕ
@@ -33,13 +33,19 @@ written_status (Err kind) = 4
 abbrev pub WritesText : Text → Stream → Stream → ℕ → Type 0
 WritesText text old new status = (result : Result (Unit {0}) FaultKind) × Puts old new text result × (status ≡ written_status result)
 
--- the report is written; if there is none, nothing is
-abbrev pub WritesReport : Result (String Global) LoadFault → Stream → Stream → ℕ → Type 0
-WritesReport (Ok report) old new status = WritesText (string_bytes report) old new status
+-- the status of a load if its report was written whole, else 4
+abbrev pub outcome_status : {A : Type 0} → ℕ → Result A FaultKind → ℕ
+outcome_status status (Ok done) = status
+outcome_status status (Err kind) = 4
+
+-- the report is written, or a front of it if writing fails; if there is none, nothing is
+abbrev pub WritesReport : Result LoadOutcome LoadFault → Stream → Stream → ℕ → Type 0
+WritesReport (Ok outcome) old new status =
+    (result : Result (Unit {0}) FaultKind) × Puts old new (string_bytes outcome.report) result × (status ≡ outcome_status outcome.status result)
 WritesReport (Err fault) old new status = (new ≡ old) × (status ≡ 4)
 
 -- a load was carried out, and its report written
 pub record RunsLoad (Loads : Loading) (plan : LoadPlan) (old new : Stream) (status : ℕ) : Type 0 where
-  pub outcome : Result (String Global) LoadFault
+  pub outcome : Result LoadOutcome LoadFault
   pub loads : Loads plan outcome
   pub writes : WritesReport outcome old new status

@@ -1,12 +1,11 @@
 //! The program's command line, and the words that it reads.
 
-ghost use Rattle.std.specs.Prelude.{◌≡◌, false, codes, IfOk, map, string_bytes};
-ghost use Rattle.clap.specs.Words.{FailsBy, app_of, kind_of, rule_of};
+ghost use Rattle.std.specs.Prelude.{◌≡◌, IfOk, map, string_bytes};
+ghost use Rattle.clap.specs.Words.{FailsBy, app_of, kind_of};
 ghost use Rattle.clap.specs.Words.{subcommand_rows_of, with_subcommand};
-ghost use Rattle.cli.specs.CommandLine.{audit_app, curlpool, faults_of, flag_rule, get_app};
+ghost use Rattle.cli.specs.CommandLine.{audit_app, curlpool, faults_of, get_app};
 ghost use Rattle.cli.specs.CommandLine.{load_app};
 ghost use Rattle.cli.specs.CommandLine.{read_words, said_after, said_by, said_in, script_app};
-ghost use Rattle.cli.specs.CommandLine.{url_rule, value_rule};
 
 pub(crate) mod flags;
 pub(crate) mod help;
@@ -14,35 +13,23 @@ pub(crate) mod memory;
 pub(crate) mod mistake;
 pub(crate) mod printable;
 pub(crate) mod request;
+pub(crate) mod resolving;
 pub(crate) mod system_words;
 pub(crate) mod values;
 
 use crate::auditing::subcommand::audit_subcommand;
 use crate::auditing::words::{AuditWords, audit_words_of};
+use crate::get::subcommand::get_subcommand;
 use crate::get::words::{GetWords, get_words_of};
 use crate::loading::subcommand::load_subcommand;
 use crate::loading::words::{LoadWords, load_words_of};
 use crate::script::input::ScriptInput;
+use crate::script::subcommand::script_subcommand;
 use crate::script::words::{ScriptWords, script_words_of};
 use clap::error::ErrorKind;
-use clap::{Arg, ArgAction, ArgMatches, Command, Error};
-use flags::with_flag;
-use help::{COMMANDS, EXAMPLES, LINES};
+use clap::{ArgMatches, Command, Error};
+use help::EXAMPLES;
 use std::alloc::{AllocError, Global};
-
-/// What `--help` says of the file and the flag of `script`.
-const FILE_HELP: &str = "The script's file; standard input if it is - or left out";
-
-const TRACE_HELP: &str = "Writes a trace: each line of the script, and what it causes";
-
-/// What `--help` says of the options and URLs of `get`.
-const HEAD_HELP: &str = "Sends HEAD in place of GET";
-
-const MAX_AGE_HELP: &str = "Most seconds idle for reuse; 118 if left out";
-
-const TIMEOUT_HELP: &str = "Seconds after which a transfer is cancelled, 1 to 3600; 30 if left out";
-
-const URL_HELP: &str = "An http URL of localhost or an address; at most 1024";
 
 /// The words with which the program was started, its name first, or why they could not be had.
 #[derive(Drop)]
@@ -91,13 +78,7 @@ fn with_script<'a>(alloc: Global, program: Command<'a>) -> Result<Command<'a>, A
     ensures { IfOk result (λ command.
         app_of command ≡ with_subcommand (app_of program.entry) script_app.top) }
 {
-    let bare = Command::new(alloc, "script");
-    let with_trace = with_flag(alloc, bare, "trace", TRACE_HELP)?;
-    let file = Arg::new(alloc, "FILE").help(FILE_HELP);
-    let with_file = with_trace.arg(file)?;
-    let script = with_file
-        .about("Runs a script and writes its transcript")
-        .after_help(COMMANDS);
+    let script = script_subcommand(alloc)?;
     let whole = program.subcommand(script)?;
     Ok(whole)
 }
@@ -107,17 +88,7 @@ fn with_get<'a>(alloc: Global, program: Command<'a>) -> Result<Command<'a>, Allo
     ensures { IfOk result (λ command.
         app_of command ≡ with_subcommand (app_of program.entry) get_app.top) }
 {
-    let head = head_flag(alloc);
-    let with_head = Command::new(alloc, "get").arg(head)?;
-    let max_age = seconds(alloc, "max-age", MAX_AGE_HELP);
-    let with_age = with_head.arg(max_age)?;
-    let timeout = seconds(alloc, "timeout", TIMEOUT_HELP);
-    let with_timeout = with_age.arg(timeout)?;
-    let urls = url_list(alloc);
-    let with_urls = with_timeout.arg(urls)?;
-    let get = with_urls
-        .about("Fetches URLs in turn, and tells how each transfer ended")
-        .after_help(LINES);
+    let get = get_subcommand(alloc)?;
     let whole = program.subcommand(get)?;
     Ok(whole)
 }
@@ -140,39 +111,6 @@ fn with_audit<'a>(alloc: Global, program: Command<'a>) -> Result<Command<'a>, Al
     let audit = audit_subcommand(alloc)?;
     let whole = program.subcommand(audit)?;
     Ok(whole)
-}
-
-/// The flag that asks for HEAD.
-fn head_flag<'a>(alloc: Global) -> Arg<'a>
-    ensures rule { rule_of result ≡ flag_rule (codes "head") }
-    ensures local { result.global ≡ false }
-{
-    Arg::new(alloc, "head")
-        .long("head")
-        .action(ArgAction::SetTrue)
-        .help(HEAD_HELP)
-}
-
-/// The URLs, one or more.
-fn url_list<'a>(alloc: Global) -> Arg<'a>
-    ensures rule { rule_of result ≡ url_rule }
-    ensures local { result.global ≡ false }
-{
-    Arg::new(alloc, "URL")
-        .num_args(1..)
-        .required(true)
-        .help(URL_HELP)
-}
-
-/// An option of that name, whose value is a number of seconds.
-fn seconds<'a>(alloc: Global, name: &'a str, help: &'a str) -> Arg<'a>
-    ensures rule { rule_of result ≡ value_rule name.entry.now }
-    ensures local { result.global ≡ false }
-{
-    Arg::new(alloc, name)
-        .long(name)
-        .value_name("SECONDS")
-        .help(help)
 }
 
 /// The subcommand that the matches name.
@@ -199,6 +137,7 @@ fn subcommand_of<'a>(alloc: Global, matches: &ArgMatches<'a>) -> Result<Subcomma
         }
         None => Ok(Subcommand::Script(ScriptWords {
             is_traced: false,
+            picture: None,
             input: ScriptInput::Standard,
         })),
     }

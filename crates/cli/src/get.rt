@@ -1,23 +1,27 @@
 //! Fetches URLs, and tells how each transfer ended.
 
-ghost use Rattle.std.specs.Prelude.{◌≡◌};
-ghost use Rattle.cli.specs.Fetching.{Fetches, PutsLine, RunsPlan, fetched_status};
+ghost use Rattle.std.specs.Prelude.{◌≡◌, None};
+ghost use Rattle.cli.specs.Fetching.{Fetches, PutsLine, RunsGet, RunsPlan, fetched_status};
 ghost use Rattle.cli.specs.GetLines.{is_bad, line_of};
+ghost use Rattle.cli.specs.GetPlan.{plan_file};
 ghost use Rattle.script_run.specs.Streams.{CanCount};
 
+pub(crate) mod crawl;
 pub(crate) mod fetching;
 pub(crate) mod line;
 pub(crate) mod plan;
 pub(crate) mod planning;
+pub(crate) mod subcommand;
 pub(crate) mod system_network;
 pub(crate) mod words;
 
 use client::Fetched;
+use crawl::run_crawl;
 use exchange::Done;
 use fetching::{Fetcher, Network};
 use line::line_text;
-use plan::{GetPlan, UrlJob};
-use script_run::Sink;
+use plan::{GetPlan, TurnPlan, UrlJob};
+use script_run::{ScriptFiles, Sink, Source};
 use script_text::FaultKind;
 use std::alloc::Global;
 use std::io::Write;
@@ -28,12 +32,36 @@ const DONE: u8 = 0;
 /// Something was not.
 const FAILED: u8 = 4;
 
+/// Carries out a plan: fetches its URLs one after another, or as a crawl, whose file is one of
+/// `files`, or `input`. Answers the status: 0 if all had good responses and were told, 2 if a line
+/// of the file is no URL, else 4. What goes wrong is told on `errors`.
+pub fn run_plan<N: Network, F: ScriptFiles, R: Source, W: Sink, E: Write>(
+    alloc: Global,
+    plan: GetPlan,
+    network: &mut N,
+    files: &mut F,
+    input: &mut R,
+    output: &mut W,
+    errors: &mut E,
+) -> u8
+    requires input { CanCount (R.source input.old) }
+    requires output { CanCount (W.sink output.old) }
+    ensures runs { RunsGet N.opens N.Fetcher.fetched N.closes network.old network.new plan
+        (R.source input.old) (R.source input.new) (W.sink output.old) (W.sink output.new) result }
+    ensures unopened { plan_file plan ≡ None → files.new ≡ files.old }
+{
+    match plan {
+        GetPlan::InTurn(plan) => run_in_turn(alloc, plan, network, output, errors),
+        GetPlan::Crawl(plan) => run_crawl(alloc, plan, network, files, input, output, errors),
+    }
+}
+
 /// Carries out a plan: fetches its URLs one after another, writes a line on `output` as each
 /// transfer ends, and closes what fetched them. Answers the status: 0 if all had good responses
 /// and were told, else 4. What goes wrong is told on `errors`.
-pub fn run_plan<N: Network, W: Sink, E: Write>(
+fn run_in_turn<N: Network, W: Sink, E: Write>(
     alloc: Global,
-    plan: GetPlan,
+    plan: TurnPlan,
     network: &mut N,
     output: &mut W,
     errors: &mut E,
@@ -42,7 +70,7 @@ pub fn run_plan<N: Network, W: Sink, E: Write>(
     ensures { RunsPlan N.opens N.Fetcher.fetched N.closes network.old network.new plan
         (W.sink output.old) (W.sink output.new) result }
 {
-    let GetPlan {
+    let TurnPlan {
         jobs,
         addresses,
         timeout,

@@ -5,32 +5,42 @@ ghost use Rattle.cli.specs.Loading.{RunsLoad};
 ghost use Rattle.script_run.specs.Streams.{CanCount};
 
 pub(crate) mod fault;
+pub(crate) mod interrupt;
+pub(crate) mod more_numbers;
+pub(crate) mod more_plan;
+pub(crate) mod more_planning;
+pub(crate) mod more_report;
+pub(crate) mod more_sites;
+pub(crate) mod more_system;
+pub(crate) mod more_words;
 pub(crate) mod numbers;
 pub(crate) mod options;
+pub(crate) mod outcome;
 pub(crate) mod plan;
 pub(crate) mod planning;
+pub(crate) mod progress;
 pub(crate) mod range;
 pub(crate) mod subcommand;
 pub(crate) mod system;
+pub(crate) mod targets;
 pub(crate) mod tracing;
 pub(crate) mod words;
 
 use fault::LoadFault;
+use outcome::LoadOutcome;
 use plan::LoadPlan;
 use script_run::Sink;
 use script_text::FaultKind;
 use std::alloc::Global;
 use std::io::Write;
 
-/// The report was written.
-const DONE: u8 = 0;
-
 /// There is no report, or it was not written whole.
 const FAILED: u8 = 4;
 
-/// Carries out the load of that plan by `load`, and writes its report on `output`. Answers the
-/// status: 0 if the report was written whole, else 4. What goes wrong is told on `errors`.
-pub fn run_load<L: FnOnce(Global, LoadPlan) -> Result<String, LoadFault>, W: Sink, E: Write>(
+/// Carries out the load of that plan by `load`, and writes what comes of it on `output`. Answers
+/// the status: that of the load if its report was written whole, else 4. What it notes, or what
+/// goes wrong, is told on `errors`.
+pub fn run_load<L: FnOnce(Global, LoadPlan) -> Result<LoadOutcome, LoadFault>, W: Sink, E: Write>(
     alloc: Global,
     plan: LoadPlan,
     load: L,
@@ -43,11 +53,14 @@ pub fn run_load<L: FnOnce(Global, LoadPlan) -> Result<String, LoadFault>, W: Sin
         (W.sink output.old) (W.sink output.new) result }
 {
     match load(alloc, plan) {
-        Ok(report) => match output.put(report.as_bytes()) {
-            Ok(()) => DONE,
-            Err(FaultKind::Memory) => failed(errors, LoadFault::Memory),
-            Err(_) => failed(errors, LoadFault::Write),
-        },
+        Ok(outcome) => {
+            let _ = errors.write_all(outcome.note.as_bytes());
+            match output.put(outcome.report.as_bytes()) {
+                Ok(()) => outcome.status,
+                Err(FaultKind::Memory) => failed(errors, LoadFault::Memory),
+                Err(_) => failed(errors, LoadFault::Write),
+            }
+        }
         Err(fault) => failed(errors, fault),
     }
 }

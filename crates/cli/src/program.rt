@@ -3,7 +3,7 @@
 ghost use Rattle.std.specs.Prelude.{◌≡◌, None};
 ghost use Rattle.cli.specs.CommandLine.{AnswersRequest, RunsProgram};
 ghost use Rattle.cli.specs.CommandLine.{file_said, request_file, said, word_faults};
-ghost use Rattle.cli.specs.Fetching.{RunsPlan};
+ghost use Rattle.cli.specs.Fetching.{RunsGet};
 ghost use Rattle.cli.specs.Loading.{RunsLoad, WritesText};
 ghost use Rattle.script_run.specs.Streams.{CanCount};
 
@@ -14,6 +14,7 @@ use crate::command_line::request::{Request, asked_by};
 use crate::get::fetching::Network;
 use crate::get::run_plan;
 use crate::loading::fault::LoadFault;
+use crate::loading::outcome::LoadOutcome;
 use crate::loading::plan::LoadPlan;
 use crate::loading::run_load;
 use crate::script::answer_script;
@@ -39,13 +40,14 @@ const HOW_TO_END: &str = "Write a script, and end it with Ctrl-D on an empty lin
 ///
 /// - 0: it was done, or the trace is lawful;
 /// - 1: the pool of the trace broke a rule;
-/// - 2: the words are refused;
+/// - 2: the words are refused, or a line of a file of URLs is no URL;
 /// - 3: the script has a fault, or the trace can't be read on;
 /// - 4: memory ran out while the words or the trace were read, a URL has no good response or no
-///   line, or a load's report, an audit's answer, help or the version was not written whole.
+///   line, or a script's picture, a load's report, an audit's answer, help or the version was not
+///   written whole.
 ///
-/// The script or the trace is read from the file among `files` that the words name, or else from
-/// `input`. URLs are fetched over `network`, and `load` carries out loads. `output` gets the
+/// The script, the trace or more URLs are read from the file among `files` that the words name, or
+/// else from `input`. URLs are fetched over `network`, and `load` carries out loads. `output` gets the
 /// transcript, the lines of transfers, the report, the answer, the help or the version, and
 /// nothing else. `errors` gets what
 /// goes wrong, and first how to end a script from `input` if that `is_typed` on a terminal.
@@ -53,7 +55,7 @@ pub fn run_program<
     M: WordsMemory,
     F: ScriptFiles,
     N: Network,
-    L: FnOnce(Global, LoadPlan) -> Result<String, LoadFault> + Drop,
+    L: FnOnce(Global, LoadPlan) -> Result<LoadOutcome, LoadFault> + Drop,
     R: Source,
     W: Sink,
     E: Write,
@@ -73,7 +75,7 @@ pub fn run_program<
     requires output { CanCount (W.sink output.old) }
     requires load { L.IsAlwaysCallable load }
     ensures runs { RunsProgram (F.opens files.old files.new)
-        (RunsPlan N.opens N.Fetcher.fetched N.closes network.old network.new)
+        (RunsGet N.opens N.Fetcher.fetched N.closes network.old network.new)
         (network.new ≡ network.old) (RunsLoad (L.post load alloc)) (word_faults words) (said words)
         (M.wants memory.old) (M.wants memory.new) (R.source input.old) (R.source input.new)
         (W.sink output.old) (W.sink output.new) result }
@@ -103,7 +105,7 @@ fn asks_for_input(request: &Request) -> bool {
 pub fn answer_request<
     F: ScriptFiles,
     N: Network,
-    L: FnOnce(Global, LoadPlan) -> Result<String, LoadFault> + Drop,
+    L: FnOnce(Global, LoadPlan) -> Result<LoadOutcome, LoadFault> + Drop,
     R: Source,
     W: Sink,
     E: Write,
@@ -121,14 +123,14 @@ pub fn answer_request<
     requires output { CanCount (W.sink output.old) }
     requires load { L.IsAlwaysCallable load }
     ensures answers { AnswersRequest (F.opens files.old files.new)
-        (RunsPlan N.opens N.Fetcher.fetched N.closes network.old network.new)
+        (RunsGet N.opens N.Fetcher.fetched N.closes network.old network.new)
         (network.new ≡ network.old) (RunsLoad (L.post load alloc)) request
         (R.source input.old) (R.source input.new) (W.sink output.old) (W.sink output.new) result }
     ensures unopened { request_file request ≡ None → files.new ≡ files.old }
 {
     match request {
         Request::Script(words) => answer_script(alloc, words, files, input, output, errors),
-        Request::Get(plan) => run_plan(alloc, plan, network, output, errors),
+        Request::Get(plan) => { run_plan(alloc, plan, network, files, input, output, errors) },
         Request::Load(plan) => run_load(alloc, plan, load, output, errors),
         Request::Audit(words) => answer_audit(alloc, words, files, input, output, errors),
         Request::Tell(text) => tell(text.as_str(), output, errors),

@@ -1,16 +1,20 @@
 //! Runs a script, and tells of its fault.
 
-ghost use Rattle.std.specs.Prelude.{◌≡◌, None};
-ghost use Rattle.cli.specs.CommandLine.{AnswersScript, status_of};
+ghost use Rattle.std.specs.Prelude.{◌≡◌, None, option_map, string_bytes};
+ghost use Rattle.cli.specs.CommandLine.{AnswersDrawn, AnswersPictured, AnswersScript};
+ghost use Rattle.cli.specs.CommandLine.{status_of};
 ghost use Rattle.cli.specs.Inputs.{name_of};
 ghost use Rattle.script_run.specs.Streams.{CanCount};
 
 pub(crate) mod input;
+mod picturing;
+pub(crate) mod subcommand;
 pub(crate) mod words;
 
 use input::ScriptInput;
-use script_run::{ScriptFiles, Sink, Source, run_file, run_script};
-use script_text::ScriptFault;
+use picturing::Painter;
+use script_run::{ScriptFiles, Sink, Source, Unseen, Viewer, run_file_for, run_script_for};
+use script_text::{FaultKind, ScriptFault};
 use std::alloc::Global;
 use std::io::Write;
 use words::ScriptWords;
@@ -21,7 +25,12 @@ const DONE: u8 = 0;
 /// The script has a fault.
 const BAD_SCRIPT: u8 = 3;
 
+/// The picture was not written.
+const UNWRITTEN: u8 = 4;
+
 /// Runs the script that is read from there, tells of its fault on `errors`, and answers the status.
+/// If the words name a file for the picture, it is made before, and gets the picture after the
+/// script; if that fails, it is told, and the status is 4.
 pub(crate) fn answer_script<F: ScriptFiles, R: Source, W: Sink, E: Write>(
     alloc: Global,
     words: ScriptWords,
@@ -32,22 +41,95 @@ pub(crate) fn answer_script<F: ScriptFiles, R: Source, W: Sink, E: Write>(
 ) -> u8
     requires input { CanCount (R.source input.old) }
     requires output { CanCount (W.sink output.old) }
-    ensures answers { AnswersScript (F.opens files.old files.new) (name_of words.input)
-        words.is_traced (R.source input.old) (R.source input.new) (W.sink output.old)
-        (W.sink output.new) result }
+    ensures answers { AnswersDrawn (option_map string_bytes words.picture)
+        (F.opens files.old files.new) (name_of words.input) words.is_traced
+        (R.source input.old) (R.source input.new) (W.sink output.old) (W.sink output.new) result }
     ensures unopened { name_of words.input ≡ None → files.new ≡ files.old }
 {
     let ScriptWords {
         is_traced,
+        picture,
         input: from,
     } = words;
-    match from {
-        ScriptInput::Standard => status_told(errors, run_script(alloc, is_traced, input, output)),
-        ScriptInput::File(name) => {
+    match picture {
+        None => {
+            let viewer = &mut Unseen;
+            run_seen(alloc, is_traced, from, files, input, output, errors, viewer)
+        }
+        Some(name) => {
             let name = name.as_str();
-            status_told(errors, run_file(alloc, is_traced, files, name, output))
+            run_pictured(alloc, is_traced, name, from, files, input, output, errors)
         }
     }
+}
+
+/// Runs the script that is read from there, draws its picture into the file of that name, tells
+/// what goes wrong on `errors`, and answers the status.
+fn run_pictured<F: ScriptFiles, R: Source, W: Sink, E: Write>(
+    alloc: Global,
+    is_traced: bool,
+    name: &str,
+    from: ScriptInput,
+    files: &mut F,
+    input: &mut R,
+    output: &mut W,
+    errors: &mut E,
+) -> u8
+    requires input { CanCount (R.source input.old) }
+    requires output { CanCount (W.sink output.old) }
+    ensures answers { AnswersPictured (F.opens files.old files.new) (name_of from) is_traced
+        (R.source input.old) (R.source input.new) (W.sink output.old) (W.sink output.new) result }
+    ensures unopened { name_of from ≡ None → files.new ≡ files.old }
+{
+    let Some(file) = files.create(name) else {
+        return unwritten(errors, FaultKind::Write);
+    };
+    let mut file = file;
+    let mut painter = Painter::new(alloc);
+    let viewer = &mut painter;
+    let status = run_seen(alloc, is_traced, from, files, input, output, errors, viewer);
+    match painter.write_to(&mut file) {
+        Ok(()) => status,
+        Err(kind) => unwritten(errors, kind),
+    }
+}
+
+/// Runs the script that is read from there, which that viewer sees, tells of its fault on `errors`,
+/// and answers the status.
+fn run_seen<F: ScriptFiles, R: Source, W: Sink, E: Write, V: Viewer>(
+    alloc: Global,
+    is_traced: bool,
+    from: ScriptInput,
+    files: &mut F,
+    input: &mut R,
+    output: &mut W,
+    errors: &mut E,
+    viewer: &mut V,
+) -> u8
+    requires input { CanCount (R.source input.old) }
+    requires output { CanCount (W.sink output.old) }
+    ensures answers { AnswersScript (F.opens files.old files.new) (name_of from) is_traced
+        (R.source input.old) (R.source input.new) (W.sink output.old) (W.sink output.new) result }
+    ensures unopened { name_of from ≡ None → files.new ≡ files.old }
+{
+    match from {
+        ScriptInput::Standard => {
+            let ran = run_script_for(alloc, is_traced, input, output, viewer);
+            status_told(errors, ran)
+        }
+        ScriptInput::File(name) => {
+            let ran = run_file_for(alloc, is_traced, files, name.as_str(), output, viewer);
+            status_told(errors, ran)
+        }
+    }
+}
+
+/// The status of a program that did not write its picture for that reason, which is told.
+fn unwritten<E: Write>(errors: &mut E, kind: FaultKind) -> u8
+    ensures { result ≡ 4 }
+{
+    let _ = writeln!(errors, "run: {kind}");
+    UNWRITTEN
 }
 
 /// The status of a program that ran a script; a fault is told.

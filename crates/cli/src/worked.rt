@@ -5,16 +5,16 @@ ghost use Rattle.cli.specs.CommandLine.{TakesScript, WantsSubcommand, TellsHelpO
 ghost use Rattle.cli.specs.CommandLine.{TellsHelpOnWord, TellsVersionOnVersion};
 ghost use Rattle.cli.specs.CommandLine.{RefusesAnotherWord};
 ghost use Rattle.cli.specs.CommandLine.{TakesFile, TakesStandardInput, TakesDash};
-ghost use Rattle.cli.specs.CommandLine.{TakesUrls, WantsUrl, RefusesTwice};
-ghost use Rattle.cli.specs.CommandLine.{TakesNumbers, WantsNumber, RefusesNumberTwice};
-ghost use Rattle.cli.specs.CommandLine.{TakesTrace, RefusesFlagTwice, TakesTraceFlag};
+ghost use Rattle.cli.specs.CommandLine.{TakesUrls, TakesCrawl, RefusesTwice};
+ghost use Rattle.cli.specs.CommandLine.{TakesNumbers, WantsNumber, RefusesNumberTwice, TakesMore};
+ghost use Rattle.cli.specs.CommandLine.{TakesTrace, RefusesFlagTwice, TakesTraceFlag, TakesPicture};
 ghost use Rattle.cli.specs.GetLines.{TellsResponses, TellsFaults};
 
 /// What is wrong with small command lines, by computation: with `script` alone, or a file after it,
 /// nothing; no word at all, and a word after the file, are refused; `--help`, `help` and
 /// `--version` are asked for. Of `script` alone and `script -` the script is read from standard
-/// input. `get` takes its options among the URLs, needs a URL, and refuses an option that is given
-/// twice. `load` takes its numbers as they are given, needs one after an option, and refuses an
+/// input. `get` takes its options among the URLs, a file in place of URLs, `--resolve` any number of
+/// times, and refuses another option that is given twice. `load` takes its numbers as they are given, needs one after an option, and refuses an
 /// option given twice.
 #[tactic(auto, unfolding(clap::proofs::OnLiterals::clap_on_literals))]
 pub fn worked_command_lines()
@@ -28,20 +28,23 @@ pub fn worked_command_lines()
     ensures standard_input { TakesStandardInput }
     ensures dash { TakesDash }
     ensures urls { TakesUrls }
-    ensures no_url { WantsUrl }
+    ensures crawl { TakesCrawl }
     ensures twice { RefusesTwice }
     ensures numbers { TakesNumbers }
     ensures no_number { WantsNumber }
     ensures number_twice { RefusesNumberTwice }
+    ensures more { TakesMore }
 {}
 
 /// The words of `audit`, by computation: it takes its flags before and after the file, and refuses
-/// a flag that is given twice. `script` takes its flag behind the file.
+/// a flag that is given twice. `script` takes its flag behind the file, and the
+/// file of a picture before it.
 #[tactic(auto, unfolding(clap::proofs::OnLiterals::clap_on_literals))]
 pub fn worked_audit_lines()
     ensures trace { TakesTrace }
     ensures twice { RefusesFlagTwice }
     ensures script { TakesTraceFlag }
+    ensures picture { TakesPicture }
 {}
 
 /// The lines of transfers that ended so, by computation.

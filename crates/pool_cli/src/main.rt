@@ -23,7 +23,7 @@ fn main(rt: HostRuntime) -> ExitCode {
     let words = given_words(&rt);
     let mut memory = CountedWordsMemory::new(rt.alloc());
     let mut files = SystemFiles::new(&rt);
-    let mut network = SystemNetwork::new(&rt);
+    let mut network = SystemNetwork::new(&rt, &rt);
     let stdin = rt.stdin();
     let is_typed = stdin.is_terminal();
     let mut input = Watched::new(stdin);

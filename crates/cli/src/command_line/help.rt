@@ -117,10 +117,12 @@ cannot write        The transcript could not be written
 out of memory       Memory ran out
 
 Status              0: the script ran to its end; 2: the words are refused;
-                    3: the script ended early; 4: no memory to read the words
+                    3: the script ended early; 4: no memory to read the words,
+                    or the picture could not be written, which run: .. tells
 
 Examples
 curlpool script examples/claim-first.script
+curlpool script --picture pictured.svg examples/pictured.script
 curlpool script <examples/who-waits.script
 
 After limits 1 0 1, with one site, who waited has to claim:
@@ -136,7 +138,7 @@ back 2 0 keep at 4  returned 0.1 by 2 at 4";
 pub const LINES: &str = "\
 Later URLs of a host and port reuse its connection. A URL begins with http://
 and has no control characters. For each URL, in order, a line is written as its
-transfer ends:
+transfer ends; with --parallel above 1, in the order in which transfers end:
 
 STATUS LENGTH reused|new [retried] URL
                     The response's status, and the bytes of its body; whether
@@ -144,7 +146,16 @@ STATUS LENGTH reused|new [retried] URL
                     connection had ended, failed or had unsolicited bytes, so a
                     new one was asked for; the request may have been sent
                     twice
-FAULT [retried] URL There is no good response
+FAULT [retried] URL There is no good response; of a crawl, retried is not told
+BadUrl URL          With --skip-bad: the URL is bad
+
+A crawl, which is a get with any of the words from --file to --json, takes any
+number of URLs: those among the words, and then those of the file, a line each.
+Empty lines and lines that begin with # are passed over. It reads on, 4096 lines
+at most, once all that it read has ended. More than 1024 hosts take turns: a
+host's idle connections are closed before another one takes its place. JSON has
+the members url, status, length, reused, retried, fault, reason, waited_us,
+dialled_us, first_byte_us, whole_us; what is not known is null.
 
 FAULT               Why
 Memory              Memory ran out
@@ -162,15 +173,20 @@ Cancelled           It took longer than the timeout, or the system's clock or
                     poll failed
 
 run: ..             Why it ends with status 4
-N of M failed       So many URLs have no good response
+N of M failed       So many URLs have no good response; with --fail, or a status
+                    of 400 and above
 out of memory       Memory ran out
+cannot read         The file could not be read
 too few descriptors The process or the system may have no more files open
 poll failed         The system gives no means to wait for connections
 cannot write        A line could not be written; no more URLs were fetched
 
+line N: bad URL     It ends with status 2: line N of the file is no URL
+
 Status              0: all have responses; 2: the words are refused, and
-                    nothing was dialled; 4: a line has a FAULT, or could not
-                    be written, or memory or the network was missing
+                    nothing was dialled, or a line of the file is a bad URL; 4:
+                    a URL failed, or its line could not be written, or memory or
+                    the network was missing
 
 Examples, of a server on this machine
 curlpool get http://localhost:8000/a http://localhost:8000/b
@@ -178,7 +194,8 @@ curlpool get http://localhost:8000/a http://localhost:8000/b
 200 602 reused http://localhost:8000/b
 
 curlpool get --head --timeout 5 http://127.0.0.1:8000/
-curlpool get --max-age 0 http://[::1]:8000/a http://[::1]:8000/b";
+curlpool get --max-age 0 http://[::1]:8000/a http://[::1]:8000/b
+curlpool get --file urls.txt --parallel 64 --skip-bad --json";
 
 /// What `load` does and writes, and how it ends.
 pub const REPORT: &str = "\
@@ -187,6 +204,14 @@ answers each request with the body ok. Threads that share one cache of
 connections draw the jobs 0, 1, 2 ..; job K asks for /K of site K modulo the
 number of sites. A number is decimal digits, without a sign. With --trace, what
 the cache was asked and did is written to a file, as curlpool audit reads it.
+
+With --url, --connections, --seconds, --rate or another option after --trace
+above, each thread has many requests under way at once, job K is for URL K
+modulo the number of URLs (the own server is asked for / of each site), and a
+summary stands on standard error. A host is looked up by the system, unless it
+is localhost, an address, or given by --resolve. A request under way when the
+seconds are up is stopped, neither done nor failed. With --rate a latency runs
+from when its request was due.
 
 Line of report      Its numbers in order
 host                Of each site: its index; connections opened; how often one
@@ -206,11 +231,14 @@ job missing         No result came of a job
 cannot start thread A thread was refused
 cannot listen       The server's ports were refused
 cannot gather       What the threads did could not be brought together
-cannot write        The report or the trace could not be written
+cannot write        The report, the trace or the picture could not be written
+unknown host NAME   The system knows no address of a URL's host
 
 Status              0: the report is written, whatever became of the requests;
                     2: the words are refused, and nothing was done; 4: there is
-                    no report, or not the whole of it, and run: .. tells why
+                    no report, or not the whole of it, and run: .. tells why;
+                    5: more requests failed than --fail-above allows; 130: Ctrl-C
+                    ended a load that has one of these options
 
 Examples
 curlpool load --sites 1 --jobs 3 --workers 1
@@ -221,7 +249,9 @@ jobs       3       0       2       0       6
 curlpool load --sites 4 --jobs 10000 --workers 64 --host-limit 2 --total 6
 
 curlpool load --total 1 --trace load.trace
-curlpool audit load.trace";
+curlpool audit load.trace
+
+curlpool load --url http://127.0.0.1:8080/ --connections 64 --seconds 10";
 
 /// What a trace says, and what `audit` answers.
 pub const AUDITS: &str = "\

@@ -3,7 +3,7 @@
 ghost use Rattle.std.specs.Prelude.{◌≡◌, ◌≤◌, IfOk, IfErr, map, string_bytes};
 ghost use Rattle.cli.specs.GetPlan.{IsPlanOf, IsWhy};
 ghost use Rattle.cli.specs.GetWords.{get_said_by};
-ghost use Rattle.cli.specs.LoadWords.{IsLoadOf, IsLoadRefused, IsWhyNot, load_said_by};
+ghost use Rattle.cli.specs.LoadWords.{IsLoadPlanOf, IsLoadRefused, IsWhyNot, load_said_by};
 ghost use Rattle.clap.specs.Words.{FailsBy, kind_of};
 ghost use Rattle.conn_key.specs.Wants.{Rises};
 ghost use Rattle.cli.specs.CommandLine.{faults_of, said_after, said_by};
@@ -12,8 +12,8 @@ use crate::command_line::mistake::text_of;
 use crate::command_line::{Subcommand, not_text, parse};
 use crate::get::plan::{GetPlan, GetRefusal, plan_of};
 use crate::get::words::GetWords;
-use crate::loading::numbers::load_options;
-use crate::loading::options::LoadOptions;
+use crate::loading::more_planning::load_plan;
+use crate::loading::plan::LoadPlan;
 use crate::loading::words::LoadWords;
 use clap::Error;
 use clap::error::ErrorKind;
@@ -45,11 +45,11 @@ pub trait WordsMemory {
             → Rises (wants self.old) (wants self.new)) }
         ensures kept { wants self.old ≤ wants self.new };
 
-    /// The numbers that the words after `load` give. An error of `clap`'s kind for want of memory
-    /// counts as one.
-    fn load_options(&mut self, words: &LoadWords) -> Result<LoadOptions, Error>
-        ensures options { IfOk result (IsLoadOf (load_said_by words.now)) }
-        ensures refused { IfErr result (IsWhyNot (IsLoadRefused (load_said_by words.now))) }
+    /// What the words after `load` ask for. An error of `clap`'s kind for want of memory counts as
+    /// one.
+    fn load_plan(&mut self, words: LoadWords) -> Result<LoadPlan, Error>
+        ensures plan { IfOk result (IsLoadPlanOf (load_said_by words)) }
+        ensures refused { IfErr result (IsWhyNot (IsLoadRefused (load_said_by words))) }
         ensures wants { IfErr result (λ error. kind_of error ≡ ErrorKind.OutOfMemory
             → Rises (wants self.old) (wants self.new)) }
         ensures kept { wants self.old ≤ wants self.new };
@@ -103,14 +103,14 @@ impl WordsMemory for CountedWordsMemory {
         plan
     }
 
-    fn load_options(&mut self, words: &LoadWords) -> Result<LoadOptions, Error> {
-        let options = load_options(self.alloc, words);
-        if let Err(error) = &options {
+    fn load_plan(&mut self, words: LoadWords) -> Result<LoadPlan, Error> {
+        let plan = load_plan(self.alloc, words);
+        if let Err(error) = &plan {
             if error.kind() == ErrorKind::OutOfMemory {
                 self.wants = self.wants.saturating_add(1);
             }
         }
-        options
+        plan
     }
 
     fn not_text(&mut self) -> Result<Error, AllocError> {

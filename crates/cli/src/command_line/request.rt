@@ -87,11 +87,8 @@ fn numbered<M: WordsMemory>(memory: &mut M, words: LoadWords) -> Request
     ensures { AnswersLoad (load_said_by words) (M.wants memory.old) (M.wants memory.new)
         result }
 {
-    match memory.load_options(&words) {
-        Ok(options) => {
-            let LoadWords { trace, .. } = words;
-            Request::Load(LoadPlan { options, trace })
-        }
+    match memory.load_plan(words) {
+        Ok(plan) => Request::Load(plan),
         Err(error) => refused(memory, error),
     }
 }

@@ -1,5 +1,7 @@
 //! What carries out jobs, one after another, and the network that it works on.
 
+use crate::get::crawl::crawler::Crawler;
+use crate::get::crawl::plan::CrawlOptions;
 use client::Fetched;
 use exchange::Job;
 use socket::Addresses;
@@ -43,6 +45,9 @@ pub trait Network {
     /// What carries out jobs on it. It has to be closed.
     type Fetcher: Fetcher;
 
+    /// What carries out the jobs of a crawl on it. It closes its connections as it is dropped.
+    type Crawler: Crawler + Drop;
+
     /// Whether opening the network for those addresses, and so many seconds, gives that fetcher or
     /// fault, and leaves the network so.
     ghost opens: { Self → Self → Addresses → ℕ → Result Self.Fetcher NetworkFault → Type 0 };
@@ -67,4 +72,15 @@ pub trait Network {
     /// Closes a fetcher with the connections that it keeps.
     fn close(&mut self, fetcher: Self::Fetcher)
         ensures { closes self.old self.new fetcher };
+
+    /// What carries out the jobs of a crawl by these options.
+    ///
+    /// # Errors
+    ///
+    /// As opening a fetcher.
+    fn open_crawler(
+        &mut self,
+        alloc: Global,
+        options: CrawlOptions,
+    ) -> Result<Self::Crawler, NetworkFault>;
 }

@@ -10,7 +10,7 @@ use std::fmt;
 
 /// The name of a fault.
 #[derive(Drop)]
-struct FaultName(Fault);
+pub(crate) struct FaultName(pub(crate) Fault);
 
 impl fmt::Display for FaultName {
     ghost output = { λ name. Some (fault_name name.0) };

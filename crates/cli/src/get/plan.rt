@@ -1,11 +1,14 @@
 //! What the words after `get` ask for.
 
-ghost use Rattle.std.specs.Prelude.{option_map, string_bytes, IfOk, IfErr};
-ghost use Rattle.cli.specs.GetPlan.{IsPlanOf, IsWhy, SaysNumber};
+ghost use Rattle.std.specs.Prelude.{◌≡◌, ◌<◌, false, length, option_map, string_bytes};
+ghost use Rattle.std.specs.Prelude.{IfOk, IfErr};
+ghost use Rattle.cli.specs.CrawlWords.{asks_crawl, crawl_said_by};
+ghost use Rattle.cli.specs.GetPlan.{IsPlanOf, IsTurnPlanOf, IsWhy, SaysNumber, method_said};
 ghost use Rattle.cli.specs.GetWords.{get_said_by, max_age_said, timeout_said};
 
 use crate::command_line::printable::Escaped;
 use crate::command_line::values::number_of;
+use crate::get::crawl::plan::{CrawlPlan, crawl_plan_of};
 use crate::get::planning::plan_jobs;
 use crate::get::words::GetWords;
 use exchange::Job;
@@ -22,7 +25,17 @@ const TIMEOUT: u32 = 30;
 /// The most seconds after which a transfer is cancelled.
 const LONGEST_TIMEOUT: u64 = 3_600;
 
-/// The most URLs.
+/// What is said of words that name no URL and no file.
+const NO_URL: &str = "\
+curlpool: the following required arguments were not provided:
+  <URL>...
+
+Usage: curlpool get <URL>...
+
+For more information, try '--help'.
+";
+
+/// The most URLs of a get that is no crawl.
 const MOST_URLS: usize = 1_024;
 
 /// A URL as it was given, and the job that fetches it.
@@ -34,7 +47,16 @@ pub struct UrlJob {
 
 /// What `get` is to do.
 #[derive(Drop)]
-pub struct GetPlan {
+pub enum GetPlan {
+    /// To fetch URLs one after another.
+    InTurn(TurnPlan),
+    /// To fetch any number of URLs, many at once.
+    Crawl(CrawlPlan),
+}
+
+/// URLs that are fetched one after another.
+#[derive(Drop)]
+pub struct TurnPlan {
     /// The URLs with their jobs, in order.
     pub jobs: Vec<UrlJob>,
     /// The addresses of the jobs' sites.
@@ -67,10 +89,34 @@ impl From<AllocError> for GetRefusal {
 ///
 /// # Errors
 ///
-/// `Wrong` if a number is out of its range, the URLs are more than 1,024, or one of them has a
-/// control character, or gives no target or no address. `Memory` if memory ran out.
+/// `Wrong` if a number is out of its range, there is neither a URL nor a file, the URLs of a get
+/// that is no crawl are more than 1,024, or one of the URLs has a control character, or gives no
+/// target or no address, and is not to be passed over. `Memory` if memory ran out.
 pub fn plan_of(alloc: Global, words: &GetWords) -> Result<GetPlan, GetRefusal>
     ensures plan { IfOk result (IsPlanOf (get_said_by words.now)) }
+    ensures refused { IfErr result (IsWhy (get_said_by words.now)) }
+{
+    if words.urls.is_empty() && words.crawl.file.is_none() {
+        return Err(wrong(String::from_str(alloc, NO_URL)));
+    }
+    if words.crawl.are_used() {
+        match crawl_plan_of(alloc, words) {
+            Ok(plan) => Ok(GetPlan::Crawl(plan)),
+            Err(refusal) => Err(refusal),
+        }
+    } else {
+        match turn_plan_of(alloc, words) {
+            Ok(plan) => Ok(GetPlan::InTurn(plan)),
+            Err(refusal) => Err(refusal),
+        }
+    }
+}
+
+/// The URLs that the words say to fetch one after another.
+fn turn_plan_of(alloc: Global, words: &GetWords) -> Result<TurnPlan, GetRefusal>
+    requires some { 0 < length words.now.urls.items }
+    requires plain { asks_crawl (crawl_said_by words.now.crawl) ≡ false }
+    ensures plan { IfOk result (IsTurnPlanOf (get_said_by words.now)) }
     ensures refused { IfErr result (IsWhy (get_said_by words.now)) }
 {
     let max_age = max_age_of(alloc, &words.max_age)?;
@@ -79,21 +125,23 @@ pub fn plan_of(alloc: Global, words: &GetWords) -> Result<GetPlan, GetRefusal>
     if urls.len() > MOST_URLS {
         return Err(wrong(String::from_str(alloc, "curlpool: more than 1024 URLs\n")));
     }
-    let method = if words.head {
-        Method::Head
-    } else {
-        Method::Get
-    };
-    let (jobs, addresses) = plan_jobs(alloc, urls, method, max_age)?;
-    Ok(GetPlan {
+    let (jobs, addresses) = plan_jobs(alloc, urls, method_of(words.head), max_age)?;
+    Ok(TurnPlan {
         jobs,
         addresses,
         timeout,
     })
 }
 
+/// The method of the requests.
+pub(crate) fn method_of(head: bool) -> Method
+    ensures { result ≡ method_said head }
+{
+    if head { Method::Head } else { Method::Get }
+}
+
 /// The most seconds idle for reuse, where they were given so.
-fn max_age_of(alloc: Global, given: &Option<String>) -> Result<u64, GetRefusal>
+pub(crate) fn max_age_of(alloc: Global, given: &Option<String>) -> Result<u64, GetRefusal>
     ensures { SaysNumber (max_age_said (option_map string_bytes given.now)) result }
 {
     let Some(text) = given else {
@@ -110,7 +158,7 @@ fn max_age_of(alloc: Global, given: &Option<String>) -> Result<u64, GetRefusal>
 }
 
 /// The seconds after which a transfer is cancelled, where they were given so.
-fn timeout_of(alloc: Global, given: &Option<String>) -> Result<u32, GetRefusal>
+pub(crate) fn timeout_of(alloc: Global, given: &Option<String>) -> Result<u32, GetRefusal>
     ensures { SaysNumber (timeout_said (option_map string_bytes given.now)) result }
 {
     let Some(text) = given else {

@@ -2,6 +2,7 @@
 
 ghost use Rattle.std.specs.Prelude.{◌≡◌, ◌≤◌, ◌<◌, length, map, string_bytes, IfOk, IfErr, OnOk};
 ghost use Rattle.conn_key.specs.Site.{site_of};
+ghost use Rattle.conn_key.specs.Target.{GivesTarget};
 ghost use Rattle.conn_key.specs.Sites.{index_or_next};
 ghost use Rattle.socket.specs.Hosts.{HasNoAddress};
 ghost use Rattle.socket.specs.declared.addresses.AddressFault.TheVariants.{OtherName};
@@ -73,8 +74,7 @@ pub(crate) fn want_of(transfer: u64, max_age: u64) -> Want
     }
 }
 
-/// The job of a URL, whose site is then among the sites. A URL with a control character is refused,
-/// since the line of its transfer would forge another, or reach a terminal that obeys it.
+/// The job of a URL, whose site is then among the sites.
 fn url_job(
     alloc: Global,
     url: &str,
@@ -117,6 +117,30 @@ fn url_job(
         target,
     };
     Ok(UrlJob { url, job })
+}
+
+/// The target that a URL leads to. A URL with a control character is refused, since the line of its
+/// transfer would forge another, or reach a terminal that obeys it.
+///
+/// # Errors
+///
+/// `Wrong` if it has a control character or leads to none, `Memory` if memory ran out.
+pub(crate) fn target_of(alloc: Global, url: &str) -> Result<Target, GetRefusal>
+    ensures ok { IfOk result (GivesTarget url.now) }
+    ensures err { IfErr result (IsWhyOfUrl url.now) }
+{
+    if has_unprintable(url) {
+        let shown = Escaped(url);
+        return Err(wrong(format!(in alloc; "curlpool: {shown}: a control character\n")));
+    }
+    match read_target(&mut CountedMemory::new(alloc), url) {
+        Ok(target) => Ok(target),
+        Err(KeyError::Memory) => Err(GetRefusal::Memory),
+        Err(error) => {
+            let hint = scheme_hint(url);
+            Err(wrong(format!(in alloc; "curlpool: {url}: {error}{hint}\n")))
+        }
+    }
 }
 
 /// What to say of a URL that is refused and does not begin as one of this scheme does.

@@ -5,19 +5,23 @@ ghost use Rattle.cache.specs.Deeds.{DidToPool};
 ghost use Rattle.exchange.specs.Worlds.{world_of};
 ghost use Rattle.client.specs.Fetching.{Fetches};
 
+use crate::get::crawl::plan::CrawlOptions;
+use crate::get::crawl::system_crawler::SystemCrawler;
 use crate::get::fetching::{Fetcher, Network, NetworkFault};
 use budget::Limits;
 use cache::Pool;
 use client::{Client, Fetched};
 use exchange::{Job, Wire};
 use socket::{Addresses, SystemClock, WaitingDial, WaitingWire};
-use std::alloc::Global;
+use std::alloc::{AllocGlobal, Global};
 use std::io;
 use std::io::ErrorKind;
+use std::random::RandomSource;
+use std::sync::Wait;
 use std::time::Duration;
 
 /// The most connections that are kept while they are idle, well below what a process may have open.
-const MOST_IDLE: u32 = 256;
+pub(crate) const MOST_IDLE: u32 = 256;
 
 /// The most hosts.
 const MOST_HOSTS: usize = 1_024;
@@ -30,19 +34,23 @@ const TOO_MANY_IN_PROCESS: i32 = 24;
 
 /// The network of the system. What servers answer nobody knows.
 #[derive(Drop)]
-pub struct SystemNetwork<'a> {
+pub struct SystemNetwork<'a, H: Wait + RandomSource + AllocGlobal> {
     rt: &'a HostRuntime,
+    /// What a crawl waits by.
+    waits: &'a H,
 }
 
-impl<'a> SystemNetwork<'a> {
+impl<'a, H: Wait + RandomSource + AllocGlobal> SystemNetwork<'a, H> {
     /// The network of that system.
-    pub fn new(rt: &'a HostRuntime) -> SystemNetwork<'a> {
-        SystemNetwork { rt }
+    pub fn new(rt: &'a HostRuntime, waits: &'a H) -> SystemNetwork<'a, H> {
+        SystemNetwork { rt, waits }
     }
 }
 
-impl<'a> Network for SystemNetwork<'a> {
+impl<'a, H: Wait + RandomSource + AllocGlobal> Network for SystemNetwork<'a, H> {
     type Fetcher = SystemFetcher<'a>;
+
+    type Crawler = SystemCrawler<'a, H>;
 
     ghost opens = { λ _ _ _ _ _. ⊤ };
 
@@ -81,10 +89,18 @@ impl<'a> Network for SystemNetwork<'a> {
     fn close(&mut self, fetcher: SystemFetcher<'a>) {
         drop(fetcher);
     }
+
+    fn open_crawler(
+        &mut self,
+        alloc: Global,
+        options: CrawlOptions,
+    ) -> Result<SystemCrawler<'a, H>, NetworkFault> {
+        SystemCrawler::new(self.rt, self.waits, alloc, options)
+    }
 }
 
 /// Why the network can't be opened if the system gives that error.
-fn fault_of(error: &io::Error) -> NetworkFault {
+pub(crate) fn fault_of(error: &io::Error) -> NetworkFault {
     if error.kind() == ErrorKind::OutOfMemory {
         NetworkFault::Memory
     } else if lacks_descriptors(error) {

@@ -3,6 +3,7 @@
 ghost use Rattle.std.specs.Prelude.{◌≡◌, map, string_bytes, IfOk};
 ghost use Rattle.clap.specs.Words.{found_of, rows_of};
 ghost use Rattle.cli.specs.GetWords.{get_said_by, get_said_in};
+ghost use Rattle.cli.specs.CrawlWords.{asks_crawl, crawl_said_by, crawl_said_in};
 
 use crate::command_line::values::{is_set, owned};
 use clap::ArgMatches;
@@ -19,6 +20,48 @@ pub struct GetWords {
     pub timeout: Option<String>,
     /// The URLs, in order.
     pub urls: Vec<String>,
+    /// What they say of a crawl.
+    pub crawl: CrawlWords,
+}
+
+/// The words of a crawl, as they were given.
+#[derive(Drop)]
+pub struct CrawlWords {
+    /// The file with more URLs.
+    pub file: Option<String>,
+    /// The most transfers at once.
+    pub parallel: Option<String>,
+    /// The most connections that are open to a host.
+    pub host_limit: Option<String>,
+    /// The most connections that are open to all hosts.
+    pub total: Option<String>,
+    /// The most seconds open for reuse.
+    pub max_life: Option<String>,
+    /// The addresses of hosts.
+    pub resolve: Vec<String>,
+    /// Whether each URL gets a new connection.
+    pub fresh: bool,
+    /// Whether a bad URL has a line, and is passed over.
+    pub skip_bad: bool,
+    /// Whether a status of 400 and above counts as failed.
+    pub fail: bool,
+    /// Whether lines are JSON.
+    pub json: bool,
+}
+
+impl CrawlWords {
+    /// Whether one of them was given.
+    pub fn are_used(&self) -> bool
+        ensures { result ≡ asks_crawl (crawl_said_by self.now) }
+    {
+        let has_value = self.file.is_some()
+            || self.parallel.is_some()
+            || self.host_limit.is_some()
+            || self.total.is_some()
+            || self.max_life.is_some();
+        let has_flag = self.fresh || self.skip_bad || self.fail || self.json;
+        has_value || has_flag || !self.resolve.is_empty()
+    }
 }
 
 /// What the matches of `get` say.
@@ -30,16 +73,47 @@ pub fn get_words_of<'a>(alloc: Global, given: &ArgMatches<'a>) -> Result<GetWord
     let max_age = owned(alloc, given.get_str("max-age"))?;
     let timeout = owned(alloc, given.get_str("timeout"))?;
     let urls = all_owned(alloc, given.get_raw("URL").unwrap_or(&[]))?;
+    let crawl = crawl_words_of(alloc, given)?;
     Ok(GetWords {
         head,
         max_age,
         timeout,
         urls,
+        crawl,
+    })
+}
+
+/// What the matches of `get` say of a crawl.
+fn crawl_words_of<'a>(alloc: Global, given: &ArgMatches<'a>) -> Result<CrawlWords, AllocError>
+    ensures { IfOk result (λ words.
+        crawl_said_by words ≡ crawl_said_in (rows_of (found_of given.now))) }
+{
+    let file = owned(alloc, given.get_str("file"))?;
+    let parallel = owned(alloc, given.get_str("parallel"))?;
+    let host_limit = owned(alloc, given.get_str("host-limit"))?;
+    let total = owned(alloc, given.get_str("total"))?;
+    let max_life = owned(alloc, given.get_str("max-life"))?;
+    let resolve = all_owned(alloc, given.get_raw("resolve").unwrap_or(&[]))?;
+    let fresh = is_set(given.get_str("fresh"));
+    let skip_bad = is_set(given.get_str("skip-bad"));
+    let fail = is_set(given.get_str("fail"));
+    let json = is_set(given.get_str("json"));
+    Ok(CrawlWords {
+        file,
+        parallel,
+        host_limit,
+        total,
+        max_life,
+        resolve,
+        fresh,
+        skip_bad,
+        fail,
+        json,
     })
 }
 
 /// Copies of the texts.
-fn all_owned(alloc: Global, texts: &[&str]) -> Result<Vec<String>, AllocError>
+pub(crate) fn all_owned(alloc: Global, texts: &[&str]) -> Result<Vec<String>, AllocError>
     ensures { IfOk result (λ copies.
         map string_bytes copies.items ≡ map (λ text. text.now) texts.now) }
 {

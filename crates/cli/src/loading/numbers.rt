@@ -1,9 +1,10 @@
 //! The numbers that the words after `load` give.
 
-ghost use Rattle.std.specs.Prelude.{◌≡◌, Some, IfOk, IfErr, option_map, string_bytes};
+ghost use Rattle.std.specs.Prelude.{◌≡◌, ◌<◌, ℕ, Some, IfOk, IfErr, option_map, string_bytes};
 ghost use Rattle.clap.specs.Words.{kind_of};
-ghost use Rattle.cli.specs.LoadRanges.{IsIn};
-ghost use Rattle.cli.specs.LoadWords.{IsLoadOf, IsLoadRefused, IsOutside, IsWhyNot};
+ghost use Rattle.cli.specs.LoadRanges.{IsIn, connects_range, many_jobs_range};
+ghost use Rattle.cli.specs.LoadWords.{jobs_range_for, kept_for};
+ghost use Rattle.cli.specs.LoadWords.{IsLoadOf, IsNumberRefused, IsOutside, IsWhyNot};
 ghost use Rattle.cli.specs.LoadWords.{load_said_by, number_said};
 
 use crate::command_line::values::number_of;
@@ -15,6 +16,9 @@ use clap::Error;
 use clap::error::ErrorKind;
 use std::alloc::{AllocError, Global};
 
+/// What the value of an option is called that is a number.
+pub(crate) const NUMBER: &str = "NUMBER";
+
 /// The ranges of the six numbers.
 const SITES: NumberRange = NumberRange {
     least: 1,
@@ -24,6 +28,12 @@ const SITES: NumberRange = NumberRange {
 const JOBS: NumberRange = NumberRange {
     least: 1,
     greatest: 10_000,
+};
+
+/// The range of the jobs of a load that has URLs or seconds.
+const MANY_JOBS: NumberRange = NumberRange {
+    least: 1,
+    greatest: 4_294_967_295,
 };
 
 const WORKERS: NumberRange = NumberRange {
@@ -44,8 +54,14 @@ const CONNECTS: NumberRange = NumberRange {
 /// How many connections are kept for each job, where their number is not given.
 const CONNECTS_OF_A_JOB: u32 = 4;
 
+/// The most connections that are kept.
+const MOST_CONNECTS: u32 = 65_535;
+
 /// The numbers that the words after `load` give: each is one or more decimal digits. Where one is
-/// not given it is 2 sites, 20 jobs, 4 workers, no limits, and four connections kept for each job.
+/// not given it is 2 sites, 20 jobs, 4 workers, no limits, and four connections kept for each job,
+/// or 65,535 if that is less, or if words of [`MoreWords`] are given without a number of jobs.
+///
+/// [`MoreWords`]: crate::loading::more_words::MoreWords
 ///
 /// # Errors
 ///
@@ -53,15 +69,15 @@ const CONNECTS_OF_A_JOB: u32 = 4;
 /// `OutOfMemory` if memory ran out.
 pub fn load_options(alloc: Global, words: &LoadWords) -> Result<LoadOptions, Error>
     ensures options { IfOk result (IsLoadOf (load_said_by words.now)) }
-    ensures refused { IfErr result (IsWhyNot (IsLoadRefused (load_said_by words.now))) }
+    ensures refused { IfErr result (IsWhyNot (IsNumberRefused (load_said_by words.now))) }
 {
-    let sites = number_or(alloc, "sites", SITES, 2, &words.sites)?;
-    let jobs = number_or(alloc, "jobs", JOBS, 20, &words.jobs)?;
-    let workers = number_or(alloc, "workers", WORKERS, 4, &words.workers)?;
-    let host_limit = number_or(alloc, "host-limit", LIMIT, 0, &words.host_limit)?;
-    let total = number_or(alloc, "total", LIMIT, 0, &words.total)?;
-    let kept = jobs * CONNECTS_OF_A_JOB;
-    let connects = number_or(alloc, "connects", CONNECTS, kept, &words.connects)?;
+    let sites = number_or(alloc, "sites", NUMBER, SITES, 2, &words.sites)?;
+    let jobs = number_or(alloc, "jobs", NUMBER, jobs_range(words), 20, &words.jobs)?;
+    let workers = number_or(alloc, "workers", NUMBER, WORKERS, 4, &words.workers)?;
+    let host_limit = number_or(alloc, "host-limit", NUMBER, LIMIT, 0, &words.host_limit)?;
+    let total = number_or(alloc, "total", NUMBER, LIMIT, 0, &words.total)?;
+    let kept = kept_for(words, jobs);
+    let connects = number_or(alloc, "connects", NUMBER, CONNECTS, kept, &words.connects)?;
     Ok(LoadOptions {
         sites,
         jobs,
@@ -72,14 +88,42 @@ pub fn load_options(alloc: Global, words: &LoadWords) -> Result<LoadOptions, Err
     })
 }
 
-/// The number of the option with that name: the one that is given, or else that other one.
+// The range of the number of jobs.
+fn jobs_range(words: &LoadWords) -> NumberRange
+    ensures range { result ≡ jobs_range_for (load_said_by words.now).more }
+    ensures twenty { IsIn result 20 }
+    ensures within { (jobs : ℕ) → IsIn result jobs → IsIn many_jobs_range jobs }
+{
+    if words.more.urls.is_empty() && words.more.seconds.is_none() {
+        JOBS
+    } else {
+        MANY_JOBS
+    }
+}
+
+// How many connections are kept for so many jobs, where their number is not given.
+fn kept_for(words: &LoadWords, jobs: u32) -> u32
+    requires { 0 < jobs }
+    ensures kept { result ≡ kept_for (load_said_by words.now) jobs }
+    ensures within { IsIn connects_range result }
+{
+    if words.more.are_used() && words.jobs.is_none() {
+        MOST_CONNECTS
+    } else {
+        jobs.saturating_mul(CONNECTS_OF_A_JOB).min(MOST_CONNECTS)
+    }
+}
+
+/// The number of the option with that name, whose value is called so: the one that is given, or
+/// else that other one.
 ///
 /// # Errors
 ///
 /// `ValueValidation` if what is given is no number of the range, `OutOfMemory` if memory ran out.
-fn number_or(
+pub(crate) fn number_or(
     alloc: Global,
     name: &str,
+    value: &str,
     range: NumberRange,
     otherwise: u32,
     given: &Option<String>,
@@ -100,21 +144,38 @@ fn number_or(
     match number_of(text) {
         Some(number) if least <= number && number <= greatest => Ok(number as u32),
         _ => {
-            let error = outside(alloc, name, range, text)?;
+            let error = outside(alloc, name, value, range, text)?;
             Err(error)
         }
     }
 }
 
 /// The error for a text that is no number of that option's range.
-fn outside(alloc: Global, name: &str, range: NumberRange, text: &str) -> Result<Error, AllocError>
+fn outside(
+    alloc: Global,
+    name: &str,
+    value: &str,
+    range: NumberRange,
+    text: &str,
+) -> Result<Error, AllocError>
     ensures { IfOk result (λ error. kind_of error ≡ ErrorKind.ValueValidation) }
 {
     let NumberRange { least, greatest } = range;
     let message = format!(in alloc;
-        "invalid value '{text}' for '--{name} <NUMBER>': not a number from {least} to {greatest}"
+        "invalid value '{text}' for '--{name} <{value}>': not a number from {least} to {greatest}"
     )?;
+    refusal(alloc, ErrorKind::ValueValidation, message.as_str())
+}
+
+/// The error of that kind for words after `load`, which says so.
+///
+/// # Errors
+///
+/// There is no memory for it.
+pub(crate) fn refusal(alloc: Global, kind: ErrorKind, message: &str) -> Result<Error, AllocError>
+    ensures { IfOk result (λ error. kind_of error ≡ kind) }
+{
     let command = load_subcommand(alloc)?;
     let mut named = command.bin_name("curlpool load")?;
-    named.error(ErrorKind::ValueValidation, message.as_str())
+    named.error(kind, message)
 }

@@ -1,10 +1,12 @@
 //! Loads over the system's threads and sockets.
 
-ghost use Rattle.std.specs.Prelude.{◌≡◌, ◌≤◌, length, string_bytes, IfOk, IfSome};
+ghost use Rattle.std.specs.Prelude.{◌≡◌, ◌≤◌, length, string_bytes, None, IfOk, IfSome};
 ghost use Rattle.cli.specs.SystemLoads.{CarriesOutLoad, ReportsLoad};
 
 use crate::loading::fault::LoadFault;
+use crate::loading::more_system::load_more;
 use crate::loading::options::LoadOptions;
+use crate::loading::outcome::LoadOutcome;
 use crate::loading::plan::LoadPlan;
 use crate::loading::planning::load_jobs;
 use crate::loading::tracing::write_trace;
@@ -25,10 +27,10 @@ use std::sync::atomic::{AtomicBool, Ordering};
 use std::thread;
 use std::thread::{Builder, Threads, scope_env};
 
-/// Carries out the load of that plan by threads and sockets of the system, and answers its report.
-/// The requests go to a server of its own, which has one port of 127.0.0.1 for each site. Nobody
-/// knows beforehand how they end; the report says how they did. If the plan names a file, it is
-/// made before, and gets the trace of the logs after the requests.
+/// Carries out the load of that plan by threads and sockets of the system: what is written and told
+/// of it. The requests go to its URLs, or to a server of its own, which has one port of 127.0.0.1
+/// for each site. Nobody knows beforehand how they end; the report says how they did. If the plan
+/// names a file, it is made before, and gets the trace of the logs after the requests.
 ///
 /// `threads` starts the threads: it is the same system, lent once more by who may start some.
 ///
@@ -40,11 +42,41 @@ pub fn load_on_system<T: Threads + Wait + RandomSource + AllocGlobal + Sync>(
     system: &HostRuntime,
     alloc: Global,
     plan: LoadPlan,
-) -> Result<String, LoadFault>
-    ensures { IfOk result (λ report. ReportsLoad plan.options (string_bytes report)) }
+) -> Result<LoadOutcome, LoadFault>
+    ensures { IfOk result (λ outcome. plan.more ≡ None
+        → ReportsLoad plan.options (string_bytes outcome.report)) }
 {
-    let LoadPlan { options, trace } = plan;
-    let traced = trace_file(system, &trace)?;
+    let LoadPlan {
+        options,
+        trace,
+        more,
+    } = plan;
+    match more {
+        None => {
+            let traced = named_file(system, &trace)?;
+            let report = report_once(threads, system, alloc, options, traced)?;
+            Ok(LoadOutcome {
+                report,
+                note: String::new(alloc),
+                status: 0,
+            })
+        }
+        Some(more) => load_more(threads, system, alloc, options, more, &trace),
+    }
+}
+
+// Carries out so many jobs, one at a time in each thread, over a server of the load's own, and
+// answers their report.
+fn report_once<T: Threads + Wait + RandomSource + AllocGlobal + Sync>(
+    threads: &T,
+    system: &HostRuntime,
+    alloc: Global,
+    options: LoadOptions,
+    traced: Option<Watched<File>>,
+) -> Result<String, LoadFault>
+    requires counts { IfSome traced (λ file. file.failures ≡ 0) }
+    ensures { IfOk result (λ report. ReportsLoad options (string_bytes report)) }
+{
     let server = match Server::listen(system, alloc, options.sites) {
         Ok(server) => server,
         Err(error) => return Err(fault_of(&error, LoadFault::Listen)),
@@ -82,12 +114,12 @@ pub fn sites_at(alloc: Global, ports: &[u16]) -> Result<Vec<SocketAddr>, AllocEr
     Ok(sites)
 }
 
-// The file of the trace, made anew, if one is named.
-fn trace_file(
+/// The file of that name, made anew, if one is named.
+pub(crate) fn named_file(
     system: &HostRuntime,
     name: &Option<String>,
 ) -> Result<Option<Watched<File>>, LoadFault>
-    ensures { IfOk result (λ traced. IfSome traced (λ file. file.failures ≡ 0)) }
+    ensures { IfOk result (λ made. IfSome made (λ file. file.failures ≡ 0)) }
 {
     let Some(name) = name else {
         return Ok(None);
@@ -99,7 +131,7 @@ fn trace_file(
 }
 
 // Writes the trace to that file, if it is to be written.
-fn write_to(
+pub(crate) fn write_to(
     alloc: Global,
     options: LoadOptions,
     ports: &[u16],
@@ -119,7 +151,7 @@ fn write_to(
 }
 
 // A copy of the ports.
-fn ports_of(alloc: Global, given: &[u16]) -> Result<Vec<u16>, AllocError> {
+pub(crate) fn ports_of(alloc: Global, given: &[u16]) -> Result<Vec<u16>, AllocError> {
     let mut ports = Vec::new(alloc);
     ports.extend_from_slice(given)?;
     Ok(ports)
@@ -181,7 +213,7 @@ fn load_under<R: Threads + Wait + RandomSource + AllocGlobal + Sync>(
 }
 
 // What is told of a run's fault.
-fn run_fault(fault: DriverFault) -> LoadFault {
+pub(crate) fn run_fault(fault: DriverFault) -> LoadFault {
     match fault {
         DriverFault::Memory => LoadFault::Memory,
         DriverFault::BadWorkers => LoadFault::BadWorkers,
@@ -193,7 +225,7 @@ fn run_fault(fault: DriverFault) -> LoadFault {
 }
 
 // The fault where the system gives that error: want of memory, or else that other one.
-fn fault_of(error: &Error, otherwise: LoadFault) -> LoadFault {
+pub(crate) fn fault_of(error: &Error, otherwise: LoadFault) -> LoadFault {
     if error.kind() == ErrorKind::OutOfMemory {
         LoadFault::Memory
     } else {

@@ -7,4 +7,6 @@ returns-clause-local c =
     let four = c.in_ok-with_host_limit.ensures.local (c.in_ok-with_workers.ensures.local two) in
     let six = c.in_ok-with_connects.ensures.local (c.in_ok-with_total.ensures.local four) in
     let seven = c.in_ok-with_trace.ensures.local six in
-    search (rules, seven)
+    let eight = c.in_ok-with_picture.ensures.local seven in
+    let all = c.in_ok-with_flags.ensures.local (c.in_ok-with_times.ensures.local (c.in_ok-with_lists.ensures.local eight)) in
+    search (rules, all)

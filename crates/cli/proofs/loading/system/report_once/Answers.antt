@@ -4,7 +4,7 @@ use Rattle.exchange.specs.declared.job.Job.{Job}
 use Rattle.cache_report.specs.Report.{report_text}
 use Rattle.cli.specs.LoadJobs.{AreLoadJobs}
 use Rattle.cli.specs.SystemLoads.{CarriesOutLoad}
-use Rattle.cli.proofs.loading.system.load_on_system.Goals as goal
+use Rattle.cli.proofs.loading.system.report_once.Goals as goal
 
 pub returns-in-Ok-report : goal.returns-in-Ok-report
 returns-in-Ok-report g c =
@@ -19,7 +19,7 @@ returns-in-Ok-report g c =
       a_port_each = c.in-Ok.ensures;
       jobs_are = subst (λ (numbers : List ℕ). AreLoadJobs numbers 0 jobs) c.ports-2.ensures c.in-Ok-load_jobs.ensures.jobs;
       as_many = c.in-Ok-load_jobs.ensures.count;
-      is_loaded = subst (λ (count : ℕ). CarriesOutLoad c.args.plan.options count jobs loaded) hosts
-          (subst (λ (given : List Job). CarriesOutLoad c.args.plan.options (length c.deref.result.now) given loaded) c.deref-2.ensures.value c.in_ok-loaded.ensures);
+      is_loaded = subst (λ (count : ℕ). CarriesOutLoad c.args.options count jobs loaded) hosts
+          (subst (λ (given : List Job). CarriesOutLoad c.args.options (length c.deref.result.now) given loaded) c.deref-2.ensures.value c.in_ok-loaded.ensures);
       report_is = c.in-Ok-report.ensures.text ∙ ap (λ (results : List Done). report_text loaded.gathered.hosts.items results) c.deref-5.ensures.value;
     }

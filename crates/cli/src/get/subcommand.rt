@@ -1,0 +1,120 @@
+//! The subcommand `get`.
+
+ghost use Rattle.std.specs.Prelude.{◌≡◌, false, IfOk};
+ghost use Rattle.clap.specs.Words.{app_of, rule_of, with_rule};
+ghost use Rattle.clap.specs.declared.builder.command.Command.TheViews.{out-Command};
+ghost use Rattle.cli.specs.CommandLine.{get_app, url_rule, resolve_rule};
+ghost use Rattle.cli.specs.CommandLine.{with_crawl_limits, with_crawl_flags};
+
+use crate::command_line::flags::with_flag;
+use crate::command_line::help::LINES;
+use crate::loading::subcommand::with_value;
+use clap::{Arg, ArgAction, Command};
+use std::alloc::{AllocError, Global};
+
+/// What the value of an option is called that is a number, or a number of seconds.
+const NUMBER: &str = "NUMBER";
+
+const SECONDS: &str = "SECONDS";
+
+/// What `--help` says of the options and URLs.
+const HEAD_HELP: &str = "Sends HEAD in place of GET";
+
+const MAX_AGE_HELP: &str = "Most seconds idle for reuse; 118 if left out";
+
+const TIMEOUT_HELP: &str = "Seconds after which a transfer is cancelled, 1 to 3600; 30 if left out";
+
+const FILE_HELP: &str = "Reads more URLs, a line each; - is standard input";
+
+const PARALLEL_HELP: &str = "Most transfers at once, 1 to 256; 1 if left out";
+
+const HOST_LIMIT_HELP: &str =
+    "Most connections open to a host, 0 (no limit) to 65535; 0 if left out";
+
+const TOTAL_HELP: &str = "Most connections open in all, 0 (no limit) to 65535; 0 if left out";
+
+const MAX_LIFE_HELP: &str = "Most seconds open for reuse, 0 (no limit) if left out";
+
+const RESOLVE_HELP: &str = "Connects to this address for HOST:PORT; may be repeated";
+
+const FRESH_HELP: &str = "Opens a new connection for each URL";
+
+const SKIP_BAD_HELP: &str = "Writes a line for a bad URL, and goes on";
+
+const FAIL_HELP: &str = "Counts a status of 400 and above as failed";
+
+const JSON_HELP: &str = "Writes a JSON object for each URL in place of its line";
+
+const URL_HELP: &str = "An http URL of localhost or an address; at most 1024";
+
+/// The subcommand `get`: its options, and URLs.
+///
+/// # Errors
+///
+/// There is no memory for it.
+pub fn get_subcommand<'a>(alloc: Global) -> Result<Command<'a>, AllocError>
+    ensures app { IfOk result (λ command. app_of command ≡ get_app) }
+    ensures local { IfOk result (λ command. (out-Command command).has_globals ≡ false) }
+{
+    let bare = Command::new(alloc, "get");
+    let with_head = with_flag(alloc, bare, "head", HEAD_HELP)?;
+    let with_age = with_value(alloc, with_head, "max-age", SECONDS, MAX_AGE_HELP)?;
+    let with_timeout = with_value(alloc, with_age, "timeout", SECONDS, TIMEOUT_HELP)?;
+    let with_limits = with_crawl_limits(alloc, with_timeout)?;
+    let with_flags = with_crawl_flags(alloc, with_limits)?;
+    let urls = url_list(alloc);
+    let with_urls = with_flags.arg(urls)?;
+    let get = with_urls
+        .about("Fetches URLs in turn, and tells how each transfer ended")
+        .after_help(LINES);
+    Ok(get)
+}
+
+/// The URLs.
+fn url_list<'a>(alloc: Global) -> Arg<'a>
+    ensures rule { rule_of result ≡ url_rule }
+    ensures local { result.global ≡ false }
+{
+    Arg::new(alloc, "URL").num_args(1..).help(URL_HELP)
+}
+
+/// The command with the options of a crawl that have values.
+fn with_crawl_limits<'a>(alloc: Global, command: Command<'a>) -> Result<Command<'a>, AllocError>
+    ensures app { IfOk result (λ longer. app_of longer ≡ with_crawl_limits (app_of command.entry)) }
+    ensures local { (out-Command command.entry).has_globals ≡ false
+        → IfOk result (λ longer. (out-Command longer).has_globals ≡ false) }
+{
+    let with_file = with_value(alloc, command, "file", "FILE", FILE_HELP)?;
+    let with_parallel = with_value(alloc, with_file, "parallel", NUMBER, PARALLEL_HELP)?;
+    let with_host = with_value(alloc, with_parallel, "host-limit", NUMBER, HOST_LIMIT_HELP)?;
+    let with_total = with_value(alloc, with_host, "total", NUMBER, TOTAL_HELP)?;
+    let with_life = with_value(alloc, with_total, "max-life", SECONDS, MAX_LIFE_HELP)?;
+    let resolve = resolve_option(alloc);
+    let with_resolve = with_life.arg(resolve)?;
+    Ok(with_resolve)
+}
+
+/// The command with the flags of a crawl.
+fn with_crawl_flags<'a>(alloc: Global, command: Command<'a>) -> Result<Command<'a>, AllocError>
+    ensures app { IfOk result (λ longer. app_of longer ≡ with_crawl_flags (app_of command.entry)) }
+    ensures local { (out-Command command.entry).has_globals ≡ false
+        → IfOk result (λ longer. (out-Command longer).has_globals ≡ false) }
+{
+    let with_fresh = with_flag(alloc, command, "fresh", FRESH_HELP)?;
+    let with_skip = with_flag(alloc, with_fresh, "skip-bad", SKIP_BAD_HELP)?;
+    let with_fail = with_flag(alloc, with_skip, "fail", FAIL_HELP)?;
+    let with_json = with_flag(alloc, with_fail, "json", JSON_HELP)?;
+    Ok(with_json)
+}
+
+/// The option that gives the address of a host, any number of times.
+fn resolve_option<'a>(alloc: Global) -> Arg<'a>
+    ensures rule { rule_of result ≡ resolve_rule }
+    ensures local { result.global ≡ false }
+{
+    Arg::new(alloc, "resolve")
+        .long("resolve")
+        .action(ArgAction::Append)
+        .value_name("HOST:PORT:ADDRESS")
+        .help(RESOLVE_HELP)
+}

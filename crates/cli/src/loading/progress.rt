@@ -1,0 +1,67 @@
+//! The progress of a load, on standard error, and Ctrl-C.
+
+use crate::loading::interrupt::is_interrupted;
+use load::{Seen, Watch};
+use std::io::{IsTerminal, Write};
+use std::sync::atomic::{AtomicBool, AtomicU64, Ordering};
+
+/// How often it is drawn, in microseconds.
+const DRAWN_MICROS: u64 = 200_000;
+
+/// What draws how far a load is, and ends it at Ctrl-C.
+#[derive(Drop)]
+pub(crate) struct ProgressLine<'a> {
+    system: &'a HostRuntime,
+    is_shown: bool,
+    /// When it was drawn last, in microseconds after the start; 0 if it was not.
+    drawn: AtomicU64,
+    is_interrupted: AtomicBool,
+}
+
+impl<'a> ProgressLine<'a> {
+    /// Not drawn yet; it is only if it is to be shown, and standard error is a terminal.
+    pub(crate) fn new(system: &'a HostRuntime, is_shown: bool) -> ProgressLine<'a> {
+        ProgressLine {
+            system,
+            is_shown: is_shown && system.stderr().is_terminal(),
+            drawn: AtomicU64::new(0),
+            is_interrupted: AtomicBool::new(false),
+        }
+    }
+
+    /// Whether Ctrl-C ended the load.
+    pub(crate) fn is_interrupted(&self) -> bool {
+        self.is_interrupted.load(Ordering::SeqCst)
+    }
+
+    /// Erases it.
+    pub(crate) fn erase(&self) {
+        if self.drawn.load(Ordering::SeqCst) != 0 {
+            let _ = eprint!(self.system; "\r\x1b[K");
+        }
+    }
+}
+
+impl Watch for ProgressLine<'_> {
+    fn is_over(&self) -> bool {
+        self.is_interrupted()
+    }
+
+    fn look(&self, seen: Seen) {
+        if is_interrupted() {
+            self.is_interrupted.store(true, Ordering::SeqCst);
+        }
+        let before = self.drawn.load(Ordering::SeqCst);
+        if !self.is_shown || seen.micros.saturating_sub(before) < DRAWN_MICROS {
+            return;
+        }
+        self.drawn.store(seen.micros, Ordering::SeqCst);
+        let Seen {
+            micros,
+            done,
+            failed,
+        } = seen;
+        let seconds = micros / 1_000_000;
+        let _ = eprint!(self.system; "\r{seconds} s, {done} requests, {failed} failed");
+    }
+}

@@ -1,0 +1,39 @@
+//! The subcommand `script`.
+
+ghost use Rattle.std.specs.Prelude.{◌≡◌, false, IfOk};
+ghost use Rattle.clap.specs.Words.{app_of};
+ghost use Rattle.clap.specs.declared.builder.command.Command.TheViews.{out-Command};
+ghost use Rattle.cli.specs.CommandLine.{script_app};
+
+use crate::command_line::flags::with_flag;
+use crate::command_line::help::COMMANDS;
+use crate::loading::subcommand::with_value;
+use clap::{Arg, Command};
+use std::alloc::{AllocError, Global};
+
+/// What `--help` says of the options and the file.
+const TRACE_HELP: &str = "Writes a trace: each line of the script, and what it causes";
+
+const PICTURE_HELP: &str = "Draws what the script does into a file, as SVG";
+
+const FILE_HELP: &str = "The script's file; standard input if it is - or left out";
+
+/// The subcommand `script`: a flag, an option with one value, and a file.
+///
+/// # Errors
+///
+/// There is no memory for it.
+pub fn script_subcommand<'a>(alloc: Global) -> Result<Command<'a>, AllocError>
+    ensures app { IfOk result (λ command. app_of command ≡ script_app) }
+    ensures local { IfOk result (λ command. (out-Command command).has_globals ≡ false) }
+{
+    let bare = Command::new(alloc, "script");
+    let with_trace = with_flag(alloc, bare, "trace", TRACE_HELP)?;
+    let with_picture = with_value(alloc, with_trace, "picture", "FILE", PICTURE_HELP)?;
+    let file = Arg::new(alloc, "FILE").help(FILE_HELP);
+    let with_file = with_picture.arg(file)?;
+    let script = with_file
+        .about("Runs a script and writes its transcript")
+        .after_help(COMMANDS);
+    Ok(script)
+}
