@@ -4,6 +4,12 @@
 #[cfg(test)]
 mod audits;
 #[cfg(test)]
+mod crawl_rows;
+#[cfg(test)]
+mod crawl_sockets;
+#[cfg(test)]
+mod crawlers;
+#[cfg(test)]
 mod get;
 #[cfg(test)]
 mod limits;

@@ -5,6 +5,7 @@ use crate::networks::FakeNetwork;
 use crate::running::{ROW, Row, Text, check, check_stopped, run, words_of};
 use cli::{LoadFault, load_jobs};
 use persistence::Method;
+use std::str::from_utf8;
 
 /// Words, and the numbers that a load is given: sites, jobs, workers, the limit of a host, of the
 /// total, and how many are kept.
@@ -309,5 +310,382 @@ fn jobs_go_round_the_sites(rt: HostRuntime) {
         assert_eq!(rt; (want.transfer, want.max_age), (number, 118));
         assert_eq!(rt; (want.max_life, want.lane), (0, 0));
         number = number.saturating_add(1);
+    }
+}
+
+/// What a load is asked for beside its six numbers, but for its addresses.
+#[derive(Clone, Copy, Debug, PartialEq, Eq)]
+struct More {
+    /// How many URLs there are, and the site of the last.
+    urls: (usize, u32),
+    connections: Option<u32>,
+    seconds: Option<u32>,
+    warmup: u32,
+    rate: Option<u32>,
+    timeout: Option<u32>,
+    fail_above: Option<u32>,
+    /// HEAD, no reuse, statuses fail, JSON, no summary, no progress.
+    flags: [bool; 6],
+}
+
+/// Words that ask for nothing beside JSON.
+const JSON: More = More {
+    urls: (0, 0),
+    connections: None,
+    seconds: None,
+    warmup: 0,
+    rate: None,
+    timeout: None,
+    fail_above: None,
+    flags: [false, false, false, true, false, false],
+};
+
+/// Words for URLs, time and telling, the jobs and connections kept, and what else is asked for.
+static MORE: [(&str, (u32, u32), More); 17] = [
+    ("load --json", (20, 65_535), JSON),
+    ("load --json --jobs 3", (3, 12), JSON),
+    ("load --json --connects 5", (20, 5), JSON),
+    (
+        "load --json --url http://a/ --url http://A:80/b --jobs 4294967295",
+        (4_294_967_295, 65_535),
+        More {
+            urls: (2, 0),
+            timeout: Some(30),
+            ..JSON
+        },
+    ),
+    (
+        "load --json --url http://a/ --url http://a:81/ --url http://b/",
+        (20, 65_535),
+        More {
+            urls: (3, 2),
+            timeout: Some(30),
+            ..JSON
+        },
+    ),
+    (
+        "load --json --url http://a/ --timeout 1",
+        (20, 65_535),
+        More {
+            urls: (1, 0),
+            timeout: Some(1),
+            ..JSON
+        },
+    ),
+    (
+        "load --json --timeout=3600",
+        (20, 65_535),
+        More {
+            timeout: Some(3_600),
+            ..JSON
+        },
+    ),
+    (
+        "load --json --connections 1024",
+        (20, 65_535),
+        More {
+            connections: Some(1_024),
+            ..JSON
+        },
+    ),
+    (
+        "load --json --seconds 86400",
+        (20, 65_535),
+        More {
+            seconds: Some(86_400),
+            ..JSON
+        },
+    ),
+    (
+        "load --json --warmup 0 --rate 1",
+        (20, 65_535),
+        More {
+            rate: Some(1),
+            ..JSON
+        },
+    ),
+    (
+        "load --json --warmup 3600 --rate 1000000",
+        (20, 65_535),
+        More {
+            warmup: 3_600,
+            rate: Some(1_000_000),
+            ..JSON
+        },
+    ),
+    (
+        "load --json --fail-above 0",
+        (20, 65_535),
+        More {
+            fail_above: Some(0),
+            ..JSON
+        },
+    ),
+    (
+        "load --json --fail-above 0.5",
+        (20, 65_535),
+        More {
+            fail_above: Some(50),
+            ..JSON
+        },
+    ),
+    (
+        "load --json --fail-above 12.34",
+        (20, 65_535),
+        More {
+            fail_above: Some(1_234),
+            ..JSON
+        },
+    ),
+    (
+        "load --json --fail-above 100.00",
+        (20, 65_535),
+        More {
+            fail_above: Some(10_000),
+            ..JSON
+        },
+    ),
+    (
+        "load --head --fail --quiet",
+        (20, 65_535),
+        More {
+            flags: [true, false, true, false, true, false],
+            ..JSON
+        },
+    ),
+    (
+        "load --forbid-reuse --no-progress --resolve [::1]:80:[::1]",
+        (20, 65_535),
+        More {
+            flags: [false, true, false, false, false, true],
+            ..JSON
+        },
+    ),
+];
+
+#[test]
+fn words_give_more(rt: HostRuntime) {
+    for (words, (jobs, connects), asked) in &MORE {
+        let row = Row {
+            name: words,
+            words,
+            output: Text::Whole("all\n"),
+            ..ROW
+        };
+        let (_, loader) = check(&rt, &row);
+        let [_, given, _, _, _, kept] = loader.numbers;
+        assert_eq!(rt; (given, kept), (*jobs, *connects), "{words}");
+        let more = loader.more.as_ref().expect(&rt, "more");
+        let (numbers, flags) = (more.numbers, more.flags);
+        let told = More {
+            urls: (more.urls.len(), more.jobs.last().map_or(0, |job| job.site)),
+            connections: numbers.connections,
+            seconds: numbers.seconds,
+            warmup: numbers.warmup,
+            rate: numbers.rate,
+            timeout: numbers.timeout,
+            fail_above: numbers.fail_above,
+            flags: [
+                flags.head,
+                flags.forbid_reuse,
+                flags.fail,
+                flags.json,
+                flags.quiet,
+                flags.no_progress,
+            ],
+        };
+        assert_eq!(rt; told, *asked, "{words}");
+    }
+}
+
+/// Values of `--resolve`, the host that each is for, and its address.
+static RESOLVED: [(&str, &str, &str); 5] = [
+    ("a:80:127.0.0.1", "a", "127.0.0.1:80"),
+    ("b.example:65535:::1", "b.example", "[::1]:65535"),
+    ("c:1:[::1]", "c", "[::1]:1"),
+    ("[::2]:8080:10.0.0.1", "[::2]", "10.0.0.1:8080"),
+    ("1.2.3.4:80:5.6.7.8", "1.2.3.4", "5.6.7.8:80"),
+];
+
+#[test]
+fn addresses_are_given(rt: HostRuntime) {
+    for (value, host, address) in &RESOLVED {
+        let words = format!(in rt.alloc(); "load --resolve {value}").expect(&rt, "memory");
+        let given = words_of(rt.alloc(), words.as_str()).expect(&rt, "memory");
+        let mut network = FakeNetwork::new(None);
+        let mut loader = FakeLoader::new(Ok("all\n"));
+        let mut output = Vec::new(rt.alloc());
+        let (status, _) = run(
+            rt.alloc(),
+            given,
+            false,
+            "",
+            &mut network,
+            &mut loader,
+            &mut output,
+        );
+        assert_eq!(rt; status, 0, "{value}");
+        let more = loader.more.as_ref().expect(&rt, "more");
+        let resolved = more.resolved.first().expect(&rt, "an address");
+        assert_eq!(rt; resolved.host.as_str(), *host, "{value}");
+        let told = resolved.address;
+        let told = format!(in rt.alloc(); "{told}").expect(&rt, "memory");
+        assert_eq!(rt; told.as_str(), *address, "{value}");
+    }
+}
+
+/// Words for URLs, time and telling that are refused, and the line that tells why.
+static MORE_REFUSED: [(&str, &str); 31] = [
+    (
+        "load --url http://a --sites 1",
+        "the argument '--url <URL>' cannot be used with '--sites <NUMBER>'",
+    ),
+    (
+        "load --url http://a --trace b",
+        "the argument '--url <URL>' cannot be used with '--trace <FILE>'",
+    ),
+    (
+        "load --seconds 1 --jobs 1",
+        "the argument '--seconds <SECONDS>' cannot be used with '--jobs <NUMBER>'",
+    ),
+    (
+        "load --url a --url b --url c --url d --url e --url f --url g --url h",
+        "invalid value 'a' for '--url <URL>': not a URL",
+    ),
+    (
+        "load --url http://1 --url http://1 --url http://1 --url http://1 --url http://1 \
+        --url http://1 --url http://1 --url http://1 --url http://1",
+        "more than 8 URLs",
+    ),
+    (
+        "load --url https://a/",
+        "invalid value 'https://a/' for '--url <URL>': not an http URL",
+    ),
+    (
+        "load --url http://a/\u{7f}",
+        "invalid value 'http://a/\\x7f' for '--url <URL>': a control character",
+    ),
+    (
+        "load --resolve a",
+        "invalid value 'a' for '--resolve <HOST:PORT:ADDRESS>': not HOST:PORT:ADDRESS",
+    ),
+    (
+        "load --resolve a:0:1.1.1.1",
+        "invalid value 'a:0:1.1.1.1' for '--resolve <HOST:PORT:ADDRESS>': not HOST:PORT:ADDRESS",
+    ),
+    (
+        "load --resolve a:65536:1.1.1.1",
+        "invalid value 'a:65536:1.1.1.1' for '--resolve <HOST:PORT:ADDRESS>': not HOST:PORT:ADDRESS",
+    ),
+    (
+        "load --resolve a:80:b",
+        "invalid value 'a:80:b' for '--resolve <HOST:PORT:ADDRESS>': not HOST:PORT:ADDRESS",
+    ),
+    (
+        "load --connections 0",
+        "invalid value '0' for '--connections <NUMBER>': not a number from 1 to 1024",
+    ),
+    (
+        "load --connections 1025",
+        "invalid value '1025' for '--connections <NUMBER>': not a number from 1 to 1024",
+    ),
+    (
+        "load --seconds 0",
+        "invalid value '0' for '--seconds <SECONDS>': not a number from 1 to 86400",
+    ),
+    (
+        "load --seconds 86401",
+        "invalid value '86401' for '--seconds <SECONDS>': not a number from 1 to 86400",
+    ),
+    (
+        "load --warmup 3601",
+        "invalid value '3601' for '--warmup <SECONDS>': not a number from 0 to 3600",
+    ),
+    (
+        "load --rate 0",
+        "invalid value '0' for '--rate <NUMBER>': not a number from 1 to 1000000",
+    ),
+    (
+        "load --rate 1000001",
+        "invalid value '1000001' for '--rate <NUMBER>': not a number from 1 to 1000000",
+    ),
+    (
+        "load --timeout 0",
+        "invalid value '0' for '--timeout <SECONDS>': not a number from 1 to 3600",
+    ),
+    (
+        "load --timeout 3601",
+        "invalid value '3601' for '--timeout <SECONDS>': not a number from 1 to 3600",
+    ),
+    (
+        "load --fail-above -1",
+        "unexpected argument '-1' found",
+    ),
+    (
+        "load --fail-above 100.01",
+        "invalid value '100.01' for '--fail-above <PERCENT>': \
+        not a percentage from 0 to 100 with at most two decimals",
+    ),
+    (
+        "load --fail-above 1.000",
+        "invalid value '1.000' for '--fail-above <PERCENT>': \
+        not a percentage from 0 to 100 with at most two decimals",
+    ),
+    (
+        "load --fail-above .5",
+        "invalid value '.5' for '--fail-above <PERCENT>': \
+        not a percentage from 0 to 100 with at most two decimals",
+    ),
+    (
+        "load --fail-above 5.",
+        "invalid value '5.' for '--fail-above <PERCENT>': \
+        not a percentage from 0 to 100 with at most two decimals",
+    ),
+    (
+        "load --jobs 10001 --json",
+        "invalid value '10001' for '--jobs <NUMBER>': not a number from 1 to 10000",
+    ),
+    (
+        "load --jobs 4294967296 --url http://a",
+        "invalid value '4294967296' for '--jobs <NUMBER>': not a number from 1 to 4294967295",
+    ),
+    (
+        "load --rate 1 --rate 1",
+        "the argument '--rate <NUMBER>' cannot be used multiple times",
+    ),
+    (
+        "load --json --json",
+        "the argument '--json' cannot be used multiple times",
+    ),
+    (
+        "load --quiet=1",
+        "unexpected value '1' for '--quiet' found; no more were expected",
+    ),
+    (
+        "load --url",
+        "a value is required for '--url <URL>' but none was supplied",
+    ),
+];
+
+#[test]
+fn more_words_are_refused(rt: HostRuntime) {
+    for (words, told) in &MORE_REFUSED {
+        let given = words_of(rt.alloc(), words).expect(&rt, "memory");
+        let mut network = FakeNetwork::new(None);
+        let mut loader = FakeLoader::new(Ok("all\n"));
+        let mut output = Vec::new(rt.alloc());
+        let (status, errors) = run(
+            rt.alloc(),
+            given,
+            false,
+            "",
+            &mut network,
+            &mut loader,
+            &mut output,
+        );
+        assert_eq!(rt; (status, loader.asked, output.len()), (2, 0, 0), "{words}");
+        let errors = from_utf8(errors.as_slice()).expect(&rt, "a text");
+        let first = errors.lines().next().and_then(|line| line.strip_prefix("curlpool: "));
+        assert_eq!(rt; first, Some(*told), "{words}");
     }
 }

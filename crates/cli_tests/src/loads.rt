@@ -1,6 +1,6 @@
 //! What carries out no load: it keeps the plan, and answers what it is told to.
 
-use cli::{LoadFault, LoadPlan};
+use cli::{LoadFault, LoadOutcome, LoadPlan, MorePlan};
 use std::alloc::Global;
 
 /// Which report or fault it answers, how often it was asked, and with which numbers and file last.
@@ -10,6 +10,7 @@ pub struct FakeLoader<'a> {
     pub asked: u32,
     pub numbers: [u32; 6],
     pub trace: Option<String>,
+    pub more: Option<MorePlan>,
 }
 
 impl<'a> FakeLoader<'a> {
@@ -19,13 +20,19 @@ impl<'a> FakeLoader<'a> {
             asked: 0,
             numbers: [0; 6],
             trace: None,
+            more: None,
         }
     }
 
     /// Carries out no load.
-    pub fn load(&mut self, alloc: Global, plan: LoadPlan) -> Result<String, LoadFault> {
-        let LoadPlan { options, trace } = plan;
+    pub fn load(&mut self, alloc: Global, plan: LoadPlan) -> Result<LoadOutcome, LoadFault> {
+        let LoadPlan {
+            options,
+            trace,
+            more,
+        } = plan;
         self.trace = trace;
+        self.more = more;
         self.asked = self.asked.saturating_add(1);
         self.numbers = [
             options.sites,
@@ -36,6 +43,13 @@ impl<'a> FakeLoader<'a> {
             options.connects,
         ];
         let report = self.answer?;
-        String::from_str(alloc, report).map_err(|_| LoadFault::Memory)
+        let Ok(report) = String::from_str(alloc, report) else {
+            return Err(LoadFault::Memory);
+        };
+        Ok(LoadOutcome {
+            report,
+            note: String::new(alloc),
+            status: 0,
+        })
     }
 }

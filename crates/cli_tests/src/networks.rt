@@ -2,8 +2,9 @@
 
 ghost use Rattle.std.specs.Prelude.{◌≡◌, ⊤};
 
+use crate::crawlers::FakeCrawler;
 use budget::Refusal;
-use cli::{Fetcher, Network, NetworkFault};
+use cli::{CrawlOptions, Fetcher, Network, NetworkFault};
 use client::Fetched;
 use exchange::{Answer, Done, Fault, Job};
 use persistence::{Facts, Framing, Method, Version};
@@ -47,6 +48,8 @@ pub struct FakeNetwork {
     pub openings: u32,
     pub sites: usize,
     pub timeout: u32,
+    /// How many transfers a crawl may have under way at once.
+    pub parallel: u32,
     /// How often a fetcher was closed, and what the last one had fetched.
     pub closings: u32,
     pub fetches: u32,
@@ -59,6 +62,7 @@ impl FakeNetwork {
             openings: 0,
             sites: 0,
             timeout: 0,
+            parallel: 0,
             closings: 0,
             fetches: 0,
         }
@@ -67,6 +71,8 @@ impl FakeNetwork {
 
 impl Network for FakeNetwork {
     type Fetcher = FakeFetcher;
+
+    type Crawler = FakeCrawler;
 
     ghost opens = { λ _ _ _ _ _. ⊤ };
 
@@ -83,16 +89,27 @@ impl Network for FakeNetwork {
         self.timeout = timeout;
         match self.fault {
             Some(fault) => Err(fault),
-            None => Ok(FakeFetcher {
-                open: [false; 64],
-                fetches: 0,
-            }),
+            None => Ok(FakeFetcher::new()),
         }
     }
 
     fn close(&mut self, fetcher: FakeFetcher) {
         self.closings = self.closings.saturating_add(1);
         self.fetches = fetcher.fetches;
+    }
+
+    fn open_crawler(
+        &mut self,
+        _alloc: Global,
+        options: CrawlOptions,
+    ) -> Result<FakeCrawler, NetworkFault> {
+        self.openings = self.openings.saturating_add(1);
+        self.timeout = options.timeout;
+        self.parallel = options.parallel;
+        match self.fault {
+            Some(fault) => Err(fault),
+            None => Ok(FakeCrawler::new(options.parallel)),
+        }
     }
 }
 
@@ -108,6 +125,21 @@ impl Fetcher for FakeFetcher {
 
     fn fetch(&mut self, job: &Job) -> Fetched {
         self.fetches = self.fetches.saturating_add(1);
+        self.answer(job)
+    }
+}
+
+impl FakeFetcher {
+    /// None is open.
+    pub fn new() -> FakeFetcher {
+        FakeFetcher {
+            open: [false; 64],
+            fetches: 0,
+        }
+    }
+
+    /// What comes of a job.
+    pub fn answer(&mut self, job: &Job) -> Fetched {
         let path = job.target.path.as_str();
         for row in &FAULTS {
             if row.0 == path {
@@ -128,7 +160,7 @@ impl Fetcher for FakeFetcher {
         };
         let retried = path == "/again";
         let done = Done::Good(Answer {
-            status: 200,
+            status: if path == "/404" { 404 } else { 200 },
             body_len,
             facts: FACTS,
             reused,

@@ -10,6 +10,7 @@ use crate::streams::{Expecting, REUSE};
 use cli::{CountedWordsMemory, LoadFault, NetworkFault, Words, run_program};
 use script_run::{ScriptFiles, Sink, Watched};
 use std::alloc::{AllocError, AllocGlobal, Global};
+use std::io::{self, Write};
 use std::process::Abort;
 use std::str;
 
@@ -51,12 +52,17 @@ pub const ROW: Row = Row {
     status: 0,
 };
 
-// Files in memory: a script, and a trace.
-#[derive(Drop)]
-struct TwoFiles;
+/// URLs, a line each.
+const URLS: &str = "http://127.0.0.1/f\nhttp://127.0.0.1/gg\n";
 
-impl ScriptFiles for TwoFiles {
+// Files in memory: a script, a trace, and URLs. Files can be made of two names; one of them is full.
+#[derive(Drop)]
+struct ThreeFiles;
+
+impl ScriptFiles for ThreeFiles {
     type File = &'static [u8];
+
+    type Made = Watched<FakeFile>;
 
     ghost opens = { λ _ _ _ _. ⊤ };
 
@@ -64,8 +70,36 @@ impl ScriptFiles for TwoFiles {
         match name {
             "reuse" => Some(REUSE.as_bytes()),
             "broken" => Some(BROKEN.as_bytes()),
+            "urls" => Some(URLS.as_bytes()),
             _ => None,
         }
+    }
+
+    fn create(&self, name: &str) -> Option<Watched<FakeFile>> {
+        match name {
+            "picture" => Some(Watched::new(FakeFile { is_full: false })),
+            "full" => Some(Watched::new(FakeFile { is_full: true })),
+            _ => None,
+        }
+    }
+}
+
+// A file that takes all, or nothing.
+#[derive(Drop)]
+struct FakeFile {
+    is_full: bool,
+}
+
+impl Write for FakeFile {
+    fn write(&mut self, buf: &[u8]) -> io::Result<usize> {
+        if self.is_full {
+            return Ok(0);
+        }
+        Ok(buf.len())
+    }
+
+    fn flush(&mut self) -> io::Result<()> {
+        Ok(())
     }
 }
 
@@ -81,8 +115,8 @@ pub fn words_of(alloc: Global, text: &str) -> Result<Words, AllocError> {
     Ok(Words::Given(words))
 }
 
-/// What the program does with these words and that script on standard input, where `reuse`
-/// and `broken` are the files that there are: its status, and what it writes on standard error.
+/// What the program does with these words and that script on standard input, where `reuse`,
+/// `broken` and `urls` are the files that there are: its status, and what it writes on standard error.
 pub fn run<W: Sink>(
     alloc: Global,
     words: Words,
@@ -95,7 +129,7 @@ pub fn run<W: Sink>(
     requires { CanCount (W.sink output.old) }
 {
     let mut memory = CountedWordsMemory::new(alloc);
-    let mut files = TwoFiles;
+    let mut files = ThreeFiles;
     let mut input = script.as_bytes();
     let mut errors = Vec::new(alloc);
     let status = run_program(

@@ -16,7 +16,35 @@ const LIMIT_TRACED: &str = "# two hosts\nlimits 4 0 4\nsite http://a.test/\n\nge
 const HOW_TO_END: &str = "Write a script, and end it with Ctrl-D on an empty line.\n";
 
 /// Words that ask for scripts, for help or for the version, and those that are refused.
-static ROWS: [Row; 24] = [
+static ROWS: [Row; 28] = [
+    Row {
+        name: "a picture leaves the transcript as it is",
+        words: "script --picture picture",
+        script: REUSE,
+        output: Text::Whole(REUSED),
+        ..ROW
+    },
+    Row {
+        name: "a picture whose file cannot be made: nothing is run",
+        words: "script --picture folder/picture",
+        script: REUSE,
+        errors: Text::Whole("run: cannot write\n"),
+        status: 4,
+        ..ROW
+    },
+    Row {
+        name: "a picture that cannot be written, after a fault",
+        words: "script --picture full broken",
+        output: Text::Whole("opened 0.1 for 1 at 0\n"),
+        errors: Text::Whole("line 4: unknown command\nrun: cannot write\n"),
+        status: 4,
+        ..ROW
+    },
+    Row {
+        name: "two pictures are refused",
+        words: "script --picture a --picture b",
+        ..REFUSED
+    },
     Row {
         name: "a trace has each line and what it causes",
         words: "script --trace",

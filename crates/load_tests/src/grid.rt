@@ -29,9 +29,10 @@ fn reports_of_drawn_loads_add_up(rt: HostRuntime) {
         let plan = LoadPlan {
             options,
             trace: None,
+            more: None,
         };
         let report = match load_on_system(&rt, &rt, rt.alloc(), plan) {
-            Ok(report) => report,
+            Ok(outcome) => outcome.report,
             Err(fault) => panic!(rt; "{options:?}: {fault}"),
         };
         let account = account_of(report.as_str(), options.sites).expect(&rt, "a report");

@@ -7,7 +7,11 @@ mod account;
 #[cfg(test)]
 mod grid;
 #[cfg(test)]
+mod many;
+#[cfg(test)]
 mod memory;
+#[cfg(test)]
+mod more_words;
 #[cfg(test)]
 mod rows;
 #[cfg(test)]

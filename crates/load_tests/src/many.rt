@@ -1,0 +1,242 @@
+//! Loads with many jobs at once over polled sockets, beside a server that counts requests.
+
+use budget::Limits;
+use conn_key::Target;
+use conn_log::Want;
+use exchange::Job;
+use load::{LoadTimes, LoadedMany, ManyPlan, Rate, Unwatched, load_many};
+use loopback_server::Server;
+use persistence::Method;
+use socket::Addresses;
+use std::alloc::{AllocError, AllocGlobal, Global};
+use std::net::{IpAddr, Ipv4Addr, SocketAddr, TcpListener};
+use std::process::Abort;
+use std::random::RandomSource;
+use std::sync::Wait;
+use std::sync::atomic::{AtomicBool, Ordering};
+use std::test::Fail;
+use std::thread::{Builder, Threads, scope_env};
+use std::{io, thread};
+
+/// A load, what it counts, and how long it takes.
+#[derive(Clone, Copy, Debug)]
+struct Row {
+    sites: u32,
+    workers: u32,
+    connections: u32,
+    jobs: Option<u64>,
+    /// For how many seconds after the warm-up, of how many seconds.
+    seconds: Option<u32>,
+    warmup: u32,
+    /// How many jobs are due in a second; 0 without a rate.
+    rate: u32,
+    timeout: Option<u32>,
+    /// How many requests there are at least and at most.
+    requests: (u64, u64),
+    /// How many milliseconds it takes at least and at most.
+    millis: (u64, u64),
+}
+
+/// Of one site, without limits of time.
+const UNTIMED: Row = Row {
+    sites: 1,
+    workers: 2,
+    connections: 4,
+    jobs: None,
+    seconds: None,
+    warmup: 0,
+    rate: 0,
+    timeout: None,
+    requests: (0, 0),
+    millis: (0, 20_000),
+};
+
+// A request for the path / of the site that listens at that port.
+fn url_at(alloc: Global, site: u32, port: u16) -> Result<Job, AllocError> {
+    Ok(Job {
+        site,
+        want: Want {
+            transfer: 0,
+            lane: 0,
+            max_age: 118,
+            max_life: 0,
+            fresh: false,
+            forbid_reuse: false,
+        },
+        method: Method::Get,
+        target: Target {
+            host: String::from_str(alloc, "127.0.0.1")?,
+            port,
+            path: String::from_str(alloc, "/")?,
+        },
+    })
+}
+
+// The URLs of the sites at these ports.
+fn urls_at(alloc: Global, ports: &[u16]) -> Result<Vec<Job>, AllocError> {
+    let mut urls = Vec::new(alloc);
+    for (site, port) in ports.iter().enumerate() {
+        let url = url_at(alloc, site as u32, *port)?;
+        urls.push(url)?;
+    }
+    Ok(urls)
+}
+
+// The addresses of the sites at these ports, for so many threads.
+fn addresses_at(alloc: Global, ports: &[u16], workers: u32) -> Result<Vec<Addresses>, AllocError> {
+    let mut all = Vec::new(alloc);
+    for _ in 0..workers {
+        let mut addresses = Addresses::new(alloc);
+        for port in ports {
+            let place = SocketAddr::new(IpAddr::V4(Ipv4Addr::LOCALHOST), *port);
+            let one = vec![in alloc; place; 1]?;
+            addresses.add_resolved(one)?;
+        }
+        all.push(addresses)?;
+    }
+    Ok(all)
+}
+
+// Carries out the load at these ports.
+fn load_at<R: Threads + Wait + RandomSource + AllocGlobal + Sync + Abort>(
+    rt: &R,
+    system: &HostRuntime,
+    ports: &[u16],
+    row: &Row,
+) -> io::Result<LoadedMany> {
+    let alloc = rt.alloc();
+    let urls = urls_at(alloc, ports)?;
+    let plan = ManyPlan {
+        limits: Limits::new(0, 0, 1_000).expect(rt, "limits"),
+        hosts: ports.len() as u32,
+        addresses: addresses_at(alloc, ports, row.workers)?,
+        urls: &urls,
+        jobs: row.jobs,
+        connections: row.connections,
+        times: LoadTimes {
+            seconds: row.seconds,
+            warmup: row.warmup,
+            rate: Rate::new(row.rate),
+            timeout: row.timeout,
+        },
+        fails_statuses: false,
+        keeps_logs: false,
+    };
+    match load_many(rt, system, alloc, plan, &Unwatched) {
+        Ok(loaded) => Ok(loaded),
+        Err(error) => panic!(rt; "{row:?}: {error:?}"),
+    }
+}
+
+// Carries out the load while a server serves: what it leaves, and how many requests came.
+fn load_beside<R: Threads + Wait + RandomSource + AllocGlobal + Sync + Abort>(
+    rt: &R,
+    system: &HostRuntime,
+    row: &Row,
+) -> io::Result<(LoadedMany, u64)> {
+    let server = Server::listen(system, rt.alloc(), row.sites)?;
+    let mut ports = Vec::new(rt.alloc());
+    ports.extend_from_slice(server.ports())?;
+    let ended = AtomicBool::new(false);
+    thread::scope(scope_env(), rt, |scope| -> io::Result<(LoadedMany, u64)> {
+        let serving = Builder::new().spawn_scoped(scope, || server.serve(rt, &ended))?;
+        let loaded = load_at(rt, system, &ports, row);
+        ended.store(true, Ordering::SeqCst);
+        let requests = serving.join(rt)?;
+        Ok((loaded?, requests.iter().sum()))
+    })
+}
+
+/// Loads of the server.
+static ROWS: [Row; 4] = [
+    Row {
+        sites: 2,
+        connections: 8,
+        jobs: Some(1_000),
+        requests: (1_000, 1_000),
+        ..UNTIMED
+    },
+    // More workers than places.
+    Row {
+        workers: 4,
+        connections: 1,
+        jobs: Some(100),
+        requests: (100, 100),
+        ..UNTIMED
+    },
+    Row {
+        seconds: Some(1),
+        requests: (100, 1_000_000),
+        millis: (1_000, 1_500),
+        ..UNTIMED
+    },
+    Row {
+        jobs: Some(20),
+        timeout: Some(5),
+        requests: (20, 20),
+        millis: (0, 5_000),
+        ..UNTIMED
+    },
+];
+
+#[test]
+fn figures_and_account_are_those_of_the_server(rt: HostRuntime) -> Result<(), Fail> {
+    for row in &ROWS {
+        let (loaded, served) = load_beside(&rt, &rt, row)?;
+        let all = loaded.figures.all();
+        let (good, stopped) = (all.good, all.stopped);
+        let (least, most) = row.requests;
+        assert!(rt; least <= good && good <= most, "{row:?}: {good}");
+        assert!(rt; all.failed == 0 && all.bytes == good * 2, "{row:?}");
+        let sent = good + stopped + all.retried;
+        assert!(rt;
+            good <= served && served <= sent,
+            "{row:?}: {good} {served} {sent}"
+        );
+        let (soonest, latest) = row.millis;
+        let millis = loaded.elapsed / 1_000;
+        assert!(rt; soonest <= millis && millis <= latest, "{row:?}: {millis}");
+        assert!(rt;
+            loaded.gathered.hosts.len() == row.sites as usize,
+            "{row:?}"
+        );
+    }
+    Ok(())
+}
+
+#[test]
+fn a_rate_is_held(rt: HostRuntime) -> Result<(), Fail> {
+    let row = Row {
+        connections: 8,
+        seconds: Some(2),
+        warmup: 1,
+        rate: 200,
+        requests: (396, 402),
+        ..UNTIMED
+    };
+    let (loaded, served) = load_beside(&rt, &rt, &row)?;
+    let good = loaded.figures.all().good;
+    let (least, most) = row.requests;
+    assert!(rt; least <= good && good <= most, "{good}");
+    assert!(rt; 598 <= served && served <= 602, "{served}");
+    assert!(rt; loaded.missed <= 2, "{}", loaded.missed);
+    Ok(())
+}
+
+#[test]
+fn jobs_of_a_silent_peer_are_cancelled(rt: HostRuntime) -> Result<(), Fail> {
+    let silent = TcpListener::bind(&rt, SocketAddr::new(IpAddr::V4(Ipv4Addr::LOCALHOST), 0))?;
+    let port = silent.local_addr()?.port();
+    let row = Row {
+        workers: 1,
+        jobs: Some(8),
+        timeout: Some(1),
+        ..UNTIMED
+    };
+    let loaded = load_at(&rt, &rt, &[port], &row)?;
+    let all = loaded.figures.all();
+    assert_eq!(rt; (all.good, all.failed, all.stopped), (0, 8, 0));
+    let millis = loaded.elapsed / 1_000;
+    assert!(rt; 2_000 <= millis && millis <= 2_600, "{millis}");
+    Ok(())
+}
