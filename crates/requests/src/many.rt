@@ -57,7 +57,9 @@ fn done<R: Threads + Wait + RandomSource + AllocGlobal + Sync>(
     let hosts = task.ports.len() as u32;
     let plan: Plan<PolledWire> = Plan::new(alloc, limits, hosts).ok()?;
     let jobs = load_jobs(alloc, task.jobs, &task.ports).ok()?;
-    let (end, tally) = carried::<Brand, R>(threads, rt, task, plan, &jobs)?;
+    let clock = RunClock::new(rt)?;
+    let (end, tally) = carried::<Brand, R>(threads, rt, task, plan, &jobs, &clock)?;
+    let late = clock.late();
     let Tally {
         good,
         failed,
@@ -66,7 +68,7 @@ fn done<R: Threads + Wait + RandomSource + AllocGlobal + Sync>(
         bytes,
     } = tally;
     println!(rt;
-        "good {good} failed {failed} reused {reused} retried {retried} bytes {bytes}"
+        "good {good} failed {failed} reused {reused} retried {retried} bytes {bytes} late {late}"
     ).ok()?;
     Some(end.is_complete() && failed == 0)
 }
@@ -79,6 +81,7 @@ fn carried<N: Names + Send + Sync, R: Threads + Wait + RandomSource + AllocGloba
     task: &Task,
     plan: Plan<PolledWire>,
     jobs: &[Job],
+    clock: &RunClock<'_>,
 ) -> Option<(RunEnd, Tally)>
     requires { plan ≡ N.names }
 {
@@ -87,13 +90,12 @@ fn carried<N: Names + Send + Sync, R: Threads + Wait + RandomSource + AllocGloba
         return None;
     };
     let source = ListedJobs::new(alloc, jobs)?;
-    let clock = RunClock::new(rt)?;
     let tools = tools_of(rt, task)?;
     let alarms = alarms_of(alloc, &tools)?;
     let count = jobs.len() as u64;
     let places = task.places as usize;
     match run_many(
-        threads, alloc, &cache, &source, count, places, tools, &alarms, &clock,
+        threads, alloc, &cache, &source, count, places, tools, &alarms, clock,
     ) {
         Ok(report) => {
             let ManyReport {

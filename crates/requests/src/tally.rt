@@ -3,7 +3,7 @@
 ghost use Rattle.std.specs.Prelude.{⊤};
 
 use exchange::Done;
-use run_loop::Results;
+use run_loop::{Results, Span};
 
 /// What came of requests.
 #[derive(Drop)]
@@ -58,7 +58,7 @@ impl Tally {
 impl Results for Tally {
     ghost took = { λ old new number done. ⊤ };
 
-    fn take(&mut self, _number: u64, done: Done) {
+    fn take(&mut self, _number: u64, done: Done, _span: Span) {
         self.add(&done);
     }
 }
