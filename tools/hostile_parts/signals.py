@@ -1,11 +1,15 @@
-"""A signal in the middle of a run: it ends at once, by that signal, and what was written stays."""
+"""A signal in the middle of a run: it ends at once, by that signal, and what was written stays; but Ctrl-C of a load with a
+time limit has all its output.
+"""
 import contextlib
+import json
 import os
 import signal
 import subprocess
 import time
 from subprocess import PIPE
 
+from program import TOP, is_current
 from real_servers import servers
 
 from . import behaviours
@@ -17,6 +21,7 @@ SIGNALS = (signal.SIGINT, signal.SIGTERM, signal.SIGHUP)
 SECONDS = 60
 # a load takes some tenths of a second, so on a busy machine it may have ended before the signal comes
 TRIES = 20
+INTERRUPTED = 130
 
 
 @contextlib.contextmanager
@@ -83,8 +88,47 @@ def load():
     return "nothing was written"
 
 
+def check_interrupted(run, interrupt):
+    """Ends a load by Ctrl-C, once its threads run; checks that it wrote all."""
+    time.sleep(1)
+    interrupt()
+    output, errors = run.communicate(timeout=SECONDS)
+    check_same(run.returncode, INTERRUPTED, errors.decode())
+    told = json.loads(output)
+    check_same(told["good"] + told["failed"], told["requests"], "the requests")
+    check_same(told["connections"]["opened"] - told["connections"]["closed"], told["connections"]["open"], "the account")
+
+
+def load_by_launcher(words):
+    """The launcher is the parent, and the whole group gets the signal."""
+    with running([os.path.join(TOP, "curlpool"), *words], stdin=subprocess.DEVNULL) as run:
+        check_interrupted(run, lambda: os.killpg(run.pid, signal.SIGINT))
+
+
+def load_with_pipe(words):
+    """The program as the launcher starts it: descriptor 3 is a pipe whose other end is closed then."""
+    ours, theirs = os.pipe()
+    try:
+        with running([curlpool(), *words], stdin=subprocess.DEVNULL, pass_fds=(3,),
+                     preexec_fn=lambda: os.dup2(ours, 3)) as run:
+            check_interrupted(run, lambda: os.close(theirs))
+    finally:
+        os.close(ours)
+
+
+def interrupted_load():
+    """Ctrl-C ends it with all its output."""
+    words = ["load", "--seconds", "60", "--connections", "32", "--json", "--quiet"]
+    load_with_pipe(words)
+    if not is_current():
+        return "its output is whole; the launcher was not tried"
+    load_by_launcher(words)
+    return "its output is whole"
+
+
 PARTS = [
     Part("signals: curlpool get", get),
     Part("signals: curlpool script", script),
     Part("signals: curlpool load", load),
+    Part("signals: curlpool load with a time limit", interrupted_load),
 ]

@@ -102,6 +102,14 @@ def script_errors():
     return "output and status stay"
 
 
+def script_picture():
+    """A file that can't be made ends the program before the script; one that is full, after it."""
+    for file, output in (("/", ""), ("/missing/picture", ""), ("/dev/full", TRANSCRIPT)):
+        done = run([curlpool(), "script", "--picture", file], text=SCRIPT)
+        check_same(done, (4, output, "run: cannot write\n"), file)
+    return "status 4, `cannot write`"
+
+
 def get_output():
     """The lines go to no connection in its place."""
     heard = Overheard()
@@ -180,6 +188,7 @@ PARTS = [
     Part("streams: script, no output", script_output),
     Part("streams: script, no input", script_input),
     Part("streams: script, no errors", script_errors),
+    Part("streams: script, no file of a picture", script_picture),
     Part("streams: curlpool get, no output", get_output),
     Part("streams: curlpool get, no input or errors", get_others),
     Part("streams: curlpool load, no output", load_output),

@@ -22,7 +22,10 @@ ROUNDS = 11
 FEWER, MORE, SECONDS = 10_000, 210_000, 3
 FEWER_TRACED, MORE_TRACED = 1_000, 5_000
 TOTALS = (0, 3, 1)
+# ten seconds and more of few connections
+SCARCE, SCARCE_REQUESTS = (3, 1), 200_000
 TOLD = re.compile(r"good (\d+) failed 0 ")
+LATE = re.compile(r" late (\d+)$", re.MULTILINE)
 OF_WRK = re.compile(r"Requests/sec:\s+([\d.]+)")
 CALL = re.compile(r"^\s*[\d.]+\s+[\d.]+\s+\d+\s+(\d+)\s+(?:\d+\s+)?(\w+)$", re.MULTILINE)
 CONFIGURATION = """
@@ -31,7 +34,7 @@ events { worker_connections 4096; }
 http {
     access_log off; keepalive_requests 1000000000;
     client_body_temp_path kept; proxy_temp_path kept; fastcgi_temp_path kept; uwsgi_temp_path kept; scgi_temp_path kept;
-    server { listen 127.0.0.1:PORT; location / { return 200 "ok"; } }
+    server { listen 127.0.0.1:PORT; location / { return 200 "ok"; } LOCATIONS }
 }
 """
 
@@ -44,8 +47,8 @@ class Speed(NamedTuple):
 
 
 @contextlib.contextmanager
-def nginx():
-    """Runs nginx, which answers two bytes to each request; its port."""
+def nginx_by(locations):
+    """Runs nginx, which answers two bytes to each request, except at these locations; its port."""
     program = found()
     if program is None:
         stop("nginx is not there")
@@ -53,7 +56,7 @@ def nginx():
     with tempfile.TemporaryDirectory() as room:
         path = os.path.join(room, "configuration")
         with open(path, "w", encoding="utf8") as file:
-            file.write(CONFIGURATION.replace("PORT", str(port)))
+            file.write(CONFIGURATION.replace("PORT", str(port)).replace("LOCATIONS", locations))
         with subprocess.Popen([program, "-p", room, "-c", path], stdout=DEVNULL, stderr=DEVNULL) as server:
             try:
                 time.sleep(1)
@@ -62,8 +65,12 @@ def nginx():
                 server.terminate()
 
 
+def words_by(workers, places, total, count, port):
+    return ["many", str(workers), str(places), str(total), str(count), str(port)]
+
+
 def words_of(program, places, total, count, port):
-    return [program, "many", str(WORKERS), str(places), str(total), str(count), str(port)]
+    return [program, *words_by(WORKERS, places, total, count, port)]
 
 
 def seconds_of(words, count):
@@ -121,9 +128,22 @@ def show_calls_of_many(program, port):
     print(f"{WORKERS} threads with {CONNECTIONS[0]} places together.\n")
 
 
+def show_late_grants(program, port):
+    """Few connections among many places: each grant is one for a transfer that waits."""
+    rows = []
+    for total in SCARCE:
+        words = words_of(program, CONNECTIONS[1], total, SCARCE_REQUESTS, port)
+        began = time.monotonic()
+        said = LATE.search(run(words))
+        rows.append((total, SCARCE_REQUESTS, f"{time.monotonic() - began:.1f}", int(said[1])))
+    show(("most connections", "requests", "seconds", "grants that no ring told of"), rows)
+    print(f"{WORKERS} threads with {CONNECTIONS[1]} places together.\n")
+
+
 def many():
     need("wrk")
     program = built_requests()
-    with nginx() as port:
+    with nginx_by("") as port:
         show_beside_wrk(program, port)
         show_calls_of_many(program, port)
+        show_late_grants(program, port)

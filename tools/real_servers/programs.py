@@ -55,3 +55,8 @@ def run(words, seconds=SECONDS):
 def get(words):
     """Runs curlpool get with these words."""
     return run([curlpool(), "get", *words], SECONDS_UNPROVED)
+
+
+def load(words):
+    """Runs curlpool load with these words."""
+    return run([curlpool(), "load", *words], SECONDS_UNPROVED)

@@ -64,6 +64,8 @@ class Server(socketserver.ThreadingTCPServer):
 
     def __init__(self, behaviour, address="127.0.0.1", port=0, is_asked_here=lambda number: True):
         self.behaviour, self.accepted, self.is_asked_here = behaviour, 0, is_asked_here
+        # how many connections are open, and the most that were
+        self.open, self.most, self.counting = 0, 0, threading.Lock()
         self.address_family = socket.AF_INET6 if ":" in address else socket.AF_INET
         super().__init__((address, port), None)
         self.port = self.server_address[1]
@@ -72,6 +74,9 @@ class Server(socketserver.ThreadingTCPServer):
     def get_request(self):
         stream, address = super().get_request()
         self.accepted += 1
+        with self.counting:
+            self.open += 1
+            self.most = max(self.most, self.open)
         return Connection(stream, self.accepted, self.is_asked_here), address
 
     def finish_request(self, connection, _):
@@ -80,6 +85,8 @@ class Server(socketserver.ThreadingTCPServer):
 
     def shutdown_request(self, connection):
         # not as in the base class, which ends the connection before it is reset
+        with self.counting:
+            self.open -= 1
         connection.stream.close()
 
     def __exit__(self, *_):
@@ -148,6 +155,12 @@ def sends_surplus(connection):
     """Twenty bytes more, in one write with the response."""
     for request in connection.requests():
         connection.send(counted(request.number) + SURPLUS)
+
+
+def answers_twice(connection):
+    """The whole response twice, in one write."""
+    for request in connection.requests():
+        connection.send(2 * counted(request.number))
 
 
 def sends_late_surplus(connection):
