@@ -44,7 +44,7 @@ pub(crate) fn run_words<T: Threads + Wait + RandomSource + AllocGlobal + Sync>(
     let given = words(rt.alloc(), text)?;
     let mut memory = CountedWordsMemory::new(rt.alloc());
     let mut files = SystemFiles::new(rt);
-    let mut network = SystemNetwork::new(rt);
+    let mut network = SystemNetwork::new(rt, threads);
     let mut input = b"".as_slice();
     let mut output = Vec::new(rt.alloc());
     let mut errors = Vec::new(rt.alloc());
