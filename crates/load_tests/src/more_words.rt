@@ -4,7 +4,7 @@ use crate::running::run_words;
 use std::str::from_utf8;
 
 /// Words, the status, how the report and the summary begin, and what each has in it.
-static ROWS: [(&str, u8, &str, &str); 7] = [
+static ROWS: [(&str, u8, &str, &str); 6] = [
     (
         "load --sites 1 --workers 1 --jobs 3 --connections 1",
         0,
@@ -45,12 +45,6 @@ static ROWS: [(&str, u8, &str, &str); 7] = [
         5,
         "host       0       3       0       3       0       0\n",
         "",
-    ),
-    (
-        "load --url http://no-such-host.invalid/ --jobs 3 --fail-above 0",
-        4,
-        "",
-        "run: unknown host no-such-host.invalid\n",
     ),
 ];
 
