@@ -16,7 +16,7 @@ from .many import WORKERS, calls_of, nginx_by, words_by
 PLACES = (1, 256)
 FEWER, MORE = 1_000, 5_000
 COUNTED_PLACES = (8, 1_024)
-FEWER_COUNTED, MORE_COUNTED = 200, 1_200
+FEWER_COUNTED, MORE_COUNTED = 1_000, 5_000
 COUNTED = re.compile(r"Collected : (\d+)")
 # a silent connection among so many, for so many rounds of so many requests
 AMONG, ROUNDS, MANY = 8, 11, 100_000

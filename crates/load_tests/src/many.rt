@@ -109,7 +109,7 @@ fn load_at<R: Threads + Wait + RandomSource + AllocGlobal + Sync + Abort>(
     let urls = urls_at(alloc, ports)?;
     let plan = ManyPlan {
         limits: Limits::new(0, 0, 1_000).expect(rt, "limits"),
-        hosts: ports.len() as u32,
+        hosts: u32::try_from(ports.len()).unwrap_or(u32::MAX),
         addresses: addresses_at(alloc, ports, row.workers)?,
         urls: &urls,
         jobs: row.jobs,
