@@ -129,6 +129,15 @@ fn load_at<R: Threads + Wait + RandomSource + AllocGlobal + Sync + Abort>(
     }
 }
 
+// How many requests came, of all sites.
+fn sum_of(requests: &[u64]) -> u64 {
+    let mut sum = 0u64;
+    for count in requests {
+        sum = sum.saturating_add(*count);
+    }
+    sum
+}
+
 // Carries out the load while a server serves: what it leaves, and how many requests came.
 fn load_beside<R: Threads + Wait + RandomSource + AllocGlobal + Sync + Abort>(
     rt: &R,
@@ -144,7 +153,7 @@ fn load_beside<R: Threads + Wait + RandomSource + AllocGlobal + Sync + Abort>(
         let loaded = load_at(rt, system, &ports, row);
         ended.store(true, Ordering::SeqCst);
         let requests = serving.join(rt)?;
-        Ok((loaded?, requests.iter().sum()))
+        Ok((loaded?, sum_of(&requests)))
     })
 }
 
