@@ -1,8 +1,8 @@
 use Rattle.cli_tests.proofs.Takes.{takes_more, takes_none}
 use Rattle.cli_tests.proofs.crawlers.FakeCrawlerCrawler.crawl.Goals as goal
 
-pub loop-place-starts : goal.loop-place-starts
-loop-place-starts g c = takes_none g.R.Results.took c.args.results.now
+pub loop-place-init : goal.loop-place-init
+loop-place-init g c = takes_none g.R.Results.took c.args.results.now
 
 pub loop-place-preserved : goal.loop-place-preserved
 loop-place-preserved g c = takes_more g.R.Results.took c.args.results.now c.loop-place.results c.fetch.new.results c.loop-place.invariant c.fetch.ensures
