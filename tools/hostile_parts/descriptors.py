@@ -1,4 +1,5 @@
 """Too few descriptors: connections that cannot be opened fail, and nothing else does."""
+import json
 import re
 
 from program import built_requests
@@ -70,6 +71,24 @@ def load():
     return ", ".join(sorted(told))
 
 
+def many_at_once():
+    """Each job of a load has one result, the account balances, and nothing is left leased beside what is open."""
+    good = jobs = 0
+    with listening(servers.lasts) as [server]:
+        for descriptors in range(15, 90, 15):
+            done = under(descriptors, [curlpool(), "load", "--url", f"http://127.0.0.1:{server.port}/2", "--jobs", "200",
+                                       "--connections", "64", "--json", "--quiet"])
+            if done.status == 4 and done.errors.removeprefix("run: ").removesuffix("\n") in REFUSED_LOADS:
+                continue
+            told = json.loads(done.output)
+            account = told["connections"]
+            check(told["good"] + told["failed"] == 200 and told["faults"]["Dial"] == told["failed"], done.told())
+            check_same(account["opened"] - account["closed"], account["open"], f"under {descriptors}")
+            good, jobs = good + told["good"], jobs + 200
+    check(0 < good < jobs, f"{good} of {jobs} were answered")
+    return f"{good} of {jobs} were answered, the others could not dial"
+
+
 def dials_that_fail():
     """Connections that are refused leave no descriptor: many fit among few."""
     with nobody() as port:
@@ -84,4 +103,5 @@ PARTS = [
     Part("descriptors: refused connections leave none", dials_that_fail),
     Part("descriptors: threads that want too many", threads),
     Part("descriptors: curlpool load", load),
+    Part("descriptors: many requests at once", many_at_once),
 ]
