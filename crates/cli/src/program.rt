@@ -47,10 +47,10 @@ const HOW_TO_END: &str = "Write a script, and end it with Ctrl-D on an empty lin
 ///   written whole.
 ///
 /// The script, the trace or more URLs are read from the file among `files` that the words name, or
-/// else from `input`. URLs are fetched over `network`, and `load` carries out loads. `output` gets the
-/// transcript, the lines of transfers, the report, the answer, the help or the version, and
-/// nothing else. `errors` gets what
-/// goes wrong, and first how to end a script from `input` if that `is_typed` on a terminal.
+/// else from `input`. URLs are fetched over `network`, and `load` carries out loads. `output` gets
+/// the transcript, the lines of transfers, the report, the answer, the help or the version, and
+/// nothing else. `errors` gets what goes wrong, and first how to end a script from `input` if that
+/// `is_typed` on a terminal.
 pub fn run_program<
     M: WordsMemory,
     F: ScriptFiles,

@@ -13,9 +13,9 @@ ghost use Rattle.cli.specs.GetLines.{TellsResponses, TellsFaults};
 /// What is wrong with small command lines, by computation: with `script` alone, or a file after it,
 /// nothing; no word at all, and a word after the file, are refused; `--help`, `help` and
 /// `--version` are asked for. Of `script` alone and `script -` the script is read from standard
-/// input. `get` takes its options among the URLs, a file in place of URLs, `--resolve` any number of
-/// times, and refuses another option that is given twice. `load` takes its numbers as they are given, needs one after an option, and refuses an
-/// option given twice.
+/// input. `get` takes its options among the URLs, a file in place of URLs, `--resolve` any number
+/// of times, and refuses another option that is given twice. `load` takes its numbers as they are
+/// given, needs one after an option, and refuses an option given twice.
 #[tactic(auto, unfolding(clap::proofs::OnLiterals::clap_on_literals))]
 pub fn worked_command_lines()
     ensures script { TakesScript }

@@ -575,7 +575,8 @@ static MORE_REFUSED: [(&str, &str); 31] = [
     ),
     (
         "load --resolve a:65536:1.1.1.1",
-        "invalid value 'a:65536:1.1.1.1' for '--resolve <HOST:PORT:ADDRESS>': not HOST:PORT:ADDRESS",
+        "invalid value 'a:65536:1.1.1.1' for '--resolve <HOST:PORT:ADDRESS>': \
+         not HOST:PORT:ADDRESS",
     ),
     (
         "load --resolve a:80:b",

@@ -55,7 +55,8 @@ pub const ROW: Row = Row {
 /// URLs, a line each.
 const URLS: &str = "http://127.0.0.1/f\nhttp://127.0.0.1/gg\n";
 
-// Files in memory: a script, a trace, and URLs. Files can be made of two names; one of them is full.
+// Files in memory: a script, a trace, and URLs. Files can be made of two names, one of which is
+// full.
 #[derive(Drop)]
 struct ThreeFiles;
 
@@ -116,7 +117,8 @@ pub fn words_of(alloc: Global, text: &str) -> Result<Words, AllocError> {
 }
 
 /// What the program does with these words and that script on standard input, where `reuse`,
-/// `broken` and `urls` are the files that there are: its status, and what it writes on standard error.
+/// `broken` and `urls` are the files that there are: its status, and what it writes on standard
+/// error.
 pub fn run<W: Sink>(
     alloc: Global,
     words: Words,

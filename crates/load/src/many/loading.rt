@@ -218,7 +218,8 @@ fn carry_out<
         → All (λ own. IsUncounted hosts counting own.results) tools.entry.items
         → IfOk result (λ ran. HasCarriedOut (world_of ⟦<PolledWire as Wire>⟧.untouched
         ⟦<PolledWire as Wire>⟧.happened (λ moment. ⊤)) N.names (in_turn source.now.urls.now
-        source.now.first.now) jobs (length tools.entry.items) hosts counting ran.collected ran.drawn) }
+        source.now.first.now) jobs (length tools.entry.items) hosts counting ran.collected
+        ran.drawn) }
     ensures of_cache { IfOk result (λ ran. All (IsPassOf N.names) ran.collected.passes.items) }
     ensures workers { OnOk result (are_bad_tools (vec_len tools.entry) places ≡ false) }
     ensures refused { IfErr result (IsManyRefusedFor (vec_len tools.entry) places) }

@@ -7,8 +7,8 @@ use site_table::Places;
 use socket::Addresses;
 use std::sync::atomic::AtomicBool;
 
-/// What carries out the jobs of a crawl, over connections that it keeps. Its places are those of its
-/// hosts.
+/// What carries out the jobs of a crawl, over connections that it keeps. Its places are those of
+/// its hosts.
 pub trait Crawler: Places {
     ghost use Rattle.std.specs.Prelude.{ℕ, List, OnOk};
     ghost use Rattle.exchange.specs.declared.done.Done.{Done};

@@ -140,8 +140,8 @@ fn transfer_line(
     line_text(alloc, url, fetched_as(done))
 }
 
-// How a job was fetched that ended so. Of a fault it is not known whether its request was tried once
-// more.
+// How a job was fetched that ended so. Of a fault it is not known whether its request was tried
+// once more.
 fn fetched_as(done: Done) -> Fetched
     ensures { result ≡ fetched_as done }
 {
