@@ -618,10 +618,7 @@ static MORE_REFUSED: [(&str, &str); 31] = [
         "load --timeout 3601",
         "invalid value '3601' for '--timeout <SECONDS>': not a number from 1 to 3600",
     ),
-    (
-        "load --fail-above -1",
-        "unexpected argument '-1' found",
-    ),
+    ("load --fail-above -1", "unexpected argument '-1' found"),
     (
         "load --fail-above 100.01",
         "invalid value '100.01' for '--fail-above <PERCENT>': \
@@ -686,7 +683,10 @@ fn more_words_are_refused(rt: HostRuntime) {
         );
         assert_eq!(rt; (status, loader.asked, output.len()), (2, 0, 0), "{words}");
         let errors = from_utf8(errors.as_slice()).expect(&rt, "a text");
-        let first = errors.lines().next().and_then(|line| line.strip_prefix("curlpool: "));
+        let first = errors
+            .lines()
+            .next()
+            .and_then(|line| line.strip_prefix("curlpool: "));
         assert_eq!(rt; first, Some(*told), "{words}");
     }
 }

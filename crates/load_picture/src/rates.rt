@@ -18,10 +18,10 @@ pub(crate) fn draw_rates(
 ) -> Result<(), AllocError> {
     draw_frame(drawing, top, "Requests a second")?;
     let greatest = greatest_rate(report);
-    for (level, down) in [(greatest, 0), (greatest / 2, HEIGHT / 2)] {
+    for (level, down) in &[(greatest, 0), (greatest / 2, HEIGHT / 2)] {
         let mut text = String::new(drawing.allocator());
         write!(text, "{level}")?;
-        draw_level(drawing, top, down, text.as_str())?;
+        draw_level(drawing, top, *down, text.as_str())?;
     }
     let intervals = report.intervals.len();
     for (place, interval) in report.intervals.iter().enumerate() {

@@ -40,12 +40,12 @@ impl Legend {
     /// The legend of these lanes, for a picture of that width.
     pub(crate) fn new(alloc: Global, lanes: &[Lane], width: u32) -> Result<Legend, AllocError> {
         let mut items = Vec::new(alloc);
-        for item in [Item::Leased, Item::Idle, Item::Waiter, Item::Limit] {
-            items.push(item)?;
+        for item in &[Item::Leased, Item::Idle, Item::Waiter, Item::Limit] {
+            items.push(*item)?;
         }
-        for cause in CAUSES {
-            if lanes.iter().any(|lane| has_cause(lane, cause)) {
-                items.push(Item::Closed(cause))?;
+        for cause in &CAUSES {
+            if lanes.iter().any(|lane| has_cause(lane, *cause)) {
+                items.push(Item::Closed(*cause))?;
             }
         }
         let columns = (width.saturating_sub(LEFT) / ITEM_WIDTH).clamp(1, 5);

@@ -113,7 +113,8 @@ fn percent_if(alloc: Global, given: &Option<String>) -> Result<Option<u32>, Erro
         Some(hundredths) if hundredths <= MOST_HUNDREDTHS => Ok(Some(hundredths as u32)),
         _ => {
             let message = format!(in alloc;
-                "invalid value '{text}' for '--fail-above <PERCENT>': not a percentage from 0 to 100 with at most two decimals"
+                "invalid value '{text}' for '--fail-above <PERCENT>': \
+                not a percentage from 0 to 100 with at most two decimals"
             )?;
             let error = refusal(alloc, ErrorKind::ValueValidation, message.as_str())?;
             Err(error)

@@ -128,7 +128,7 @@ fn lines_of(alloc: Global, loaded: &LoadedMany) -> Result<String, AllocError> {
     text.truncate(hosts);
     let all = loaded.figures.all();
     text.push_str("jobs")?;
-    for number in [all.done(), all.failed, all.reused, all.retried, all.bytes] {
+    for number in &[all.done(), all.failed, all.reused, all.retried, all.bytes] {
         write!(text, "{number:>8}")?;
     }
     text.push('\n')?;
@@ -202,9 +202,9 @@ fn said_options(
         ("warmup", Some(warmup)),
         ("workers", Some(options.workers)),
     ];
-    for (name, number) in numbers {
-        if let Some(number) = number {
-            add(&mut said, name, OptionValue::Number(number as u64))?;
+    for (name, number) in &numbers {
+        if let Some(number) = *number {
+            add(&mut said, *name, OptionValue::Number(number as u64))?;
         }
     }
     if let Some(hundredths) = fail_above {
@@ -217,9 +217,9 @@ fn said_options(
         ("forbid-reuse", more.flags.forbid_reuse),
         ("head", more.flags.head),
     ];
-    for (name, is_set) in flags {
-        if is_set {
-            add(&mut said, name, OptionValue::Flag)?;
+    for (name, is_set) in &flags {
+        if *is_set {
+            add(&mut said, *name, OptionValue::Flag)?;
         }
     }
     Ok(said)
