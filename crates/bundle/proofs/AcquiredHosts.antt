@@ -5,23 +5,25 @@ use Rattle.budget.specs.declared.permits.Try.{Try}
 use Rattle.bundle.specs.Seats.{Tables}
 use Rattle.conn_log.specs.declared.entry.Want.{Want}
 use Rattle.conn_log.specs.declared.entry.Entry.{Entry}
-use Rattle.conn_log.specs.Connections.{held_number, holds, is_open}
+use Rattle.conn_log.specs.Connections.{held_number, holds}
 use Rattle.conn_log.specs.Waiting.{waiting}
 use Rattle.conn_log.specs.Legal.{LimitAndFirst}
 use Rattle.conn_log.specs.Sound.{IsOrderly}
 use Rattle.conn_log.proofs.Soundness.{holds_is}
 use Rattle.host_state.specs.Idle.{stream_of}
 use Rattle.host_state.specs.Steps.{moment_at, is_exhausted}
-use Rattle.host_state.specs.State.{HostState, KeepsOpen, KeepsOpenBut}
+use Rattle.host_state.specs.State.{HostState, KeepsOpen}
 use Rattle.bundle.specs.declared.grant.Grant.{Grant}
 use Rattle.bundle.specs.declared.answers.Got.{Got}
 use Rattle.bundle.specs.declared.answers.Got.TheVariants.{Lease, Wait, NoRoom, Again}
 use Rattle.host_rules.specs.Calls.{start_behind, acquired, refusal, is_queued, GrowsBy}
 use Rattle.host_rules.specs.Laws.{IsSoundAndQuiet}
 use Rattle.bundle.specs.Grants.{grant_starts, grant_transfers, grant_streams, GrantsKept}
-use Rattle.bundle.specs.Lease.{HostShown, GetsLease, GetsTicket, KeepsAll, HasItsStream}
-use Rattle.bundle.specs.Replies.{IsGot, Acquires, GivesLease, GivesTicket, GivesBooking}
-use Rattle.host_rules.proofs.Transfers.{told}
+use Rattle.bundle.specs.Lease.{HostShown}
+use Rattle.bundle.specs.Inside.{GivesAt}
+use Rattle.bundle.specs.Replies.{IsGot, Acquires, GivesBooking, UnlessBooking}
+use Rattle.bundle.specs.Starts.{LeavesHalfway, AcquiresAt}
+use Rattle.host_rules.proofs.Outcomes.{IsHalfway}
 use Rattle.bundle.proofs.Granting.{leased_same, ticketed_same, kept_all}
 use Rattle.bundle.proofs.Answering.{kept_begun, begun_lease, begun_ticket, begun_stream, behind_only, behind_same}
 use Rattle.host_rules.proofs.Bookings.{IsOut}
@@ -59,78 +61,53 @@ module _ {S : Type 0} (settings : LimitAndFirst) (log after : List Entry) (grant
   grants_after (NoRoom booking) out = kept_all log after grants out.same kept
   grants_after (Again booking) out = kept_all log after grants out.same kept
 
-  -- a lease has the stream of its connection where that was idle
-  pub stream_got : IsOrderly settings after → (streams : List (ℕ × S)) (got : Got S) → Outcome want log after got → GivesLease got (HasItsStream streams) → GivesLease got (HasItsStream (grant_streams grants ++ streams))
-  stream_got orderly streams (Lease lease) out told =
-      told ∙ ap (λ s. if lease.start.reused then s else None) (sym (behind_only (grant_streams grants) streams lease.start.number (begun_stream settings log after grants kept want free out.others orderly lease.start.number out.number)))
-  stream_got orderly streams (Wait ticket) out told = tt
-  stream_got orderly streams (NoRoom booking) out told = tt
-  stream_got orderly streams (Again booking) out told = tt
+-- a host before and after an acquire, or another try of one, and those who are booked then, if it is done and if it is
+-- halfway
+module _ {S : Type 0} (state new : HostState S) (grants : List (Grant S)) (booked booked' : List ℕ) (tables tables' : Tables) (done halfway : Want → List ℕ → List ℕ) where
+  abbrev before : HostShown S
+  before = record { log = state.log; cut_away = state.cut_away; settings = state.settings; host = state.host; streams = grant_streams grants ++ state.streams; unclaimed = grant_starts grants; booked = booked; tables = tables }
 
-  -- who has a lease and who a ticket
-  module _ (settings' : LimitAndFirst) (host host' : ℕ) (streams streams' : List (ℕ × S)) (booked booked' : List ℕ) (tables tables' : Tables) (cut_away cut_away' : ℕ) where
-    abbrev before : HostShown S
-    before = record { log = log; cut_away = cut_away; settings = settings; host = host; streams = streams; unclaimed = grant_starts grants; booked = booked; tables = tables }
+  abbrev after : List (Grant S) → HostShown S
+  after left = record { log = new.log; cut_away = new.cut_away; settings = new.settings; host = new.host; streams = grant_streams left ++ new.streams; unclaimed = grant_starts left; booked = booked'; tables = tables' }
 
-    abbrev shown : List (Grant S) → HostShown S
-    shown left = record { log = after; cut_away = cut_away'; settings = settings'; host = host'; streams = streams'; unclaimed = grant_starts left; booked = booked'; tables = tables' }
+  -- in the words of the host before the call
+  pub acquires_at : (want : Want) (left : List (Grant S)) → left ≡ grants → (old : HostShown S) → before ≡ old → (wanted : Want) → want ≡ wanted → (got : Got S) → AcquiresAt before (after grants) want (done want booked) (halfway want booked) got → AcquiresAt old (after left) wanted (done wanted old.booked) (halfway wanted old.booked) got
+  acquires_at want left same old view wanted same_want got it =
+      let so_left : AcquiresAt before (after left) want (done want booked) (halfway want booked) got = subst (λ gs. AcquiresAt before (after gs) want (done want booked) (halfway want booked) got) (sym same) it in
+      let so_old : AcquiresAt old (after left) want (done want old.booked) (halfway want old.booked) got = subst (λ (v : HostShown S). AcquiresAt v (after left) want (done want v.booked) (halfway want v.booked) got) view so_left in
+      subst (λ (w : Want). AcquiresAt old (after left) w (done w old.booked) (halfway w old.booked) got) same_want so_old
 
-    lease_there : (got : Got S) → Outcome want log after got → GivesLease got (λ lease. GetsLease before (shown grants) want.transfer lease.start.number)
-    lease_there (Lease lease) out = begun_lease settings log after grants kept want free out.others settings' host host' streams streams' booked booked' tables tables' cut_away cut_away' lease.start.number out.number out.awaited
-    lease_there (Wait ticket) out = tt
-    lease_there (NoRoom booking) out = tt
-    lease_there (Again booking) out = tt
+  module _ (kept : GrantsKept state.log grants) (want : Want) (free : held_number state.log want.transfer ≡ None) (settled : IsSoundAndQuiet state.settings new.log) where
+    same_at : (d : ℕ) → stream_of new.streams d ≡ stream_of state.streams d → stream_of (grant_streams grants ++ new.streams) d ≡ stream_of (grant_streams grants ++ state.streams) d
+    same_at d same = behind_same (grant_streams grants) new.streams state.streams d same
 
-    ticket_there : (got : Got S) → Outcome want log after got → GivesTicket got (λ ticket. GetsTicket before (shown grants) want)
-    ticket_there (Lease lease) out = tt
-    ticket_there (Wait ticket) out = begun_ticket settings log after grants kept want free out.others settings' host host' streams streams' booked booked' tables tables' cut_away cut_away' out.held out.awaited
-    ticket_there (NoRoom booking) out = tt
-    ticket_there (Again booking) out = tt
-
-    keeps : ((u : ℕ) → told after u ≡ told log u) → KeepsAll before (shown grants)
-    keeps same = record {
-      leases = λ u. leased_same log after (grant_transfers grants) (grant_transfers grants) u (same u) refl;
-      tickets = λ u. ticketed_same log after (grant_transfers grants) (grant_transfers grants) u (same u) refl;
+    halfway_there : IsHalfway state.log new.log → KeepsOpen state new → booked' ≡ halfway want booked → LeavesHalfway before (after grants) (halfway want booked)
+    halfway_there out opens books = record {
+      streams = λ d still. same_at d (opens d still);
+      keeps = record {
+        leases = λ u. leased_same state.log new.log (grant_transfers grants) (grant_transfers grants) u (out.same u) refl;
+        tickets = λ u. ticketed_same state.log new.log (grant_transfers grants) (grant_transfers grants) u (out.same u) refl;
+      };
+      books = books;
     }
 
-    booking_there : (got : Got S) → Outcome want log after got → GivesBooking got (λ booking. KeepsAll before (shown grants))
-    booking_there (Lease lease) out = tt
-    booking_there (Wait ticket) out = tt
-    booking_there (NoRoom booking) out = keeps out.same
-    booking_there (Again booking) out = keeps out.same
-
-    module _ (left : List (Grant S)) (same : left ≡ grants) (old : HostShown S) (view : before ≡ old) (wanted : Want) (same_want : want ≡ wanted) (got : Got S) (out : Outcome want log after got) where
-      pub lease_got : GivesLease got (λ lease. GetsLease old (shown left) wanted.transfer lease.start.number)
-      lease_got = subst (λ (w : Want). GivesLease got (λ lease. GetsLease old (shown left) w.transfer lease.start.number)) same_want (subst (λ (v : HostShown S). GivesLease got (λ lease. GetsLease v (shown left) want.transfer lease.start.number)) view (subst (λ gs. GivesLease got (λ lease. GetsLease before (shown gs) want.transfer lease.start.number)) (sym same) (lease_there got out)))
-
-      pub ticket_got : GivesTicket got (λ ticket. GetsTicket old (shown left) wanted)
-      ticket_got = subst (λ (w : Want). GivesTicket got (λ ticket. GetsTicket old (shown left) w)) same_want (subst (λ (v : HostShown S). GivesTicket got (λ ticket. GetsTicket v (shown left) want)) view (subst (λ gs. GivesTicket got (λ ticket. GetsTicket before (shown gs) want)) (sym same) (ticket_there got out)))
-
-      pub booking_got : GivesBooking got (λ booking. KeepsAll old (shown left))
-      booking_got = subst (λ (v : HostShown S). GivesBooking got (λ booking. KeepsAll v (shown left))) view (subst (λ gs. GivesBooking got (λ booking. KeepsAll before (shown gs))) (sym same) (booking_there got out))
-
--- the streams of connections that are still open, behind those that were granted
-module _ {S : Type 0} (old new : HostState S) (front streams : List (ℕ × S)) (same : front ++ old.streams ≡ streams) where
-  kept_at : (d : ℕ) → stream_of new.streams d ≡ stream_of old.streams d → stream_of (front ++ new.streams) d ≡ stream_of streams d
-  kept_at d kept = behind_same front new.streams old.streams d kept ∙ ap (λ all. stream_of all d) same
-
-  pub others_kept : (got : Got S) → GivesLease got (λ lease. KeepsOpenBut lease.start.number old new) → GivesLease got (λ lease. (d : ℕ) → (lease.start.number == d) ≡ false → is_open new.log d ≡ true → stream_of (front ++ new.streams) d ≡ stream_of streams d)
-  others_kept (Lease lease) keeps = λ d other still. kept_at d (keeps d other still)
-  others_kept (Wait ticket) keeps = tt
-  others_kept (NoRoom booking) keeps = tt
-  others_kept (Again booking) keeps = tt
-
-  pub all_kept : (got : Got S) → GivesTicket got (λ ticket. KeepsOpen old new) → GivesTicket got (λ ticket. (d : ℕ) → is_open new.log d ≡ true → stream_of (front ++ new.streams) d ≡ stream_of streams d)
-  all_kept (Lease lease) keeps = tt
-  all_kept (Wait ticket) keeps = λ d still. kept_at d (keeps d still)
-  all_kept (NoRoom booking) keeps = tt
-  all_kept (Again booking) keeps = tt
-
-  pub halfway_kept : (got : Got S) → GivesBooking got (λ booking. KeepsOpen old new) → GivesBooking got (λ booking. (d : ℕ) → is_open new.log d ≡ true → stream_of (front ++ new.streams) d ≡ stream_of streams d)
-  halfway_kept (Lease lease) keeps = tt
-  halfway_kept (Wait ticket) keeps = tt
-  halfway_kept (NoRoom booking) keeps = λ d still. kept_at d (keeps d still)
-  halfway_kept (Again booking) keeps = λ d still. kept_at d (keeps d still)
+    pub got_there : (got : Got S) → Outcome want state.log new.log got → GivesAt state new tables got → UnlessBooking got (booked' ≡ done want booked) → GivesBooking got (λ booking. booked' ≡ halfway want booked) → AcquiresAt before (after grants) want (done want booked) (halfway want booked) got
+    got_there (Lease lease) out given books stays = record {
+      made_here = given.made_here;
+      has_stream = given.has_stream;
+      stream = given.stream ∙ ap (λ s. if lease.start.reused then s else None) (sym (behind_only (grant_streams grants) state.streams lease.start.number (begun_stream state.settings state.log new.log grants kept want free out.others settled.sound.orderly lease.start.number out.number)));
+      streams = λ d other still. same_at d (given.others d other still);
+      gets = begun_lease state.settings state.log new.log grants kept want free out.others new.settings state.host new.host (grant_streams grants ++ state.streams) (grant_streams grants ++ new.streams) booked booked' tables tables' state.cut_away new.cut_away lease.start.number out.number out.awaited;
+      books = books;
+    }
+    got_there (Wait ticket) out given books stays = record {
+      made_here = given.0;
+      streams = λ d still. same_at d (given.1 d still);
+      gets = begun_ticket state.settings state.log new.log grants kept want free out.others new.settings state.host new.host (grant_streams grants ++ state.streams) (grant_streams grants ++ new.streams) booked booked' tables tables' state.cut_away new.cut_away out.held out.awaited;
+      books = books;
+    }
+    got_there (NoRoom booking) out given books stays = halfway_there out given stays
+    got_there (Again booking) out given books stays = halfway_there out given stays
 
 -- the answer and the log of it, in the words of the host before the call
 pub acquires : {S : Type 0} (is_last : Bool) (answer : Try) (settings : LimitAndFirst) (log : List Entry) (host : ℕ) (streams : List (ℕ × S)) (grants : List (Grant S)) (booked : List ℕ) (tables : Tables) (cut_away : ℕ) (old new : HostShown S) (want : Want) (now m : ℕ) (got : Got S) → (let inside : HostShown S = record { log = log; cut_away = cut_away; settings = settings; host = host; streams = streams; unclaimed = grant_starts grants; booked = booked; tables = tables } in inside ≡ old) → m ≡ moment_at log now → (let due = start_behind (waiting log) is_last answer settings want m log in new.log ≡ due.log → IsGot host want due.reply got → Acquires is_last answer old new want now got)

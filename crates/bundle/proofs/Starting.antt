@@ -1,21 +1,26 @@
 -- Who holds what once a transfer started, or idle connections were closed.
-use Rattle.std.proofs.Common.{◌≡◌, ℕ, ◌+◌, ◌-◌, ◌<◌, List, [], ◌∷◌, ◌++◌, length, None, sym, ap, subst, ◌∙◌, arith}
+use Rattle.std.proofs.Common.{◌≡◌, ℕ, ◌+◌, ◌-◌, ◌<◌, Bool, true, List, [], ◌∷◌, ◌++◌, length, None, is_some, sym, ap, subst, ◌∙◌, arith}
+use Rattle.std.specs.Prelude.{if◌then◌else◌}
 use Rattle.budget.specs.Pairs.{HasRoomForPair}
 use Rattle.budget.specs.Permits.{held, one_less_open, one_less_kept}
 use Rattle.conn_log.specs.declared.entry.Want.{Want}
 use Rattle.conn_log.specs.declared.entry.Event.TheVariants.{Opened, Leased, Closed}
 use Rattle.conn_log.specs.declared.entry.Entry.{Entry}
-use Rattle.conn_log.specs.Connections.{held_number, open_connections}
+use Rattle.conn_log.specs.Connections.{is_among, is_open, held_number, open_connections}
 use Rattle.conn_log.specs.Waiting.{waiting}
 use Rattle.conn_log.specs.Legal.{LimitAndFirst}
 use Rattle.conn_log.specs.Sound.{IsSound}
 use Rattle.conn_log.proofs.Soundness.{next_free}
 use Rattle.host_state.specs.declared.closing.Closing.{Closing}
 use Rattle.host_state.specs.Steps.{add, cause_of, picked, close_each, without_picked}
-use Rattle.host_state.specs.State.{HostState, ClosesIdle, open_len, idle_len}
+use Rattle.host_state.specs.Idle.{stream_of}
+use Rattle.host_state.specs.State.{HostState, ClosesIdle, KeepsOpen, open_len, idle_len}
+use Rattle.bundle.specs.declared.answers.Got.{Got}
+use Rattle.bundle.specs.declared.answers.Got.TheVariants.{Lease, Wait, NoRoom, Again}
 use Rattle.bundle.specs.declared.grant.Grant.{Grant}
 use Rattle.bundle.specs.Grants.{grant_starts}
-use Rattle.bundle.specs.Seats.{SeatsShown, pair_granted, IsSeated, AreUnclaimed}
+use Rattle.bundle.specs.Inside.{GivesAt, GivesAnewAt}
+use Rattle.bundle.specs.Seats.{Tables, SeatsShown, pair_granted, IsSeated, AreUnclaimed}
 use Rattle.conn_log.specs.Starts.{start_count}
 use Rattle.host_rules.proofs.Soundness.{head_is_next}
 use Rattle.bundle.proofs.Seating.{Begins, SameHolders, pair_fits, unclaimed_granted}
@@ -68,3 +73,19 @@ both_freed alive kept alive_left kept_left fewer_open fewer_idle =
     let open_is : alive - 1 ≡ alive_left = omega (arith, fewer_open) in
     let idle_is : kept - 1 ≡ kept_left = omega (arith, fewer_idle) in
     ap (λ n. held n (kept - 1)) open_is ∙ ap (held alive_left) idle_is
+
+-- a start after what is too old was closed, by what it gives
+module _ {S : Type 0} (moment : ℕ) (before young after : HostState S) (tables : Tables) (closes : ClosesIdle moment before young) (keeps : KeepsOpen young after) where
+  stays : (d : ℕ) → is_open after.log d ≡ true → is_open young.log d ≡ true → stream_of after.streams d ≡ stream_of before.streams d
+  stays d still open_before = keeps d still ∙ closes.streams d open_before
+
+  pub given_after : (got : Got S) → GivesAnewAt young after tables got → GivesAt before after tables got
+  given_after (Lease lease) given = record {
+    made_here = given.made_here;
+    has_stream = ap is_some given.no_stream ∙ sym given.not_reused;
+    stream = given.no_stream ∙ sym (ap (λ (b : Bool). if b then stream_of before.streams lease.start.number else None) given.not_reused);
+    others = λ d other still. stays d still (given.opens d other still);
+  }
+  given_after (Wait ticket) given = (given.0, λ d still. stays d still (ap (is_among d) (sym given.1) ∙ still))
+  given_after (NoRoom booking) given = λ d still. stays d still (ap (λ (s : HostState S). is_open s.log d) (sym given) ∙ still)
+  given_after (Again booking) given = λ d still. stays d still (ap (λ (s : HostState S). is_open s.log d) (sym given) ∙ still)

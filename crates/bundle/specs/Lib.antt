@@ -5,3 +5,8 @@ pub mod Passes
 pub mod Grants
 pub mod Replies
 pub mod Lobbies
+pub mod Around
+pub mod Ends
+pub mod Starts
+pub mod Limits
+pub mod Inside

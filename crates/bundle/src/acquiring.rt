@@ -1,28 +1,27 @@
 //! How a transfer acquires a connection.
 
 ghost use Rattle.std.specs.Prelude.{◌≡◌, ◌+◌, ◌<◌, ◌++◌, ◌∷◌, [], ◌⊎◌, Some, None, true, false};
-ghost use Rattle.std.specs.Prelude.{length, is_some, vec_len, vec_capacity, IfSome, IfNone, IfErr};
+ghost use Rattle.std.specs.Prelude.{length, vec_len, vec_capacity, IfSome, IfNone, IfErr};
 ghost use Rattle.std.specs.Prelude.{OnOk, OnErr, OnSome, ◌≤◌};
-ghost use Rattle.budget.specs.declared.permits.Try.{Try};
 ghost use Rattle.budget.specs.declared.permits.Try.TheVariants.{Got as TryGot};
 ghost use Rattle.conn_log.specs.Connections.{held_number, is_among, last_moment};
 ghost use Rattle.conn_log.specs.Waiting.{waiting, waits};
-ghost use Rattle.host_state.specs.Steps.{is_exhausted, moment_at};
-ghost use Rattle.host_state.specs.State.{IsSameHost, KeepsOpenBut};
+ghost use Rattle.host_state.specs.Steps.{is_exhausted};
+ghost use Rattle.host_state.specs.State.{IsSameHost};
 ghost use Rattle.host_rules.specs.Calls.{refusal, is_queued, start_behind, GrowsBy};
-ghost use Rattle.host_rules.specs.Asks.{asks_to_open, open_asks};
 ghost use Rattle.host_rules.specs.Laws.{IsSoundAndQuiet};
-ghost use Rattle.bundle.specs.Lease.{HasItsStream, KeepsStreams, KeepsOthers, GetsLease};
-ghost use Rattle.bundle.specs.Lease.{GetsTicket, KeepsAll, StaysThere, IsBookedHere};
+ghost use Rattle.bundle.specs.Lease.{StaysThere, IsBookedHere};
+ghost use Rattle.bundle.specs.Around.{HoldsPart, MovesPart, KeepsPass};
+ghost use Rattle.bundle.specs.Starts.{AnswersAcquire, AcquiresAt};
+ghost use Rattle.bundle.specs.Inside.{MayLeaseAtOnce, IsLeased, SeatsLeases};
 ghost use Rattle.host_rules.specs.Counts.{held_by};
 ghost use Rattle.host_rules.specs.Bookings.{without_booked};
 ghost use Rattle.bundle.specs.Lobbies.{IfLent, IfLeft, is_lent};
 ghost use Rattle.host_rules.specs.Orders.{Lists, IsMarked};
-ghost use Rattle.bundle.specs.Seats.{IsSeated, KeepsGranted};
-ghost use Rattle.bundle.specs.Replies.{Acquires, GivesLease, GivesTicket, GivesBooking};
-ghost use Rattle.bundle.specs.Replies.{UnlessBooking, IfGot, IsGot, IsFor};
-ghost use Rattle.budget.specs.Accounts.{IsEnrolledAt, KeepsSeats};
-ghost use Rattle.bundle.specs.Passes.{tells, got_did, acquire_did, AccountsForStarts};
+ghost use Rattle.bundle.specs.Seats.{IsSeated};
+ghost use Rattle.bundle.specs.Replies.{GivesBooking, UnlessBooking, IfGot, IsGot};
+ghost use Rattle.budget.specs.Accounts.{IsEnrolledAt};
+ghost use Rattle.bundle.specs.Passes.{tells, got_did, acquire_did};
 
 use crate::answers::Got;
 use crate::asker::Asker;
@@ -38,20 +37,21 @@ use host_state::State;
 
 impl<S: Drop> Bundle<S> {
     /// Leases a connection to the transfer: the newest idle one that fits its want, else a new one.
-    /// Before that, idle ones of its lane that are too old for it are closed, unless it wants a new
-    /// one. At the host's limit the oldest idle one makes room, and where none is idle the transfer
-    /// waits, as it does where others wait here. Where the host has room `permits` is asked for one
-    /// connection more; where that has none, or has to be asked again, the acquire is left halfway,
-    /// with a [`Booking`], and only closings as too old were made. `now` is in seconds.
+    /// First it closes idle connections of the same lane that are too old, unless the transfer
+    /// wants a new one. At the host's limit the oldest idle connection makes room; if none is idle
+    /// there, the transfer waits, as it does if others wait here. If the host has room, `permits`
+    /// is asked for one connection more. If the budget has none, or has to be asked again, the
+    /// acquire is left halfway with a [`Booking`], and has closed nothing but connections that are
+    /// too old. `now` is in seconds.
     ///
     /// All memory that the lease, ticket or booking and its end will need is taken first. Refused,
-    /// in this order, with [`Refusal::TransferBusy`] where the transfer holds a connection, waits
-    /// here or has a booking out, with [`Refusal::Exhausted`] where the connection numbers that are
-    /// left are those that the waiting and booked transfers may need, and with [`Refusal::Memory`]
-    /// where memory runs out.
+    /// in this order, with [`Refusal::TransferBusy`] if the transfer holds a connection, waits here
+    /// or has a booking, with [`Refusal::Exhausted`] if the connection numbers that are left are
+    /// those that the waiting and booked transfers may need, and with [`Refusal::Memory`] if memory
+    /// runs out.
     ///
     /// The pass is told the entry of the start or the wait, or that the transfer is busy or no
-    /// number is left; nothing where the acquire is halfway or memory runs out.
+    /// number is left. It is told nothing if the acquire is halfway or memory runs out.
     ///
     /// Asked of the caller: the pass is enrolled here.
     #[inline(always)]
@@ -63,63 +63,30 @@ impl<S: Drop> Bundle<S> {
         pass: &mut Pass<Did>,
     ) -> Result<Got<S>, Refusal>
         requires enrolled { IsEnrolledAt pass.old self.old.host self.old.tables.starts }
-        requires stands { P.stands permits.old }
-        requires part { P.held permits.old ≡ held_by self.old.log }
-        ensures told { IfGot result (λ got. (told : Try) × P.opening permits.old permits.new told
-            × Acquires false told self.old self.new want now got) }
-        ensures has_stream { IfGot result (λ got. GivesLease got
-            (λ lease. is_some lease.stream ≡ lease.start.reused)) }
-        ensures stream { IfGot result (λ got. GivesLease got (HasItsStream self.old.streams)) }
-        ensures streams { IfGot result (λ got. GivesLease got
-            (λ lease. KeepsOthers lease.start.number self.old self.new)) }
-        ensures kept { IfGot result (λ got. GivesTicket got
-            (λ ticket. KeepsStreams self.old self.new)) }
-        ensures halfway { IfGot result (λ got. GivesBooking got
-            (λ booking. KeepsStreams self.old self.new)) }
-        ensures booked { IfGot result (λ got. GivesBooking got
-            (λ booking. self.new.booked ≡ self.old.booked ++ want.transfer ∷ [])) }
-        ensures not_booked { IfGot result (λ got. UnlessBooking got
-            (self.new.booked ≡ self.old.booked)) }
+        requires permits { HoldsPart P.stands P.held (held_by self.old.log) permits.old }
+        ensures answer { let opening = P.opening permits.old permits.new in
+            let asked = P.asked permits.old permits.new in
+            IfGot result (AnswersAcquire opening asked false self.old self.new want now) }
+        ensures got { let halfway = self.old.booked ++ want.transfer ∷ [] in
+            IfGot result (AcquiresAt self.old self.new want self.old.booked halfway) }
 
-        // Each refusal comes exactly where log and bookings give it; else only memory can be short.
+        // Each refusal comes exactly if log and bookings give it; else only memory can run out.
         ensures refused { let due = refusal self.old.settings self.old.log self.old.booked want in
             IfSome due (λ reason. result ≡ Err reason) }
         ensures else_memory { let due = refusal self.old.settings self.old.log self.old.booked want
             in IfErr result (λ reason. (due ≡ Some reason) ⊎ (reason ≡ Refusal.Memory)) }
-        ensures err { OnErr result (self.new ≡ self.old) }
-        ensures err_permits { OnErr result (permits.new ≡ permits.old) }
-
-        ensures stands { P.stands permits.new }
-        ensures stays { P.stays permits.old permits.new }
-        ensures asked { let asks = open_asks self.old.settings self.old.log want now in
-            OnOk result (P.asked permits.old permits.new asks 0) }
-        ensures part { P.held permits.new ≡ held_by self.new.log }
-        ensures mark { is_queued self.new.settings self.new.log
-            ≡ is_queued self.old.settings self.old.log }
-
-        ensures is_for { let moment = moment_at self.old.log now in
-            IfGot result (IsFor self.old.host want moment) }
-        ensures made_here { IfGot result (λ got. GivesLease got
-            (λ lease. lease.tables ≡ self.old.tables)) }
-        ensures waits_here { IfGot result (λ got. GivesTicket got
-            (λ ticket. ticket.tables ≡ self.old.tables)) }
-
-        // For those above: who has a lease or a ticket after the call, that the log only grew, and
-        // that the host stays.
-        ensures gets_lease { IfGot result (λ got. GivesLease got
-            (λ lease. GetsLease self.old self.new want.transfer lease.start.number)) }
-        ensures gets_ticket { IfGot result (λ got. GivesTicket got
-            (λ ticket. GetsTicket self.old self.new want)) }
-        ensures gets_booking { IfGot result (λ got. GivesBooking got
-            (λ booking. KeepsAll self.old self.new)) }
-        ensures grew { OnOk result (GrowsBy self.old.log self.new.log) }
-        ensures settled { IsSoundAndQuiet self.new.settings self.new.log }
-        ensures same { StaysThere self.old self.new }
+        ensures err { OnErr result ((self.new ≡ self.old) × (permits.new ≡ permits.old)) }
 
         ensures tells { pass.new
             ≡ tells self.old.host (acquire_did want.transfer result) pass.old }
-        ensures seats { KeepsSeats pass.old pass.new }
-        ensures account { AccountsForStarts self.old self.new pass.old pass.new }
+        ensures same_host { StaysThere self.old self.new }
+        ensures grew { OnOk result (GrowsBy self.old.log self.new.log) }
+        ensures settled { IsSoundAndQuiet self.new.settings self.new.log }
+        ensures mark { is_queued self.new.settings self.new.log
+            ≡ is_queued self.old.settings self.old.log }
+        ensures permits { let much = held_by self.new.log in
+            MovesPart P.stands P.stays P.held much permits.old permits.new }
+        ensures pass { KeepsPass self.old self.new pass.old pass.new }
     {
         let moment = self.state.moment(now);
         let seats = &mut self.seats;
@@ -157,14 +124,14 @@ impl<S: Drop> Bundle<S> {
         Ok(got)
     }
 
-    /// Tries an acquire again that is halfway: the same steps. With the lobby it is the last try:
-    /// where the budget has no room, the host's own oldest idle connection makes room, or the
-    /// transfer waits, and the host is queued. `now` is in seconds. It takes no memory.
+    /// Tries an acquire again that is halfway, by the same steps. With the lobby this is the last
+    /// try: if the budget has no room, the host's own oldest idle connection makes room, or the
+    /// transfer waits and the host is queued. `now` is in seconds. It takes no memory.
     ///
     /// The pass is told as by [`Bundle::acquire`].
     ///
     /// Asked of the caller: the booking is this host's, and the pass is enrolled here; the lobby
-    /// lists this host exactly where it is queued.
+    /// lists this host exactly if it is queued.
     pub fn retry<P: Permits<Asker>>(
         &mut self,
         booking: Booking,
@@ -175,48 +142,27 @@ impl<S: Drop> Bundle<S> {
     ) -> Got<S>
         requires enrolled { IsEnrolledAt pass.old self.old.host self.old.tables.starts }
         requires here { IsBookedHere self.old booking }
-        requires lists { let mark = is_queued self.old.settings self.old.log in
+        requires permits { HoldsPart P.stands P.held (held_by self.old.log) permits.old }
+        requires lobby { let mark = is_queued self.old.settings self.old.log in
             IfLent lobby (Lists self.old.host mark) }
-        requires stands { P.stands permits.old }
-        requires part { P.held permits.old ≡ held_by self.old.log }
-        ensures told { (told : Try) × P.opening permits.old permits.new told
-            × Acquires (is_lent lobby.entry) told self.old self.new booking.want now result }
-        ensures has_stream { GivesLease result
-            (λ lease. is_some lease.stream ≡ lease.start.reused) }
-        ensures stream { GivesLease result (HasItsStream self.old.streams) }
-        ensures streams { GivesLease result
-            (λ lease. KeepsOthers lease.start.number self.old self.new) }
-        ensures kept { GivesTicket result (λ ticket. KeepsStreams self.old self.new) }
-        ensures is_for { let moment = moment_at self.old.log now in
-            IsFor self.old.host booking.want moment result }
-        ensures halfway { GivesBooking result (λ booking. KeepsStreams self.old self.new) }
-        ensures booked { GivesBooking result (λ again. self.new.booked ≡ self.old.booked) }
-        ensures not_booked { let transfer = booking.want.transfer in
-            UnlessBooking result (self.new.booked ≡ without_booked transfer self.old.booked) }
-        ensures stands { P.stands permits.new }
-        ensures stays { P.stays permits.old permits.new }
-        ensures asked { let asks = open_asks self.old.settings self.old.log booking.want now in
-            P.asked permits.old permits.new asks 0 }
-        ensures part { P.held permits.new ≡ held_by self.new.log }
-        ensures marked { let was = is_queued self.old.settings self.old.log in
-            let is = is_queued self.new.settings self.new.log in
-            IfLeft lobby.entry lobby.exit (IsMarked self.old.host was is) }
-        ensures mark { let was = is_queued self.old.settings self.old.log in
-            is_lent lobby.entry ≡ false → is_queued self.new.settings self.new.log ≡ was }
-        ensures made_here { GivesLease result (λ lease. lease.tables ≡ self.old.tables) }
-        ensures waits_here { GivesTicket result (λ ticket. ticket.tables ≡ self.old.tables) }
-        ensures gets_lease { let transfer = booking.want.transfer in
-            GivesLease result
-            (λ lease. GetsLease self.old self.new transfer lease.start.number) }
-        ensures gets_ticket { GivesTicket result
-            (λ ticket. GetsTicket self.old self.new booking.want) }
-        ensures gets_booking { GivesBooking result (λ again. KeepsAll self.old self.new) }
+        ensures answer { let opening = P.opening permits.old permits.new in
+            let asked = P.asked permits.old permits.new in
+            let is_last = is_lent lobby.entry in
+            AnswersAcquire opening asked is_last self.old self.new booking.want now result }
+        ensures got { let done = without_booked booking.want.transfer self.old.booked in
+            AcquiresAt self.old self.new booking.want done self.old.booked result }
+        ensures tells { pass.new ≡ tells self.old.host (got_did result) pass.old }
+        ensures same_host { StaysThere self.old self.new }
         ensures grew { GrowsBy self.old.log self.new.log }
         ensures settled { IsSoundAndQuiet self.new.settings self.new.log }
-        ensures same { StaysThere self.old self.new }
-        ensures tells { pass.new ≡ tells self.old.host (got_did result) pass.old }
-        ensures seats { KeepsSeats pass.old pass.new }
-        ensures account { AccountsForStarts self.old self.new pass.old pass.new }
+        ensures mark { let was = is_queued self.old.settings self.old.log in
+            is_lent lobby.entry ≡ false → is_queued self.new.settings self.new.log ≡ was }
+        ensures permits { let much = held_by self.new.log in
+            MovesPart P.stands P.stays P.held much permits.old permits.new }
+        ensures lobby { let was = is_queued self.old.settings self.old.log in
+            let is = is_queued self.new.settings self.new.log in
+            IfLeft lobby.entry lobby.exit (IsMarked self.old.host was is) }
+        ensures pass { KeepsPass self.old self.new pass.old pass.new }
     {
         let was_queued = self.queued();
         match lobby {
@@ -229,7 +175,7 @@ impl<S: Drop> Bundle<S> {
         }
     }
 
-    // The same steps for an acquire that is halfway.
+    // Tries an acquire that is halfway again.
     fn try_again<P: Permits<Asker>>(
         &mut self,
         booking: Booking,
@@ -240,43 +186,21 @@ impl<S: Drop> Bundle<S> {
     ) -> Got<S>
         requires enrolled { IsEnrolledAt pass.old self.old.host self.old.tables.starts }
         requires here { IsBookedHere self.old booking }
-        requires stands { P.stands permits.old }
-        requires part { P.held permits.old ≡ held_by self.old.log }
-        ensures told { (told : Try) × P.opening permits.old permits.new told
-            × Acquires is_last told self.old self.new booking.want now result }
-        ensures has_stream { GivesLease result
-            (λ lease. is_some lease.stream ≡ lease.start.reused) }
-        ensures stream { GivesLease result (HasItsStream self.old.streams) }
-        ensures streams { GivesLease result
-            (λ lease. KeepsOthers lease.start.number self.old self.new) }
-        ensures kept { GivesTicket result (λ ticket. KeepsStreams self.old self.new) }
-        ensures is_for { let moment = moment_at self.old.log now in
-            IsFor self.old.host booking.want moment result }
-        ensures halfway { GivesBooking result (λ booking. KeepsStreams self.old self.new) }
-        ensures booked { GivesBooking result (λ again. self.new.booked ≡ self.old.booked) }
-        ensures not_booked { let transfer = booking.want.transfer in
-            UnlessBooking result (self.new.booked ≡ without_booked transfer self.old.booked) }
-        ensures stands { P.stands permits.new }
-        ensures stays { P.stays permits.old permits.new }
-        ensures asked { let asks = open_asks self.old.settings self.old.log booking.want now in
-            P.asked permits.old permits.new asks 0 }
-        ensures part { P.held permits.new ≡ held_by self.new.log }
-        ensures mark { let was = is_queued self.old.settings self.old.log in
-            is_last ≡ false → is_queued self.new.settings self.new.log ≡ was }
-        ensures made_here { GivesLease result (λ lease. lease.tables ≡ self.old.tables) }
-        ensures waits_here { GivesTicket result (λ ticket. ticket.tables ≡ self.old.tables) }
-        ensures gets_lease { let transfer = booking.want.transfer in
-            GivesLease result
-            (λ lease. GetsLease self.old self.new transfer lease.start.number) }
-        ensures gets_ticket { GivesTicket result
-            (λ ticket. GetsTicket self.old self.new booking.want) }
-        ensures gets_booking { GivesBooking result (λ again. KeepsAll self.old self.new) }
+        requires permits { HoldsPart P.stands P.held (held_by self.old.log) permits.old }
+        ensures answer { let opening = P.opening permits.old permits.new in
+            let asked = P.asked permits.old permits.new in
+            AnswersAcquire opening asked is_last self.old self.new booking.want now result }
+        ensures got { let done = without_booked booking.want.transfer self.old.booked in
+            AcquiresAt self.old self.new booking.want done self.old.booked result }
+        ensures tells { pass.new ≡ tells self.old.host (got_did result) pass.old }
+        ensures same_host { StaysThere self.old self.new }
         ensures grew { GrowsBy self.old.log self.new.log }
         ensures settled { IsSoundAndQuiet self.new.settings self.new.log }
-        ensures same { StaysThere self.old self.new }
-        ensures tells { pass.new ≡ tells self.old.host (got_did result) pass.old }
-        ensures seats { KeepsSeats pass.old pass.new }
-        ensures account { AccountsForStarts self.old self.new pass.old pass.new }
+        ensures mark { let was = is_queued self.old.settings self.old.log in
+            is_last ≡ false → is_queued self.new.settings self.new.log ≡ was }
+        ensures permits { let much = held_by self.new.log in
+            MovesPart P.stands P.stays P.held much permits.old permits.new }
+        ensures pass { KeepsPass self.old self.new pass.old pass.new }
     {
         let want = booking.spend();
         let moment = self.state.moment(now);
@@ -287,7 +211,7 @@ impl<S: Drop> Bundle<S> {
         got
     }
 
-    // The lobby lists the host exactly where it is queued.
+    // Has the lobby list the host exactly if it is queued.
     pub(crate) fn mark(&self, was_queued: bool, lobby: &mut Lobby)
         requires lists { Lists self.now.host was_queued lobby.old }
         ensures { let is = is_queued self.now.settings self.now.log in
@@ -304,8 +228,8 @@ impl<S: Drop> Bundle<S> {
     }
 }
 
-// Where nobody's acquire is halfway: a lease on the newest idle connection, where that fits and
-// nothing else is to be done. It takes one look into the table of holders.
+// Fast path, if no acquire is halfway: leases the newest idle connection, if it fits and nothing
+// else is to be done. It takes one look into the table of holders.
 #[inline(always)]
 fn lease_at_once<S: Drop, P: Permits<Asker>>(
     state: &mut State<S>,
@@ -316,35 +240,23 @@ fn lease_at_once<S: Drop, P: Permits<Asker>>(
     permits: &mut P,
 ) -> Option<Lease<S>>
     requires seated { IsSeated state.old.log seats.old }
-    requires count { state.old.booked ≡ length bookings.now }
+    requires as_many_booked { state.old.booked ≡ length bookings.now }
     requires later { last_moment state.old.log ≤ moment }
-    requires stands { P.stands permits.old }
-    requires part { P.held permits.old ≡ held_by state.old.log }
-    ensures none { IfNone result (state.new ≡ state.old) }
-    ensures none_permits { IfNone result (permits.new ≡ permits.old) }
-    ensures none_seats { IfNone result (seats.new ≡ seats.old) }
-    ensures seated { IsSeated state.new.log seats.new }
-    ensures granted { KeepsGranted seats.old seats.new }
-    ensures made_here { IfSome result (λ lease. lease.tables ≡ seats.old.tables) }
+    requires permits { HoldsPart P.stands P.held (held_by state.old.log) permits.old }
+    ensures unchanged { IfNone result ((state.new ≡ state.old) × (permits.new ≡ permits.old)
+        × (seats.new ≡ seats.old)) }
     ensures due { let wants = waiting state.old.log in
         let due = start_behind wants false TryGot state.old.settings want moment state.old.log in
         IfSome result (λ lease. (state.new.log ≡ due.log)
         × IsGot state.old.host want due.reply (Got.Lease lease)) }
-    ensures nobody { OnSome result (bookings.now ≡ []) }
-    ensures free { OnSome result (held_number state.old.log want.transfer ≡ None) }
-    ensures once { OnSome result (waiting state.old.log ≡ []) }
-    ensures number { OnSome result (is_exhausted state.old.settings state.old.log 0 ≡ false) }
-    ensures has_stream { IfSome result (λ lease. is_some lease.stream ≡ lease.start.reused) }
-    ensures stream { IfSome result (HasItsStream state.old.streams) }
-    ensures others { IfSome result (λ lease. KeepsOpenBut lease.start.number state.old state.new) }
-    ensures booked { state.new.booked ≡ state.old.booked }
-    ensures stands { P.stands permits.new }
-    ensures stays { P.stays permits.old permits.new }
-    ensures not_due { OnSome result
-        (asks_to_open state.old.settings state.old.log want moment ≡ false) }
+    ensures at_once { OnSome result (MayLeaseAtOnce state.old bookings.now want moment) }
+    ensures lease { IfSome result (IsLeased state.old state.new seats.old.tables) }
+    ensures seats { SeatsLeases state.new.log seats.old seats.new }
+    ensures same_booked { state.new.booked ≡ state.old.booked }
+    ensures same_host { IsSameHost state.old state.new }
     ensures unasked { P.asked permits.old permits.new 0 0 }
-    ensures part { P.held permits.new ≡ held_by state.new.log }
-    ensures same { IsSameHost state.old state.new }
+    ensures permits { let much = held_by state.new.log in
+        MovesPart P.stands P.stays P.held much permits.old permits.new }
 {
     if !bookings.is_empty() {
         return None;
@@ -360,12 +272,12 @@ fn lease_at_once<S: Drop, P: Permits<Asker>>(
     Some(Lease::new(used, seat))
 }
 
-// Why log and bookings are against an acquire, if they are. Out of line and cold, as all that only
-// an acquire needs that does not lease at once.
+// The refusal that an acquire is due, if any. Out of line and cold, as all that an acquire needs
+// only if it does not lease at once.
 #[cold]
 #[inline(never)]
 fn reason_against<S: Drop>(state: &State<S>, bookings: &[u64], want: &Want) -> Option<Refusal>
-    requires count { state.now.booked ≡ length bookings.now }
+    requires as_many_booked { state.now.booked ≡ length bookings.now }
     ensures reason { result ≡ refusal state.now.settings state.now.log bookings.now want.now }
     ensures free { IfNone result (held_number state.now.log want.now.transfer ≡ None) }
     ensures once { IfNone result (waits state.now.log want.now.transfer ≡ false) }
@@ -383,22 +295,23 @@ fn reason_against<S: Drop>(state: &State<S>, bookings: &[u64], want: &Want) -> O
     None
 }
 
-// Where the acquire is halfway its transfer has a booking.
+// Adds the transfer to the bookings, if its acquire is halfway.
 fn add_booking<S>(bookings: &mut Vec<u64>, got: &Got<S>, transfer: u64)
-    requires room { vec_len bookings.old < vec_capacity bookings.old }
-    ensures booked { GivesBooking got.now
+    requires spare { vec_len bookings.old < vec_capacity bookings.old }
+    ensures booking_added { GivesBooking got.now
         (λ booking. bookings.new.items ≡ bookings.old.items ++ transfer ∷ []) }
-    ensures not_booked { UnlessBooking got.now (bookings.new.items ≡ bookings.old.items) }
+    ensures none_added { UnlessBooking got.now (bookings.new.items ≡ bookings.old.items) }
 {
     if got.is_halfway() {
         bookings.push_reserved(transfer);
     }
 }
 
-// Where the acquire is halfway no more its transfer has no booking.
+// Takes the transfer out of the bookings, unless its acquire is still halfway.
 fn take_booking<S>(bookings: &mut Vec<u64>, got: &Got<S>, transfer: u64)
-    ensures booked { GivesBooking got.now (λ booking. bookings.new.items ≡ bookings.old.items) }
-    ensures not_booked { UnlessBooking got.now
+    ensures booking_stays { GivesBooking got.now
+        (λ booking. bookings.new.items ≡ bookings.old.items) }
+    ensures booking_taken { UnlessBooking got.now
         (bookings.new.items ≡ without_booked transfer bookings.old.items) }
 {
     if got.is_halfway() {

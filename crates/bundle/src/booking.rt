@@ -19,7 +19,7 @@ impl Model for Booking {
 }
 
 impl Booking {
-    // That of an acquire that goes on later.
+    // The booking of an acquire that is tried again.
     pub(crate) fn new(host: u32, want: Want) -> Self
         ensures { result ≡ record { site = host; want = want } }
     {

@@ -24,7 +24,8 @@ impl<S: Drop> Bundle<S> {
             reverse part.items ++ cut_entries self.old ≡ self.old.log) }
         ensures legal { IfOk result (λ part.
             IsLegal self.old.settings (reverse part.items ++ cut_entries self.old)) }
-        ensures ok { OnOk result (self.new ≡ record self.old { cut_away = length self.old.log }) }
+        ensures all_cut { OnOk result
+            (self.new ≡ record self.old { cut_away = length self.old.log }) }
         ensures refusal { IfErr result (λ reason. reason ≡ cut_refusal self.old) }
         ensures err { OnErr result (self.new ≡ self.old) }
     {

@@ -9,10 +9,10 @@ use crate::ticket::Ticket;
 use budget::{Pass, Refusal, Tally};
 use conn_log::{Entry, Event};
 
-/// What a call tells the pass that it is lent: what it answered at this host. An acquire that is
-/// halfway, a lease that comes back, what has to be tried again, a limit that is too great, and
-/// want of memory tell nothing. Transfers are named by their numbers; moments and ages are in
-/// seconds.
+/// What a call answered at a host, as it tells the pass that it is lent. An acquire that is
+/// halfway, a lease that comes back, an answer that the budget has to be asked again, a limit that
+/// is too great, and an allocation failure tell nothing. Transfers are named by their numbers;
+/// moments and ages are in seconds.
 #[derive(Clone, Copy, Debug, PartialEq, Eq)]
 pub enum Did {
     /// It wrote this entry: the start or the wait of an acquire; the return, the closing or the
@@ -74,8 +74,8 @@ fn wait_entry(ticket: &Ticket) -> Entry
 pub(crate) fn tell_got<S>(pass: &mut Pass<Did>, host: u32, tally: &Tally, got: &Got<S>)
     requires there { host < length pass.old }
     requires enrolled { IsEnrolledAt pass.old host tally.now.table }
-    ensures told { pass.new ≡ tells host (got_did got.now) pass.old }
-    ensures seats { KeepsSeats pass.old pass.new }
+    ensures tells { pass.new ≡ tells host (got_did got.now) pass.old }
+    ensures pass_seats { KeepsSeats pass.old pass.new }
 {
     match got {
         Got::Lease(lease) => pass.tell(host as usize, tally, Did::Wrote(start_entry(lease))),
@@ -94,8 +94,8 @@ pub(crate) fn tell_refused(
 )
     requires there { host < length pass.old }
     requires enrolled { IsEnrolledAt pass.old host tally.now.table }
-    ensures told { pass.new ≡ tells host (refusal_did transfer reason) pass.old }
-    ensures seats { KeepsSeats pass.old pass.new }
+    ensures tells { pass.new ≡ tells host (refusal_did transfer reason) pass.old }
+    ensures pass_seats { KeepsSeats pass.old pass.new }
 {
     match reason {
         Refusal::TransferBusy => pass.tell(host as usize, tally, Did::Busy(transfer)),
@@ -104,12 +104,12 @@ pub(crate) fn tell_refused(
     }
 }
 
-// Tells the pass how many connections are held, where a new limit is refused for that.
+// Tells the pass how many connections are held, if a new limit is refused for that.
 pub(crate) fn tell_held(pass: &mut Pass<Did>, host: u32, tally: &Tally, reason: Refusal)
     requires there { host < length pass.old }
     requires enrolled { IsEnrolledAt pass.old host tally.now.table }
-    ensures told { pass.new ≡ tells host (held_did reason) pass.old }
-    ensures seats { KeepsSeats pass.old pass.new }
+    ensures tells { pass.new ≡ tells host (held_did reason) pass.old }
+    ensures pass_seats { KeepsSeats pass.old pass.new }
 {
     if let Refusal::Busy(held) = reason {
         pass.tell(host as usize, tally, Did::Held(held));

@@ -20,7 +20,7 @@ pub(crate) struct Grant<S> {
     pub stream: Option<S>,
 }
 
-/// What the transfer wanted that was granted something.
+/// The want of the transfer's grant, if it has one.
 pub(crate) fn granted_want<S>(grants: &[Grant<S>], transfer: u64) -> Option<Want>
     ensures { result ≡ option_map (λ (grant : Grant S). grant.want) (grant_of grants.now transfer) }
 {
@@ -30,11 +30,11 @@ pub(crate) fn granted_want<S>(grants: &[Grant<S>], transfer: u64) -> Option<Want
     Some(grants[place].want)
 }
 
-/// Takes out what the transfer was granted.
+/// Takes the transfer's grant out, if it has one.
 #[inline(always)]
 pub(crate) fn take_grant<S>(grants: &mut Vec<Grant<S>>, transfer: u64) -> Option<Grant<S>>
     ensures grant { result ≡ grant_of grants.old.items transfer }
-    ensures others { grants.new.items ≡ without_grant transfer grants.old.items }
+    ensures grants { grants.new.items ≡ without_grant transfer grants.old.items }
     ensures unchanged { IfNone result (grants.new.items ≡ grants.old.items) }
     ensures len { vec_len grants.new ≤ vec_len grants.old }
     ensures capacity { vec_capacity grants.new ≡ vec_capacity grants.old }
@@ -45,11 +45,11 @@ pub(crate) fn take_grant<S>(grants: &mut Vec<Grant<S>>, transfer: u64) -> Option
     Some(grants.remove(place))
 }
 
-// The place of what the transfer was granted.
+// The index of the transfer's grant.
 #[inline(always)]
 fn place_of<S>(grants: &[Grant<S>], transfer: u64) -> Option<usize>
-    ensures some { IfSome result (λ place. IsPlaceOf transfer grants.now place) }
-    ensures none { IfNone result (HasNoGrant transfer grants.now) }
+    ensures place { IfSome result (λ place. IsPlaceOf transfer grants.now place) }
+    ensures no_grant { IfNone result (HasNoGrant transfer grants.now) }
 {
     let mut place = 0;
     while place < grants.len() {

@@ -27,7 +27,7 @@ use std::marker::Model;
 /// The most hosts that a cache may have.
 pub const MOST_HOSTS: u32 = 1_024;
 
-/// The connections of one host, with the streams of type `S` of those that no lease has.
+/// The connections of one host, with the streams of type `S` of those that have no lease.
 #[derive(Drop)]
 pub struct Bundle<S: Drop> {
     pub(crate) state: State<S>,
@@ -71,14 +71,14 @@ impl<S: Drop> Model for Bundle<S> {
 }
 
 impl<S: Drop> Bundle<S> {
-    /// A host without connections: how many it may have open, its index, and the number of its
-    /// first connection.
+    /// Makes a host without connections: how many it may have open, its index, and the number of
+    /// its first connection.
     ///
     /// The only refusal is [`Refusal::Memory`].
     pub fn new(alloc: Global, host_limit: u32, host: u32, first: u32) -> Result<Self, Refusal>
         requires { 0 < first }
-        ensures ok { IfOk result (λ bundle. IsNewHost host_limit host first bundle) }
-        ensures err { IfErr result (λ refusal. refusal ≡ Refusal.Memory) }
+        ensures new_host { IfOk result (λ bundle. IsNewHost host_limit host first bundle) }
+        ensures only_memory { IfErr result (λ refusal. refusal ≡ Refusal.Memory) }
     {
         let Ok(state) = State::new(alloc, host_limit, host, first) else {
             return Err(Refusal::Memory);
@@ -98,13 +98,13 @@ impl<S: Drop> Bundle<S> {
         self.state.host()
     }
 
-    /// The host's log. It is legal, and quiet with the host's mark, with no more open than the host
-    /// may have. It has room for four entries for each acquire that is halfway, three for each
-    /// waiting transfer, two for each leased connection and one for each idle one, so that spending
-    /// a lease or a ticket takes no memory. The streams that the host has, and the starts that it
-    /// granted and that are not claimed, are those that the log tells of; transfers whose acquire
-    /// is halfway neither hold nor wait. No more connections are held than starts were counted, so
-    /// that the starts that are over are their difference.
+    /// The host's log. It is legal, and quiet with the host's mark, and shows no more connections
+    /// open than the host may have. It has room for four entries for each acquire that is halfway,
+    /// three for each waiter, two for each leased connection and one for each idle one, so that
+    /// spending a lease or a ticket takes no memory. The streams that the host has, and its starts
+    /// that are granted and not claimed, are those that the log shows. Transfers whose acquire is
+    /// halfway neither hold nor wait. No more connections are held than starts were counted, so the
+    /// starts that are over are their difference.
     pub fn log(&self) -> &Log
         ensures entries { result.now.entries ≡ self.now.log }
         ensures cut_away { result.now.cut_away ≡ self.now.cut_away }
@@ -112,14 +112,14 @@ impl<S: Drop> Bundle<S> {
         ensures legal { IsLegal self.now.settings self.now.log }
         ensures quiet { let queued = is_queued self.now.settings self.now.log in
             IsQuiet self.now.settings queued self.now.log }
-        ensures within { let most = limit_in_force self.now.settings self.now.log in
+        ensures within_limit { let most = limit_in_force self.now.settings self.now.log in
             length (open_connections self.now.log) ≤ most }
         ensures room { let booked = length self.now.booked in
             HasRoomToSpend booked self.now.log result.now.room }
-        ensures streams { HasItsStreams self.now }
+        ensures has_streams { HasItsStreams self.now }
         ensures unclaimed { UnclaimedAreStarts self.now }
         ensures booked { AreBooked self.now.log self.now.booked }
-        ensures starts { leased_len self.now.log ≤ start_count self.now.log }
+        ensures enough_starts { leased_len self.now.log ≤ start_count self.now.log }
     {
         self.state.log()
     }
@@ -153,20 +153,20 @@ impl<S: Drop> Bundle<S> {
     /// Asked of the caller: the pass has an account for this host, and no seat there.
     pub fn enrol(&mut self, pass: &mut Pass<Did>)
         requires there { self.old.host < length pass.old }
-        requires apart { (account_at pass.old self.old.host).seat ≡ None }
+        requires not_enrolled { (account_at pass.old self.old.host).seat ≡ None }
         ensures same { self.new ≡ self.old }
         ensures account { let table = self.old.tables.starts in
             let seat : Spendings = record { table = table; spent = 0 } in
             pass.new ≡ change_at pass.old self.old.host (enrolled seat) }
         ensures enrolled { IsEnrolledAt pass.new self.old.host self.old.tables.starts }
-        ensures seats { KeepsSeats pass.old pass.new }
+        ensures pass_seats { KeepsSeats pass.old pass.new }
     {
         pass.enrol(self.state.host() as usize, self.seats.seat_pass());
     }
 
     /// How many starts there were: connections opened for a transfer, or leased to one again. The
-    /// clause speaks of the log: that the tally's word, which is read, agrees with it is an
-    /// invariant.
+    /// clause speaks of the log; that the word of the tally, which is read, agrees with the log is
+    /// an invariant.
     pub fn starts(&mut self) -> u64
         ensures same { self.new ≡ self.old }
         ensures starts { result ≡ start_count self.old.log }
@@ -174,8 +174,8 @@ impl<S: Drop> Bundle<S> {
         self.seats.starts()
     }
 
-    /// How many starts are over: all, but for one for each connection that is held. Read off the
-    /// words of the two tables. That they agree with the log is an invariant.
+    /// How many starts are over: all but one for each connection that is held. Read off the words
+    /// of the two tables; that they agree with the log is an invariant.
     pub fn gone(&mut self) -> u64
         ensures same { self.new ≡ self.old }
         ensures gone { result ≡ gone self.old.log }
@@ -186,17 +186,17 @@ impl<S: Drop> Bundle<S> {
         starts - self.held()
     }
 
-    /// How many connections transfers hold, read off the lease word. That it agrees with the log is
-    /// an invariant.
+    /// How many connections transfers hold, read off the lease word. That the word agrees with the
+    /// log is an invariant.
     pub fn held(&mut self) -> u64
         ensures same { self.new ≡ self.old }
-        ensures held { let idle = length (idle_connections self.old.log) in
+        ensures count { let idle = length (idle_connections self.old.log) in
             result ≡ length (open_connections self.old.log) - idle }
     {
         self.seats.held()
     }
 
-    /// The stamp of the connection that is idle for the longest.
+    /// The stamp of the connection that has been idle for the longest time.
     pub fn oldest(&self) -> Option<Stamp>
         ensures { result ≡ oldest_stamp self.now.log self.now.host }
     {

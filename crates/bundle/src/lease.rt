@@ -61,7 +61,7 @@ impl<S> Model for Use<S> {
 impl<S> Use<S> {
     ghost use Rattle.bundle.specs.Lends.{use_lends_stream};
 
-    // That of a new connection, which has no stream yet.
+    // The use of a new connection, which has no stream yet.
     #[inline(always)]
     pub(crate) fn opened(host: u32, number: u32, want: Want, moment: u64) -> Self
         ensures { result ≡ new_use host number want moment }
@@ -76,7 +76,7 @@ impl<S> Use<S> {
         }
     }
 
-    // That of a connection that was idle, with its stream.
+    // The use of a connection that was idle, with its stream.
     #[inline(always)]
     pub(crate) fn reusing(host: u32, number: u32, want: Want, moment: u64, stream: S) -> Self
         ensures { result ≡ reuse_of host number want moment stream }
@@ -91,7 +91,7 @@ impl<S> Use<S> {
         }
     }
 
-    // That of what a transfer was granted.
+    // The use of what a transfer was granted.
     pub(crate) fn granted(host: u32, grant: Grant<S>) -> Self
         ensures { result ≡ granted_use host grant }
     {
@@ -109,7 +109,7 @@ impl<S> Use<S> {
     #[inline(always)]
     pub(crate) fn detach(&mut self) -> S
         requires { IsSome self.old.stream }
-        ensures stream { self.old.stream ≡ Some result }
+        ensures detached { self.old.stream ≡ Some result }
         ensures rest { self.new ≡ record self.old { stream = None } }
     {
         self.stream.take().unwrap()
@@ -163,7 +163,7 @@ impl<S> Use<S> {
 }
 
 impl<S: Drop> Use<S> {
-    // Gives it its stream again.
+    // Gives its stream back to it.
     #[inline(always)]
     pub(crate) fn attach(&mut self, stream: S)
         requires { self.old.stream ≡ None }
@@ -284,9 +284,9 @@ impl<S: Drop> Lease<S> {
     }
 }
 
-/// What was not taken: it comes back, to be kept or scrapped. Only a bundle's refusal makes one. It
-/// does not show which bundle refused: a ticket that another bundle than its own refused may be let
-/// go too.
+/// A lease or a ticket that a bundle refused: it comes back, to be kept or scrapped. Only a
+/// bundle's refusal makes one. It does not show which bundle refused: a ticket that another bundle
+/// than its own refused may be let go too.
 pub struct Stray<T> {
     value: T,
 }

@@ -6,16 +6,16 @@ ghost use Rattle.std.specs.Prelude.{vec_len, vec_capacity};
 ghost use Rattle.budget.specs.declared.permits.Try.TheVariants.{Full, Contended};
 ghost use Rattle.budget.specs.Permits.{held};
 ghost use Rattle.conn_log.specs.Connections.{open_connections, idle_connections};
-ghost use Rattle.conn_log.specs.Waiting.{waiting};
-ghost use Rattle.host_state.specs.State.{IsSameHost, KeepsOpen};
+ghost use Rattle.host_state.specs.State.{KeepsOpen};
 ghost use Rattle.host_rules.specs.Calls.{after_limit, kept_limit, limit_refusal, starts_due};
-ghost use Rattle.host_rules.specs.Calls.{leased_len, is_queued, is_freed, GrowsBy};
-ghost use Rattle.bundle.specs.Grants.{HasSpare, grant_starts, with_limit};
-ghost use Rattle.bundle.specs.Passes.{tells, limit_did, AccountsForStarts};
-ghost use Rattle.budget.specs.Accounts.{IsEnrolledAt, KeepsSeats};
+ghost use Rattle.host_rules.specs.Calls.{leased_len, is_queued, is_freed};
+ghost use Rattle.bundle.specs.Grants.{with_limit};
+ghost use Rattle.bundle.specs.Inside.{IsInside, OnlyGrants};
+ghost use Rattle.bundle.specs.Passes.{tells, limit_did};
+ghost use Rattle.budget.specs.Accounts.{IsEnrolledAt};
 ghost use Rattle.host_state.specs.Steps.{moment_at};
-ghost use Rattle.bundle.specs.Seats.{IsSeated, AreUnclaimed, OnlyStarts};
-ghost use Rattle.bundle.specs.Lease.{KeepsStreams, KeepsAll, StaysThere};
+ghost use Rattle.bundle.specs.Around.{HoldsPart, MovesPart, KeepsUses, KeepsPass};
+ghost use Rattle.bundle.specs.Limits.{ChangesLimit, HasToAskAgain};
 ghost use Rattle.host_rules.specs.Counts.{held_by};
 ghost use Rattle.host_rules.specs.Asks.{limit_asks};
 ghost use Rattle.host_rules.specs.Laws.{IsSoundAndQuiet};
@@ -34,21 +34,20 @@ use conn_log::{Entry, Event};
 use host_state::State;
 
 impl<S: Drop> Bundle<S> {
-    /// Changes the most connections that the host may have open; 0 is kept as 65,535. Where more
-    /// are open, so many of those idle for the longest are closed first. Then, unless the host is
-    /// queued, one is opened for each transfer that waits, as long as the host has room and the
-    /// budget too; where the budget has none for one of them, the host is queued. `now` is in
-    /// seconds.
+    /// Changes the most connections that the host may have open; 0 is kept as 65,535. If more are
+    /// open, as many of those idle for the longest time are closed first. Then, unless the host is
+    /// queued, one is opened for each waiter, as long as the host and the budget have room. If the
+    /// budget has no room for one of them, the host is queued. `now` is in seconds.
     ///
-    /// Refused, in this order, with [`Refusal::BadLimit`] above 65,535, with [`Refusal::Busy`]
-    /// where more connections than that are held, and with [`Refusal::Memory`] where memory runs
-    /// out. [`Changed::Again`] comes where the budget has to be asked again; nothing changed then.
+    /// Refused, in this order, with [`Refusal::BadLimit`] above 65,535, with [`Refusal::Busy`] if
+    /// more connections than that are held, and with [`Refusal::Memory`] if memory runs out.
+    /// [`Changed::Again`] comes if the budget has to be asked again; nothing changed then.
     ///
-    /// The pass is told the entry of the new limit, or how many connections are held where that is
-    /// why it is refused; else nothing.
+    /// The pass is told the entry of the new limit, or how many connections are held if the limit
+    /// is refused for that; else nothing.
     ///
-    /// Asked of the caller: the pass is enrolled here; the lobby lists this host exactly where it
-    /// is queued.
+    /// Asked of the caller: the pass is enrolled here; the lobby lists this host exactly if it is
+    /// queued.
     pub fn set_host_limit<P: Permits<Asker>>(
         &mut self,
         limit: u32,
@@ -58,50 +57,33 @@ impl<S: Drop> Bundle<S> {
         pass: &mut Pass<Did>,
     ) -> Result<Changed, Refusal>
         requires enrolled { IsEnrolledAt pass.old self.old.host self.old.tables.starts }
-        requires lists { let mark = is_queued self.old.settings self.old.log in
+        requires permits { HoldsPart P.stands P.held (held_by self.old.log) permits.old }
+        requires lobby { let mark = is_queued self.old.settings self.old.log in
             Lists self.old.host mark lobby.old }
-        requires stands { P.stands permits.old }
-        requires part { P.held permits.old ≡ held_by self.old.log }
         ensures refused { let due = limit_refusal limit self.old.log in
             IfSome due (λ reason. result ≡ Err reason) }
         ensures else_memory { let due = limit_refusal limit self.old.log in
             IfErr result (λ reason. (due ≡ Some reason) ⊎ (reason ≡ Refusal.Memory)) }
-        ensures log { let most = kept_limit limit in
-            let queued = is_queued self.old.settings self.old.log in
-            let starts_due = starts_due queued most self.old.log in
-            IfChanged result (λ freed. (given : ℕ) × (given ≤ starts_due)
-            × (given < starts_due → P.opening permits.old permits.new Full)
-            × (self.new.log ≡ after_limit most given self.old.settings self.old.log now)
-            × P.asked permits.old permits.new (limit_asks given starts_due) 0) }
-        ensures freed { IfChanged result (λ freed. freed ≡ is_freed self.old.log self.new.log) }
-        ensures contended { let most = kept_limit limit in
-            let queued = is_queued self.old.settings self.old.log in
-            OnChangeAgain result ((0 < starts_due queued most self.old.log)
-            × P.opening permits.old permits.new Contended) }
-        ensures asked_again { let most = kept_limit limit in
-            let queued = is_queued self.old.settings self.old.log in
-            let due = starts_due queued most self.old.log in
-            OnChangeAgain result ((asks : ℕ) × (0 < asks) × (asks ≤ due)
-            × P.asked permits.old permits.new asks 0) }
-        ensures again { OnChangeAgain result ((self.new ≡ self.old) × (lobby.new ≡ lobby.old)) }
-        ensures err { OnErr result ((self.new ≡ self.old) × (lobby.new ≡ lobby.old)) }
-        ensures err_permits { OnErr result (permits.new ≡ permits.old) }
-        ensures marked { let was = is_queued self.old.settings self.old.log in
-            let is = is_queued self.new.settings self.new.log in
-            IsMarked self.old.host was is lobby.old lobby.new }
-        ensures streams { KeepsStreams self.old self.new }
-        ensures booked { self.new.booked ≡ self.old.booked }
-        ensures stands { P.stands permits.new }
-        ensures stays { P.stays permits.old permits.new }
-        ensures part { P.held permits.new ≡ held_by self.new.log }
-        ensures keeps { KeepsAll self.old self.new }
-        ensures grew { GrowsBy self.old.log self.new.log }
-        ensures settled { IsSoundAndQuiet self.new.settings self.new.log }
-        ensures same { StaysThere self.old self.new }
+        ensures changed { let opening = P.opening permits.old permits.new in
+            let asked = P.asked permits.old permits.new in
+            IfChanged result
+            (ChangesLimit opening asked (kept_limit limit) self.old self.new now) }
+        ensures again { let opening = P.opening permits.old permits.new in
+            let asked = P.asked permits.old permits.new in
+            OnChangeAgain result ((lobby.new ≡ lobby.old)
+            × HasToAskAgain opening asked (kept_limit limit) self.old self.new) }
+        ensures err { OnErr result ((self.new ≡ self.old) × (permits.new ≡ permits.old)
+            × (lobby.new ≡ lobby.old)) }
         ensures tells { let did = limit_did (kept_limit limit) (moment_at self.old.log now) result
             in pass.new ≡ tells self.old.host did pass.old }
-        ensures seats { KeepsSeats pass.old pass.new }
-        ensures account { AccountsForStarts self.old self.new pass.old pass.new }
+        ensures host { KeepsUses self.old self.new }
+        ensures settled { IsSoundAndQuiet self.new.settings self.new.log }
+        ensures permits { let much = held_by self.new.log in
+            MovesPart P.stands P.stays P.held much permits.old permits.new }
+        ensures lobby { let was = is_queued self.old.settings self.old.log in
+            let is = is_queued self.new.settings self.new.log in
+            IsMarked self.old.host was is lobby.old lobby.new }
+        ensures pass { KeepsPass self.old self.new pass.old pass.new }
     {
         if let Some(reason) = reason_against(&self.state, limit) {
             tell_held(pass, self.state.host(), self.seats.tally(), reason);
@@ -140,7 +122,7 @@ fn kept_limit(limit: u32) -> u32
     if limit == 0 { GREATEST_LIMIT } else { limit }
 }
 
-// Why log and number are against a new limit, if they are.
+// The refusal that a new limit is due, if any.
 fn reason_against<S: Drop>(state: &State<S>, limit: u32) -> Option<Refusal>
     ensures { result ≡ limit_refusal limit state.now.log }
 {
@@ -154,7 +136,7 @@ fn reason_against<S: Drop>(state: &State<S>, limit: u32) -> Option<Refusal>
     None
 }
 
-// How many of those that wait a new limit lets start.
+// How many waiters a new limit lets start.
 fn starts_due<S: Drop>(state: &State<S>, is_queued: bool, most: u32) -> u32
     ensures { result ≡ starts_due is_queued most state.now.log }
 {
@@ -165,8 +147,8 @@ fn starts_due<S: Drop>(state: &State<S>, is_queued: bool, most: u32) -> u32
     state.waiting_len().min(room)
 }
 
-// Changes the limit, and opens a connection for each of so many that wait, whose permits are had
-// already. It answers whether fewer are open than before.
+// Changes the limit, and opens a connection for each of as many waiters as permits were got for. It
+// answers whether fewer are open than before.
 fn change_limit<S: Drop, P: Permits<Asker>>(
     state: &mut State<S>,
     seats: &mut Seats,
@@ -176,36 +158,27 @@ fn change_limit<S: Drop, P: Permits<Asker>>(
     now: u64,
     permits: &mut P,
 ) -> bool
-    requires seated { IsSeated state.old.log seats.old }
-    requires unclaimed { AreUnclaimed (grant_starts grants.old.items) seats.old }
-    requires reserved { state.old.has_limit_room ≡ true }
-    requires leased { leased_len state.old.log ≤ most }
-    requires waits { given ≤ length (waiting state.old.log) }
-    requires room { given ≤ most - length (open_connections state.old.log) }
-    requires spare { HasSpare state.old.log state.old.booked (vec_len grants.old)
+    requires inside { IsInside state.old seats.old grants.old.items (vec_len grants.old)
         (vec_capacity grants.old) }
-    requires stands { P.stands permits.old }
-    requires part { let open_before = length (open_connections state.old.log) in
-        let idle_before = length (idle_connections state.old.log) in
-        P.held permits.old ≡ held (open_before + given) idle_before }
+    requires reserved { state.old.has_limit_room ≡ true }
+    requires leased_fit { leased_len state.old.log ≤ most }
+    requires within_due { given ≤ starts_due false most state.old.log }
+    requires permits { let open_before = length (open_connections state.old.log) in
+        let much = held (open_before + given) (length (idle_connections state.old.log)) in
+        HoldsPart P.stands P.held much permits.old }
     ensures log { state.new.log ≡ after_limit most given state.old.settings state.old.log now }
     ensures grants { let granted = grants.old.items in
         grants.new.items ≡ with_limit most given state.old.settings state.old.log now granted }
-    ensures spare { HasSpare state.new.log state.new.booked (vec_len grants.new)
+    ensures inside { IsInside state.new seats.new grants.new.items (vec_len grants.new)
         (vec_capacity grants.new) }
-    ensures seated { IsSeated state.new.log seats.new }
-    ensures unclaimed { AreUnclaimed (grant_starts grants.new.items) seats.new }
-    ensures starts { OnlyStarts seats.old seats.new }
     ensures freed { result ≡ is_freed state.old.log state.new.log }
     ensures none_closed { length (open_connections state.old.log) < most →
         permits.new ≡ permits.old }
     ensures streams { KeepsOpen state.old state.new }
-    ensures booked { state.new.booked ≡ state.old.booked }
-    ensures stands { P.stands permits.new }
-    ensures stays { P.stays permits.old permits.new }
+    ensures only { OnlyGrants state.old state.new seats.old seats.new }
     ensures unasked { P.asked permits.old permits.new 0 0 }
-    ensures part { P.held permits.new ≡ held_by state.new.log }
-    ensures same { IsSameHost state.old state.new }
+    ensures permits { let much = held_by state.new.log in
+        MovesPart P.stands P.stays P.held much permits.old permits.new }
 {
     // The log is sound, and tells which streams there are.
     let _log = state.log();
@@ -217,17 +190,17 @@ fn change_limit<S: Drop, P: Permits<Asker>>(
     closed > 0
 }
 
-// Asks the budget for so many connections, one after the other, until it has no room; it answers
-// how many it got. Where the budget has to be asked again, all are given back.
+// Asks the budget for as many connections as `count` says, one after the other, until it has no
+// room; answers how many it got. If the budget has to be asked again, all are given back.
 fn reserve_up_to<P: Permits<Asker>>(count: u32, permits: &mut P) -> Option<u32>
     requires stands { P.stands permits.old }
     ensures most { IfSome result (λ got. got ≤ count) }
     ensures full { IfSome result (λ got. got < count → P.opening permits.old permits.new Full) }
-    ensures asked { IfNone result (0 < count) }
+    ensures nonzero { IfNone result (0 < count) }
     ensures contended { IfNone result (P.opening permits.old permits.new Contended) }
-    ensures got { IfSome result (λ got. let before = P.held permits.old in
+    ensures held { IfSome result (λ got. let before = P.held permits.old in
         P.held permits.new ≡ held (before.alive + got) before.kept) }
-    ensures none { IfNone result (P.held permits.new ≡ P.held permits.old) }
+    ensures same_held { IfNone result (P.held permits.new ≡ P.held permits.old) }
     ensures asks { IfSome result (λ got. P.asked permits.old permits.new (limit_asks got count) 0) }
     ensures asks_again { IfNone result ((asks : ℕ) × (0 < asks) × (asks ≤ count)
         × P.asked permits.old permits.new asks 0) }
@@ -248,13 +221,13 @@ fn reserve_up_to<P: Permits<Asker>>(count: u32, permits: &mut P) -> Option<u32>
     Some(got)
 }
 
-// Gives so many permits of open connections back.
+// Gives back the permits of as many open connections.
 fn release_opens<P: Permits<Asker>>(count: u32, permits: &mut P)
     requires stands { P.stands permits.old }
-    requires held { count ≤ (P.held permits.old).alive }
+    requires open { count ≤ (P.held permits.old).alive }
     ensures held { let before = P.held permits.old in
         P.held permits.new ≡ held (before.alive - count) before.kept }
-    ensures none { count ≡ 0 → permits.new ≡ permits.old }
+    ensures none_released { count ≡ 0 → permits.new ≡ permits.old }
     ensures unasked { P.asked permits.old permits.new 0 0 }
     ensures stands { P.stands permits.new }
     ensures stays { P.stays permits.old permits.new }
@@ -266,14 +239,14 @@ fn release_opens<P: Permits<Asker>>(count: u32, permits: &mut P)
     }
 }
 
-// Gives both permits of so many closed connections back.
+// Gives back both permits of as many closed connections.
 fn release_closed<P: Permits<Asker>>(count: u32, permits: &mut P)
     requires stands { P.stands permits.old }
     requires open { count ≤ (P.held permits.old).alive }
     requires kept { count ≤ (P.held permits.old).kept }
     ensures held { let before = P.held permits.old in
         P.held permits.new ≡ held (before.alive - count) (before.kept - count) }
-    ensures none { count ≡ 0 → permits.new ≡ permits.old }
+    ensures none_released { count ≡ 0 → permits.new ≡ permits.old }
     ensures unasked { P.asked permits.old permits.new 0 0 }
     ensures stands { P.stands permits.new }
     ensures stays { P.stays permits.old permits.new }

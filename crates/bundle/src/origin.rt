@@ -1,4 +1,4 @@
-//! Where a ticket was made: a note that contracts alone see, and no code holds.
+//! The host that a ticket was made at: a note that contracts alone see, and no code holds.
 ghost use Rattle.std.specs.Prelude.{◌≡◌};
 ghost use Rattle.std.specs.Borrow.{ftrue};
 ghost use Rattle.bundle.specs.Seats.{Tables, tables_coded};
@@ -25,7 +25,7 @@ unsafe impl Send for Origin {}
 unsafe impl Sync for Origin {}
 
 impl Origin {
-    /// That of a ticket made at the host with these seats.
+    /// The origin of a ticket made at the host with these seats.
     pub fn of(_seats: &Seats) -> Origin
         ensures { result.tables ≡ _seats.now.tables }
     {

@@ -6,16 +6,16 @@ ghost use Rattle.conn_log.specs.declared.entry.Event.TheVariants.{Closed};
 ghost use Rattle.conn_log.specs.Fit.{oldest_stamp};
 ghost use Rattle.host_state.specs.Steps.{moment_at, add, picked, without_picked};
 ghost use Rattle.host_state.specs.declared.closing.Closing.TheVariants.{Pruned};
-ghost use Rattle.host_rules.specs.Calls.{after_turn, is_queued, GrowsBy};
-ghost use Rattle.bundle.specs.Lease.{KeepsStreams, KeepsAll, StaysThere};
+ghost use Rattle.host_rules.specs.Calls.{after_turn, is_queued};
 ghost use Rattle.host_rules.specs.Counts.{held_by};
 ghost use Rattle.host_rules.specs.Laws.{IsSoundAndQuiet};
-ghost use Rattle.host_rules.specs.Orders.{Lists, HadTurn};
+ghost use Rattle.host_rules.specs.Orders.{HadTurn};
+ghost use Rattle.bundle.specs.Around.{HoldsPart, MovesPart, KeepsUses, KeepsPass};
 ghost use Rattle.bundle.specs.Lobbies.{IsServed};
-ghost use Rattle.bundle.specs.Passes.{tells, AccountsForStarts};
+ghost use Rattle.bundle.specs.Passes.{tells};
 ghost use Rattle.bundle.specs.Replies.{answer_of};
 ghost use Rattle.bundle.specs.Seats.{gone};
-ghost use Rattle.budget.specs.Accounts.{IsEnrolledAt, KeepsSeats};
+ghost use Rattle.budget.specs.Accounts.{IsEnrolledAt};
 ghost use Rattle.bundle.specs.declared.did.Did.TheVariants.{Pruned as WasPruned};
 
 use crate::answers::Served;
@@ -29,10 +29,10 @@ use conn_log::Stamp;
 use host_state::Closing;
 
 impl<S: Drop> Bundle<S> {
-    /// A turn of the host, which is queued and the lobby's first: where the budget has room one
-    /// connection is opened for the first transfer that waits. Then the host leaves the lobby where
-    /// nobody waits any more or it is at its limit; else it goes to the end. `now` is in seconds.
-    /// It takes no memory.
+    /// Takes the turn of a host that is queued and the lobby's first: if the budget has room, one
+    /// connection is opened for the first waiter. Then the host leaves the lobby if nobody waits
+    /// any more or it is at its limit; else it goes to the end. `now` is in seconds. It takes no
+    /// memory.
     ///
     /// Asked of the caller: the host is queued, and the first that the lobby lists.
     pub fn serve_queued<P: Permits<Asker>>(
@@ -43,25 +43,19 @@ impl<S: Drop> Bundle<S> {
     ) -> Served
         requires queued { is_queued self.old.settings self.old.log ≡ true }
         requires first { slice_get lobby.old.order 0 ≡ Some self.old.host }
-        requires stands { P.stands permits.old }
-        requires part { P.held permits.old ≡ held_by self.old.log }
+        requires permits { HoldsPart P.stands P.held (held_by self.old.log) permits.old }
         ensures told { (told : Try) × P.opening permits.old permits.new told
             × (result ≡ answer_of told)
             × (self.new.log ≡ after_turn told self.old.settings self.old.log now) }
         ensures unchanged { (result ≡ Served.Given → ⊥) → self.new ≡ self.old }
-        ensures turned { let is = is_queued self.new.settings self.new.log in
-            IsServed self.old.host result is lobby.old lobby.new }
-        ensures streams { KeepsStreams self.old self.new }
-        ensures booked { self.new.booked ≡ self.old.booked }
-        ensures stands { P.stands permits.new }
-        ensures stays { P.stays permits.old permits.new }
-        ensures asked { P.asked permits.old permits.new 1 0 }
-        ensures part { P.held permits.new ≡ held_by self.new.log }
-        ensures keeps { KeepsAll self.old self.new }
-        ensures grew { GrowsBy self.old.log self.new.log }
+        ensures same_gone { gone self.new.log ≡ gone self.old.log }
+        ensures host { KeepsUses self.old self.new }
         ensures settled { IsSoundAndQuiet self.new.settings self.new.log }
-        ensures same { StaysThere self.old self.new }
-        ensures gone { gone self.new.log ≡ gone self.old.log }
+        ensures asked { P.asked permits.old permits.new 1 0 }
+        ensures permits { let much = held_by self.new.log in
+            MovesPart P.stands P.stays P.held much permits.old permits.new }
+        ensures lobby { let is = is_queued self.new.settings self.new.log in
+            IsServed self.old.host result is lobby.old lobby.new }
     {
         // The log is sound and quiet.
         let _log = self.log();
@@ -76,7 +70,7 @@ impl<S: Drop> Bundle<S> {
         Served::Given
     }
 
-    // The host had its turn: it goes to the lobby's end where it is still queued, else it leaves.
+    // Ends the host's turn: it goes to the lobby's end if it is still queued, else it leaves.
     fn end_turn(&self, lobby: &mut Lobby)
         requires { slice_get lobby.old.order 0 ≡ Some self.now.host }
         ensures { let is = is_queued self.now.settings self.now.log in
@@ -101,27 +95,21 @@ impl<S: Drop> Bundle<S> {
         now: u64,
         permits: &mut P,
     ) -> bool
-        requires stands { P.stands permits.old }
-        requires part { P.held permits.old ≡ held_by self.old.log }
+        requires permits { HoldsPart P.stands P.held (held_by self.old.log) permits.old }
         ensures oldest { result ≡ true → oldest_stamp self.old.log self.old.host ≡ Some stamp }
         ensures not_oldest { result ≡ false →
             oldest_stamp self.old.log self.old.host ≡ Some stamp → ⊥ }
         ensures log { let moment = moment_at self.old.log now in
             result ≡ true → self.new.log ≡ add moment (Closed stamp.number short) self.old.log }
         ensures unchanged { result ≡ false → (self.new ≡ self.old) × (permits.new ≡ permits.old) }
-        ensures streams { KeepsStreams self.old self.new }
-        ensures booked { self.new.booked ≡ self.old.booked }
-        ensures stands { P.stands permits.new }
-        ensures stays { P.stays permits.old permits.new }
-        ensures unasked { P.asked permits.old permits.new 0 0 }
-        ensures part { P.held permits.new ≡ held_by self.new.log }
+        ensures same_gone { gone self.new.log ≡ gone self.old.log }
+        ensures host { KeepsUses self.old self.new }
+        ensures settled { IsSoundAndQuiet self.new.settings self.new.log }
         ensures mark { is_queued self.new.settings self.new.log
             ≡ is_queued self.old.settings self.old.log }
-        ensures keeps { KeepsAll self.old self.new }
-        ensures grew { GrowsBy self.old.log self.new.log }
-        ensures settled { IsSoundAndQuiet self.new.settings self.new.log }
-        ensures same { StaysThere self.old self.new }
-        ensures gone { gone self.new.log ≡ gone self.old.log }
+        ensures unasked { P.asked permits.old permits.new 0 0 }
+        ensures permits { let much = held_by self.new.log in
+            MovesPart P.stands P.stays P.held much permits.old permits.new }
     {
         // The log is sound and quiet.
         let _log = self.log();
@@ -139,10 +127,10 @@ impl<S: Drop> Bundle<S> {
         true
     }
 
-    /// Closes every idle connection that has been idle for longer than `max_age`, or open for
-    /// longer than `max_life` where that is not 0, in seconds, and frees their permits; it answers
-    /// how many it closed, no more than its part of the budget kept, and tells the pass. `now` is
-    /// in seconds. It takes no memory.
+    /// Closes every idle connection that has been idle for longer than `max_age`, or, unless
+    /// `max_life` is 0, open for longer than `max_life`, in seconds, and frees its permits. It
+    /// answers how many it closed, no more than its part of the budget kept, and tells the pass.
+    /// `now` is in seconds. It takes no memory.
     ///
     /// Asked of the caller: the pass is enrolled here.
     pub fn prune<P: Permits<Asker>>(
@@ -154,29 +142,22 @@ impl<S: Drop> Bundle<S> {
         pass: &mut Pass<Did>,
     ) -> u32
         requires enrolled { IsEnrolledAt pass.old self.old.host self.old.tables.starts }
-        requires stands { P.stands permits.old }
-        requires part { P.held permits.old ≡ held_by self.old.log }
+        requires permits { HoldsPart P.stands P.held (held_by self.old.log) permits.old }
         ensures log { let moment = moment_at self.old.log now in
             self.new.log ≡ without_picked (Pruned max_age max_life) moment self.old.log }
         ensures count { let moment = moment_at self.old.log now in
             result ≡ length (picked (Pruned max_age max_life) moment self.old.log) }
-        ensures within { result ≤ (P.held permits.old).kept }
-        ensures streams { KeepsStreams self.old self.new }
-        ensures booked { self.new.booked ≡ self.old.booked }
-        ensures stands { P.stands permits.new }
-        ensures stays { P.stays permits.old permits.new }
-        ensures unasked { P.asked permits.old permits.new 0 0 }
-        ensures part { P.held permits.new ≡ held_by self.new.log }
-        ensures mark { is_queued self.new.settings self.new.log
-            ≡ is_queued self.old.settings self.old.log }
-        ensures keeps { KeepsAll self.old self.new }
-        ensures grew { GrowsBy self.old.log self.new.log }
-        ensures settled { IsSoundAndQuiet self.new.settings self.new.log }
-        ensures same { StaysThere self.old self.new }
+        ensures within_kept { result ≤ (P.held permits.old).kept }
         ensures tells { let did = WasPruned now max_age max_life result in
             pass.new ≡ tells self.old.host (Some did) pass.old }
-        ensures seats { KeepsSeats pass.old pass.new }
-        ensures account { AccountsForStarts self.old self.new pass.old pass.new }
+        ensures host { KeepsUses self.old self.new }
+        ensures settled { IsSoundAndQuiet self.new.settings self.new.log }
+        ensures mark { is_queued self.new.settings self.new.log
+            ≡ is_queued self.old.settings self.old.log }
+        ensures unasked { P.asked permits.old permits.new 0 0 }
+        ensures permits { let much = held_by self.new.log in
+            MovesPart P.stands P.stays P.held much permits.old permits.new }
+        ensures pass { KeepsPass self.old self.new pass.old pass.new }
     {
         let moment = self.state.moment(now);
         let closing = Closing::Pruned { max_age, max_life };

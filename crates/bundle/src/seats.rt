@@ -62,8 +62,8 @@ impl LeaseSeat {
 impl Seats {
     /// Nobody started, and nobody holds anything. The only refusal is [`Refusal::Memory`].
     pub fn new(alloc: Global) -> Result<Self, Refusal>
-        ensures ok { IfOk result CountsNone }
-        ensures err { IfErr result (λ refusal. refusal ≡ Refusal.Memory) }
+        ensures counts_none { IfOk result CountsNone }
+        ensures only_memory { IfErr result (λ refusal. refusal ≡ Refusal.Memory) }
     {
         let tally = Tally::new(alloc)?;
         let holders = Holders::new(alloc)?;
@@ -74,9 +74,9 @@ impl Seats {
     #[inline(always)]
     pub fn grant(&mut self, connection: u32, transfer: u64)
         requires apart { IsApart (connection, transfer) self.old.granted self.old.leased }
-        requires room { HasRoomForPair self.old.granted self.old.leased }
+        requires few_pairs { HasRoomForPair self.old.granted self.old.leased }
         requires few { self.old.counted + 1 < 2 ^ 64 }
-        requires back { self.old.back ≡ None }
+        requires none_back { self.old.back ≡ None }
         ensures { self.new ≡ pair_granted (connection, transfer) self.old }
     {
         self.tally.start();
@@ -88,7 +88,7 @@ impl Seats {
     pub fn claim(&mut self, connection: u32, transfer: u64) -> LeaseSeat
         requires granted { pair_count (connection, transfer) self.old.granted ≡ 1 }
         requires unsplit { 0 < self.old.unsplit }
-        requires back { self.old.back ≡ None }
+        requires none_back { self.old.back ≡ None }
         ensures seats { self.new ≡ pair_leased (connection, transfer) self.old }
         ensures seat { result ≡ record { tables = self.old.tables; pair = (connection, transfer) } }
     {
@@ -102,10 +102,10 @@ impl Seats {
     #[inline(always)]
     pub fn lease(&mut self, connection: u32, transfer: u64) -> LeaseSeat
         requires apart { IsApart (connection, transfer) self.old.granted self.old.leased }
-        requires room { HasRoomForPair self.old.granted self.old.leased }
+        requires few_pairs { HasRoomForPair self.old.granted self.old.leased }
         requires few { self.old.counted + 1 < 2 ^ 64 }
-        requires back { self.old.back ≡ None }
-        ensures leased { self.new ≡
+        requires none_back { self.old.back ≡ None }
+        ensures seats { self.new ≡
             pair_leased (connection, transfer) (pair_granted (connection, transfer) self.old) }
         ensures seat { result ≡ record { tables = self.old.tables; pair = (connection, transfer) } }
     {
@@ -118,8 +118,8 @@ impl Seats {
     #[inline(always)]
     pub fn take_back(&mut self, seat: LeaseSeat) -> StartSeat
         requires tables { seat.tables ≡ self.old.tables }
-        requires back { self.old.back ≡ None }
-        ensures back { self.new ≡ record self.old { back = Some seat.pair } }
+        requires none_back { self.old.back ≡ None }
+        ensures seats { self.new ≡ record self.old { back = Some seat.pair } }
         ensures leased { pair_count seat.pair self.old.leased ≡ 1 }
         ensures start { result ≡ self.old.tables.starts }
     {
@@ -146,7 +146,7 @@ impl Seats {
         requires back { IsSome self.old.back }
         requires start { start ≡ self.old.tables.starts }
         ensures seats { self.new ≡ record self.old { back = None } }
-        ensures seat { self.old.back ≡ Some result.pair }
+        ensures pair { self.old.back ≡ Some result.pair }
         ensures tables { result.tables ≡ self.old.tables }
     {
         LeaseSeat {
@@ -159,7 +159,7 @@ impl Seats {
     #[inline(always)]
     pub fn held(&mut self) -> u64
         ensures same { self.new ≡ self.old }
-        ensures held { result ≡ length self.old.granted + length self.old.leased }
+        ensures count { result ≡ length self.old.granted + length self.old.leased }
     {
         self.holders.load()
     }
@@ -180,10 +180,10 @@ impl Seats {
         &self.tally
     }
 
-    /// A seat for a pass, with which nothing was spent here yet.
+    /// A seat for a pass that has spent nothing here yet.
     pub fn seat_pass(&mut self) -> PassSeat
         ensures same { self.new ≡ self.old }
-        ensures seat { result ≡ record { table = self.old.tables.starts; spent = 0 } }
+        ensures pass_seat { result ≡ record { table = self.old.tables.starts; spent = 0 } }
     {
         self.tally.seat_pass()
     }

@@ -1,8 +1,8 @@
-//! The steps of calls: what starts a transfer, and what serves those that wait.
+//! The steps of calls: how a transfer starts, and how waiters are served.
 
 ghost use Rattle.std.specs.Prelude.{◌≡◌, ◌+◌, ◌-◌, ◌<◌, ◌≤◌, ◌==◌, ◌&&◌, not, []};
 ghost use Rattle.std.specs.Prelude.{length, Some, None, true, false, if◌then◌else◌};
-ghost use Rattle.std.specs.Prelude.{is_some, vec_len, vec_capacity};
+ghost use Rattle.std.specs.Prelude.{vec_len, vec_capacity};
 ghost use Rattle.budget.specs.declared.permits.Try.{Try};
 ghost use Rattle.budget.specs.Permits.{held, one_more_open, one_more_kept};
 ghost use Rattle.conn_log.specs.declared.entry.Cause.TheVariants.{TooOld, HostRoom, TotalRoom};
@@ -16,17 +16,18 @@ ghost use Rattle.conn_log.specs.Sound.{is_of_idle};
 ghost use Rattle.host_state.specs.Steps.{add, is_full, picked, without_picked};
 ghost use Rattle.host_rules.specs.Calls.{start_behind, start_as_told, start_in_place, grant_to};
 ghost use Rattle.host_rules.specs.Calls.{open_for_head, open_for_first};
-ghost use Rattle.bundle.specs.Grants.{with_new, with_granted, with_first, IsAlone, HasSpare};
-ghost use Rattle.bundle.specs.Grants.{grant_starts};
-ghost use Rattle.bundle.specs.Lease.{HasItsStream};
+ghost use Rattle.bundle.specs.Grants.{with_new, with_granted, with_first, IsAlone};
+ghost use Rattle.bundle.specs.Around.{HoldsPart, MovesPart};
+ghost use Rattle.bundle.specs.Inside.{IsInside, OnlyGrants, MayStart, SeatsLeases};
+ghost use Rattle.bundle.specs.Inside.{GivesAt, GivesAnewAt};
 ghost use Rattle.host_rules.specs.Counts.{held_by};
 ghost use Rattle.host_rules.specs.Asks.{asks_to_open};
 ghost use Rattle.host_rules.specs.Effects.{one_if};
-ghost use Rattle.bundle.specs.Seats.{IsSeated, AreUnclaimed, KeepsGranted, OnlyStarts};
+ghost use Rattle.bundle.specs.Seats.{IsSeated};
 ghost use Rattle.host_state.specs.Idle.{stream_of};
-ghost use Rattle.bundle.specs.Replies.{GivesLease, GivesTicket, GivesBooking, UnlessBooking, IsGot};
+ghost use Rattle.bundle.specs.Replies.{GivesBooking, UnlessBooking, IsGot};
 ghost use Rattle.host_state.specs.State.{IsSameHost, KeepsOpen, KeepsOpenBut, ClosesIdle, limit_of};
-ghost use Rattle.host_state.specs.State.{OpensOnly, open_len, idle_len};
+ghost use Rattle.host_state.specs.State.{open_len, idle_len};
 
 use crate::answers::Got;
 use crate::asker::Asker;
@@ -40,7 +41,7 @@ use budget::{Permits, Try};
 use conn_log::{Cause, Want};
 use host_state::{Closing, Held, State};
 
-/// Closes the idle connections that the closing picks, the one idle for the longest first, and
+/// Closes the idle connections that the closing picks, the one idle for the longest time first, and
 /// frees both permits of each. It answers how many it closed.
 #[inline(always)]
 pub(crate) fn close_idle<S: Drop, P: Permits<Asker>>(
@@ -50,18 +51,16 @@ pub(crate) fn close_idle<S: Drop, P: Permits<Asker>>(
     permits: &mut P,
 ) -> u32
     requires later { last_moment state.old.log ≤ moment }
-    requires stands { P.stands permits.old }
-    requires part { P.held permits.old ≡ held_by state.old.log }
+    requires permits { HoldsPart P.stands P.held (held_by state.old.log) permits.old }
     ensures log { state.new.log ≡ without_picked closing.now moment state.old.log }
     ensures count { result ≡ length (picked closing.now moment state.old.log) }
     ensures closes { ClosesIdle moment state.old state.new }
     ensures fewer_idle { idle_len state.old ≡ idle_len state.new + result }
-    ensures stands { P.stands permits.new }
-    ensures stays { P.stays permits.old permits.new }
-    ensures unasked { P.asked permits.old permits.new 0 0 }
-    ensures part { P.held permits.new ≡ held_by state.new.log }
     ensures as_many_held { open_len state.new + idle_len state.old
         ≡ open_len state.old + idle_len state.new }
+    ensures unasked { P.asked permits.old permits.new 0 0 }
+    ensures permits { let much = held_by state.new.log in
+        MovesPart P.stands P.stays P.held much permits.old permits.new }
 {
     let idle_before = state.idle_len();
     while state.close_next(closing, moment) {
@@ -71,11 +70,11 @@ pub(crate) fn close_idle<S: Drop, P: Permits<Asker>>(
     idle_before - state.idle_len()
 }
 
-/// Starts the transfer, or has it wait: after the others where others wait; else, once what is too
-/// old for it is closed, on the newest idle connection that fits; at the host's limit in place of
-/// the oldest idle one; and as the budget answers where the host has room. At the last try the
-/// oldest idle one of the host makes room where the budget has none, or the transfer waits; before
-/// that its acquire is left halfway.
+/// Starts the transfer, or has it wait. If others wait, it waits behind them. Else what is too old
+/// for it is closed, and it starts on the newest idle connection that fits; if none fits, at the
+/// host's limit in place of the oldest idle one; and as the budget answers if the host has room. At
+/// the last try the host's oldest idle connection makes room if the budget has none, or the
+/// transfer waits; before that its acquire is left halfway.
 // Out of line, so that the reuse of the newest connection stays small enough to be inlined.
 #[cold]
 #[inline(never)]
@@ -88,35 +87,23 @@ pub(crate) fn start_or_wait<S: Drop, P: Permits<Asker>>(
     is_last: bool,
 ) -> Got<S>
     requires seated { IsSeated state.old.log seats.old }
-    requires booked { 0 < state.old.booked }
-    requires later { last_moment state.old.log ≤ moment }
-    requires free { held_number state.old.log want.transfer ≡ None }
+    requires may { MayStart state.old want moment }
     requires once { waits state.old.log want.transfer ≡ false }
-    requires quiet { IsAnyone (waiting state.old.log) → idle_connections state.old.log ≡ [] }
-    requires stands { P.stands permits.old }
-    requires part { P.held permits.old ≡ held_by state.old.log }
+    requires none_idle { IsAnyone (waiting state.old.log) → idle_connections state.old.log ≡ [] }
+    requires permits { HoldsPart P.stands P.held (held_by state.old.log) permits.old }
     ensures told { (told : Try) × P.opening permits.old permits.new told
         × (let wants = waiting state.old.log in
         let due = start_behind wants is_last told state.old.settings want moment state.old.log in
         (state.new.log ≡ due.log) × IsGot state.old.host want due.reply result) }
-    ensures seated { IsSeated state.new.log seats.new }
-    ensures granted { KeepsGranted seats.old seats.new }
-    ensures made_here { GivesLease result (λ lease. lease.tables ≡ seats.old.tables) }
-    ensures waits_here { GivesTicket result (λ ticket. ticket.tables ≡ seats.old.tables) }
-    ensures has_stream { GivesLease result (λ lease. is_some lease.stream ≡ lease.start.reused) }
-    ensures stream { GivesLease result (HasItsStream state.old.streams) }
-    ensures others { GivesLease result
-        (λ lease. KeepsOpenBut lease.start.number state.old state.new) }
-    ensures all { GivesTicket result (λ ticket. KeepsOpen state.old state.new) }
-    ensures halfway { GivesBooking result (λ booking. KeepsOpen state.old state.new) }
-    ensures booked { UnlessBooking result (state.new.booked + 1 ≡ state.old.booked) }
+    ensures got { GivesAt state.old state.new seats.old.tables result }
+    ensures seats { SeatsLeases state.new.log seats.old seats.new }
+    ensures fewer_booked { UnlessBooking result (state.new.booked + 1 ≡ state.old.booked) }
     ensures still_booked { GivesBooking result (λ booking. state.new.booked ≡ state.old.booked) }
-    ensures stands { P.stands permits.new }
-    ensures stays { P.stays permits.old permits.new }
     ensures asked { let asks = one_if (asks_to_open state.old.settings state.old.log want moment) in
         P.asked permits.old permits.new asks 0 }
-    ensures part { P.held permits.new ≡ held_by state.new.log }
-    ensures same { IsSameHost state.old state.new }
+    ensures permits { let much = held_by state.new.log in
+        MovesPart P.stands P.stays P.held much permits.old permits.new }
+    ensures same_host { IsSameHost state.old state.new }
 {
     if state.anyone_waits() {
         return Got::Wait(wait_last(state, seats, want, moment));
@@ -148,35 +135,22 @@ fn start_as_told<S: Drop, P: Permits<Asker>>(
     is_last: bool,
 ) -> Got<S>
     requires seated { IsSeated state.old.log seats.old }
-    requires booked { 0 < state.old.booked }
-    requires later { last_moment state.old.log ≤ moment }
-    requires free { held_number state.old.log want.transfer ≡ None }
+    requires may { MayStart state.old want moment }
     requires nobody { waiting state.old.log ≡ [] }
-    requires room { is_full state.old.settings state.old.log ≡ false }
-    requires stands { P.stands permits.old }
-    requires part { P.held permits.old ≡ held_by state.old.log }
+    requires not_full { is_full state.old.settings state.old.log ≡ false }
+    requires permits { HoldsPart P.stands P.held (held_by state.old.log) permits.old }
     ensures told { (told : Try) × P.opening permits.old permits.new told
         × (let due = start_as_told is_last told state.old.settings want moment state.old.log in
         (state.new.log ≡ due.log) × IsGot state.old.host want due.reply result) }
-    ensures seated { IsSeated state.new.log seats.new }
-    ensures granted { KeepsGranted seats.old seats.new }
-    ensures made_here { GivesLease result (λ lease. lease.tables ≡ seats.old.tables) }
-    ensures waits_here { GivesTicket result (λ ticket. ticket.tables ≡ seats.old.tables) }
-    ensures no_stream { GivesLease result (λ lease. lease.stream ≡ None) }
-    ensures not_reused { GivesLease result (λ lease. lease.start.reused ≡ false) }
+    ensures got { GivesAnewAt state.old state.new seats.old.tables result }
+    ensures seats { SeatsLeases state.new.log seats.old seats.new }
     ensures streams { KeepsOpen state.old state.new }
-    ensures opens { GivesLease result
-        (λ lease. OpensOnly lease.start.number state.old.log state.new.log) }
-    ensures none_new { GivesTicket result
-        (λ ticket. open_connections state.new.log ≡ open_connections state.old.log) }
-    ensures halfway { GivesBooking result (λ booking. state.new ≡ state.old) }
-    ensures booked { UnlessBooking result (state.new.booked + 1 ≡ state.old.booked) }
+    ensures fewer_booked { UnlessBooking result (state.new.booked + 1 ≡ state.old.booked) }
     ensures still_booked { GivesBooking result (λ booking. state.new.booked ≡ state.old.booked) }
-    ensures stands { P.stands permits.new }
-    ensures stays { P.stays permits.old permits.new }
     ensures asked { P.asked permits.old permits.new 1 0 }
-    ensures part { P.held permits.new ≡ held_by state.new.log }
-    ensures same { IsSameHost state.old state.new }
+    ensures permits { let much = held_by state.new.log in
+        MovesPart P.stands P.stays P.held much permits.old permits.new }
+    ensures same_host { IsSameHost state.old state.new }
 {
     match permits.reserve_open(&Asker::of_bundle()) {
         Try::Got => {
@@ -198,8 +172,8 @@ fn start_as_told<S: Drop, P: Permits<Asker>>(
     }
 }
 
-// The oldest idle connection makes room for a new one, which takes over its permit; where none is
-// idle the transfer waits.
+// The oldest idle connection makes room for a new one, which takes over its permit; if none is idle
+// the transfer waits.
 #[inline(always)]
 fn start_in_place<S: Drop, P: Permits<Asker>>(
     state: &mut State<S>,
@@ -210,34 +184,21 @@ fn start_in_place<S: Drop, P: Permits<Asker>>(
     permits: &mut P,
 ) -> Got<S>
     requires seated { IsSeated state.old.log seats.old }
-    requires booked { 0 < state.old.booked }
-    requires cause { is_of_idle cause ≡ true }
-    requires later { last_moment state.old.log ≤ moment }
-    requires free { held_number state.old.log want.transfer ≡ None }
+    requires may { MayStart state.old want moment }
+    requires of_idle { is_of_idle cause ≡ true }
     requires nobody { waiting state.old.log ≡ [] }
-    requires stands { P.stands permits.old }
-    requires part { P.held permits.old ≡ held_by state.old.log }
+    requires permits { HoldsPart P.stands P.held (held_by state.old.log) permits.old }
     ensures log { let due = start_in_place cause state.old.settings want moment state.old.log in
         (state.new.log ≡ due.log) × IsGot state.old.host want due.reply result }
-    ensures seated { IsSeated state.new.log seats.new }
-    ensures granted { KeepsGranted seats.old seats.new }
-    ensures made_here { GivesLease result (λ lease. lease.tables ≡ seats.old.tables) }
-    ensures waits_here { GivesTicket result (λ ticket. ticket.tables ≡ seats.old.tables) }
-    ensures no_stream { GivesLease result (λ lease. lease.stream ≡ None) }
-    ensures not_reused { GivesLease result (λ lease. lease.start.reused ≡ false) }
+    ensures got { GivesAnewAt state.old state.new seats.old.tables result }
+    ensures seats { SeatsLeases state.new.log seats.old seats.new }
     ensures streams { KeepsOpen state.old state.new }
-    ensures opens { GivesLease result
-        (λ lease. OpensOnly lease.start.number state.old.log state.new.log) }
-    ensures none_new { GivesTicket result
-        (λ ticket. open_connections state.new.log ≡ open_connections state.old.log) }
-    ensures booked { state.new.booked + 1 ≡ state.old.booked }
-    ensures started { UnlessBooking result (state.new.booked + 1 ≡ state.old.booked) }
+    ensures fewer_booked { state.new.booked + 1 ≡ state.old.booked }
     ensures same_total { P.same_total permits.old permits.new }
-    ensures stands { P.stands permits.new }
-    ensures stays { P.stays permits.old permits.new }
     ensures unasked { P.asked permits.old permits.new 0 0 }
-    ensures part { P.held permits.new ≡ held_by state.new.log }
-    ensures same { IsSameHost state.old state.new }
+    ensures permits { let much = held_by state.new.log in
+        MovesPart P.stands P.stays P.held much permits.old permits.new }
+    ensures same_host { IsSameHost state.old state.new }
 {
     if state.idle_len() == 0 {
         return Got::Wait(wait_last(state, seats, want, moment));
@@ -256,7 +217,7 @@ fn start_in_place<S: Drop, P: Permits<Asker>>(
 // The transfer waits after all others.
 #[inline(always)]
 fn wait_last<S: Drop>(state: &mut State<S>, seats: &Seats, want: Want, moment: u64) -> Ticket
-    requires booked { 0 < state.old.booked }
+    requires any_booked { 0 < state.old.booked }
     requires later { last_moment state.old.log ≤ moment }
     requires free { held_number state.old.log want.transfer ≡ None }
     requires once { waits state.old.log want.transfer ≡ false }
@@ -269,15 +230,15 @@ fn wait_last<S: Drop>(state: &mut State<S>, seats: &Seats, want: Want, moment: u
     } }
     ensures streams { state.new.streams ≡ state.old.streams }
     ensures lengths { held_by state.new.log ≡ held_by state.old.log }
-    ensures booked { state.new.booked + 1 ≡ state.old.booked }
-    ensures same { IsSameHost state.old state.new }
+    ensures fewer_booked { state.new.booked + 1 ≡ state.old.booked }
+    ensures same_host { IsSameHost state.old state.new }
 {
     state.wait(want, moment);
     Ticket::new(state.host(), want, moment, seats)
 }
 
-/// Opens a connection for the first transfer that waits, if one does, and grants it. The permit of
-/// the connection is had already.
+/// Opens a connection for the first waiter, if there is one, and grants it. The permit of the
+/// connection was got before.
 #[inline(never)]
 pub(crate) fn open_for_head<S: Drop>(
     state: &mut State<S>,
@@ -285,28 +246,22 @@ pub(crate) fn open_for_head<S: Drop>(
     grants: &mut Vec<Grant<S>>,
     moment: u64,
 )
-    requires seated { IsSeated state.old.log seats.old }
-    requires unclaimed { AreUnclaimed (grant_starts grants.old.items) seats.old }
-    requires later { last_moment state.old.log ≤ moment }
-    requires room { IsAnyone (waiting state.old.log) →
-        is_full state.old.settings state.old.log ≡ false }
-    requires spare { HasSpare state.old.log state.old.booked (vec_len grants.old)
+    requires inside { IsInside state.old seats.old grants.old.items (vec_len grants.old)
         (vec_capacity grants.old) }
+    requires later { last_moment state.old.log ≤ moment }
+    requires not_full { IsAnyone (waiting state.old.log) →
+        is_full state.old.settings state.old.log ≡ false }
     ensures log { state.new.log ≡ open_for_head state.old.settings moment state.old.log }
     ensures grants { let log = state.old.log in
         let wants = waiting state.old.log in
         grants.new.items ≡ with_new state.old.settings moment log wants grants.old.items }
-    ensures seated { IsSeated state.new.log seats.new }
-    ensures unclaimed { AreUnclaimed (grant_starts grants.new.items) seats.new }
-    ensures starts { OnlyStarts seats.old seats.new }
-    ensures spare { HasSpare state.new.log state.new.booked (vec_len grants.new)
+    ensures inside { IsInside state.new seats.new grants.new.items (vec_len grants.new)
         (vec_capacity grants.new) }
     ensures more_open { IsAnyone (waiting state.old.log) →
         held_by state.new.log ≡ one_more_open (held_by state.old.log) }
-    ensures nobody { waiting state.old.log ≡ [] → state.new.log ≡ state.old.log }
+    ensures unchanged { waiting state.old.log ≡ [] → state.new.log ≡ state.old.log }
     ensures streams { state.new.streams ≡ state.old.streams }
-    ensures booked { state.new.booked ≡ state.old.booked }
-    ensures same { IsSameHost state.old state.new }
+    ensures only { OnlyGrants state.old state.new seats.old seats.new }
 {
     let Some(head) = state.first_waiting() else {
         return;
@@ -326,7 +281,7 @@ pub(crate) fn open_for_head<S: Drop>(
 }
 
 /// Hands on the permit of a connection that its holder closed: one is opened with it for the first
-/// transfer that waits; where nobody waits it is freed.
+/// waiter; if nobody waits it is freed.
 #[cold]
 #[inline(never)]
 pub(crate) fn hand_on<S: Drop, P: Permits<Asker>>(
@@ -336,31 +291,24 @@ pub(crate) fn hand_on<S: Drop, P: Permits<Asker>>(
     moment: u64,
     permits: &mut P,
 )
-    requires seated { IsSeated state.old.log seats.old }
-    requires unclaimed { AreUnclaimed (grant_starts grants.old.items) seats.old }
-    requires later { last_moment state.old.log ≤ moment }
-    requires room { is_full state.old.settings state.old.log ≡ false }
-    requires spare { HasSpare state.old.log state.old.booked (vec_len grants.old)
+    requires inside { IsInside state.old seats.old grants.old.items (vec_len grants.old)
         (vec_capacity grants.old) }
-    requires stands { P.stands permits.old }
-    requires part { P.held permits.old ≡ one_more_open (held_by state.old.log) }
+    requires later { last_moment state.old.log ≤ moment }
+    requires not_full { is_full state.old.settings state.old.log ≡ false }
+    requires permits { let much = one_more_open (held_by state.old.log) in
+        HoldsPart P.stands P.held much permits.old }
     ensures log { state.new.log ≡ open_for_head state.old.settings moment state.old.log }
     ensures grants { let log = state.old.log in
         let wants = waiting state.old.log in
         grants.new.items ≡ with_new state.old.settings moment log wants grants.old.items }
-    ensures seated { IsSeated state.new.log seats.new }
-    ensures unclaimed { AreUnclaimed (grant_starts grants.new.items) seats.new }
-    ensures starts { OnlyStarts seats.old seats.new }
-    ensures spare { HasSpare state.new.log state.new.booked (vec_len grants.new)
+    ensures inside { IsInside state.new seats.new grants.new.items (vec_len grants.new)
         (vec_capacity grants.new) }
     ensures streams { state.new.streams ≡ state.old.streams }
-    ensures booked { state.new.booked ≡ state.old.booked }
+    ensures only { OnlyGrants state.old state.new seats.old seats.new }
     ensures same_kept { P.same_kept permits.old permits.new }
-    ensures stands { P.stands permits.new }
-    ensures stays { P.stays permits.old permits.new }
     ensures unasked { P.asked permits.old permits.new 0 0 }
-    ensures part { P.held permits.new ≡ held_by state.new.log }
-    ensures same { IsSameHost state.old state.new }
+    ensures permits { let much = held_by state.new.log in
+        MovesPart P.stands P.stays P.held much permits.old permits.new }
 {
     if !state.anyone_waits() {
         permits.release_open();
@@ -369,8 +317,8 @@ pub(crate) fn hand_on<S: Drop, P: Permits<Asker>>(
     open_for_head(state, seats, grants, moment);
 }
 
-/// Grants a connection that has just come back to the first transfer that waits, if one does. Where
-/// it does not fit that transfer's want it is closed, and one is opened for that transfer.
+/// Grants a connection that has just come back to the first waiter, if there is one. If it does not
+/// fit the waiter's want it is closed, and one is opened for the waiter.
 #[inline(always)]
 pub(crate) fn grant_to_head<S: Drop>(
     state: &mut State<S>,
@@ -379,14 +327,12 @@ pub(crate) fn grant_to_head<S: Drop>(
     held: &Held,
     moment: u64,
 )
-    requires seated { IsSeated state.old.log seats.old }
-    requires unclaimed { AreUnclaimed (grant_starts grants.old.items) seats.old }
+    requires inside { IsInside state.old seats.old grants.old.items (vec_len grants.old)
+        (vec_capacity grants.old) }
     requires later { last_moment state.old.log ≤ moment }
     requires alone { let held = held.now in
         IsAnyone (waiting state.old.log) →
         IsAlone state.old.log held.number held.lane held.born moment }
-    requires spare { HasSpare state.old.log state.old.booked (vec_len grants.old)
-        (vec_capacity grants.old) }
     ensures log { let log = state.old.log in
         let wants = waiting state.old.log in
         state.new.log ≡ grant_to state.old.settings held.now.number moment log wants }
@@ -395,17 +341,13 @@ pub(crate) fn grant_to_head<S: Drop>(
         let stream = stream_of state.old.streams held.now.number in
         let passed = with_granted state.old.settings held.now.number moment stream log wants in
         grants.new.items ≡ passed grants.old.items }
-    ensures seated { IsSeated state.new.log seats.new }
-    ensures unclaimed { AreUnclaimed (grant_starts grants.new.items) seats.new }
-    ensures starts { OnlyStarts seats.old seats.new }
-    ensures spare { HasSpare state.new.log state.new.booked (vec_len grants.new)
+    ensures inside { IsInside state.new seats.new grants.new.items (vec_len grants.new)
         (vec_capacity grants.new) }
     ensures others { KeepsOpenBut held.now.number state.old state.new }
     ensures taken { IsAnyone (waiting state.old.log) →
         one_more_kept (held_by state.new.log) ≡ held_by state.old.log }
-    ensures nobody { waiting state.old.log ≡ [] → state.new ≡ state.old }
-    ensures booked { state.new.booked ≡ state.old.booked }
-    ensures same { IsSameHost state.old state.new }
+    ensures unchanged { waiting state.old.log ≡ [] → state.new ≡ state.old }
+    ensures only { OnlyGrants state.old state.new seats.old seats.new }
 {
     if state.anyone_waits() {
         let (number, lane, born) = (held.number, held.lane, held.born);
@@ -413,9 +355,9 @@ pub(crate) fn grant_to_head<S: Drop>(
     }
 }
 
-// The same, for the few times when anyone waits. Out of line, so that what comes back where nobody
-// waits stays small enough to be inlined. It is told in parts what was kept of the connection: what
-// is lent has to stand in memory.
+// The same, if anyone waits, which is rare. Out of line, so that a return stays small enough to be
+// inlined if nobody waits. It is lent the number, lane and birth of the connection apart: what is
+// lent as a whole has to stand in memory.
 #[cold]
 #[inline(never)]
 fn grant_or_replace<S: Drop>(
@@ -427,13 +369,11 @@ fn grant_or_replace<S: Drop>(
     born: u64,
     moment: u64,
 )
-    requires seated { IsSeated state.old.log seats.old }
-    requires unclaimed { AreUnclaimed (grant_starts grants.old.items) seats.old }
+    requires inside { IsInside state.old seats.old grants.old.items (vec_len grants.old)
+        (vec_capacity grants.old) }
     requires later { last_moment state.old.log ≤ moment }
     requires alone { IsAnyone (waiting state.old.log) →
         IsAlone state.old.log number lane born moment }
-    requires spare { HasSpare state.old.log state.old.booked (vec_len grants.old)
-        (vec_capacity grants.old) }
     ensures log { let log = state.old.log in
         let wants = waiting state.old.log in
         state.new.log ≡ grant_to state.old.settings number moment log wants }
@@ -442,17 +382,13 @@ fn grant_or_replace<S: Drop>(
         let stream = stream_of state.old.streams number in
         let passed = with_granted state.old.settings number moment stream log wants in
         grants.new.items ≡ passed grants.old.items }
-    ensures seated { IsSeated state.new.log seats.new }
-    ensures unclaimed { AreUnclaimed (grant_starts grants.new.items) seats.new }
-    ensures starts { OnlyStarts seats.old seats.new }
-    ensures spare { HasSpare state.new.log state.new.booked (vec_len grants.new)
+    ensures inside { IsInside state.new seats.new grants.new.items (vec_len grants.new)
         (vec_capacity grants.new) }
     ensures others { KeepsOpenBut number state.old state.new }
     ensures taken { IsAnyone (waiting state.old.log) →
         one_more_kept (held_by state.new.log) ≡ held_by state.old.log }
-    ensures nobody { waiting state.old.log ≡ [] → state.new ≡ state.old }
-    ensures booked { state.new.booked ≡ state.old.booked }
-    ensures same { IsSameHost state.old state.new }
+    ensures unchanged { waiting state.old.log ≡ [] → state.new ≡ state.old }
+    ensures only { OnlyGrants state.old state.new seats.old seats.new }
 {
     let Some(head) = state.first_waiting() else {
         return;
@@ -476,8 +412,7 @@ fn grant_or_replace<S: Drop>(
     open_for_head(state, seats, grants, moment);
 }
 
-/// Opens a connection for each of so many of the first transfers that wait. Their permits are had
-/// already.
+/// Opens a connection for each of the first `count` waiters. Their permits were got before.
 pub(crate) fn open_for_first<S: Drop>(
     state: &mut State<S>,
     seats: &mut Seats,
@@ -485,28 +420,22 @@ pub(crate) fn open_for_first<S: Drop>(
     moment: u64,
     count: u32,
 )
-    requires seated { IsSeated state.old.log seats.old }
-    requires unclaimed { AreUnclaimed (grant_starts grants.old.items) seats.old }
+    requires inside { IsInside state.old seats.old grants.old.items (vec_len grants.old)
+        (vec_capacity grants.old) }
     requires later { last_moment state.old.log ≤ moment }
     requires waits { count ≤ length (waiting state.old.log) }
-    requires room { length (open_connections state.old.log) + count
+    requires within_limit { length (open_connections state.old.log) + count
         ≤ limit_of state.old }
-    requires spare { HasSpare state.old.log state.old.booked (vec_len grants.old)
-        (vec_capacity grants.old) }
     ensures log { state.new.log ≡ open_for_first count state.old.settings moment state.old.log }
     ensures grants { let granted = grants.old.items in
         grants.new.items ≡ with_first count state.old.settings moment state.old.log granted }
-    ensures seated { IsSeated state.new.log seats.new }
-    ensures unclaimed { AreUnclaimed (grant_starts grants.new.items) seats.new }
-    ensures starts { OnlyStarts seats.old seats.new }
-    ensures spare { HasSpare state.new.log state.new.booked (vec_len grants.new)
+    ensures inside { IsInside state.new seats.new grants.new.items (vec_len grants.new)
         (vec_capacity grants.new) }
     ensures more_open { let open_before = length (open_connections state.old.log) in
         let idle_before = length (idle_connections state.old.log) in
         held_by state.new.log ≡ held (open_before + count) idle_before }
     ensures streams { state.new.streams ≡ state.old.streams }
-    ensures booked { state.new.booked ≡ state.old.booked }
-    ensures same { IsSameHost state.old state.new }
+    ensures only { OnlyGrants state.old state.new seats.old seats.new }
 {
     // The log is sound, so each transfer waits once: with each one opened, one fewer waits.
     let _log = state.log();
@@ -517,8 +446,8 @@ pub(crate) fn open_for_first<S: Drop>(
     }
 }
 
-// Why a connection that has just come back is closed where it does not fit the want: it is open for
-// longer than the want allows, or it makes room.
+// The cause for which a connection that has just come back is closed, if it does not fit the want:
+// it is open for longer than the want allows, or it makes room.
 fn unfit_cause(lane: u32, born: u64, want: &Want, is_full: bool, moment: u64) -> Cause
     ensures { let too_old = is_older moment born want.now.max_age want.now.max_life moment in
         let room = if is_full then HostRoom else TotalRoom in

@@ -1,4 +1,4 @@
-//! What says that a budget had no room, without which no call closes the oldest connection of all.
+//! The proof that a budget had no room, without which no call closes the oldest connection of all.
 
 ghost use Rattle.std.specs.Prelude.{◌≡◌, ◌==◌, true};
 ghost use Rattle.budget.specs.Plain.{alive_in};
@@ -32,7 +32,7 @@ impl Model for Shortage {
 }
 
 impl Shortage {
-    // Of the total.
+    // A shortage of the total.
     pub(crate) fn of_total() -> Self
         ensures { result ≡ TotalRoom }
     {
@@ -41,7 +41,7 @@ impl Shortage {
         }
     }
 
-    // Of what may be kept.
+    // A shortage of what may be kept.
     pub(crate) fn of_kept() -> Self
         ensures { result ≡ CacheFull }
     {
@@ -85,7 +85,7 @@ impl Model for NoRoom {
 }
 
 impl NoRoom {
-    // That of a booking.
+    // The answer for a booking.
     pub(crate) fn of(booking: Booking) -> Self
         ensures { result ≡ booking }
     {
@@ -117,7 +117,7 @@ impl<S> Model for NoKeep<S> {
 }
 
 impl<S> NoKeep<S> {
-    // That of a lease.
+    // The answer for a lease.
     #[inline(always)]
     pub(crate) fn of(lease: Lease<S>) -> Self
         ensures { result ≡ lease }

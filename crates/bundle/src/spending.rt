@@ -1,27 +1,25 @@
 //! How a lease or a ticket ends.
 
-ghost use Rattle.std.specs.Prelude.{◌≡◌, ◌<◌, [], true, false, is_some, IsSome};
+ghost use Rattle.std.specs.Prelude.{◌≡◌, ◌<◌, [], true, false, IsSome};
 ghost use Rattle.std.specs.Prelude.{Some, None, OnOk, OnErr, IfOk, IfErr, IfSome, IfNone};
 ghost use Rattle.budget.specs.declared.permits.Try.{Try};
 ghost use Rattle.budget.specs.declared.permits.Try.TheVariants.{Got, Contended};
 ghost use Rattle.budget.specs.Permits.{if_got, one_more_kept, one_less_kept};
 ghost use Rattle.conn_log.specs.Waiting.{waiting};
-ghost use Rattle.host_rules.specs.Calls.{after_abandon, after_withdraw, is_freed, is_queued};
-ghost use Rattle.host_rules.specs.Calls.{GrowsBy};
-ghost use Rattle.bundle.specs.Lease.{is_unclaimed, is_valid_ticket, is_same_want, WasGranted};
-ghost use Rattle.bundle.specs.Lease.{is_held_lease, HasItsStream, KeepsItsStream, KeepsStreams};
-ghost use Rattle.bundle.specs.Lease.{KeepsOthers, GetsLease, Spends, StaysThere, lease_at};
+ghost use Rattle.host_rules.specs.Calls.{is_freed, is_queued};
+ghost use Rattle.bundle.specs.Lease.{is_unclaimed, is_valid_ticket, is_same_want, start_for};
+ghost use Rattle.bundle.specs.Lease.{lease_at};
+ghost use Rattle.bundle.specs.Around.{HoldsPart, MovesPart, IsLentTo, LeavesLobby, KeepsPass};
+ghost use Rattle.bundle.specs.Around.{StaysHost};
+ghost use Rattle.bundle.specs.Ends.{ClosesLease, AnswersBack, ReturnsLease, EndsWait};
+ghost use Rattle.bundle.specs.Starts.{ClaimsLease};
 ghost use Rattle.host_rules.specs.Counts.{held_by};
 ghost use Rattle.host_rules.specs.Asks.{recorded_forbids, forbids_reuse, may_stay};
 ghost use Rattle.host_rules.specs.Asks.{keep_asks};
 ghost use Rattle.host_rules.specs.Laws.{IsSoundAndQuiet};
-ghost use Rattle.bundle.specs.Lobbies.{IfLent, IfLeft, is_lent};
-ghost use Rattle.host_rules.specs.Orders.{Lists, IsMarked};
-ghost use Rattle.bundle.specs.Replies.{IfClaimed, IfStill, GivesBack, OnSpent, UnlessSpent};
-ghost use Rattle.bundle.specs.Replies.{IsBackAs};
+ghost use Rattle.bundle.specs.Replies.{IfClaimed, IfStill, OnSpent, UnlessSpent};
 ghost use Rattle.bundle.specs.declared.did.Did.TheVariants.{Stranger};
-ghost use Rattle.bundle.specs.Lease.{start_for};
-ghost use Rattle.bundle.specs.Passes.{tells, spends, withdraws, claim_did, AccountsForStarts};
+ghost use Rattle.bundle.specs.Passes.{tells, spends, withdraws, claim_did};
 ghost use Rattle.conn_log.specs.declared.entry.Cause.TheVariants.{Dropped};
 ghost use Rattle.conn_log.specs.declared.entry.Event.TheVariants.{Returned as CameBack, Closed};
 ghost use Rattle.host_state.specs.Steps.{moment_at};
@@ -44,7 +42,7 @@ use host_state::{Returned, State};
 use persistence::{Facts, persists};
 
 impl<S: Drop> Bundle<S> {
-    // Whether that is the want of the transfer's ticket.
+    // Whether this is the want of the transfer's ticket.
     fn is_valid_ticket(&self, want: &Want) -> bool
         ensures { result ≡ is_valid_ticket self.now want.now }
     {
@@ -58,10 +56,10 @@ impl<S: Drop> Bundle<S> {
     }
 
     /// Gives the transfer the connection that it was granted, with the stream that came back under
-    /// its number where it was not opened for it; where it still waits, its ticket. No event is
-    /// logged, and no memory is taken.
+    /// its number unless it was opened for the transfer; if the transfer still waits, its ticket.
+    /// No event is logged, and no memory is taken.
     ///
-    /// A ticket comes back in a [`Stray`] where its transfer neither waits with its want nor has
+    /// A ticket comes back in a [`Stray`] if its transfer neither waits with its want nor has
     /// yet to claim what it was granted for that want. The pass is told which of the three it is.
     ///
     /// Asked of the caller: the pass is enrolled here.
@@ -71,30 +69,20 @@ impl<S: Drop> Bundle<S> {
         pass: &mut Pass<Did>,
     ) -> Result<Claimed<S>, Stray<Ticket>>
         requires enrolled { IsEnrolledAt pass.old self.old.host self.old.tables.starts }
-        ensures ok { OnOk result (is_valid_ticket self.old ticket.wait.want ≡ true) }
+        ensures valid_ticket { OnOk result (is_valid_ticket self.old ticket.wait.want ≡ true) }
         ensures strange { IfErr result (λ stray.
             (is_valid_ticket self.old ticket.wait.want ≡ false) × (stray ≡ ticket)) }
-        ensures log { self.new.log ≡ self.old.log }
-        ensures lease { IfClaimed result (WasGranted self.old ticket.wait.want.transfer) }
-        ensures want { IfClaimed result (λ lease. lease.start.want ≡ ticket.wait.want) }
-        ensures has_stream { IfClaimed result (λ lease. is_some lease.stream ≡ lease.start.reused) }
-        ensures stream { IfClaimed result (HasItsStream self.old.streams) }
-        ensures streams { IfClaimed result
-            (λ lease. KeepsOthers lease.start.number self.old self.new) }
+        ensures lease { IfClaimed result (ClaimsLease self.old self.new ticket.wait.want) }
         ensures still { IfStill result (λ same.
             (is_unclaimed self.old ticket.wait.want.transfer ≡ false)
             × (same ≡ ticket) × (self.new ≡ self.old)) }
         ensures err { OnErr result (self.new ≡ self.old) }
-        ensures made_here { IfClaimed result (λ lease. lease.tables ≡ self.old.tables) }
-        ensures gets_lease { IfClaimed result (λ lease.
-            GetsLease self.old self.new ticket.wait.want.transfer lease.start.number) }
-        ensures booked { self.new.booked ≡ self.old.booked }
-        ensures settled { IsSoundAndQuiet self.new.settings self.new.log }
-        ensures same { StaysThere self.old self.new }
+        ensures log { self.new.log ≡ self.old.log }
         ensures tells { let did = claim_did ticket.wait.want.transfer result in
             pass.new ≡ tells self.old.host did pass.old }
-        ensures seats { KeepsSeats pass.old pass.new }
-        ensures account { AccountsForStarts self.old self.new pass.old pass.new }
+        ensures host { StaysHost self.old self.new }
+        ensures settled { IsSoundAndQuiet self.new.settings self.new.log }
+        ensures pass { KeepsPass self.old self.new pass.old pass.new }
     {
         let want = ticket.want();
         let (host, transfer) = (self.state.host() as usize, want.transfer);
@@ -113,19 +101,18 @@ impl<S: Drop> Bundle<S> {
         Ok(Claimed::Lease(Lease::new(used, seat)))
     }
 
-    /// Takes a connection back with the facts of its response. Where it persists and its want
-    /// allows reuse, it goes to the first transfer that waits; where that transfer's want does not
-    /// fit it, it is closed, and one is opened for that transfer. Where nobody waits `permits` is
-    /// asked to keep one connection more, and it is idle from then on, with its stream. Where the
-    /// budget keeps none it is closed if `close_if_full` says so, and else the lease comes back.
-    /// Where its use ends it is closed, and one is opened for the first transfer that waits. `now`
-    /// is in seconds. Spending takes no memory.
+    /// Takes a connection back with the facts of its response. If it persists and its want allows
+    /// reuse, it goes to the first waiter; if it does not fit the waiter's want, it is closed, and
+    /// one is opened for the waiter. If nobody waits, `permits` is asked to keep one connection
+    /// more, and it is idle from then on, with its stream. If the budget keeps none, it is closed
+    /// if `close_if_full` says so, and else the lease comes back. If its use ends it is closed, and
+    /// one is opened for the first waiter. `now` is in seconds. Spending takes no memory.
     ///
     /// The lease is spent with the pass, which is told the entry of its return. All but
     /// [`Back::Spent`] leave the host and the pass as they were.
     ///
     /// Asked of the caller: the lease was made here, so that it is no stranger, and the pass is
-    /// enrolled here; a queued host is lent the lobby, which lists it exactly where it is queued.
+    /// enrolled here; a queued host is lent the lobby, which lists it exactly if it is queued.
     #[inline(always)]
     pub fn give_back<P: Permits<Asker>>(
         &mut self,
@@ -140,39 +127,22 @@ impl<S: Drop> Bundle<S> {
         requires enrolled { IsEnrolledAt pass.old self.old.host self.old.tables.starts }
         requires here { lease.tables ≡ self.old.tables }
         requires stream { IsSome lease.stream }
-        requires lent { is_queued self.old.settings self.old.log ≡ true → is_lent lobby ≡ true }
-        requires lists { let mark = is_queued self.old.settings self.old.log in
-            IfLent lobby (Lists self.old.host mark) }
-        requires stands { P.stands permits.old }
-        requires part { P.held permits.old ≡ held_by self.old.log }
-        ensures told { (told : Try) × P.keeping permits.old permits.new told
-            × GivesBack close_if_full told self.old self.new lease facts now result }
-        ensures back { IsBackAs close_if_full lease result }
-        ensures asked { let asks = keep_asks self.old.log lease.start facts in
-            P.asked permits.old permits.new 0 asks }
-        ensures known { is_held_lease self.old lease ≡ true }
-        ensures stream { OnSpent result (KeepsItsStream self.new lease) }
-        ensures streams { OnSpent result (KeepsOthers lease.start.number self.old self.new) }
-        ensures unchanged { UnlessSpent result (self.new ≡ self.old) }
-        ensures spends { OnSpent result (Spends self.old self.new lease.start.want.transfer) }
-        ensures booked { self.new.booked ≡ self.old.booked }
-        ensures stands { P.stands permits.new }
-        ensures stays { P.stays permits.old permits.new }
-        ensures part { P.held permits.new ≡ held_by self.new.log }
-        ensures marked { let was = is_queued self.old.settings self.old.log in
-            let is = is_queued self.new.settings self.new.log in
-            IfLeft lobby.entry lobby.exit (IsMarked self.old.host was is) }
-        ensures mark { is_queued self.old.settings self.old.log ≡ false →
-            is_queued self.new.settings self.new.log ≡ false }
-        ensures grew { GrowsBy self.old.log self.new.log }
-        ensures settled { IsSoundAndQuiet self.new.settings self.new.log }
-        ensures same { StaysThere self.old self.new }
+        requires permits { HoldsPart P.stands P.held (held_by self.old.log) permits.old }
+        requires lobby { IsLentTo self.old lobby }
+        ensures answer { let keeping = P.keeping permits.old permits.new in
+            let asked = P.asked permits.old permits.new in
+            AnswersBack keeping asked close_if_full self.old self.new lease facts now result }
+        ensures returned { OnSpent result (ReturnsLease self.old self.new lease) }
+        ensures unended { UnlessSpent result ((self.new ≡ self.old) × (pass.new ≡ pass.old)) }
         ensures spent { let moment = moment_at self.old.log now in
             let returned = CameBack lease.start.number facts in
             OnSpent result (pass.new ≡ spends self.old.host moment returned pass.old) }
-        ensures unspent { UnlessSpent result (pass.new ≡ pass.old) }
-        ensures seats { KeepsSeats pass.old pass.new }
-        ensures account { AccountsForStarts self.old self.new pass.old pass.new }
+        ensures host { StaysHost self.old self.new }
+        ensures settled { IsSoundAndQuiet self.new.settings self.new.log }
+        ensures permits { let much = held_by self.new.log in
+            MovesPart P.stands P.stays P.held much permits.old permits.new }
+        ensures lobby { LeavesLobby self.old self.new lobby.entry lobby.exit }
+        ensures pass { KeepsPass self.old self.new pass.old pass.new }
     {
         let was_queued = self.queued();
         let back = self.take_back(lease, facts, now, pass, permits, close_if_full);
@@ -182,7 +152,7 @@ impl<S: Drop> Bundle<S> {
         back
     }
 
-    // The same, whatever becomes of the host's mark.
+    // The same, without the lobby.
     #[inline(always)]
     fn take_back<P: Permits<Asker>>(
         &mut self,
@@ -196,33 +166,22 @@ impl<S: Drop> Bundle<S> {
         requires enrolled { IsEnrolledAt pass.old self.old.host self.old.tables.starts }
         requires here { lease.tables ≡ self.old.tables }
         requires stream { IsSome lease.stream }
-        requires stands { P.stands permits.old }
-        requires part { P.held permits.old ≡ held_by self.old.log }
-        ensures told { (told : Try) × P.keeping permits.old permits.new told
-            × GivesBack close_if_full told self.old self.new lease facts now result }
-        ensures back { IsBackAs close_if_full lease result }
-        ensures asked { let asks = keep_asks self.old.log lease.start facts in
-            P.asked permits.old permits.new 0 asks }
-        ensures known { is_held_lease self.old lease ≡ true }
-        ensures stream { OnSpent result (KeepsItsStream self.new lease) }
-        ensures streams { OnSpent result (KeepsOthers lease.start.number self.old self.new) }
-        ensures unchanged { UnlessSpent result (self.new ≡ self.old) }
-        ensures spends { OnSpent result (Spends self.old self.new lease.start.want.transfer) }
-        ensures booked { self.new.booked ≡ self.old.booked }
-        ensures stands { P.stands permits.new }
-        ensures stays { P.stays permits.old permits.new }
-        ensures part { P.held permits.new ≡ held_by self.new.log }
-        ensures mark { is_queued self.old.settings self.old.log ≡ false →
-            is_queued self.new.settings self.new.log ≡ false }
-        ensures grew { GrowsBy self.old.log self.new.log }
-        ensures settled { IsSoundAndQuiet self.new.settings self.new.log }
-        ensures same { StaysThere self.old self.new }
+        requires permits { HoldsPart P.stands P.held (held_by self.old.log) permits.old }
+        ensures answer { let keeping = P.keeping permits.old permits.new in
+            let asked = P.asked permits.old permits.new in
+            AnswersBack keeping asked close_if_full self.old self.new lease facts now result }
+        ensures returned { OnSpent result (ReturnsLease self.old self.new lease) }
+        ensures unended { UnlessSpent result ((self.new ≡ self.old) × (pass.new ≡ pass.old)) }
         ensures spent { let moment = moment_at self.old.log now in
             let returned = CameBack lease.start.number facts in
             OnSpent result (pass.new ≡ spends self.old.host moment returned pass.old) }
-        ensures unspent { UnlessSpent result (pass.new ≡ pass.old) }
-        ensures seats { KeepsSeats pass.old pass.new }
-        ensures account { AccountsForStarts self.old self.new pass.old pass.new }
+        ensures host { StaysHost self.old self.new }
+        ensures settled { IsSoundAndQuiet self.new.settings self.new.log }
+        ensures mark { is_queued self.old.settings self.old.log ≡ false →
+            is_queued self.new.settings self.new.log ≡ false }
+        ensures permits { let much = held_by self.new.log in
+            MovesPart P.stands P.stays P.held much permits.old permits.new }
+        ensures pass { KeepsPass self.old self.new pass.old pass.new }
     {
         let (mut used, seat) = lease.take_apart();
         let start = self.seats.take_back(seat);
@@ -271,12 +230,12 @@ impl<S: Drop> Bundle<S> {
         }
     }
 
-    /// Closes a leased connection without a response, and opens one for the first transfer that
-    /// waits; it answers whether a permit was freed instead. The lease is spent with the pass,
-    /// which is told the entry of the closing. `now` is in seconds. It takes no memory.
+    /// Closes a leased connection without a response, and opens one for the first waiter; answers
+    /// whether a permit was freed instead. The lease is spent with the pass, which is told the
+    /// entry of the closing. `now` is in seconds. It takes no memory.
     ///
     /// Asked of the caller: the lease was made here, so that it is no stranger, and the pass is
-    /// enrolled here; a queued host is lent the lobby, which lists it exactly where it is queued.
+    /// enrolled here; a queued host is lent the lobby, which lists it exactly if it is queued.
     pub fn abandon<P: Permits<Asker>>(
         &mut self,
         lease: Lease<S>,
@@ -287,35 +246,20 @@ impl<S: Drop> Bundle<S> {
     ) -> Result<bool, Stray<Lease<S>>>
         requires enrolled { IsEnrolledAt pass.old self.old.host self.old.tables.starts }
         requires here { lease.tables ≡ self.old.tables }
-        requires lent { is_queued self.old.settings self.old.log ≡ true → is_lent lobby ≡ true }
-        requires lists { let mark = is_queued self.old.settings self.old.log in
-            IfLent lobby (Lists self.old.host mark) }
-        requires stands { P.stands permits.old }
-        requires part { P.held permits.old ≡ held_by self.old.log }
-        ensures known { is_held_lease self.old lease ≡ true }
-        ensures unasked { P.asked permits.old permits.new 0 0 }
-        ensures log { let number = lease.start.number in
-            self.new.log ≡ after_abandon self.old.settings self.old.log number now }
+        requires permits { HoldsPart P.stands P.held (held_by self.old.log) permits.old }
+        requires lobby { IsLentTo self.old lobby }
+        ensures closed { ClosesLease self.old self.new lease now }
         ensures freed { result ≡ Ok (is_freed self.old.log self.new.log) }
-        ensures streams { KeepsOthers lease.start.number self.old self.new }
-        ensures spends { Spends self.old self.new lease.start.want.transfer }
-        ensures booked { self.new.booked ≡ self.old.booked }
-        ensures stands { P.stands permits.new }
-        ensures stays { P.stays permits.old permits.new }
-        ensures part { P.held permits.new ≡ held_by self.new.log }
-        ensures marked { let was = is_queued self.old.settings self.old.log in
-            let is = is_queued self.new.settings self.new.log in
-            IfLeft lobby.entry lobby.exit (IsMarked self.old.host was is) }
-        ensures mark { is_queued self.old.settings self.old.log ≡ false →
-            is_queued self.new.settings self.new.log ≡ false }
-        ensures grew { GrowsBy self.old.log self.new.log }
-        ensures settled { IsSoundAndQuiet self.new.settings self.new.log }
-        ensures same { StaysThere self.old self.new }
         ensures spent { let moment = moment_at self.old.log now in
             let closed = Closed lease.start.number Dropped in
             pass.new ≡ spends self.old.host moment closed pass.old }
-        ensures seats { KeepsSeats pass.old pass.new }
-        ensures account { AccountsForStarts self.old self.new pass.old pass.new }
+        ensures host { StaysHost self.old self.new }
+        ensures settled { IsSoundAndQuiet self.new.settings self.new.log }
+        ensures unasked { P.asked permits.old permits.new 0 0 }
+        ensures permits { let much = held_by self.new.log in
+            MovesPart P.stands P.stays P.held much permits.old permits.new }
+        ensures lobby { LeavesLobby self.old self.new lobby.entry lobby.exit }
+        ensures pass { KeepsPass self.old self.new pass.old pass.new }
     {
         let was_queued = self.queued();
         match lobby {
@@ -328,7 +272,7 @@ impl<S: Drop> Bundle<S> {
         }
     }
 
-    // The same, whatever becomes of the host's mark.
+    // The same, without the lobby.
     fn close_leased<P: Permits<Asker>>(
         &mut self,
         lease: Lease<S>,
@@ -338,29 +282,20 @@ impl<S: Drop> Bundle<S> {
     ) -> bool
         requires enrolled { IsEnrolledAt pass.old self.old.host self.old.tables.starts }
         requires here { lease.tables ≡ self.old.tables }
-        requires stands { P.stands permits.old }
-        requires part { P.held permits.old ≡ held_by self.old.log }
-        ensures known { is_held_lease self.old lease ≡ true }
-        ensures unasked { P.asked permits.old permits.new 0 0 }
-        ensures log { let number = lease.start.number in
-            self.new.log ≡ after_abandon self.old.settings self.old.log number now }
+        requires permits { HoldsPart P.stands P.held (held_by self.old.log) permits.old }
+        ensures closed { ClosesLease self.old self.new lease now }
         ensures freed { result ≡ is_freed self.old.log self.new.log }
-        ensures streams { KeepsOthers lease.start.number self.old self.new }
-        ensures spends { Spends self.old self.new lease.start.want.transfer }
-        ensures booked { self.new.booked ≡ self.old.booked }
-        ensures stands { P.stands permits.new }
-        ensures stays { P.stays permits.old permits.new }
-        ensures part { P.held permits.new ≡ held_by self.new.log }
-        ensures mark { is_queued self.old.settings self.old.log ≡ false →
-            is_queued self.new.settings self.new.log ≡ false }
-        ensures grew { GrowsBy self.old.log self.new.log }
-        ensures settled { IsSoundAndQuiet self.new.settings self.new.log }
-        ensures same { StaysThere self.old self.new }
         ensures spent { let moment = moment_at self.old.log now in
             let closed = Closed lease.start.number Dropped in
             pass.new ≡ spends self.old.host moment closed pass.old }
-        ensures seats { KeepsSeats pass.old pass.new }
-        ensures account { AccountsForStarts self.old self.new pass.old pass.new }
+        ensures host { StaysHost self.old self.new }
+        ensures settled { IsSoundAndQuiet self.new.settings self.new.log }
+        ensures mark { is_queued self.old.settings self.old.log ≡ false →
+            is_queued self.new.settings self.new.log ≡ false }
+        ensures unasked { P.asked permits.old permits.new 0 0 }
+        ensures permits { let much = held_by self.new.log in
+            MovesPart P.stands P.stays P.held much permits.old permits.new }
+        ensures pass { KeepsPass self.old self.new pass.old pass.new }
     {
         let (used, seat) = lease.take_apart();
         let start = self.seats.take_back(seat);
@@ -380,17 +315,18 @@ impl<S: Drop> Bundle<S> {
     }
 
     /// Takes a ticket back: its transfer waits no more, or the connection that it was granted is
-    /// closed, and one is opened for the first transfer that waits. It answers whether a permit was
-    /// freed. `now` is in seconds. It takes no memory.
+    /// closed, and one is opened for the first waiter. It answers whether a permit was freed. `now`
+    /// is in seconds. It takes no memory.
     ///
-    /// A ticket comes back in a [`Stray`] where its transfer neither waits with its want nor has
+    /// A ticket comes back in a [`Stray`] if its transfer neither waits with its want nor has
     /// yet to claim what it was granted for that want; nothing changed then.
     ///
-    /// The pass is told the entry with which the transfer leaves; or what was granted is spent with
-    /// it, and it is told the entry of the closing; or that the ticket is a stranger.
+    /// The pass is told the entry with which the transfer leaves; or the grant is spent with the
+    /// pass, which is told the entry of the closing; or the pass is told that the ticket is a
+    /// stranger.
     ///
     /// Asked of the caller: the pass is enrolled here; a queued host is lent the lobby, which lists
-    /// it exactly where it is queued.
+    /// it exactly if it is queued.
     pub fn withdraw<P: Permits<Asker>>(
         &mut self,
         ticket: Ticket,
@@ -400,43 +336,25 @@ impl<S: Drop> Bundle<S> {
         lobby: Option<&mut Lobby>,
     ) -> Result<bool, Stray<Ticket>>
         requires enrolled { IsEnrolledAt pass.old self.old.host self.old.tables.starts }
-        requires lent { is_queued self.old.settings self.old.log ≡ true → is_lent lobby ≡ true }
-        requires lists { let mark = is_queued self.old.settings self.old.log in
-            IfLent lobby (Lists self.old.host mark) }
-        requires stands { P.stands permits.old }
-        requires part { P.held permits.old ≡ held_by self.old.log }
-        ensures ok { OnOk result (is_valid_ticket self.old ticket.wait.want ≡ true) }
+        requires permits { HoldsPart P.stands P.held (held_by self.old.log) permits.old }
+        requires lobby { IsLentTo self.old lobby }
+        ensures ended { IfOk result (EndsWait self.old self.new ticket now) }
         ensures strange { IfErr result (λ stray.
             (is_valid_ticket self.old ticket.wait.want ≡ false) × (stray ≡ ticket)) }
-        ensures unasked { P.asked permits.old permits.new 0 0 }
-        ensures log { let transfer = ticket.wait.want.transfer in
-            OnOk result
-            (self.new.log ≡ after_withdraw self.old.settings self.old.log transfer now) }
-        ensures freed { IfOk result (λ freed. freed ≡ is_freed self.old.log self.new.log) }
-        ensures streams { OnOk result (KeepsStreams self.old self.new) }
-        ensures err { OnErr result (self.new ≡ self.old) }
-        ensures err_permits { OnErr result (permits.new ≡ permits.old) }
-        ensures spends { OnOk result (Spends self.old self.new ticket.wait.want.transfer) }
-        ensures booked { self.new.booked ≡ self.old.booked }
-        ensures stands { P.stands permits.new }
-        ensures stays { P.stays permits.old permits.new }
-        ensures part { P.held permits.new ≡ held_by self.new.log }
-        ensures marked { let was = is_queued self.old.settings self.old.log in
-            let is = is_queued self.new.settings self.new.log in
-            IfLeft lobby.entry lobby.exit (IsMarked self.old.host was is) }
-        ensures mark { is_queued self.old.settings self.old.log ≡ false →
-            is_queued self.new.settings self.new.log ≡ false }
-        ensures grew { GrowsBy self.old.log self.new.log }
-        ensures settled { IsSoundAndQuiet self.new.settings self.new.log }
-        ensures same { StaysThere self.old self.new }
+        ensures err { OnErr result ((self.new ≡ self.old) × (permits.new ≡ permits.old)) }
         ensures withdrawn { let transfer = ticket.wait.want.transfer in
             let granted = start_for self.old.unclaimed transfer in
             let moment = moment_at self.old.log now in
             OnOk result (pass.new ≡ withdraws self.old.host moment transfer granted pass.old) }
         ensures stranger { let stranger = Stranger ticket.wait.want.transfer in
             OnErr result (pass.new ≡ tells self.old.host (Some stranger) pass.old) }
-        ensures seats { KeepsSeats pass.old pass.new }
-        ensures account { AccountsForStarts self.old self.new pass.old pass.new }
+        ensures host { StaysHost self.old self.new }
+        ensures settled { IsSoundAndQuiet self.new.settings self.new.log }
+        ensures unasked { P.asked permits.old permits.new 0 0 }
+        ensures permits { let much = held_by self.new.log in
+            MovesPart P.stands P.stays P.held much permits.old permits.new }
+        ensures lobby { LeavesLobby self.old self.new lobby.entry lobby.exit }
+        ensures pass { KeepsPass self.old self.new pass.old pass.new }
     {
         let was_queued = self.queued();
         match lobby {
@@ -449,7 +367,7 @@ impl<S: Drop> Bundle<S> {
         }
     }
 
-    // The same, whatever becomes of the host's mark.
+    // The same, without the lobby.
     fn end_wait<P: Permits<Asker>>(
         &mut self,
         ticket: Ticket,
@@ -458,37 +376,25 @@ impl<S: Drop> Bundle<S> {
         permits: &mut P,
     ) -> Result<bool, Stray<Ticket>>
         requires enrolled { IsEnrolledAt pass.old self.old.host self.old.tables.starts }
-        requires stands { P.stands permits.old }
-        requires part { P.held permits.old ≡ held_by self.old.log }
-        ensures ok { OnOk result (is_valid_ticket self.old ticket.wait.want ≡ true) }
+        requires permits { HoldsPart P.stands P.held (held_by self.old.log) permits.old }
+        ensures ended { IfOk result (EndsWait self.old self.new ticket now) }
         ensures strange { IfErr result (λ stray.
             (is_valid_ticket self.old ticket.wait.want ≡ false) × (stray ≡ ticket)) }
-        ensures unasked { P.asked permits.old permits.new 0 0 }
-        ensures log { let transfer = ticket.wait.want.transfer in
-            OnOk result
-            (self.new.log ≡ after_withdraw self.old.settings self.old.log transfer now) }
-        ensures freed { IfOk result (λ freed. freed ≡ is_freed self.old.log self.new.log) }
-        ensures streams { OnOk result (KeepsStreams self.old self.new) }
-        ensures err { OnErr result (self.new ≡ self.old) }
-        ensures err_permits { OnErr result (permits.new ≡ permits.old) }
-        ensures spends { OnOk result (Spends self.old self.new ticket.wait.want.transfer) }
-        ensures booked { self.new.booked ≡ self.old.booked }
-        ensures stands { P.stands permits.new }
-        ensures stays { P.stays permits.old permits.new }
-        ensures part { P.held permits.new ≡ held_by self.new.log }
-        ensures mark { is_queued self.old.settings self.old.log ≡ false →
-            is_queued self.new.settings self.new.log ≡ false }
-        ensures grew { GrowsBy self.old.log self.new.log }
-        ensures settled { IsSoundAndQuiet self.new.settings self.new.log }
-        ensures same { StaysThere self.old self.new }
+        ensures err { OnErr result ((self.new ≡ self.old) × (permits.new ≡ permits.old)) }
         ensures withdrawn { let transfer = ticket.wait.want.transfer in
             let granted = start_for self.old.unclaimed transfer in
             let moment = moment_at self.old.log now in
             OnOk result (pass.new ≡ withdraws self.old.host moment transfer granted pass.old) }
         ensures stranger { let stranger = Stranger ticket.wait.want.transfer in
             OnErr result (pass.new ≡ tells self.old.host (Some stranger) pass.old) }
-        ensures seats { KeepsSeats pass.old pass.new }
-        ensures account { AccountsForStarts self.old self.new pass.old pass.new }
+        ensures host { StaysHost self.old self.new }
+        ensures settled { IsSoundAndQuiet self.new.settings self.new.log }
+        ensures mark { is_queued self.old.settings self.old.log ≡ false →
+            is_queued self.new.settings self.new.log ≡ false }
+        ensures unasked { P.asked permits.old permits.new 0 0 }
+        ensures permits { let much = held_by self.new.log in
+            MovesPart P.stands P.stays P.held much permits.old permits.new }
+        ensures pass { KeepsPass self.old self.new pass.old pass.new }
     {
         let want = ticket.want();
         let (host, transfer) = (self.state.host() as usize, want.transfer);
@@ -525,7 +431,7 @@ impl<S: Drop> Bundle<S> {
     }
 }
 
-// Asks the budget to keep one connection more, where nobody waits, its response lets it persist and
+// Asks the budget to keep one connection more, if nobody waits, its response lets it persist and
 // reuse is not forbidden.
 #[inline(always)]
 fn ask_to_keep<S: Drop, P: Permits<Asker>>(
@@ -553,8 +459,8 @@ fn ask_to_keep<S: Drop, P: Permits<Asker>>(
     Some(permits.reserve_kept(&Asker::of_bundle()))
 }
 
-// Whether reuse is forbidden: by the lease's own want, which is a flag, and where that does, by the
-// recorded one, which takes a search.
+// Whether reuse is forbidden: by the lease's own want, which is a flag, and, if that forbids it, by
+// the recorded one, which takes a search.
 #[inline(always)]
 fn forbids_reuse<S: Drop>(state: &State<S>, used: &Use<S>) -> bool
     ensures { result ≡ forbids_reuse state.now.log used.now.start }
@@ -593,7 +499,7 @@ fn spend<S: Drop>(
     ensures cleared { IfSome seats.old.back (λ pair. seats.new
         ≡ record seats.old { leased = without_pair pair seats.old.leased; back = None }) }
     ensures spent { pass.new ≡ spends host moment event pass.old }
-    ensures seats { KeepsSeats pass.old pass.new }
+    ensures pass_seats { KeepsSeats pass.old pass.new }
 {
     // The entry is told first: moves of it on both sides of an atomic step stay apart.
     let did = Did::Wrote(Entry { moment, event });
@@ -622,7 +528,7 @@ fn spend_returned<S: Drop>(
         ≡ record seats.old { leased = without_pair pair seats.old.leased; back = None }) }
     ensures spent { let returned = CameBack used.start.number facts in
         pass.new ≡ spends host moment returned pass.old }
-    ensures seats { KeepsSeats pass.old pass.new }
+    ensures pass_seats { KeepsSeats pass.old pass.new }
 {
     let connection = used.number();
     let event = Event::Returned { connection, facts };
@@ -632,7 +538,7 @@ fn spend_returned<S: Drop>(
 // The lease that was taken apart, with its stream and its seats again.
 #[inline(always)]
 fn again<S: Drop>(used: Use<S>, stream: S, start: StartSeat, seats: &mut Seats) -> Lease<S>
-    requires none { used.stream ≡ None }
+    requires no_stream { used.stream ≡ None }
     requires start { start ≡ seats.old.tables.starts }
     requires back { seats.old.back ≡ Some (used.start.number, used.start.want.transfer) }
     ensures lease { result ≡ lease_at seats.old.tables (record used { stream = Some stream }) }
@@ -646,8 +552,8 @@ fn again<S: Drop>(used: Use<S>, stream: S, start: StartSeat, seats: &mut Seats) 
 // Whether the budget keeps it, or was not asked.
 #[inline(always)]
 fn may_keep(asked: Option<Try>) -> bool
-    ensures yes { result ≡ true → IfSome asked (λ told. told ≡ Got) }
-    ensures no { result ≡ false → IsSome asked × (asked ≡ Some Got → ⊥) }
+    ensures got_if_asked { result ≡ true → IfSome asked (λ told. told ≡ Got) }
+    ensures asked_not_got { result ≡ false → IsSome asked × (asked ≡ Some Got → ⊥) }
 {
     match asked {
         None => true,
@@ -658,8 +564,8 @@ fn may_keep(asked: Option<Try>) -> bool
 // Whether the budget has to be asked again.
 #[inline(always)]
 fn must_ask_again(asked: Option<Try>) -> bool
-    ensures yes { result ≡ true → asked ≡ Some Contended }
-    ensures no { result ≡ false → asked ≡ Some Contended → ⊥ }
+    ensures contended { result ≡ true → asked ≡ Some Contended }
+    ensures not_contended { result ≡ false → asked ≡ Some Contended → ⊥ }
 {
     match asked {
         None => false,
@@ -667,7 +573,7 @@ fn must_ask_again(asked: Option<Try>) -> bool
     }
 }
 
-// Gives a permit to keep back that was got and is not used.
+// Gives a permit to keep back that was got and not used.
 #[inline(always)]
 fn release_unused<P: Permits<Asker>>(asked: Option<Try>, permits: &mut P)
     requires stands { P.stands permits.old }
@@ -675,7 +581,7 @@ fn release_unused<P: Permits<Asker>>(asked: Option<Try>, permits: &mut P)
     ensures stands { P.stands permits.new }
     ensures stays { P.stays permits.old permits.new }
     ensures unasked { P.asked permits.old permits.new 0 0 }
-    ensures got { asked ≡ Some Got → P.held permits.new ≡ one_less_kept (P.held permits.old) }
+    ensures released { asked ≡ Some Got → P.held permits.new ≡ one_less_kept (P.held permits.old) }
     ensures not_asked { IfNone asked (P.held permits.new ≡ P.held permits.old) }
     ensures not_got { IfSome asked (λ told. (told ≡ Got → ⊥) →
         P.held permits.new ≡ P.held permits.old) }

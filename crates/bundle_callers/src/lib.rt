@@ -9,6 +9,7 @@ ghost use Rattle.conn_log.specs.declared.entry.Event.TheVariants.{Returned};
 ghost use Rattle.host_rules.specs.Calls.{is_queued};
 ghost use Rattle.host_rules.specs.Counts.{held_by};
 ghost use Rattle.host_state.specs.Steps.{moment_at};
+ghost use Rattle.bundle.specs.Around.{HoldsPart};
 ghost use Rattle.bundle.specs.Passes.{tells, spends, acquire_did, claim_did};
 ghost use Rattle.bundle.specs.Replies.{OnSpent, UnlessSpent};
 
@@ -38,8 +39,7 @@ pub fn acquire<S: Drop, P: Permits<Asker>>(
     _own: &mut Tally,
 ) -> Result<Got<S>, Refusal>
     requires enrolled { IsEnrolledAt pass.old bundle.old.host bundle.old.tables.starts }
-    requires stands { P.stands permits.old }
-    requires part { P.held permits.old ≡ held_by bundle.old.log }
+    requires permits { HoldsPart P.stands P.held (held_by bundle.old.log) permits.old }
     ensures tells { pass.new
         ≡ tells bundle.old.host (acquire_did want.transfer result) pass.old }
 {
@@ -60,8 +60,7 @@ pub fn give_back<S: Drop, P: Permits<Asker>>(
     requires here { lease.tables ≡ bundle.old.tables }
     requires stream { IsSome lease.stream }
     requires unqueued { is_queued bundle.old.settings bundle.old.log ≡ false }
-    requires stands { P.stands permits.old }
-    requires part { P.held permits.old ≡ held_by bundle.old.log }
+    requires permits { HoldsPart P.stands P.held (held_by bundle.old.log) permits.old }
     ensures spent { let moment = moment_at bundle.old.log now in
         let returned = Returned lease.start.number facts in
         OnSpent result (pass.new ≡ spends bundle.old.host moment returned pass.old) }

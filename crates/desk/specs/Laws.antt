@@ -5,12 +5,12 @@ use Rattle.conn_log.specs.declared.entry.Event.TheVariants.{Returned}
 use Rattle.budget.specs.Accounts.{account_at}
 use Rattle.bundle.specs.Lease.{Leasing}
 use Rattle.bundle.specs.declared.did.Did.TheVariants.{Wrote}
-use Rattle.leasing.specs.Deeds.Deed.{gives_back}
-use Rattle.leasing.specs.Homes.{IsMadeBy}
+use Rattle.cache_trait.specs.CacheCalls.CacheCall.{gives_back}
+use Rattle.cache_trait.specs.Homes.{IsMadeBy}
 use Rattle.shared_cache.specs.Names.{CacheNames}
 use Rattle.shared_cache.specs.Passes.{IsPassOf}
 use Rattle.desk.specs.Desks.{DeskShown}
-use Rattle.desk.specs.Deeds.{DidAtDesk}
+use Rattle.desk.specs.DeskCalls.{DidAtDesk}
 
 -- right after a lease of the cache went back, the last that the pass was told at that site is the return of the
 -- connection, with these facts, of a moment that is not before the one handed in; and the wire is the lease's

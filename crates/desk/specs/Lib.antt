@@ -1,3 +1,3 @@
 pub mod Desks
-pub mod Deeds
+pub mod DeskCalls
 pub mod Laws

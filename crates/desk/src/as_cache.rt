@@ -4,8 +4,8 @@ use crate::borrowed::Desk;
 use crate::returned::LastReturned;
 use budget::Refusal;
 use bundle::{Acquired, Claimed, Lease, Stray, Ticket};
+use cache_trait::Cache;
 use conn_log::Want;
-use leasing::Cache;
 use persistence::Facts;
 use shared_cache::Names;
 use std::sync::Wait;
@@ -13,13 +13,14 @@ use std::sync::Wait;
 /// What a desk does at each call is what its pass is told there. No lease is a stranger to it.
 impl<S: Drop, N: Names, R: Wait> Cache<S> for Desk<'_, S, N, R> {
     ghost use Rattle.std.specs.Prelude.{◌≡◌, IsSome, OnOk, OnErr};
-    ghost use Rattle.leasing.specs.Deeds.Deed.{gives_back, abandons, finds_strange_lease};
-    ghost use Rattle.leasing.specs.Homes.{IsMadeBy};
-    ghost use Rattle.desk.specs.Deeds.{DidAtDesk};
+    ghost use Rattle.cache_trait.specs.CacheCalls.CacheCall.{gives_back, abandons};
+    ghost use Rattle.cache_trait.specs.CacheCalls.CacheCall.{finds_strange_lease};
+    ghost use Rattle.cache_trait.specs.Homes.{IsMadeBy};
+    ghost use Rattle.desk.specs.DeskCalls.{DidAtDesk};
 
     ghost home = { λ desk. N.names.hosts };
 
-    ghost did = { λ old new deed. DidAtDesk N.names old new deed };
+    ghost did = { λ old new call. DidAtDesk N.names old new call };
 
     #[inline(always)]
     fn acquire(&mut self, site: u32, want: Want, now: u64) -> Result<Acquired<S>, Refusal> {

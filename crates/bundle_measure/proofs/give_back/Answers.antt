@@ -12,9 +12,9 @@ invariant_of-host c =
     let pass = c.give_back-back.new.pass in
     let done = c.give_back-back.ensures in
     record {
-      index = done.same.host ∙ c.host.invariant.index;
+      index = done.host.same.host ∙ c.host.invariant.index;
       there = search rules;
       part = search rules;
-      lists = subst (λ n. Lists n (is_queued new.settings new.log) c.give_back-back.new.lobby.0) c.host.invariant.index done.marked.lists;
-      enrolled = subst (λ n. IsEnrolledAt pass n new.tables.starts) (sym done.same.host) (subst (λ (t : Tables). IsEnrolledAt pass was.host t.starts) (sym done.same.tables) (done.seats _ _ c.host.invariant.enrolled));
+      lists = subst (λ n. Lists n (is_queued new.settings new.log) c.give_back-back.new.lobby.0) c.host.invariant.index done.lobby.marked.lists;
+      enrolled = subst (λ n. IsEnrolledAt pass n new.tables.starts) (sym done.host.same.host) (subst (λ (t : Tables). IsEnrolledAt pass was.host t.starts) (sym done.host.same.tables) (done.pass.seats _ _ c.host.invariant.enrolled));
     }

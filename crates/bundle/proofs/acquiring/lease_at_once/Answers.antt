@@ -1,4 +1,5 @@
-use Rattle.std.proofs.Common.{◌≡◌, length, sym, ap, subst, ◌∙◌}
+use Rattle.std.proofs.Common.{◌≡◌, length, sym, ap, subst, ◌∙◌, arith, rules}
+use Rattle.std.proofs.lemmas.Grind.{common_steps}
 use Rattle.bundle.specs.declared.answers.Got.TheVariants.{Lease}
 use Rattle.host_rules.specs.Calls.{Acquired}
 use Rattle.bundle.specs.Lease.{Leasing, Using}
@@ -9,27 +10,33 @@ use Rattle.bundle.proofs.Starting.{begins_lease}
 use Rattle.bundle.proofs.Asking.{leased_at_once}
 use Rattle.bundle.proofs.acquiring.lease_at_once.Goals as goal
 
-pub returns-clause-not_due : goal.returns-clause-not_due
-returns-clause-not_due g c =
+pub returns-clause-at_once : goal.returns-clause-at_once
+returns-clause-at_once g c =
     let state = c.args.state.now in
     let last = c.in-Some.ensures in
-    leased_at_once state.settings state.log c.args.want c.args.moment c.in-Some.number last.none_too_old last.some.newest
+    record {
+      nobody = grind (arith, common_steps);
+      free = search rules;
+      once = search rules;
+      number = search rules;
+      not_due = leased_at_once state.settings state.log c.args.want c.args.moment c.in-Some.number last.none_too_old last.some.newest;
+    }
 
 pub lease-seat-requires-clause-apart : goal.lease-seat-requires-clause-apart
 lease-seat-requires-clause-apart g c = apart c.args.state.now.log c.args.seats.now c.requires.seated c.in-Some.number c.args.want.transfer c.in-Some.ensures.free
 
-pub returns-clause-seated : goal.returns-clause-seated
-returns-clause-seated g c =
+pub returns-clause-seats : goal.returns-clause-seats
+returns-clause-seats g c =
     let before = c.args.state.now in
     let after = c.lease_last.new.self in
     let last = c.in-Some.ensures in
     let leased = last.some in
     let want = c.args.want in
     let begins = begins_lease before after c.in-Some.number c.args.moment want leased.log leased.as_many_open leased.fewer_idle in
-    seated_leased before.log after.log c.args.seats.now c.lease-seat.new.self c.in-Some.number want.transfer c.requires.seated last.free begins c.lease-seat.ensures.leased
-
-pub returns-clause-granted : goal.returns-clause-granted
-returns-clause-granted g c = leased_granted c.args.state.now.log c.args.seats.now c.lease-seat.new.self c.in-Some.number c.args.want.transfer c.requires.seated c.in-Some.ensures.free c.lease-seat.ensures.leased
+    record {
+      seated = seated_leased before.log after.log c.args.seats.now c.lease-seat.new.self c.in-Some.number want.transfer c.requires.seated last.free begins c.lease-seat.ensures.seats;
+      granted = leased_granted c.args.state.now.log c.args.seats.now c.lease-seat.new.self c.in-Some.number c.args.want.transfer c.requires.seated c.in-Some.ensures.free c.lease-seat.ensures.seats;
+    }
 
 pub returns-clause-due : goal.returns-clause-due
 returns-clause-due g c =

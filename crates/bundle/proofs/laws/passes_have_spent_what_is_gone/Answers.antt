@@ -4,5 +4,5 @@ use Rattle.bundle.proofs.laws.passes_have_spent_what_is_gone.Goals as goal
 pub returns-clause-each_call : goal.returns-clause-each_call
 returns-clause-each_call c = lent_one_spends
 
-pub returns-clause-part : goal.returns-clause-part
-returns-clause-part c = one_of_them
+pub returns-clause-part_of_starts : goal.returns-clause-part_of_starts
+returns-clause-part_of_starts c = one_of_them

@@ -6,14 +6,14 @@ use Rattle.bundle.proofs.limit.change_limit.Goals as goal
 pub returns-clause-freed : goal.returns-clause-freed
 returns-clause-freed g c =
     let changed = c.set_limit-closed.ensures in
-    let so_many = closed_above c.args.state.now.settings _ _ c.args.most c.args.now _ c.set_limit-closed.result c.log-log.ensures.sound c.requires.leased c.moment-moment.ensures changed.log changed.fewer_open in
-    freed_above _ _ _ c.args.most c.args.given c.set_limit-closed.result changed.fewer_open so_many c.requires.room (ap (λ (h : Held). h.alive) c.open_for_first.ensures.more_open)
+    let so_many = closed_above c.args.state.now.settings _ _ c.args.most c.args.now _ c.set_limit-closed.result c.log-log.ensures.sound c.requires.leased_fit c.moment-moment.ensures changed.log changed.fewer_open in
+    freed_above _ _ _ c.args.most c.args.given c.set_limit-closed.result changed.fewer_open so_many (omega (arith, c.requires.within_due)) (ap (λ (h : Held). h.alive) c.open_for_first.ensures.more_open)
 
 pub returns-clause-none_closed : goal.returns-clause-none_closed
 returns-clause-none_closed g c less =
     let changed = c.set_limit-closed.ensures in
-    let so_many = closed_above c.args.state.now.settings _ _ c.args.most c.args.now _ c.set_limit-closed.result c.log-log.ensures.sound c.requires.leased c.moment-moment.ensures changed.log changed.fewer_open in
-    c.release_closed.ensures.none (omega (arith, so_many, less))
+    let so_many = closed_above c.args.state.now.settings _ _ c.args.most c.args.now _ c.set_limit-closed.result c.log-log.ensures.sound c.requires.leased_fit c.moment-moment.ensures changed.log changed.fewer_open in
+    c.release_closed.ensures.none_released (omega (arith, so_many, less))
 
 pub returns-clause-streams : goal.returns-clause-streams
 returns-clause-streams g c =

@@ -9,7 +9,7 @@ loop-left-preserved g c =
     let more : 0 < c.loop-left.left = omega (arith, c.loop-left-test.true) in
     record {
       most = omega (arith, kept.most);
-      alive = omega (arith, kept.alive, c.requires.held, more, ap (λ (h : Held). h.alive) one.held);
+      alive = omega (arith, kept.alive, c.requires.open, more, ap (λ (h : Held). h.alive) one.held);
       kept = omega (arith, kept.kept, ap (λ (h : Held). h.kept) one.held);
       none = λ all. absurd (omega (arith, all, more, kept.most));
       stands = one.stands;

@@ -1,4 +1,4 @@
-use Rattle.std.proofs.Common.{◌≡◌, length, sym, ap, subst, ◌∙◌, arith}
+use Rattle.std.proofs.Common.{◌≡◌, length, sym, ap, subst, ◌∙◌, arith, rules}
 use Rattle.conn_log.specs.declared.entry.Event.TheVariants.{Closed}
 use Rattle.conn_log.specs.Waiting.{waiting}
 use Rattle.conn_log.specs.Fit.{oldest}
@@ -20,22 +20,27 @@ grant-requires-clause-apart g c =
     let first = c.in-Some.ensures.some in
     let before = c.args.state.now in
     let free = head_free before.settings before.log c.in-Some.head first.others c.log-log.ensures.sound first.first in
-    apart before.log c.args.seats.now c.requires.seated c.in-Some-lease_newest_fit.number c.in-Some.head.transfer free
+    apart before.log c.args.seats.now c.requires.inside.seated c.in-Some-lease_newest_fit.number c.in-Some.head.transfer free
 
 pub grant-requires-clause-few : goal.grant-requires-clause-few
 grant-requires-clause-few g c =
     let more = ap start_count c.in-Some-lease_newest_fit.ensures.some.log in
     let entries = c.total_len-entries.ensures ∙ ap length c.log.ensures.entries in
-    start_fits c.args.state.now.log c.lease_newest_fit.new.self.log c.args.seats.now c.requires.seated more c.total_len-entries.result entries c.total_len-entries.type_inv
+    start_fits c.args.state.now.log c.lease_newest_fit.new.self.log c.args.seats.now c.requires.inside.seated more c.total_len-entries.result entries c.total_len-entries.type_inv
 
-pub returns-in-Some-lease_newest_fit-clause-starts : goal.returns-in-Some-lease_newest_fit-clause-starts
-returns-in-Some-lease_newest_fit-clause-starts g c = record {
-  tables = ap (λ (h : SeatsShown). h.tables) c.grant.ensures;
-  ended = granted_ended c.args.seats.now c.grant.new.self c.in-Some-lease_newest_fit.number c.in-Some.head.transfer c.grant.ensures;
-}
+pub returns-in-Some-lease_newest_fit-clause-only : goal.returns-in-Some-lease_newest_fit-clause-only
+returns-in-Some-lease_newest_fit-clause-only g c =
+    record {
+      starts = record {
+        tables = ap (λ (h : SeatsShown). h.tables) c.grant.ensures;
+        ended = granted_ended c.args.seats.now c.grant.new.self c.in-Some-lease_newest_fit.number c.in-Some.head.transfer c.grant.ensures;
+      };
+      booked = search rules;
+      same = search rules;
+    }
 
-pub returns-in-Some-lease_newest_fit-clause-seated : goal.returns-in-Some-lease_newest_fit-clause-seated
-returns-in-Some-lease_newest_fit-clause-seated g c =
+pub returns-in-Some-lease_newest_fit-clause-inside : goal.returns-in-Some-lease_newest_fit-clause-inside
+returns-in-Some-lease_newest_fit-clause-inside g c =
     let first = c.in-Some.ensures.some in
     let before = c.args.state.now in
     let after = c.lease_newest_fit.new.self in
@@ -44,21 +49,14 @@ returns-in-Some-lease_newest_fit-clause-seated g c =
     let leased = c.in-Some-lease_newest_fit.ensures.some in
     let free = head_free before.settings before.log head first.others c.log-log.ensures.sound first.first in
     let begins = begins_lease before after number c.args.moment head leased.log leased.as_many_open leased.fewer_idle in
-    seated_granted before.log after.log c.args.seats.now c.grant.new.self number head.transfer c.requires.seated free begins c.grant.ensures
-
-pub returns-in-Some-lease_newest_fit-clause-unclaimed : goal.returns-in-Some-lease_newest_fit-clause-unclaimed
-returns-in-Some-lease_newest_fit-clause-unclaimed g c = unclaimed_pushed c.args.grants.now.items c.push_reserved.new.self.items _ c.args.seats.now c.grant.new.self c.requires.unclaimed c.grant.ensures c.push_reserved.ensures.items
-
-pub returns-in-Some-lease_newest_fit-clause-spare :
-    goal.returns-in-Some-lease_newest_fit-clause-spare
-returns-in-Some-lease_newest_fit-clause-spare g c =
-    let first = c.in-Some.ensures.some in
-    let before = c.args.state.now in
-    let leased = c.in-Some-lease_newest_fit.ensures.some in
     let fewer = fewer_after_head c.in-Some.head first.others (waiting before.log) first.first in
     let left = ap (λ log. length (waiting log)) leased.log in
     let booked = leased.booked ∙ ap (λ wants. booked_after_start wants before.booked) first.first in
-    omega (arith, c.requires.spare, fewer, left, booked, c.push_reserved.ensures.len, c.push_reserved.ensures.capacity)
+    record {
+      seated = seated_granted before.log after.log c.args.seats.now c.grant.new.self number head.transfer c.requires.inside.seated free begins c.grant.ensures;
+      unclaimed = unclaimed_pushed c.args.grants.now.items c.push_reserved.new.self.items _ c.args.seats.now c.grant.new.self c.requires.inside.unclaimed c.grant.ensures c.push_reserved.ensures.items;
+      spare = omega (arith, c.requires.inside.spare, fewer, left, booked, c.push_reserved.ensures.len, c.push_reserved.ensures.capacity);
+    }
 
 pub returns-clause-log : goal.returns-clause-log
 returns-clause-log g c =

@@ -23,7 +23,7 @@ loop-opened-preserved g c =
     let grants = head.grants ∙ ap (λ s. with_new s m before (waiting before) c.loop-opened.grants.items) kept.same.settings in
     let starts = head_starts settings m before after kept.once some log in
     let more_open = head.more_open (someone_waits (waiting before) some) in
-    let same = head.same.settings ∙ kept.same.settings in
+    let same = head.only.same.settings ∙ kept.same.settings in
     record {
       within = omega (arith, more);
       log_left = log_left settings m opened count more before after log ∙ kept.log_left;
@@ -34,11 +34,11 @@ loop-opened-preserved g c =
       more_open = omega (arith, kept.more_open, ap (λ (h : Held). h.alive) more_open);
       as_many_idle = ap (λ (h : Held). h.kept) more_open ∙ kept.as_many_idle;
       limit = ap (λ s. limit_in_force s after) same ∙ starts.limit ∙ sym (ap (λ s. limit_in_force s before) kept.same.settings) ∙ kept.limit;
-      seated = head.seated;
-      unclaimed = head.unclaimed;
-      starts = record { tables = head.starts.tables ∙ kept.starts.tables; ended = head.starts.ended ∙ kept.starts.ended };
-      spare = head.spare;
+      seated = head.inside.seated;
+      unclaimed = head.inside.unclaimed;
+      starts = record { tables = head.only.starts.tables ∙ kept.starts.tables; ended = head.only.starts.ended ∙ kept.starts.ended };
+      spare = head.inside.spare;
       streams = head.streams ∙ kept.streams;
-      booked = head.booked ∙ kept.booked;
-      same = record { settings = same; host = head.same.host ∙ kept.same.host; cut_away = head.same.cut_away ∙ kept.same.cut_away };
+      booked = head.only.booked ∙ kept.booked;
+      same = record { settings = same; host = head.only.same.host ∙ kept.same.host; cut_away = head.only.same.cut_away ∙ kept.same.cut_away };
     }

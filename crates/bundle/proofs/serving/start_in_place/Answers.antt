@@ -5,10 +5,10 @@ use Rattle.bundle.proofs.Starting.{begins_open, same_closed_many}
 use Rattle.bundle.proofs.serving.start_in_place.Goals as goal
 
 pub lease-seat-requires-clause-apart : goal.lease-seat-requires-clause-apart
-lease-seat-requires-clause-apart g c = apart c.args.state.now.log c.args.seats.now c.requires.seated c.open-number.result c.args.want.transfer c.requires.free
+lease-seat-requires-clause-apart g c = apart c.args.state.now.log c.args.seats.now c.requires.seated c.open-number.result c.args.want.transfer c.requires.may.free
 
-pub returns-clause-seated : goal.returns-clause-seated
-returns-clause-seated g c =
+pub returns-clause-seats : goal.returns-clause-seats
+returns-clause-seats g c =
     let before = c.args.state.now in
     let between = c.close_oldest.new.self in
     let after = c.open-number.new.self in
@@ -16,12 +16,12 @@ returns-clause-seated g c =
     let opened = c.open-number.ensures in
     let want = c.args.want in
     let seated = seated_same before.log between.log c.args.seats.now c.requires.seated (same_closed_many c.args.moment 1 before between closed.closes closed.fewer_open closed.fewer_idle) in
-    let free = closed.closes.holders want.transfer ∙ c.requires.free in
+    let free = closed.closes.holders want.transfer ∙ c.requires.may.free in
     let begins = begins_open between after c.open-number.result c.args.moment want opened.log opened.more_open opened.as_many_idle in
-    seated_leased between.log after.log c.args.seats.now c.lease-seat.new.self c.open-number.result want.transfer seated free begins c.lease-seat.ensures.leased
-
-pub returns-clause-granted : goal.returns-clause-granted
-returns-clause-granted g c = leased_granted c.args.state.now.log c.args.seats.now c.lease-seat.new.self c.open-number.result c.args.want.transfer c.requires.seated c.requires.free c.lease-seat.ensures.leased
+    record {
+      seated = seated_leased between.log after.log c.args.seats.now c.lease-seat.new.self c.open-number.result want.transfer seated free begins c.lease-seat.ensures.seats;
+      granted = leased_granted c.args.state.now.log c.args.seats.now c.lease-seat.new.self c.open-number.result c.args.want.transfer c.requires.seated c.requires.may.free c.lease-seat.ensures.seats;
+    }
 
 pub returns-clause-streams : goal.returns-clause-streams
 returns-clause-streams g c =

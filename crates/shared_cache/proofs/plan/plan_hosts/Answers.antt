@@ -15,7 +15,7 @@ loop-host-preserved g c =
     let link = c.args.link.now in
     let under : HostUnder g.row.S.Denot = record { host = c.in_ok-bundle.bundle; seat = c.split-seat.result; mark = c.seat_host-mark.result } in
     let new : IsNewAt budget link at.host under = record {
-      host = subst (λ (m : ℕ). IsNewHost m at.host 1 c.in_ok-bundle.bundle) c.requires.most c.in_ok-bundle.ensures.ok;
+      host = subst (λ (m : ℕ). IsNewHost m at.host 1 c.in_ok-bundle.bundle) c.requires.most c.in_ok-bundle.ensures.new_host;
       seat_table = c.split-seat.ensures.new.0 ∙ so_far.words;
       seat = c.split-seat.ensures.new.1;
       mark = c.seat_host-mark.ensures.host ∙ ap (λ (t : TableId). mark_at t at.listed.seats false) so_far.marks ∙ ap (λ (n : ℕ). mark_at link n false) so_far.seats;

@@ -1,4 +1,4 @@
-use Rattle.std.proofs.Common.{◌≡◌, ℕ, false, length, refl, sym, ap, subst, ◌∙◌, arith}
+use Rattle.std.proofs.Common.{◌≡◌, ℕ, false, length, refl, sym, ap, subst, ◌∙◌, arith, rules}
 use Rattle.std.specs.Prelude.{◌==◌}
 use Rattle.conn_log.specs.declared.entry.Cause.TheVariants.{Dropped}
 use Rattle.conn_log.specs.Waiting.{waiting}
@@ -27,39 +27,34 @@ unwrap-held-requires g c =
     let pair_is = apart_pair c.args.lease _ _ c.take_apart-used.ensures.used n t c.number-connection.ensures c.transfer-transfer.ensures _ c.take_apart-used.ensures.pair in
     there_where _ _ c.held.ensures.none (held_here state.settings state.log inv.settled.sound.orderly t n (lease_held state.log c.self.inside.seats _ n t pair_is inv.seated c.take_back-start.ensures.leased))
 
-pub hand_on-requires-clause-seated : goal.hand_on-requires-clause-seated
-hand_on-requires-clause-seated g c =
-    let state = c.self.inside.state in
-    let t = c.transfer-transfer.result in
-    let n = c.number-connection.result in
-    let pair_is = apart_pair c.args.lease _ _ c.take_apart-used.ensures.used n t c.number-connection.ensures c.transfer-transfer.ensures _ c.take_apart-used.ensures.pair in
-    let ends = ends_closed state.log c.close_held.new.self.log t c.close_held.ensures.holders (ap start_count c.close_held.ensures.log) c.close_held.ensures.fewer_open c.close_held.ensures.as_many_idle in
-    seated_spent state.log c.self.inside.seats _ n t pair_is c.self.invariant.seated c.take_back-start.ensures.leased c.take_back-start.new.self c.spend.new.seats c.take_back-start.ensures.back c.spend.ensures.cleared _ ends
-
-pub hand_on-requires-clause-unclaimed : goal.hand_on-requires-clause-unclaimed
-hand_on-requires-clause-unclaimed g c =
-    let state = c.self.inside.state in
-    let inv = c.self.invariant in
-    let t = c.transfer-transfer.result in
-    let n = c.number-connection.result in
-    let pair_is = apart_pair c.args.lease _ _ c.take_apart-used.ensures.used n t c.number-connection.ensures c.transfer-transfer.ensures _ c.take_apart-used.ensures.pair in
-    unclaimed_spent state.log c.self.inside.seats _ n t pair_is inv.seated c.take_back-start.ensures.leased c.take_back-start.new.self c.spend.new.seats c.take_back-start.ensures.back c.spend.ensures.cleared c.self.inside.grants.items inv.unclaimed
-
-pub hand_on-requires-clause-room : goal.hand_on-requires-clause-room
-hand_on-requires-clause-room g c =
+pub hand_on-requires-clause-not_full : goal.hand_on-requires-clause-not_full
+hand_on-requires-clause-not_full g c =
     let state = c.self.inside.state in
     let inv = c.self.invariant in
     let held = c.unwrap-held.result in
     let it = known state.log c.transfer-transfer.result held (held_told state.log c.transfer-transfer.result _ _ c.unwrap-held.ensures c.held.ensures.some) in
     room_closed state.settings state.log c.self.inside.grants.items inv.settled inv.grants state.streams c.transfer-transfer.result held.number it.number c.args.now Dropped c.close_held.new.self.settings c.close_held.ensures.same.settings c.moment-moment.result c.close_held.new.self.log c.close_held.ensures.log
 
-pub hand_on-requires-clause-part : goal.hand_on-requires-clause-part
-hand_on-requires-clause-part g c =
-    c.requires.part ∙ ap (λ (v : HostShown g.row.S.Denot). held_by v.log) (sym c.self.view_is) ∙ part_fewer c.self.inside.state.log c.close_held.new.self.log c.close_held.ensures.fewer_open c.close_held.ensures.as_many_idle
+pub hand_on-requires-clause-permits : goal.hand_on-requires-clause-permits
+hand_on-requires-clause-permits g c =
+    record {
+      stands = search rules;
+      part = c.requires.permits.part ∙ ap (λ (v : HostShown g.row.S.Denot). held_by v.log) (sym c.self.view_is) ∙ part_fewer c.self.inside.state.log c.close_held.new.self.log c.close_held.ensures.fewer_open c.close_held.ensures.as_many_idle;
+    }
 
-pub hand_on-requires-clause-spare : goal.hand_on-requires-clause-spare
-hand_on-requires-clause-spare g c =
-    omega (arith, c.self.invariant.spare, ap (λ log. length (waiting log)) c.close_held.ensures.log, c.close_held.ensures.booked)
+pub hand_on-requires-clause-inside : goal.hand_on-requires-clause-inside
+hand_on-requires-clause-inside g c =
+    let state = c.self.inside.state in
+    let t = c.transfer-transfer.result in
+    let n = c.number-connection.result in
+    let pair_is = apart_pair c.args.lease _ _ c.take_apart-used.ensures.used n t c.number-connection.ensures c.transfer-transfer.ensures _ c.take_apart-used.ensures.pair in
+    let ends = ends_closed state.log c.close_held.new.self.log t c.close_held.ensures.holders (ap start_count c.close_held.ensures.log) c.close_held.ensures.fewer_open c.close_held.ensures.as_many_idle in
+    let inv = c.self.invariant in
+    record {
+      seated = seated_spent state.log c.self.inside.seats _ n t pair_is c.self.invariant.seated c.take_back-start.ensures.leased c.take_back-start.new.self c.spend.new.seats c.take_back-start.ensures.seats c.spend.ensures.cleared _ ends;
+      unclaimed = unclaimed_spent state.log c.self.inside.seats _ n t pair_is inv.seated c.take_back-start.ensures.leased c.take_back-start.new.self c.spend.new.seats c.take_back-start.ensures.seats c.spend.ensures.cleared c.self.inside.grants.items inv.unclaimed;
+      spare = omega (arith, c.self.invariant.spare, ap (λ log. length (waiting log)) c.close_held.ensures.log, c.close_held.ensures.booked);
+    }
 
 -- the host once the connection is closed, and its permit handed on
 handed_on : (g : Over) (c : goal.After-hand_on g) → Settled c.self.inside.state.settings c.self.inside.state.log c.self.inside.grants.items c.self.inside.state.streams c.transfer-transfer.result c.unwrap-held.result.number c.hand_on.new.state.log c.hand_on.new.grants.items c.hand_on.new.state.streams
@@ -78,32 +73,35 @@ invariant_of-self g c =
     let inv = c.self.invariant in
     let settled = handed_on g c in
     record {
-      count = c.hand_on.ensures.booked ∙ c.close_held.ensures.booked ∙ inv.count;
+      count = c.hand_on.ensures.only.booked ∙ c.close_held.ensures.booked ∙ inv.count;
       bookings = booked_freed _ _ _ _ _ inv.grants settled.freed c.self.inside.bookings.items inv.bookings;
-      settled = subst (λ settings. IsSoundAndQuiet settings c.hand_on.new.state.log) (sym (c.hand_on.ensures.same.settings ∙ c.close_held.ensures.same.settings)) settled.settled;
+      settled = subst (λ settings. IsSoundAndQuiet settings c.hand_on.new.state.log) (sym (c.hand_on.ensures.only.same.settings ∙ c.close_held.ensures.same.settings)) settled.settled;
       grants = settled.freed.kept;
-      spare = c.hand_on.ensures.spare;
-      seated = c.hand_on.ensures.seated;
-      unclaimed = c.hand_on.ensures.unclaimed;
+      spare = c.hand_on.ensures.inside.spare;
+      seated = c.hand_on.ensures.inside.seated;
+      unclaimed = c.hand_on.ensures.inside.unclaimed;
     }
 
-pub returns-clause-streams : goal.returns-clause-streams
-returns-clause-streams g c d other still =
+pub returns-clause-closed : goal.returns-clause-closed
+returns-clause-closed g c =
     let held = c.unwrap-held.result in
     let n = c.number-connection.result in
     let settled = handed_on g c in
-    let apart : (held.number == d) ≡ false = ap (λ (n : ℕ). n == d) (number_told _ _ _ c.unwrap-held.ensures c.held.ensures.number ∙ apart_number c.args.lease _ _ c.take_apart-used.ensures.used _ _ c.number-connection.ensures c.transfer-transfer.ensures) ∙ other in
-    settled.others d apart still ∙ ap (λ (v : HostShown g.row.S.Denot). stream_of v.streams d) c.self.view_is
+    record {
+      known = search rules;
+      log = search rules;
+      streams = λ d other still. let apart : (held.number == d) ≡ false = ap (λ (n : ℕ). n == d) (number_told _ _ _ c.unwrap-held.ensures c.held.ensures.number ∙ apart_number c.args.lease _ _ c.take_apart-used.ensures.used _ _ c.number-connection.ensures c.transfer-transfer.ensures) ∙ other in settled.others d apart still ∙ ap (λ (v : HostShown g.row.S.Denot). stream_of v.streams d) c.self.view_is;
+      spends = spends_at _ _ _ _ _ c.self.view_is (apart_transfer c.args.lease _ _ c.take_apart-used.ensures.used _ _ c.number-connection.ensures c.transfer-transfer.ensures) (freed_spends _ _ _ _ _ _ _ _ _ _ _ _ _ _ _ _ _ settled.freed);
+    }
 
-pub returns-clause-spends : goal.returns-clause-spends
-returns-clause-spends g c =
+pub returns-clause-host : goal.returns-clause-host
+returns-clause-host g c =
     let settled = handed_on g c in
-    spends_at _ _ _ _ _ c.self.view_is (apart_transfer c.args.lease _ _ c.take_apart-used.ensures.used _ _ c.number-connection.ensures c.transfer-transfer.ensures) (freed_spends _ _ _ _ _ _ _ _ _ _ _ _ _ _ _ _ _ settled.freed)
-
-pub returns-clause-grew : goal.returns-clause-grew
-returns-clause-grew g c =
-    let settled = handed_on g c in
-    grows_from _ _ _ (ap (λ (v : HostShown g.row.S.Denot). v.log) c.self.view_is) settled.grew
+    record {
+      same = search rules;
+      booked = search rules;
+      grew = grows_from _ _ _ (ap (λ (v : HostShown g.row.S.Denot). v.log) c.self.view_is) settled.grew;
+    }
 
 pub returns-clause-freed : goal.returns-clause-freed
 returns-clause-freed g c =
@@ -117,16 +115,19 @@ pub returns-clause-mark : goal.returns-clause-mark
 returns-clause-mark g c =
     let state = c.self.inside.state in
     let settled = handed_on g c in
-    unmarked_from state.settings c.args.self.now.settings c.hand_on.new.state.settings state.log c.args.self.now.log c.hand_on.new.state.log (c.hand_on.ensures.same.settings ∙ c.close_held.ensures.same.settings) (ap (λ (v : HostShown g.row.S.Denot). v.settings) c.self.view_is) (ap (λ (v : HostShown g.row.S.Denot). v.log) c.self.view_is) settled.mark
+    unmarked_from state.settings c.args.self.now.settings c.hand_on.new.state.settings state.log c.args.self.now.log c.hand_on.new.state.log (c.hand_on.ensures.only.same.settings ∙ c.close_held.ensures.same.settings) (ap (λ (v : HostShown g.row.S.Denot). v.settings) c.self.view_is) (ap (λ (v : HostShown g.row.S.Denot). v.log) c.self.view_is) settled.mark
 
-pub returns-clause-account : goal.returns-clause-account
-returns-clause-account g c =
+pub returns-clause-pass : goal.returns-clause-pass
+returns-clause-pass g c =
     let state = c.self.inside.state in
     let t = c.transfer-transfer.result in
     let n = c.number-connection.result in
     let pair_is = apart_pair c.args.lease _ _ c.take_apart-used.ensures.used n t c.number-connection.ensures c.transfer-transfer.ensures _ c.take_apart-used.ensures.pair in
-    let more = gone_spent state.log c.self.inside.seats _ n t pair_is c.self.invariant.seated c.take_back-start.ensures.leased c.take_back-start.new.self c.spend.new.seats c.take_back-start.ensures.back c.spend.ensures.cleared c.hand_on.new.state.log c.hand_on.new.seats c.hand_on.ensures.seated c.hand_on.ensures.starts.ended in
-    accounts_spent c.args.self.now state.log c.hand_on.new.state.log (ap (λ (v : HostShown g.row.S.Denot). v.log) c.self.view_is) more c.args.pass.now _ _ (c.host-host.ensures ∙ ap (λ (v : HostShown g.row.S.Denot). v.host) c.self.view_is) _ _ c.requires.enrolled c.spend.ensures.spent
+    let more = gone_spent state.log c.self.inside.seats _ n t pair_is c.self.invariant.seated c.take_back-start.ensures.leased c.take_back-start.new.self c.spend.new.seats c.take_back-start.ensures.seats c.spend.ensures.cleared c.hand_on.new.state.log c.hand_on.new.seats c.hand_on.ensures.inside.seated c.hand_on.ensures.only.starts.ended in
+    record {
+      seats = search rules;
+      account = accounts_spent c.args.self.now state.log c.hand_on.new.state.log (ap (λ (v : HostShown g.row.S.Denot). v.log) c.self.view_is) more c.args.pass.now _ _ (c.host-host.ensures ∙ ap (λ (v : HostShown g.row.S.Denot). v.host) c.self.view_is) _ _ c.requires.enrolled c.spend.ensures.spent;
+    }
 
 pub returns-clause-settled : goal.returns-clause-settled
 returns-clause-settled g c = (invariant_of-self g c).settled

@@ -27,4 +27,4 @@ pub returns-clause-enrolled : goal.returns-clause-enrolled
 returns-clause-enrolled g c =
     let host = c.host.ensures ∙ ap (λ (v : HostShown g.row.S.Denot). v.host) c.self.view_is in
     let table = ap (λ (v : HostShown g.row.S.Denot). v.tables.starts) c.self.view_is in
-    enrolled_then c.args.pass.now c.enrol.new.self c.args.self.now.host c.host.result c.args.self.now.tables.starts c.self.inside.seats.tables.starts c.seat_pass.result host table c.requires.there c.seat_pass.ensures.seat c.enrol.ensures.account
+    enrolled_then c.args.pass.now c.enrol.new.self c.args.self.now.host c.host.result c.args.self.now.tables.starts c.self.inside.seats.tables.starts c.seat_pass.result host table c.requires.there c.seat_pass.ensures.pass_seat c.enrol.ensures.account

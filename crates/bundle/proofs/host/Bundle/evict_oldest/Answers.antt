@@ -1,4 +1,4 @@
-use Rattle.std.proofs.Common.{refl, ap, length, ◌∙◌, arith}
+use Rattle.std.proofs.Common.{refl, ap, length, ◌∙◌, arith, rules}
 use Rattle.conn_log.specs.declared.entry.Want.{Want}
 use Rattle.std.specs.Prelude.{List}
 use Rattle.host_state.specs.Idle.{stream_of}
@@ -25,32 +25,28 @@ invariant_of-self g c =
       unclaimed = inv.unclaimed;
     }
 
-pub returns-clause-streams : goal.returns-clause-streams
-returns-clause-streams g c d still =
-    behind_same _ _ _ d (c.close_oldest.ensures.closes.streams d still)
-    ∙ ap (λ (v : HostShown g.row.S.Denot). stream_of v.streams d) c.self.view_is
-
-pub returns-clause-keeps : goal.returns-clause-keeps
-returns-clause-keeps g c =
+pub returns-clause-host : goal.returns-clause-host
+returns-clause-host g c =
     let inv = c.self.invariant in
     let closed = c.close_oldest.ensures in
     let closes = closed.closes in
     let after = evict_keeps _ _ _ _ _ _ c.args.now _ inv.settled inv.grants inv.bookings closes.same.settings c.moment-moment.ensures closes.holders closes.waiting closed.number c.spend-cause.result closed.oldest (of_idle_for_others c.spend-cause.result c.spend-cause.ensures.makes_room) closed.log in
-    keeps_at _ _ _ c.self.view_is (grants_keep _ _ _ _ _ _ _ _ _ _ _ _ _ _ _ _ after.same)
-
-pub returns-clause-grew : goal.returns-clause-grew
-returns-clause-grew g c =
-    let inv = c.self.invariant in
-    let closed = c.close_oldest.ensures in
-    let closes = closed.closes in
-    let after = evict_keeps _ _ _ _ _ _ c.args.now _ inv.settled inv.grants inv.bookings closes.same.settings c.moment-moment.ensures closes.holders closes.waiting closed.number c.spend-cause.result closed.oldest (of_idle_for_others c.spend-cause.result c.spend-cause.ensures.makes_room) closed.log in
-    grows_at _ _ _ (ap (λ (v : HostShown g.row.S.Denot). v.log) c.self.view_is) after.grew
+    record {
+      stays = record {
+        same = search rules;
+        booked = search rules;
+        grew = grows_at _ _ _ (ap (λ (v : HostShown g.row.S.Denot). v.log) c.self.view_is) after.grew;
+      };
+      keeps = keeps_at _ _ _ c.self.view_is (grants_keep _ _ _ _ _ _ _ _ _ _ _ _ _ _ _ _ after.same);
+      streams = λ d still. behind_same _ _ _ d (c.close_oldest.ensures.closes.streams d still)
+          ∙ ap (λ (v : HostShown g.row.S.Denot). stream_of v.streams d) c.self.view_is;
+    }
 
 pub close_oldest-requires-clause-cause : goal.close_oldest-requires-clause-cause
 close_oldest-requires-clause-cause g c = of_idle_for_others c.spend-cause.result c.spend-cause.ensures.makes_room
 
-pub returns-clause-gone : goal.returns-clause-gone
-returns-clause-gone g c =
+pub returns-clause-same_gone : goal.returns-clause-same_gone
+returns-clause-same_gone g c =
     let inv = c.self.invariant in
     let closed = c.close_oldest.ensures in
     let closes = closed.closes in

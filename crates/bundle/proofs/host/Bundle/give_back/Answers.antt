@@ -1,5 +1,9 @@
 use Rattle.bundle.proofs.Settling.{marked_as}
 use Rattle.bundle.proofs.host.Bundle.give_back.Goals as goal
 
-pub returns-in-Some-clause-marked : goal.returns-in-Some-clause-marked
-returns-in-Some-clause-marked g c = rw c.in-Some.is (marked_as _ _ _ _ _ _ _ c.take_back-back.ensures.same.host c.queued-was_queued.ensures c.mark.ensures)
+pub returns-in-Some-clause-lobby : goal.returns-in-Some-clause-lobby
+returns-in-Some-clause-lobby g c =
+    record {
+      marked = rw c.in-Some.is (marked_as _ _ _ _ _ _ _ c.take_back-back.ensures.host.same.host c.queued-was_queued.ensures c.mark.ensures);
+      mark = c.take_back-back.ensures.mark;
+    }

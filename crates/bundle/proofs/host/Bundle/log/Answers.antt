@@ -9,8 +9,8 @@ use Rattle.bundle.proofs.Streams.{some_behind, granted_streams, granted_starts}
 use Rattle.bundle.proofs.Seating.{held_of_started}
 use Rattle.bundle.proofs.host.Bundle.log.Goals as goal
 
-pub returns-clause-streams : goal.returns-clause-streams
-returns-clause-streams g c d =
+pub returns-clause-has_streams : goal.returns-clause-has_streams
+returns-clause-has_streams g c d =
     let state = c.self.inside.state in
     let grants = c.self.inside.grants.items in
     rw (← c.self.view_is) (
@@ -27,5 +27,5 @@ returns-clause-streams g c d =
 pub returns-clause-unclaimed : goal.returns-clause-unclaimed
 returns-clause-unclaimed g c = subst (λ (v : HostShown g.row.S.Denot). UnclaimedAreStarts v) c.self.view_is (granted_starts c.self.inside.state.log c.self.inside.grants.items c.self.invariant.grants)
 
-pub returns-clause-starts : goal.returns-clause-starts
-returns-clause-starts g c = subst (λ (v : HostShown g.row.S.Denot). leased_len v.log ≤ start_count v.log) c.self.view_is (held_of_started c.self.inside.state.log c.self.inside.seats c.self.invariant.seated)
+pub returns-clause-enough_starts : goal.returns-clause-enough_starts
+returns-clause-enough_starts g c = subst (λ (v : HostShown g.row.S.Denot). leased_len v.log ≤ start_count v.log) c.self.view_is (held_of_started c.self.inside.state.log c.self.inside.seats c.self.invariant.seated)

@@ -21,6 +21,6 @@ invariant_of-result g c =
       settled = subst (λ (v : HostState g.row.S.Denot). IsSoundAndQuiet v.settings v.log) (sym is) (nobody_after settings [] (sound_empty settings) refl);
       grants = rw c.new-2.ensures.items tt;
       spare = omega (arith, ap (λ (v : HostState g.row.S.Denot). length (waiting v.log)) is, ap (λ (v : HostState g.row.S.Denot). v.booked) is, c.new-2.ensures.len);
-      seated = subst (λ (v : HostState g.row.S.Denot). IsSeated v.log c.in_ok-new.field-0) (sym is) (seated_new c.in_ok-new.field-0 c.in_ok-new.ensures.ok);
-      unclaimed = subst (λ (grants : List (Grant g.row.S.Denot)). AreUnclaimed (grant_starts grants) c.in_ok-new.field-0) (sym c.new-2.ensures.items) (unclaimed_new c.in_ok-new.field-0 c.in_ok-new.ensures.ok);
+      seated = subst (λ (v : HostState g.row.S.Denot). IsSeated v.log c.in_ok-new.field-0) (sym is) (seated_new c.in_ok-new.field-0 c.in_ok-new.ensures.counts_none);
+      unclaimed = subst (λ (grants : List (Grant g.row.S.Denot)). AreUnclaimed (grant_starts grants) c.in_ok-new.field-0) (sym c.new-2.ensures.items) (unclaimed_new c.in_ok-new.field-0 c.in_ok-new.ensures.counts_none);
     }

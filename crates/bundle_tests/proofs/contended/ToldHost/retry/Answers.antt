@@ -6,7 +6,7 @@ pub invariant_of-self : goal.invariant_of-self
 invariant_of-self g c =
     let call = c.retry.ensures in
     record {
-      part = call.part;
-      lists = rw call.same.host (rw (call.mark refl) c.self.invariant.lists);
-      enrolled = still_enrolled c.self.inside.bundle c.retry.new.self c.self.inside.pass c.retry.new.pass call.same call.seats c.self.invariant.enrolled;
+      part = call.permits.part;
+      lists = rw call.same_host.host (rw (call.mark refl) c.self.invariant.lists);
+      enrolled = still_enrolled c.self.inside.bundle c.retry.new.self c.self.inside.pass c.retry.new.pass call.same_host call.pass.seats c.self.invariant.enrolled;
     }

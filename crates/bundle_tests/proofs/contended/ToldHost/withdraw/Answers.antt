@@ -5,7 +5,7 @@ pub invariant_of-self : goal.invariant_of-self
 invariant_of-self g c =
     let call = c.withdraw.ensures in
     record {
-      part = call.part;
-      lists = rw call.same.host call.marked.lists;
-      enrolled = still_enrolled c.self.inside.bundle c.withdraw.new.self c.self.inside.pass c.withdraw.new.pass call.same call.seats c.self.invariant.enrolled;
+      part = call.permits.part;
+      lists = rw call.host.same.host call.lobby.marked.lists;
+      enrolled = still_enrolled c.self.inside.bundle c.withdraw.new.self c.self.inside.pass c.withdraw.new.pass call.host.same call.pass.seats c.self.invariant.enrolled;
     }

@@ -5,4 +5,4 @@ pub invariant_of-self : goal.invariant_of-self
 invariant_of-self g c =
     let desk = c.self.inside in
     let call = c.retry.ensures in
-    after_marked desk.bundle c.retry.new.self desk.other _ _ _ _ _ _ _ _ _ _ c.self.invariant c.host.ensures c.at-permits.ensures.budget c.at-permits.ensures.host call.stays.1 call.stays.2 call.part call.same call.marked call.seats
+    after_marked desk.bundle c.retry.new.self desk.other _ _ _ _ _ _ _ _ _ _ c.self.invariant c.host.ensures c.at-permits.ensures.budget c.at-permits.ensures.host call.permits.stays.1 call.permits.stays.2 call.permits.part call.same_host call.lobby call.pass.seats

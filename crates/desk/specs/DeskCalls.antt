@@ -1,4 +1,4 @@
--- What a desk does at each deed of a cache: what its pass is told, and what went back. Other threads use the cache too, so
+-- What a desk does at each call of a cache: what its pass is told, and what went back. Other threads use the cache too, so
 -- that nothing of it can be known from one time to another.
 use Rattle.std.specs.Prelude.{◌≡◌, ℕ, ◌<◌, ◌≤◌, ◌⊎◌, length, Option, Some}
 use Rattle.conn_log.specs.declared.entry.Cause.TheVariants.{Dropped}
@@ -9,8 +9,8 @@ use Rattle.host_rules.specs.Calls.{start_entry, wait_entry}
 use Rattle.bundle.specs.Passes.{Accounts, tells, refusal_did}
 use Rattle.bundle.specs.declared.did.Did.{Did}
 use Rattle.bundle.specs.declared.did.Did.TheVariants.{Wrote, Claimed, Still, Stranger}
-use Rattle.leasing.specs.Deeds.{Deed}
-use Rattle.leasing.specs.Deeds.Deed.{leases, begins_wait, refuses, grants, keeps_waiting, gives_back, abandons, withdraws, finds_strange_lease, finds_strange_ticket}
+use Rattle.cache_trait.specs.CacheCalls.{CacheCall}
+use Rattle.cache_trait.specs.CacheCalls.CacheCall.{leases, begins_wait, refuses, grants, keeps_waiting, gives_back, abandons, withdraws, finds_strange_lease, finds_strange_ticket}
 use Rattle.shared_cache.specs.Calls.{IsAgainstAcquire}
 use Rattle.shared_cache.specs.Names.{CacheNames}
 use Rattle.shared_cache.specs.Passes.{SpendsAs, WithdrawsAs}
@@ -28,7 +28,7 @@ IsRefusalAt names site reason = ((length names.hosts ≤ site) × (reason ≡ Ba
 -- of a moment that is not before the one handed in; why an acquire was refused; that a ticket has its lease, or waits on;
 -- the return of a lease with the facts handed in; its closing, as dropped; the end of a wait; or that a ticket is a
 -- stranger. No lease is ever one.
-abbrev pub ToldOf : {S : Type 0} → CacheNames → Accounts → Accounts → Deed S → Type 0
+abbrev pub ToldOf : {S : Type 0} → CacheNames → Accounts → Accounts → CacheCall S → Type 0
 ToldOf names old new (leases lease now) = (now ≤ lease.start.moment) × TellsAt names lease.site (Wrote (start_entry lease.start)) old new
 ToldOf names old new (begins_wait ticket now) = (now ≤ ticket.wait.moment) × TellsAt names ticket.site (Wrote (wait_entry ticket.wait)) old new
 ToldOf names old new (refuses site want now reason) = IsRefusalAt names site reason × (new ≡ tells site (refusal_did want.transfer reason) old)
@@ -41,11 +41,11 @@ ToldOf names old new (finds_strange_lease lease) = ⊥
 ToldOf names old new (finds_strange_ticket ticket) = TellsAt names ticket.site (Stranger ticket.wait.want.transfer) old new
 
 -- the stream of the connection that went back last, once this was done too
-abbrev pub wire_after : {S : Type 0} → Deed S → Option S → Option S
+abbrev pub wire_after : {S : Type 0} → CacheCall S → Option S → Option S
 wire_after (gives_back lease facts now) wire = lease.stream
 wire_after _ wire = wire
 
 -- from the one time to the other a desk did this, and nothing else: its pass was told so, and what went back is seen
-pub record DidAtDesk {S : Type 0} (names : CacheNames) (old new : DeskShown S) (deed : Deed S) : Type 0 where
-  pub told : ToldOf names old.pass new.pass deed
-  pub wire : new.wire ≡ wire_after deed old.wire
+pub record DidAtDesk {S : Type 0} (names : CacheNames) (old new : DeskShown S) (call : CacheCall S) : Type 0 where
+  pub told : ToldOf names old.pass new.pass call
+  pub wire : new.wire ≡ wire_after call old.wire

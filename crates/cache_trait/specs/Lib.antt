@@ -1,0 +1,2 @@
+pub mod CacheCalls
+pub mod Homes

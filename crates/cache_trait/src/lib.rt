@@ -1,0 +1,6 @@
+//! What a cache of connections does for those who use it, whichever cache it is.
+#![tactic(auto)]
+
+mod cache;
+
+pub use cache::Cache;
