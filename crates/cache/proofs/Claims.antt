@@ -1,5 +1,5 @@
 -- Who was granted a connection and has yet to claim it has a ticket.
-use Rattle.std.proofs.Common.{◌≡◌, ℕ, ◌<◌, Bool, true, false, ◌||◌, List, [], ◌∷◌, length, slice_set, Option, Some, None, Result, Ok, Err, refl, sym, ap, subst, ◌∙◌, inl, inr}
+use Rattle.std.proofs.Common.{◌≡◌, ℕ, ◌<◌, Bool, true, false, ◌||◌, List, [], ◌∷◌, length, slice_set, Option, Some, None, refl, sym, ap, ◌∙◌, inl, inr}
 use Rattle.std.specs.Prelude.{if◌then◌else◌}
 use Rattle.std.specs.Option.{option_and_then}
 use Rattle.std.proofs.lemmas.Bool.Decides.{eqb_tells}
@@ -8,13 +8,10 @@ use Rattle.conn_log.specs.Waiting.{waiting}
 use Rattle.host_state.specs.Queue.{waiting_want}
 use Rattle.conn_log.specs.Sound.{IsSound}
 use Rattle.host_rules.specs.Calls.{Start}
-use Rattle.bundle.specs.declared.answers.Claimed.{Claimed}
-use Rattle.bundle.specs.declared.answers.Claimed.TheVariants.{Lease, Still}
-use Rattle.bundle.specs.Replies.{IfClaimed}
-use Rattle.bundle.specs.Lease.{HostShown, Leasing, WasGranted, UnclaimedAreStarts, KeepsAll, starters, start_for, is_unclaimed, ticket_want}
+use Rattle.bundle.specs.Lease.{HostShown, UnclaimedAreStarts, KeepsAll, starters, start_for, is_unclaimed, ticket_want}
 use Rattle.host_rules.specs.Grants.{granted_want}
 use Rattle.host_rules.proofs.Soundness.{held_want}
-use Rattle.cache.specs.Pools.{PoolShown, host_in, host_at, IsMadeHere}
+use Rattle.cache.specs.Pools.{PoolShown, host_in, host_at}
 use Rattle.cache.specs.Turns.{KeepsSpent}
 use Rattle.cache.proofs.OneHost.{host_changed, other_host}
 
@@ -63,20 +60,3 @@ module _ {S : Type 0} where
         ∙ ap (λ (h : HostShown S). is_unclaimed h t) (other_host before.hosts site host new other.1)
         ∙ unclaimed
   ]
-
-module _ {S E : Type 0} where
-  -- a lease that is claimed is of the host that granted it
-  pub claimed_there : (result : Result (Claimed S) E) (host : HostShown S) (transfer site : ℕ) → IfClaimed result (WasGranted host transfer) → host.host ≡ site → IfClaimed result (λ (lease : Leasing S). lease.site ≡ site)
-  claimed_there (Ok (Lease lease)) host transfer site granted place = granted.1 ∙ place
-  claimed_there (Ok (Still ticket)) host transfer site granted place = tt
-  claimed_there (Err stray) host transfer site granted place = tt
-
-  -- so it was made in its pool
-  pub claimed_here : (result : Result (Claimed S) E) (old new : PoolShown S) (site : ℕ) → site < length new.hosts → (host_at new site).tables ≡ (host_at old site).tables
-      → IfClaimed result (λ (lease : Leasing S). lease.site ≡ site) → IfClaimed result (λ (lease : Leasing S). lease.tables ≡ (host_at old site).tables) → IfClaimed result (IsMadeHere new)
-  claimed_here (Ok (Lease lease)) old new site there same place tables = record {
-    there = subst (λ (n : ℕ). n < length new.hosts) (sym place) there;
-    tables = tables ∙ sym same ∙ ap (λ (n : ℕ). (host_at new n).tables) (sym place);
-  }
-  claimed_here (Ok (Still ticket)) old new site there same place tables = tt
-  claimed_here (Err stray) old new site there same place tables = tt

@@ -1,7 +1,6 @@
 -- The oldest of all is closed at the host that its stamp names.
-use Rattle.std.proofs.Common.{◌≡◌, ℕ, ◌<◌, Bool, true, false, List, length, slice_set, slice_index_or, Option, Some, refl, sym, ap, subst, ◌∙◌, inl, inr}
+use Rattle.std.proofs.Common.{◌≡◌, ℕ, ◌<◌, Bool, true, false, List, length, slice_set, slice_index_or, Option, Some, refl, sym, ap, subst, ◌∙◌}
 use Rattle.std.proofs.lemmas.List.{length-map}
-use Rattle.std.proofs.lemmas.Bool.Decides.{eqb_tells}
 use Rattle.budget.specs.Limits.{Bounds}
 use Rattle.conn_log.specs.declared.stamp.Stamp.{Stamp}
 use Rattle.conn_log.specs.declared.entry.Cause.{Cause}
@@ -16,10 +15,10 @@ use Rattle.bundle.specs.Lease.{HostShown}
 use Rattle.host_rules.proofs.Counts.{evict_closes}
 use Rattle.bundle.proofs.TurnLogs.{of_idle_for_others}
 use Rattle.pool_rules.specs.AllHosts.{AllHosts, log_at, with_log, closed_of, without_oldest, oldest_of_all}
-use Rattle.cache.specs.Pools.{PoolShown, host_in, host_at, all_hosts, KeepsHost, KeepsHosts, KeepsOtherHosts}
+use Rattle.cache.specs.Pools.{PoolShown, host_in, all_hosts}
 use Rattle.cache.specs.Turns.{IsOneFewer}
 use Rattle.pool_rules.proofs.OldestOfAll.{oldest_is}
-use Rattle.cache.proofs.OneHost.{log_is, logs_changed, host_changed, read_is}
+use Rattle.cache.proofs.OneHost.{log_is, logs_changed, read_is}
 use Rattle.cache.proofs.HostSums.{one_fewer}
 
 -- what cannot fail is done
@@ -80,13 +79,3 @@ module _ {S : Type 0} where
         let there : stamp.host < length (all_hosts before).logs = subst (λ (n : ℕ). stamp.host < n) (sym (length-map hosts (λ (h : HostShown S). h.log))) found.there in
         subst (IsOneFewer (all_hosts before)) (sym all_changed)
         (one_fewer stamp.host new.log (all_hosts before) was.settings there (subst (λ (l : List Entry). Closes 1 was.settings l new.log) was_is closes))
-
-  -- all hosts are kept where the one that changes is
-  pub all_keep : (before after : PoolShown S) (site : ℕ) (new : HostShown S) → site < length before.hosts → after.hosts ≡ slice_set before.hosts site new
-      → KeepsOtherHosts site before after → KeepsHost (host_at before site) new → KeepsHosts before after
-  all_keep before after site new there changed others keeps host lt = elim (eqb_tells host site) [
-    | inl same ↦
-        let new_is : new ≡ host_at after host = sym (host_changed before.hosts site new there) ∙ ap (λ (hosts : List (HostShown S)). host_in hosts site) (sym changed) ∙ ap (host_at after) (sym same.1) in
-        subst (KeepsHost (host_at before host)) new_is (subst (λ (h : ℕ). KeepsHost (host_at before h) new) (sym same.1) keeps)
-    | inr other ↦ others host lt other.1
-  ]

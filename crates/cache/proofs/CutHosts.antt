@@ -1,18 +1,22 @@
 -- What becomes of all that a pool keeps where the log of one host is cut.
 use Rattle.std.proofs.Common.{◌≡◌, ℕ, ◌<◌, ◌≤◌, List, length, slice_set, slice_index_or, Option, Result, Ok, Err, sym, ap, subst, ◌∙◌, inl, inr}
-use Rattle.std.specs.Prelude.{OnOk, OnErr}
+use Rattle.std.specs.Global.{Vec}
+use Rattle.std.specs.Prelude.{OnOk, OnErr, IfOk, IfErr}
 use Rattle.std.proofs.Math.Seq.{map-set_same}
 use Rattle.std.proofs.lemmas.Bool.Decides.{eqb_tells}
 use Rattle.std.proofs.lemmas.List.{length-set}
 use Rattle.budget.specs.Limits.{Bounds}
 use Rattle.budget.specs.Lobby.{Queue}
 use Rattle.budget.specs.Plain.{Plain}
+use Rattle.budget.specs.declared.refusal.Refusal.{Refusal}
 use Rattle.conn_log.specs.declared.stamp.Stamp.{Stamp}
-use Rattle.bundle.specs.Lease.{HostShown}
+use Rattle.conn_log.specs.declared.entry.Entry.{Entry}
+use Rattle.bundle.specs.Lease.{HostShown, IsPartOf, cut_refusal}
 use Rattle.bundle.specs.Passes.{Accounts}
 use Rattle.host_rules.specs.Counts.{held_by}
-use Rattle.oldest.specs.Oldest.{stamp_at}
-use Rattle.cache.specs.Pools.{no_host, host_in, cut_host, cut_at, IsKeptHost, AreKept}
+use Rattle.oldest_stamp.specs.Oldest.{stamp_at}
+use Rattle.cache.specs.Pools.{no_host, host_in, all_hosts, cut_host, IsKeptHost, AreKept}
+use Rattle.cache.specs.PoolCalls.{CutsHost}
 use Rattle.cache.proofs.OneHost.{read_is, host_changed, other_host}
 use Rattle.cache.proofs.SameLog.{shown_as, hosts_same}
 
@@ -75,11 +79,24 @@ module _ {S : Type 0} (site : ℕ) (hosts : List (HostShown S)) (was new : HostS
   ]
 
   -- the pool is cut there, or as it was
-  pub shown_cut : {A E : Type 0} (result : Result A E) (limits : Bounds) (queue : List ℕ) → site < length hosts → was ≡ slice_index_or hosts site was → OnOk result (new ≡ cut_host was)
-      → OnOk result (shown_as limits (slice_set hosts site new) queue ≡ cut_at site (shown_as limits hosts queue))
-  shown_cut (Ok part) limits queue there read cut =
-      ap (λ (h : HostShown S). shown_as limits (slice_set hosts site h) queue) (cut ∙ ap cut_host (read_is hosts site was there read))
-  shown_cut (Err reason) limits queue there read cut = tt
+  pub shown_cut : {E : Type 0} (result : Result (Vec Entry) E) (limits : Bounds) (queue : List ℕ) → site < length hosts → was ≡ slice_index_or hosts site was
+      → all_hosts (shown_as limits (slice_set hosts site new) queue) ≡ all_hosts (shown_as limits hosts queue) → IfOk result (λ (part : Vec Entry). IsPartOf was part.items) → OnOk result (new ≡ cut_host was)
+      → IfOk result (λ (part : Vec Entry). CutsHost site (shown_as limits hosts queue) (shown_as limits (slice_set hosts site new) queue) part.items)
+  shown_cut (Ok handed) limits queue there read all part cut = record {
+    there = there;
+    part = subst (λ (h : HostShown S). IsPartOf h handed.items) (read_is hosts site was there read) part;
+    cut = ap (λ (h : HostShown S). shown_as limits (slice_set hosts site h) queue) (cut ∙ ap cut_host (read_is hosts site was there read));
+    all = all;
+  }
+  shown_cut (Err reason) limits queue there read all part cut = tt
+
+  pub shown_refused : {A : Type 0} (result : Result A Refusal) (limits : Bounds) (queue : List ℕ) → site < length hosts → was ≡ slice_index_or hosts site was → IfErr result (λ (reason : Refusal). reason ≡ cut_refusal was) → OnErr result (new ≡ was)
+      → IfErr result (λ (reason : Refusal). (shown_as limits (slice_set hosts site new) queue ≡ shown_as limits hosts queue) × (reason ≡ cut_refusal (host_in hosts site)))
+  shown_refused (Ok part) limits queue there read refused same = tt
+  shown_refused (Err reason) limits queue there read refused same = (
+    ap (λ (l : List (HostShown S)). shown_as limits l queue) (hosts_same site hosts was new read same),
+    refused ∙ ap cut_refusal (read_is hosts site was there read),
+  )
 
   pub shown_same : {A E : Type 0} (result : Result A E) (limits : Bounds) (queue : List ℕ) → was ≡ slice_index_or hosts site was → OnErr result (new ≡ was)
       → OnErr result (shown_as limits (slice_set hosts site new) queue ≡ shown_as limits hosts queue)

@@ -23,4 +23,6 @@ pub mod Reused
 pub mod Booked
 pub mod NoneQueued
 pub mod Homes
-pub mod Deeds
+pub mod AtHost
+pub mod Refusals
+pub mod PoolCalls

@@ -6,7 +6,7 @@ use Rattle.std.proofs.lemmas.Bool.Decides.{leb_tells}
 use Rattle.std.proofs.lemmas.List.{length-map, set-get_or}
 use Rattle.std.proofs.lemmas.List.Sums.{sum_by-set}
 use Rattle.budget.specs.Limits.{Bounds}
-use Rattle.budget.specs.Plain.{Plain, IsWithin, alive_in}
+use Rattle.budget.specs.Plain.{Plain, IsWithin, TellsOfOpen, alive_in}
 use Rattle.budget.specs.declared.refusal.Refusal.{Refusal}
 use Rattle.conn_log.specs.declared.entry.Entry.{Entry}
 use Rattle.conn_log.specs.Legal.{LimitAndFirst}
@@ -19,6 +19,7 @@ use Rattle.host_rules.specs.Laws.{IsSoundAndQuiet}
 use Rattle.bundle.specs.Lease.{HostShown}
 use Rattle.host_rules.specs.Counts.{held_by}
 use Rattle.bundle.specs.Replies.{IfChanged, OnChangeAgain}
+use Rattle.bundle.specs.Limits.{ChangesLimit, HasToAskAgain}
 use Rattle.host_rules.proofs.Counts.{limit_changes}
 use Rattle.cache.specs.Pools.{logs_of}
 use Rattle.cache.proofs.OneHost.{logs_changed, log_was}
@@ -72,27 +73,27 @@ module _ {S : Type 0} (n now : ℕ) (limits : Bounds) (hosts : List (HostShown S
   due = starts_due (is_queued was.settings was.log) (kept_limit n) was.log
 
   -- what the bundle tells of the change under this budget, of which it is nothing how often that was asked
-  abbrev pub Told : Type 0
-  Told = (given : ℕ) × (given ≤ due) × (given < due → alive_in later.hosts ≡ later.limits.total) × (new.log ≡ after_limit (kept_limit n) given was.settings was.log now) × Unit {0}
+  abbrev pub Told : Bool → Type 0
+  Told freed = ChangesLimit (TellsOfOpen later) (λ (opened kept : ℕ). Unit {0}) (kept_limit n) was new now freed
 
-  limited_as_told : limit_refusal n was.log ≡ None → Told → IsSoundAndQuiet was.settings was.log → site < length hosts → was ≡ slice_index_or hosts site was
+  limited_as_told : (freed : Bool) → limit_refusal n was.log ≡ None → Told freed → IsSoundAndQuiet was.settings was.log → site < length hosts → was ≡ slice_index_or hosts site was
       → later.hosts ≡ map (λ (h : HostShown S). held_by h.log) (slice_set hosts site new) → later.limits ≡ limits → IsWithin later
       → new.log ≡ after_limit (kept_limit n) (min due (limits.total - sum_by open_len (logs_of hosts))) was.settings was.log now
-  limited_as_told allowed told settled there read parts same within =
-      let given = told.0 in
+  limited_as_told freed allowed told settled there read parts same within =
+      let given = told.given in
       let changed : alive_in later.hosts + open_len was.log ≡ sum_by open_len (logs_of hosts) + open_len (after_limit (kept_limit n) given was.settings was.log now) =
-      omega (arith, total_changed hosts site new later there parts, ap open_len (log_was hosts site was there read), ap open_len told.3) in
-      let most = as_many_given was.settings was.log n given now (sum_by open_len (logs_of hosts)) (alive_in later.hosts) later.limits.total settled allowed told.1 told.2 within.total changed in
-      told.3 ∙ ap (λ (k : ℕ). after_limit (kept_limit n) k was.settings was.log now) (most ∙ ap (λ (b : Bounds). min due (b.total - sum_by open_len (logs_of hosts))) same)
+      omega (arith, total_changed hosts site new later there parts, ap open_len (log_was hosts site was there read), ap open_len told.log) in
+      let most = as_many_given was.settings was.log n given now (sum_by open_len (logs_of hosts)) (alive_in later.hosts) later.limits.total settled allowed told.within told.full within.total changed in
+      told.log ∙ ap (λ (k : ℕ). after_limit (kept_limit n) k was.settings was.log now) (most ∙ ap (λ (b : Bounds). min due (b.total - sum_by open_len (logs_of hosts))) same)
 
-  pub limited_log : (r : Result Changed Refusal) (changed : Changed) → r ≡ Ok changed → IfSome (limit_refusal n was.log) (λ reason. r ≡ Err reason) → IfChanged r (λ (b : Bool). Told) → OnChangeAgain r ((0 < due) × ⊥)
+  pub limited_log : (X : Type 0) (r : Result Changed Refusal) (changed : Changed) → r ≡ Ok changed → IfSome (limit_refusal n was.log) (λ reason. r ≡ Err reason) → IfChanged r Told → OnChangeAgain r (X × HasToAskAgain (TellsOfOpen later) (λ (opened kept : ℕ). Unit {0}) (kept_limit n) was new)
       → IsSoundAndQuiet was.settings was.log → site < length hosts → was ≡ slice_index_or hosts site was
       → later.hosts ≡ map (λ (h : HostShown S). held_by h.log) (slice_set hosts site new) → later.limits ≡ limits → IsWithin later
       → new.log ≡ after_limit (kept_limit n) (min due (limits.total - sum_by open_len (logs_of hosts))) was.settings was.log now
-  limited_log (Ok (Done b)) changed is refused told never settled there read parts same within =
-      limited_as_told (not_refused (limit_refusal n was.log) (Ok (Done b)) (Done b) refused refl) told settled there read parts same within
-  limited_log (Ok Again) changed is refused told never settled there read parts same within = absurd never.1
-  limited_log (Err reason) changed is refused told never settled there read parts same within = absurd (cc)
+  limited_log X (Ok (Done b)) changed is refused told never settled there read parts same within =
+      limited_as_told b (not_refused (limit_refusal n was.log) (Ok (Done b)) (Done b) refused refl) told settled there read parts same within
+  limited_log X (Ok Again) changed is refused told never settled there read parts same within = absurd never.1.contended
+  limited_log X (Err reason) changed is refused told never settled there read parts same within = absurd (cc)
 
 -- all hosts are as they were where one of them is
 pub hosts_same : {S : Type 0} (hosts : List (HostShown S)) (site : ℕ) (was new : HostShown S) → was ≡ slice_index_or hosts site was → new ≡ was → slice_set hosts site new ≡ hosts

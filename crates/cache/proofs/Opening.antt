@@ -27,7 +27,7 @@ use Rattle.host_rules.specs.Orders.{order_after_turn, HadTurn}
 use Rattle.bundle.specs.Lobbies.{IsServed}
 use Rattle.host_rules.proofs.Counts.{turn_opens}
 use Rattle.host_rules.proofs.OtherHosts.{listed_after_turn}
-use Rattle.oldest.specs.Oldest.{is_before, stamp_at}
+use Rattle.oldest_stamp.specs.Oldest.{is_before, stamp_at}
 use Rattle.pool_rules.specs.AllHosts.{AllHosts, terms, log_at, has_room, total_waiting, after_turn_of}
 use Rattle.cache.specs.Pools.{no_host, logs_of, host_in, all_hosts}
 use Rattle.cache.proofs.Calling.{MarksOne, NotesOne}

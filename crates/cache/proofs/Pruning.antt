@@ -14,6 +14,7 @@ use Rattle.host_rules.proofs.Counts.{prune_closes}
 use Rattle.pool_rules.specs.AllHosts.{AllHosts, log_at, with_log, kept}
 use Rattle.pool_rules.specs.Calls.{pruned, pruned_log, pruned_at, prune_count}
 use Rattle.cache.specs.Pools.{PoolShown, host_in, logs_of, all_hosts, KeepsHost, StaysPool, KeepsHosts}
+use Rattle.cache.specs.PoolCalls.{IsCallAtAll}
 use Rattle.cache.proofs.Keeping.{keeps_hosts, keeps_hosts_on, stays_pool, stays_pool_on}
 use Rattle.cache.proofs.OneHost.{read_is, logs_changed, host_changed, other_host, keeps_from_start}
 
@@ -101,31 +102,34 @@ module _ {S : Type 0} (now max_age max_life : ℕ) where
 
   module _ (site closed more : ℕ) (old pool new : PoolShown S) (settings : LimitAndFirst) where
     pub one_more_pruned : ArePruned site closed old pool → site < length pool.hosts → IsSoundAndQuiet settings (log_at (all_hosts pool) site)
-        → all_hosts new ≡ with_log site (pruned_log now max_age max_life (log_at (all_hosts pool) site)) (all_hosts pool) → more ≡ pruned_at now max_age max_life (log_at (all_hosts pool) site)
-        → KeepsHosts pool new → StaysPool pool new
+        → IsCallAtAll (with_log site (pruned_log now max_age max_life (log_at (all_hosts pool) site)) (all_hosts pool)) pool new → more ≡ pruned_at now max_age max_life (log_at (all_hosts pool) site)
         → ArePruned (site + 1) (closed + more) old new
-    one_more_pruned so_far inside settled all counted keeps stays =
+    one_more_pruned so_far inside settled done counted =
         let prune = pruned_log now max_age max_life in
         let olds = logs_of old.hosts in
         let nows = logs_of pool.hosts in
         let long : site < length olds = omega (arith, inside, so_far.stays.count, length-map old.hosts (λ (h : HostShown S). h.log)) in
         let longer : site < length nows = omega (arith, inside, length-map pool.hosts (λ (h : HostShown S). h.log)) in
-        let logs : logs_of new.hosts ≡ slice_set nows site (prune (slice_index_or nows site [])) = ap (λ (a : AllHosts). a.logs) all in
+        let logs : logs_of new.hosts ≡ slice_set nows site (prune (slice_index_or nows site [])) = ap (λ (a : AllHosts). a.logs) done.all in
         let same : slice_index_or nows site [] ≡ slice_index_or olds site [] = ap (λ (l : List (List Entry)). slice_index_or l site []) so_far.logs ∙ next_is prune [] site olds in
         record {
           within = omega (arith, inside, so_far.stays.count);
           logs = logs ∙ one_more_changed prune [] site olds nows long so_far.logs;
-          queue = ap (λ (a : AllHosts). a.queue) all ∙ so_far.queue;
+          queue = ap (λ (a : AllHosts). a.queue) done.all ∙ so_far.queue;
           count = omega (arith, so_far.count, counted, ap (pruned_at now max_age max_life) same, one_more_counted (pruned_at now max_age max_life) [] site olds long);
           fits = omega (arith, so_far.fits, counted, ap (sum_by idle_len) logs, fewer_kept now max_age max_life settings site nows longer settled);
-          keeps = keeps_hosts_on old pool new so_far.stays so_far.keeps keeps;
-          stays = stays_pool_on old pool new so_far.stays stays;
+          keeps = keeps_hosts_on old pool new so_far.stays so_far.keeps done.keeps;
+          stays = stays_pool_on old pool new so_far.stays done.stays;
         }
 
-  pub all_pruned : (site closed : ℕ) (old new : PoolShown S) → ArePruned site closed old new → length new.hosts ≤ site → all_hosts new ≡ pruned now max_age max_life (all_hosts old)
+  pub all_pruned : (site closed : ℕ) (old new : PoolShown S) → ArePruned site closed old new → length new.hosts ≤ site → IsCallAtAll (pruned now max_age max_life (all_hosts old)) old new
   all_pruned site closed old new so_far all =
       let long : length (logs_of old.hosts) ≤ site = omega (arith, all, so_far.stays.count, length-map old.hosts (λ (h : HostShown S). h.log)) in
-      ap (λ (l : List (List Entry)). both l new.queue) (so_far.logs ∙ all_changed (pruned_log now max_age max_life) [] site (logs_of old.hosts) long) ∙ ap (both (map (pruned_log now max_age max_life) (logs_of old.hosts))) so_far.queue
+      record {
+        all = ap (λ (l : List (List Entry)). both l new.queue) (so_far.logs ∙ all_changed (pruned_log now max_age max_life) [] site (logs_of old.hosts) long) ∙ ap (both (map (pruned_log now max_age max_life) (logs_of old.hosts))) so_far.queue;
+        keeps = so_far.keeps;
+        stays = so_far.stays;
+      }
     where
       both : List (List Entry) → List ℕ → AllHosts
       both logs queue = record { logs = logs; queue = queue }

@@ -1,5 +1,5 @@
 -- Streams stay over one step after another: a connection that is open before and after is open in between.
-use Rattle.std.proofs.Common.{◌≡◌, ℕ, ◌<◌, Bool, true, false, ◌||◌, List, [], ◌∷◌, ◌++◌, length, slice_index_or, Option, Some, None, is_some, refl, sym, ap, subst, ◌∙◌, arith}
+use Rattle.std.proofs.Common.{◌≡◌, ℕ, Bool, true, false, ◌||◌, List, [], ◌∷◌, ◌++◌, Option, Some, None, is_some, refl, sym, ap, ◌∙◌, arith}
 use Rattle.std.specs.Prelude.{◌==◌}
 use Rattle.std.specs.Option.{option_map_or}
 use Rattle.std.proofs.lemmas.Bool.Decides.{nat_tests}
@@ -13,8 +13,7 @@ use Rattle.conn_log.specs.Sound.{IsSound}
 use Rattle.conn_log.proofs.Steps.{is_open_is, opened_not_closed}
 use Rattle.host_rules.specs.Calls.{GrowsBy}
 use Rattle.bundle.specs.Lease.{HostShown, Leasing, KeepsItsStream, KeepsStreams, KeepsOthers}
-use Rattle.cache.specs.Pools.{host_in, StreamsStay, OtherStreamsStay}
-use Rattle.cache.proofs.OneHost.{read_is}
+use Rattle.cache.specs.Pools.{StreamsStay, OtherStreamsStay}
 
 module _ (c : ℕ) where
   opened_by : (event : Event) (numbers : List ℕ) → is_among c numbers ≡ true → is_among c (opened_after event numbers) ≡ true
@@ -82,8 +81,3 @@ module _ {S : Type 0} where
 
   pub open_others_stay : (one : ℕ) (x y : HostShown S) → KeepsOthers one x y → OtherStreamsStay one x y
   open_others_stay one x y keeps c apart was is = keeps c apart is
-
-  -- at a host that was read, what a transfer holds is open
-  pub open_at : (hosts : List (HostShown S)) (site : ℕ) (was : HostShown S) → site < length hosts → was ≡ slice_index_or hosts site was → IsSound was.settings was.log
-      → (transfer c : ℕ) → is_held_by was.log transfer c ≡ true → is_open (host_in hosts site).log c ≡ true
-  open_at hosts site was there read sound transfer c held = subst (λ (h : HostShown S). is_open h.log c ≡ true) (read_is hosts site was there read) (held_is_open was.settings was.log sound transfer c held)

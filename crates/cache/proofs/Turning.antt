@@ -1,11 +1,15 @@
 -- Turns, one after the other: what each leaves to those that follow.
-use Rattle.std.proofs.Common.{◌≡◌, ℕ, zero, suc, ◌+◌, Bool, true, false, List, [], ◌∷◌, Some, refl, sym, ap, ◌∙◌, slice_get, arith}
+use Rattle.std.proofs.Common.{◌≡◌, ℕ, zero, suc, ◌+◌, Bool, true, false, List, [], ◌∷◌, Option, Some, None, refl, sym, ap, subst, ◌∙◌, slice_get, arith}
 use Rattle.std.specs.Prelude.{if◌then◌else◌}
 use Rattle.budget.specs.Limits.{Bounds}
-use Rattle.pool_rules.specs.AllHosts.{AllHosts, may_turn, turn_of_first, after_turn_of, with_room, after_turns, served, total_waiting}
+use Rattle.conn_log.specs.declared.stamp.Stamp.{Stamp}
+use Rattle.conn_log.specs.declared.entry.Cause.{Cause}
+use Rattle.pool_rules.specs.AllHosts.{AllHosts, may_turn, turn_of_first, after_turn_of, with_room, closed_of, without_oldest, oldest_of_all, after_turns, served, total_waiting}
 use Rattle.cache.specs.Pools.{PoolShown, all_hosts, StaysPool, KeepsHosts}
 use Rattle.cache.specs.Turns.{KeepsSpent}
+use Rattle.cache.specs.PoolCalls.{IsCallAtAll}
 use Rattle.cache.proofs.Keeping.{stays_pool, stays_pool_on, keeps_hosts, keeps_hosts_on, still_there}
+use Rattle.cache.proofs.PoolCalls.{all_same_as}
 
 -- where a turn is possible it is taken, and one fewer is left
 pub turn_taken : (n m : ℕ) (limits : Bounds) (now : ℕ) (all next : AllHosts) → m ≡ suc n → may_turn limits all ≡ true → next ≡ turn_of_first all.queue limits now all
@@ -47,18 +51,36 @@ module _ {S : Type 0} where
   at_start now start = record { stays = stays_pool start; keeps = keeps_hosts start; spent = keeps_spent start; same_end = refl }
 
   module _ (now : ℕ) (start pool next : PoolShown S) (way : IsOnTheWay now start pool) where
-    pub turned_on : may_turn pool.limits (all_hosts pool) ≡ true → all_hosts next ≡ turn_of_first pool.queue pool.limits now (all_hosts pool)
-        → total_waiting (all_hosts next) + 1 ≡ total_waiting (all_hosts pool) → KeepsHosts pool next → KeepsSpent pool next → StaysPool pool next → IsOnTheWay now start next
-    turned_on may is count keeps spent stays = record {
-      stays = stays_pool_on start pool next way.stays stays;
-      keeps = keeps_hosts_on start pool next way.stays way.keeps keeps;
+    pub turned_on : may_turn pool.limits (all_hosts pool) ≡ true → IsCallAtAll (turn_of_first pool.queue pool.limits now (all_hosts pool)) pool next
+        → total_waiting (all_hosts next) + 1 ≡ total_waiting (all_hosts pool) → KeepsSpent pool next → IsOnTheWay now start next
+    turned_on may turn count spent = record {
+      stays = stays_pool_on start pool next way.stays turn.stays;
+      keeps = keeps_hosts_on start pool next way.stays way.keeps turn.keeps;
       spent = keeps_spent_on start pool next way.stays way.keeps way.spent spent;
       same_end = sym (turn_taken (total_waiting (all_hosts next)) (total_waiting (all_hosts pool)) start.limits now (all_hosts pool) (all_hosts next)
           (omega (arith, count))
           (ap (λ (l : Bounds). may_turn l (all_hosts pool)) (sym way.stays.limits) ∙ may)
-          (is ∙ ap (λ (l : Bounds). turn_of_first pool.queue l now (all_hosts pool)) way.stays.limits)) ∙ way.same_end;
+          (turn.all ∙ ap (λ (l : Bounds). turn_of_first pool.queue l now (all_hosts pool)) way.stays.limits)) ∙ way.same_end;
     }
 
-    -- where no turn is possible the end is reached
-    pub at_end : may_turn pool.limits (all_hosts pool) ≡ false → all_hosts pool ≡ served start.limits now (all_hosts start)
-    at_end may = sym (none_taken (total_waiting (all_hosts pool)) start.limits now (all_hosts pool) (ap (λ (l : Bounds). may_turn l (all_hosts pool)) (sym way.stays.limits) ∙ may)) ∙ way.same_end
+    -- if no turn is possible the end is reached
+    pub at_end : may_turn pool.limits (all_hosts pool) ≡ false → next ≡ pool → IsCallAtAll (served start.limits now (all_hosts start)) start next
+    at_end may same = subst (IsCallAtAll (served start.limits now (all_hosts start)) start) (sym same) (record {
+      all = sym (none_taken (total_waiting (all_hosts pool)) start.limits now (all_hosts pool) (ap (λ (l : Bounds). may_turn l (all_hosts pool)) (sym way.stays.limits) ∙ may)) ∙ way.same_end;
+      keeps = way.keeps;
+      stays = way.stays;
+    })
+
+  -- room is made if the total has none, and the host that is queued first has its turn
+  pub turn_done : (x y z : PoolShown S) (host now : ℕ) → slice_get x.queue 0 ≡ Some host → IsCallAtAll (with_room x.limits now (all_hosts x)) x y → IsCallAtAll (after_turn_of host y.limits now (all_hosts y)) y z
+      → IsCallAtAll (turn_of_first x.queue x.limits now (all_hosts x)) x z
+  turn_done x y z host now is room turn = record {
+    all = turn.all ∙ ap (λ (l : Bounds). after_turn_of host l now (all_hosts y)) room.stays.limits ∙ ap (after_turn_of host x.limits now) room.all ∙ sym (first_turn x.queue host x.limits now (all_hosts x) is);
+    keeps = keeps_hosts_on x y z room.stays room.keeps turn.keeps;
+    stays = stays_pool_on x y z room.stays turn.stays;
+  }
+
+  -- nothing is done if nothing is idle
+  pub none_closed : (pool next : PoolShown S) (cause : Cause) (now : ℕ) → next ≡ pool → oldest_of_all (all_hosts pool) ≡ None → IsCallAtAll (without_oldest cause now (all_hosts pool)) pool next
+  none_closed pool next cause now same none =
+      subst (λ (end : AllHosts). IsCallAtAll end pool next) (sym (ap (λ (found : Option Stamp). closed_of cause now found (all_hosts pool)) none)) (all_same_as pool next same)

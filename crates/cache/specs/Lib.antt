@@ -1,4 +1,4 @@
 pub mod Pools
 pub mod NewHosts
 pub mod Turns
-pub mod Deeds
+pub mod PoolCalls

@@ -14,11 +14,12 @@ use Rattle.host_rules.specs.Calls.{Reply, starts, waits_on, GrowsBy, is_queued}
 use Rattle.host_rules.specs.Laws.{IsSoundAndQuiet}
 use Rattle.bundle.specs.Lease.{HostShown, IsNewHost, Leasing, Ticketed, StaysThere, KeepsAll}
 use Rattle.host_rules.specs.Counts.{held_by}
+pub use Rattle.bundle.specs.Around.{StaysHost}
 use Rattle.bundle.specs.Passes.{Accounts}
 use Rattle.bundle.specs.Seats.{gone}
 use Rattle.bundle.specs.declared.answers.Acquired.{Acquired}
 use Rattle.bundle.specs.declared.answers.Acquired.TheVariants.{Lease, Wait}
-use Rattle.oldest.specs.Oldest.{is_before, stamp_at}
+use Rattle.oldest_stamp.specs.Oldest.{is_before, stamp_at}
 use Rattle.pool_rules.specs.AllHosts.{AllHosts, terms}
 
 -- a pool: its limits, its hosts by index, and those that are queued for room in total, in order
@@ -63,12 +64,6 @@ pub record IsInPlace {S : Type 0} (limits : Bounds) (index : ℕ) (host : HostSh
 
 abbrev pub AreInPlace : {S : Type 0} → PoolShown S → Type 0
 AreInPlace pool = (host : ℕ) → host < length pool.hosts → IsInPlace pool.limits host (host_at pool host)
-
--- the host stays what it is; its log only grows, and nothing of it is cut away
-pub record StaysHost {S : Type 0} (old new : HostShown S) : Type 0 where
-  pub same : StaysThere old new
-  pub booked : new.booked ≡ old.booked
-  pub grew : GrowsBy old.log new.log
 
 -- each connection that is open before and after has the stream under its number that it had; or each but one, which is
 -- leased or comes back

@@ -3,16 +3,16 @@
 use crate::pool::Pool;
 use budget::Refusal;
 use bundle::{Acquired, Claimed, Lease, Stray, Ticket};
+use cache_trait::Cache;
 use conn_log::Want;
-use leasing::Cache;
 use persistence::Facts;
 
-/// What a pool does at each call is what its own methods say. No lease is a stranger to it.
+/// Each call does what the pool's own method says. No lease is a stranger to a pool.
 impl<S: Drop> Cache<S> for Pool<S> {
     ghost use Rattle.std.specs.Prelude.{◌≡◌, IsSome, OnOk, OnErr};
-    ghost use Rattle.leasing.specs.Deeds.Deed.{gives_back, abandons};
-    ghost use Rattle.leasing.specs.Homes.{IsMadeBy};
-    ghost use Rattle.cache.specs.Deeds.{home_of, DidToPool};
+    ghost use Rattle.cache_trait.specs.CacheCalls.CacheCall.{gives_back, abandons};
+    ghost use Rattle.cache_trait.specs.Homes.{IsMadeBy};
+    ghost use Rattle.cache.specs.PoolCalls.{home_of, DidToPool};
 
     ghost home = { λ pool. home_of pool };
 

@@ -1,8 +1,9 @@
 //! How a host's log is cut.
 
-ghost use Rattle.std.specs.Prelude.{◌≡◌, ℕ, ◌<◌, length, IfOk, IfErr, OnOk, OnErr};
-ghost use Rattle.bundle.specs.Lease.{IsPartOf, cut_refusal};
-ghost use Rattle.cache.specs.Pools.{host_at, all_hosts, cut_at, StaysPool};
+ghost use Rattle.std.specs.Prelude.{◌≡◌, ℕ, ◌<◌, length, IfOk, IfErr};
+ghost use Rattle.bundle.specs.Lease.{cut_refusal};
+ghost use Rattle.cache.specs.Pools.{host_at};
+ghost use Rattle.cache.specs.PoolCalls.{CutsHost};
 
 use crate::hosts::Hosts;
 use budget::Refusal;
@@ -13,15 +14,11 @@ impl<S: Drop> Hosts<S> {
     /// [`bundle::Bundle::cut`] is.
     pub fn cut(&mut self, site: u32) -> Result<Vec<Entry>, Refusal>
         requires there { site < length self.old.hosts }
-        ensures part { IfOk result (λ part. IsPartOf (host_at self.old site) part.items) }
-        ensures ok { OnOk result (self.new ≡ cut_at site self.old) }
+        ensures done { IfOk result (λ part. CutsHost site self.old self.new part.items) }
         ensures refused { let host = host_at self.old site in
-            IfErr result (λ reason. reason ≡ cut_refusal host) }
-        ensures err { OnErr result (self.new ≡ self.old) }
-        ensures all { all_hosts self.new ≡ all_hosts self.old }
+            IfErr result (λ reason. (self.new ≡ self.old) × (reason ≡ cut_refusal host)) }
         ensures booked { (host : ℕ) →
             (host_at self.new host).booked ≡ (host_at self.old host).booked }
-        ensures stays { StaysPool self.old self.new }
     {
         self.bundles[site as usize].cut()
     }

@@ -14,7 +14,7 @@ ghost use Rattle.cache.specs.Pools.{IsNewPool, AreInPlace, host_at, all_hosts};
 use budget::{Limits, Lobby, Pass, PlainBudget, Refusal};
 use bundle::{Bundle, Did, Snapshot};
 use conn_log::{Log, Stamp};
-use oldest::WinnerTree;
+use oldest_stamp::WinnerTree;
 use std::alloc::Global;
 use std::marker::Model;
 
@@ -52,9 +52,9 @@ impl<S: Drop> Hosts<S> {
     /// The only refusal is [`Refusal::Memory`].
     pub fn new(alloc: Global, limits: Limits, hosts: u32) -> Result<Hosts<S>, Refusal>
         requires { hosts ≤ 1024 }
-        ensures ok { IfOk result (IsNewPool limits hosts) }
+        ensures new_pool { IfOk result (IsNewPool limits hosts) }
         ensures none_booked { IfOk result NoneBooked }
-        ensures err { IfErr result (λ refusal. refusal ≡ Refusal.Memory) }
+        ensures only_memory { IfErr result (λ refusal. refusal ≡ Refusal.Memory) }
     {
         let budget = PlainBudget::new(alloc, limits, hosts)?;
         let lobby = Lobby::new(alloc, hosts)?;
@@ -93,7 +93,7 @@ impl<S: Drop> Hosts<S> {
             × (log.now.entries ≡ (host_at self.now site).log)) }
         ensures cut_away { IfSome result (λ log.
             log.now.cut_away ≡ (host_at self.now site).cut_away) }
-        ensures streams { IfSome result (λ log. HasItsStreams (host_at self.now site)) }
+        ensures has_streams { IfSome result (λ log. HasItsStreams (host_at self.now site)) }
         ensures unclaimed { IfSome result (λ log. UnclaimedAreStarts (host_at self.now site)) }
         ensures not_there { IfNone result (length self.now.hosts ≤ site) }
     {
@@ -176,11 +176,11 @@ fn add_bundles<S: Drop>(
     pass: &mut Pass<Did>,
 ) -> Result<(), Refusal>
     requires empty { bundles.old.items ≡ [] }
-    requires room { hosts ≤ vec_capacity bundles.old }
+    requires spare { hosts ≤ vec_capacity bundles.old }
     requires vacant { pass.old ≡ replicate hosts vacant }
-    ensures ok { OnOk result (AreNewHosts limits hosts bundles.new.items pass.new) }
+    ensures new_hosts { OnOk result (AreNewHosts limits hosts bundles.new.items pass.new) }
     ensures accounts { length pass.new ≡ hosts }
-    ensures err { IfErr result (λ refusal. refusal ≡ Refusal.Memory) }
+    ensures only_memory { IfErr result (λ refusal. refusal ≡ Refusal.Memory) }
 {
     for host in 0..hosts {
         let mut bundle = Bundle::new(alloc, limits.host(), host, FIRST)?;

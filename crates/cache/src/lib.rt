@@ -11,5 +11,5 @@ mod pool;
 mod serving;
 mod spending;
 
-pub use oldest::oldest_of;
+pub use oldest_stamp::oldest_of;
 pub use pool::Pool;

@@ -1,10 +1,11 @@
 //! How idle connections are pruned, and how a host's limit is changed.
 
-ghost use Rattle.std.specs.Prelude.{◌≡◌, ◌<◌, ◌⊎◌, length, Some, IfSome, IfErr, OnOk, OnErr};
+ghost use Rattle.std.specs.Prelude.{◌≡◌, ◌<◌, length, IfSome, IfErr, OnOk};
 ghost use Rattle.host_rules.specs.Calls.{limit_refusal};
 ghost use Rattle.pool_rules.specs.AllHosts.{with_log, log_at};
 ghost use Rattle.pool_rules.specs.Calls.{pruned, pruned_log, pruned_at, prune_count, limited};
-ghost use Rattle.cache.specs.Pools.{host_at, all_hosts, StaysPool, KeepsHosts};
+ghost use Rattle.cache.specs.Pools.{host_at, all_hosts};
+ghost use Rattle.cache.specs.PoolCalls.{IsCallAtAll, IsReason};
 
 use crate::hosts::Hosts;
 use crate::notes::note_oldest;
@@ -13,13 +14,12 @@ use bundle::Changed;
 
 impl<S: Drop> Hosts<S> {
     /// Closes every idle connection that has been idle for longer than `max_age`, or open for
-    /// longer than `max_life` where that is not 0, in seconds; it answers how many it closed. `now`
-    /// is in seconds.
+    /// longer than `max_life` unless that is 0, in seconds; how many it closed. `now` is in
+    /// seconds.
     pub fn prune(&mut self, now: u64, max_age: u64, max_life: u64) -> u32
-        ensures all { all_hosts self.new ≡ pruned now max_age max_life (all_hosts self.old) }
+        ensures done { let end = pruned now max_age max_life (all_hosts self.old) in
+            IsCallAtAll end self.old self.new }
         ensures count { result ≡ prune_count now max_age max_life (all_hosts self.old) }
-        ensures keeps { KeepsHosts self.old self.new }
-        ensures stays { StaysPool self.old self.new }
     {
         // No more are kept than the limit, so their count fits.
         let _kept = self.budget.kept();
@@ -32,16 +32,14 @@ impl<S: Drop> Hosts<S> {
         closed
     }
 
-    // The same at one host.
+    // Prunes one host.
     fn prune_at(&mut self, site: u32, now: u64, max_age: u64, max_life: u64) -> u32
         requires there { site < length self.old.hosts }
-        ensures all { let all = all_hosts self.old in
+        ensures done { let all = all_hosts self.old in
             let log = pruned_log now max_age max_life (log_at all site) in
-            all_hosts self.new ≡ with_log site log all }
+            IsCallAtAll (with_log site log all) self.old self.new }
         ensures count { let log = log_at (all_hosts self.old) site in
             result ≡ pruned_at now max_age max_life log }
-        ensures keeps { KeepsHosts self.old self.new }
-        ensures stays { StaysPool self.old self.new }
     {
         let bundle = &mut self.bundles[site as usize];
         let mut permits = self.budget.at(site);
@@ -55,15 +53,12 @@ impl<S: Drop> Hosts<S> {
     /// seconds. Refused as [`bundle::Bundle::set_host_limit`] is.
     pub fn set_host_limit(&mut self, site: u32, limit: u32, now: u64) -> Result<(), Refusal>
         requires there { site < length self.old.hosts }
-        ensures all { OnOk result (all_hosts self.new
-            ≡ limited self.old.limits site limit now (all_hosts self.old)) }
+        ensures done { let end = limited self.old.limits site limit now (all_hosts self.old) in
+            OnOk result (IsCallAtAll end self.old self.new) }
         ensures refused { let due = limit_refusal limit (host_at self.old site).log in
+            IfErr result (λ reason. (self.new ≡ self.old) × IsReason due reason) }
+        ensures due { let due = limit_refusal limit (host_at self.old site).log in
             IfSome due (λ reason. result ≡ Err reason) }
-        ensures else_memory { let due = limit_refusal limit (host_at self.old site).log in
-            IfErr result (λ reason. (due ≡ Some reason) ⊎ (reason ≡ Refusal.Memory)) }
-        ensures err { OnErr result (self.new ≡ self.old) }
-        ensures keeps { KeepsHosts self.old self.new }
-        ensures stays { StaysPool self.old self.new }
     {
         let bundle = &mut self.bundles[site as usize];
         let mut permits = self.budget.at(site);

@@ -6,7 +6,8 @@ ghost use Rattle.host_rules.specs.Calls.{makes_room_for_others};
 ghost use Rattle.pool_rules.specs.AllHosts.{without_oldest, oldest_of_all, has_room, with_room};
 ghost use Rattle.pool_rules.specs.AllHosts.{may_turn, after_turn_of, turn_of_first, total, kept};
 ghost use Rattle.pool_rules.specs.AllHosts.{served, total_waiting, IsServed};
-ghost use Rattle.cache.specs.Pools.{all_hosts, KeepsHosts, StaysPool};
+ghost use Rattle.cache.specs.Pools.{all_hosts};
+ghost use Rattle.cache.specs.PoolCalls.{IsCallAtAll};
 ghost use Rattle.cache.specs.Turns.{IsOneFewer, KeepsSpent, KeepStreams};
 
 use crate::hosts::Hosts;
@@ -14,19 +15,18 @@ use bundle::{Shortage, short_of_total};
 use conn_log::Stamp;
 
 impl<S: Drop> Hosts<S> {
-    /// Closes the oldest idle connection of all for want of that room, where there is one; it
-    /// answers whether there was. `now` is in seconds.
+    /// Evicts the oldest idle connection of all for that shortage; whether there was one. `now` is
+    /// in seconds.
     pub fn close_oldest(&mut self, short: Shortage, now: u64) -> bool
         requires cause { makes_room_for_others short ≡ true }
-        ensures all { all_hosts self.new ≡ without_oldest short now (all_hosts self.old) }
+        ensures done { let end = without_oldest short now (all_hosts self.old) in
+            IsCallAtAll end self.old self.new }
         ensures closed { result ≡ is_some (oldest_of_all (all_hosts self.old)) }
-        ensures any { result ≡ nat_lt 0 (kept (all_hosts self.old)) }
+        ensures can_make_room { result ≡ nat_lt 0 (kept (all_hosts self.old)) }
         ensures fewer { result ≡ true → IsOneFewer (all_hosts self.old) (all_hosts self.new) }
-        ensures none { result ≡ false → self.new ≡ self.old }
-        ensures keeps { KeepsHosts self.old self.new }
+        ensures unchanged { result ≡ false → self.new ≡ self.old }
         ensures spent { KeepsSpent self.old self.new }
         ensures streams { KeepStreams self.old self.new }
-        ensures stays { StaysPool self.old self.new }
     {
         let Some(stamp) = self.oldest() else {
             return false;
@@ -35,17 +35,16 @@ impl<S: Drop> Hosts<S> {
         true
     }
 
-    // Closes the connection of that stamp, which is the oldest of all.
+    // Evicts the connection of that stamp, which is the oldest of all.
     fn close_at(&mut self, stamp: Stamp, short: Shortage, now: u64)
         requires cause { makes_room_for_others short ≡ true }
         requires there { stamp.host < length self.old.hosts }
         requires oldest { oldest_of_all (all_hosts self.old) ≡ Some stamp }
-        ensures all { all_hosts self.new ≡ without_oldest short now (all_hosts self.old) }
+        ensures done { let end = without_oldest short now (all_hosts self.old) in
+            IsCallAtAll end self.old self.new }
         ensures fewer { IsOneFewer (all_hosts self.old) (all_hosts self.new) }
-        ensures keeps { KeepsHosts self.old self.new }
         ensures spent { KeepsSpent self.old self.new }
         ensures streams { KeepStreams self.old self.new }
-        ensures stays { StaysPool self.old self.new }
     {
         let bundle = &mut self.bundles[stamp.host as usize];
         let mut permits = self.budget.at(stamp.host);
@@ -58,42 +57,39 @@ impl<S: Drop> Hosts<S> {
     /// Takes turns until none is possible. `now` is in seconds.
     #[inline(always)]
     pub fn serve(&mut self, now: u64)
-        ensures all { all_hosts self.new ≡ served self.old.limits now (all_hosts self.old) }
+        ensures done { let end = served self.old.limits now (all_hosts self.old) in
+            IsCallAtAll end self.old self.new }
         ensures served { IsServed self.new.limits (all_hosts self.new) }
-        ensures keeps { KeepsHosts self.old self.new }
         ensures spent { KeepsSpent self.old self.new }
-        ensures stays { StaysPool self.old self.new }
     {
         if self.lobby.first().is_some() {
             self.take_turns(now);
         }
     }
 
-    // The same, where a host is queued.
+    // Takes turns while a host is queued.
     #[cold]
     #[inline(never)]
     fn take_turns(&mut self, now: u64)
-        ensures all { all_hosts self.new ≡ served self.old.limits now (all_hosts self.old) }
+        ensures done { let end = served self.old.limits now (all_hosts self.old) in
+            IsCallAtAll end self.old self.new }
         ensures served { IsServed self.new.limits (all_hosts self.new) }
-        ensures keeps { KeepsHosts self.old self.new }
         ensures spent { KeepsSpent self.old self.new }
-        ensures stays { StaysPool self.old self.new }
     {
         while self.take_turn(now) {}
     }
 
-    // A turn of the first host that is queued, where one is possible; it answers whether it is.
+    // Takes a turn of the first host that is queued, if one is possible; whether it is.
     fn take_turn(&mut self, now: u64) -> bool
         ensures possible { result ≡ may_turn self.old.limits (all_hosts self.old) }
-        ensures all { let all = all_hosts self.old in
-            result ≡ true → all_hosts self.new ≡ turn_of_first all.queue self.old.limits now all }
+        ensures done { let all = all_hosts self.old in
+            let end = turn_of_first all.queue self.old.limits now all in
+            result ≡ true → IsCallAtAll end self.old self.new }
         ensures one_waits_less { result ≡ true →
             total_waiting (all_hosts self.new) + 1 ≡ total_waiting (all_hosts self.old) }
-        ensures none { result ≡ false → self.new ≡ self.old }
+        ensures unchanged { result ≡ false → self.new ≡ self.old }
         ensures none_served { result ≡ false → IsServed self.new.limits (all_hosts self.new) }
-        ensures keeps { KeepsHosts self.old self.new }
         ensures spent { KeepsSpent self.old self.new }
-        ensures stays { StaysPool self.old self.new }
     {
         let Some(host) = self.lobby.first() else {
             return false;
@@ -105,21 +101,19 @@ impl<S: Drop> Hosts<S> {
         true
     }
 
-    // Has the oldest of all make room where the total has none; it answers whether there is room.
+    // Evicts the oldest connection of all if the total has no room; whether there is room then.
     fn make_room(&mut self, now: u64) -> bool
-        ensures any { let all = all_hosts self.old in
+        ensures can_make_room { let all = all_hosts self.old in
             result ≡ (has_room self.old.limits all || nat_lt 0 (kept all)) }
-        ensures all { let all = all_hosts self.old in
-            result ≡ true → all_hosts self.new ≡ with_room self.old.limits now all }
+        ensures done { let end = with_room self.old.limits now (all_hosts self.old) in
+            result ≡ true → IsCallAtAll end self.old self.new }
         ensures room { result ≡ true → has_room self.new.limits (all_hosts self.new) ≡ true }
         ensures same_wait { let all = all_hosts self.old in
             total_waiting (all_hosts self.new) ≡ total_waiting all }
-        ensures none { result ≡ false → self.new ≡ self.old }
+        ensures unchanged { result ≡ false → self.new ≡ self.old }
         ensures full { result ≡ false → total (all_hosts self.old) ≡ self.old.limits.total }
         ensures none_kept { result ≡ false → kept (all_hosts self.old) ≡ 0 }
-        ensures keeps { KeepsHosts self.old self.new }
         ensures spent { KeepsSpent self.old self.new }
-        ensures stays { StaysPool self.old self.new }
     {
         if !self.budget.is_full() {
             return true;
@@ -128,18 +122,16 @@ impl<S: Drop> Hosts<S> {
         self.close_oldest(short, now)
     }
 
-    // The turn of that host: one connection is opened for the first transfer that waits there.
+    // Takes the turn of that host: opens a connection for the first transfer that waits there.
     fn open_at(&mut self, host: u32, now: u64)
         requires there { host < length self.old.hosts }
         requires first { slice_get self.old.queue 0 ≡ Some host }
         requires room { has_room self.old.limits (all_hosts self.old) ≡ true }
-        ensures all { let all = all_hosts self.old in
-            all_hosts self.new ≡ after_turn_of host self.old.limits now all }
+        ensures done { let end = after_turn_of host self.old.limits now (all_hosts self.old) in
+            IsCallAtAll end self.old self.new }
         ensures one_waits_less { let all = all_hosts self.old in
             total_waiting (all_hosts self.new) + 1 ≡ total_waiting all }
-        ensures keeps { KeepsHosts self.old self.new }
         ensures spent { KeepsSpent self.old self.new }
-        ensures stays { StaysPool self.old self.new }
     {
         let bundle = &mut self.bundles[host as usize];
         let mut permits = self.budget.at(host);

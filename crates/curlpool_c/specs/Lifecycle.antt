@@ -1,9 +1,9 @@
 -- How a pool is opened, ended and closed.
 use Rattle.std.specs.Prelude.{◌≡◌, ◌⊎◌, ℕ, ◌<◌, true, false, List, [], replicate, Option, Some, None, IfSome}
 use Rattle.budget.specs.Limits.{is_bad_limit, bounds_of}
-use Rattle.leasing.specs.Deeds.{AllDone}
+use Rattle.cache_trait.specs.CacheCalls.{AllDone}
 use Rattle.cache.specs.Pools.{PoolShown, IsNewPool}
-use Rattle.cache.specs.Deeds.{DidToPool}
+use Rattle.cache.specs.PoolCalls.{DidToPool}
 use Rattle.held_pool.specs.Calls.{HeldShown, endings_in}
 use Rattle.curlpool_c.specs.declared.inner.Inner.{Inner}
 use Rattle.curlpool_c.specs.declared.status.TheConstants.{OK, NO_MEMORY, CLOSED, ALREADY_OPEN, BAD_LIMIT, MORE}

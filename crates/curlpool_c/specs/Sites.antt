@@ -4,11 +4,11 @@ use Rattle.std.specs.Fmt.{decimal}
 use Rattle.conn_log.specs.Counts.{counts}
 use Rattle.conn_log.specs.declared.counts.Counts.{Counts}
 use Rattle.budget.specs.declared.refusal.Refusal.{Refusal}
-use Rattle.budget.specs.declared.refusal.Refusal.TheVariants as refusals
-use Rattle.host_rules.specs.Calls.{is_queued, limit_refusal}
+use Rattle.host_rules.specs.Calls.{is_queued}
 use Rattle.host_rules.specs.Counts.{snapshot_of}
 use Rattle.pool_rules.specs.Calls.{after_limit_of, after_prune, prune_count}
-use Rattle.cache.specs.Pools.{KeepsHosts, StaysPool, all_hosts, host_at}
+use Rattle.cache.specs.Pools.{all_hosts, host_at}
+use Rattle.cache.specs.PoolCalls.{IsCallAtAll, IsReason, limit_refusal_at}
 use Rattle.slot_table.specs.declared.slot.Slot.{Slot}
 use Rattle.slot_readers.specs.declared.response.Response.{Response}
 use Rattle.slot_readers.specs.Readers.{TellsSome}
@@ -51,10 +51,8 @@ abbrev pub TellsSite : HeldShown → HeldShown → List ℕ → ℕ → ℕ → 
 TellsSite old new key status site site_new = GivesSite old new key status site site_new ⊎ (((status ≡ NOT_TEXT) ⊎ (status ≡ NO_MEMORY)) × ((new ≡ old) × (site_new ≡ site)))
 
 pub record TellsPrune (old new : HeldShown) (now max_age max_life status closed : ℕ) : Type 0 where
-  pub all : all_hosts new.pool ≡ after_prune old.pool.limits now max_age max_life (all_hosts old.pool)
+  pub done : IsCallAtAll (after_prune old.pool.limits now max_age max_life (all_hosts old.pool)) old.pool new.pool
   pub count : closed ≡ prune_count now max_age max_life (all_hosts old.pool)
-  pub keeps : KeepsHosts old.pool new.pool
-  pub stays : StaysPool old.pool new.pool
   pub rest : new ≡ record old { pool = new.pool }
   pub told : status ≡ OK
 
@@ -67,14 +65,9 @@ limit_status (Err refusal) = refusal_status refusal
 
 pub record TellsLimit (old new : HeldShown) (site limit now status : ℕ) : Type 0 where
   pub answer : Result (Unit {0}) Refusal
-  pub all : OnOk answer (all_hosts new.pool ≡ after_limit_of old.pool.limits site limit now (all_hosts old.pool))
-  pub there : OnOk answer (site < length old.pool.hosts)
-  pub bad_site : length old.pool.hosts ≤ site → answer ≡ Err refusals.BadSite
-  pub refused : site < length old.pool.hosts → IfSome (limit_refusal limit (host_at old.pool site).log) (λ reason. answer ≡ Err reason)
-  pub else_memory : site < length old.pool.hosts → IfErr answer (λ reason. (limit_refusal limit (host_at old.pool site).log ≡ Some reason) ⊎ (reason ≡ refusals.Memory))
-  pub same : OnErr answer (new ≡ old)
-  pub keeps : KeepsHosts old.pool new.pool
-  pub stays : StaysPool old.pool new.pool
+  pub done : OnOk answer (IsCallAtAll (after_limit_of old.pool.limits site limit now (all_hosts old.pool)) old.pool new.pool)
+  pub refused : IfErr answer (λ reason. (new.pool ≡ old.pool) × IsReason (limit_refusal_at old.pool site limit) reason)
+  pub due : IfSome (limit_refusal_at old.pool site limit) (λ reason. answer ≡ Err reason)
   pub rest : new ≡ record old { pool = new.pool }
   pub told : status ≡ limit_status answer
 

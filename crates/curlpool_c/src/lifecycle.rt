@@ -1,4 +1,4 @@
-//! How a pool is opened, ended and closed.
+//! Opens and closes a pool.
 
 ghost use Rattle.std.specs.Prelude.{◌≡◌, [], true, false, None, IfErr, IfOk, IfSome};
 ghost use Rattle.curlpool_c.specs.Lifecycle.{EndsAll, IsNewInner, IsOpenFault, KeepsTokens};
@@ -6,13 +6,11 @@ ghost use Rattle.curlpool_c.specs.Lifecycle.{EndsAll, IsNewInner, IsOpenFault, K
 use crate::inner::{Inner, nothing_told};
 use crate::status::{BAD_LIMIT, CLOSED, NO_MEMORY, OK};
 use budget::{Limits, Refusal};
+use bundle::MOST_HOSTS;
 use held_pool::HeldPool;
 use std::alloc::Global;
 
-/// The most hosts of a pool.
-const MOST_HOSTS: u32 = 1_024;
-
-// A pool of so many hosts under these limits; or the status of why there is none.
+// Opens a pool, or gives the status that says why not.
 pub(crate) fn opened(
     alloc: Global,
     hosts: u32,
@@ -44,8 +42,8 @@ pub(crate) fn opened(
 }
 
 impl Inner {
-    // Ends all: what is leased is abandoned, who waits is withdrawn, what is idle is closed. Only
-    // the tokens are left then.
+    // Abandons all leases, withdraws all waiters and closes all idle connections. Only the tokens
+    // are left then.
     pub(crate) fn close_all(&mut self, now: u64) -> u32
         ensures { EndsAll self.old self.new now result }
     {
@@ -58,7 +56,7 @@ impl Inner {
         OK
     }
 
-    // Whether all was ended, and all tokens are told.
+    // Whether the pool was closed, and all its tokens were told.
     pub(crate) fn is_told(&mut self) -> bool
         ensures ended { result ≡ true → self.old.held ≡ None }
         ensures told { result ≡ true → IfSome self.old.closing (λ tokens. tokens ≡ []) }

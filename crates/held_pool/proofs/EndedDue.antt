@@ -6,15 +6,15 @@ use Rattle.std.proofs.lemmas.List.{append_assoc, append-nil}
 use Rattle.std.proofs.lemmas.Bool.Decides.{eqb_tells}
 use Rattle.bundle.specs.declared.answers.Acquired.{Acquired}
 use Rattle.bundle.specs.declared.answers.Acquired.TheVariants.{Lease, Wait}
-use Rattle.leasing.specs.Deeds.{AllDone}
+use Rattle.cache_trait.specs.CacheCalls.{AllDone}
 use Rattle.cache.specs.Pools.{PoolShown}
-use Rattle.cache.specs.Deeds.{DidToPool}
+use Rattle.cache.specs.PoolCalls.{DidToPool}
 use Rattle.slot_table.specs.declared.place.Place.{Place}
 use Rattle.slot_table.specs.Slots.{vacated, ChangesPlace}
 use Rattle.held_pool.specs.Due.{holder_of, IsDue, held_at, AreDue}
 use Rattle.held_pool.specs.Calls.{ending_of, EndsHeld, endings_in}
 use Rattle.held_pool.proofs.DueAfter.{ChangesOne, due_after, held_there, held_else}
-use Rattle.held_pool.proofs.DueDeeds.{alone_in, spent_one}
+use Rattle.held_pool.proofs.DueCalls.{alone_in, spent_one}
 
 -- without its last place a list is as if that were never filled
 pub popped : {T : Type 0} (left : List (Place T)) (place : Place T) → ChangesPlace (left ++ place ∷ []) left (length left) (vacated 0)

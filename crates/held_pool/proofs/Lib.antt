@@ -1,5 +1,5 @@
 pub mod Nothing
 pub mod DueAfter
-pub mod DueDeeds
+pub mod DueCalls
 pub mod ClaimedDue
 pub mod EndedDue

@@ -1,6 +1,6 @@
 -- A transfer whose acquire is not refused had neither a lease nor a ticket at its site.
 use Rattle.std.proofs.Common.{◌≡◌, ℕ, ◌<◌, Bool, true, false, cond, ◌||◌, List, [], ◌∷◌, length, Option, Some, None, is_some, Result, Ok, Err, refl, sym, ap, subst, ◌∙◌}
-use Rattle.std.specs.Prelude.{◌==◌, IfSome, OnOk}
+use Rattle.std.specs.Prelude.{◌==◌, IfSome, IfErr, OnOk, OnErr}
 use Rattle.std.specs.Option.{option_and_then}
 use Rattle.std.specs.List.{list_any}
 use Rattle.std.proofs.lemmas.List.{length-map}
@@ -20,7 +20,9 @@ use Rattle.host_rules.specs.Grants.{granted_want}
 use Rattle.bundle.specs.Lease.{HostShown, is_unclaimed}
 use Rattle.pool_rules.specs.AllHosts.{terms, IsAtRest}
 use Rattle.cache.specs.Pools.{PoolShown, host_at, all_hosts, AreInPlace}
+use Rattle.cache.specs.PoolCalls.{acquire_refusal, IsRefusalOf}
 use Rattle.cache.proofs.OneHost.{log_is}
+use Rattle.cache.proofs.Refusals.{site_exists, due_at, owed_in}
 use Rattle.held_pool.specs.Due.{HasNothing}
 
 is_none : {A : Type 0} (x : Option A) → is_some x ≡ false → x ≡ None
@@ -87,7 +89,19 @@ module _ {S : Type 0} (pool : PoolShown S) (rest : IsAtRest pool.limits (all_hos
   accepted want result a is owes = has_nothing (host_at pool site) sound_at want (owes_none (refusal (host_at pool site).settings (host_at pool site).log [] want) result a is owes)
 
 -- so a transfer had nothing where its acquire succeeded
-pub had_nothing : {A S : Type 0} (pool : PoolShown S) → IsAtRest pool.limits (all_hosts pool) → AreInPlace pool → (site : ℕ) (want : Want) (result : Result A Refusal) → OnOk result (site < length pool.hosts)
-    → (site < length pool.hosts → IfSome (refusal (host_at pool site).settings (host_at pool site).log [] want) (λ reason. result ≡ Err reason)) → OnOk result (HasNothing (host_at pool site) want.transfer)
-had_nothing pool rest places site want (Ok a) there owes = accepted pool rest places site there want (Ok a) a refl (owes there)
-had_nothing pool rest places site want (Err reason) there owes = tt
+pub had_nothing : {A S : Type 0} (pool : PoolShown S) → IsAtRest pool.limits (all_hosts pool) → AreInPlace pool → (site : ℕ) (want : Want) (result : Result A Refusal)
+    → IfSome (acquire_refusal pool site want) (λ reason. result ≡ Err reason) → OnOk result (HasNothing (host_at pool site) want.transfer)
+had_nothing pool rest places site want (Ok a) owes =
+    let there = site_exists pool site want a owes in
+    accepted pool rest places site there want (Ok a) a refl (owed_in (acquire_refusal pool site want) _ (λ reason. Ok a ≡ Err reason) (due_at pool site there want) owes)
+had_nothing pool rest places site want (Err reason) owes = tt
+
+-- a refused acquire changed nothing
+module _ {A S : Type 0} (old new : PoolShown S) (site : ℕ) (want : Want) where
+  pub refused_why : (result : Result A Refusal) → IfErr result (λ reason. (new ≡ old) × IsRefusalOf old site want reason) → IfErr result (IsRefusalOf old site want)
+  refused_why (Ok a) refused = tt
+  refused_why (Err reason) refused = refused.1
+
+  pub refused_same : (result : Result A Refusal) → IfErr result (λ reason. (new ≡ old) × IsRefusalOf old site want reason) → OnErr result (new ≡ old)
+  refused_same (Ok a) refused = tt
+  refused_same (Err reason) refused = refused.0

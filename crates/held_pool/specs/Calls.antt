@@ -11,11 +11,11 @@ use Rattle.budget.specs.declared.refusal.Refusal.TheVariants.{Memory}
 use Rattle.bundle.specs.Lease.{Leasing, Ticketed}
 use Rattle.bundle.specs.declared.answers.Acquired.{Acquired}
 use Rattle.bundle.specs.declared.answers.Acquired.TheVariants.{Lease, Wait}
-use Rattle.leasing.specs.Deeds.{Deed, GivesBy}
-use Rattle.leasing.specs.Deeds.Deed.{abandons, withdraws}
-use Rattle.leasing.specs.Homes.{Gives}
+use Rattle.cache_trait.specs.CacheCalls.{CacheCall, GivesBy}
+use Rattle.cache_trait.specs.CacheCalls.CacheCall.{grants, gives_back, abandons, withdraws}
+use Rattle.cache_trait.specs.Homes.{Gives}
 use Rattle.cache.specs.Pools.{PoolShown, host_at}
-use Rattle.cache.specs.Deeds.{home_of, DidToPool, GrantsLease, KeepsTicket, TakesBack, AbandonsLease, WithdrawsTicket, IsRefusalOf}
+use Rattle.cache.specs.PoolCalls.{home_of, DidToPool, KeepsTicket, IsRefusalOf}
 use Rattle.slot_table.specs.declared.place.Place.{Place}
 use Rattle.slot_table.specs.declared.slot.Slot.{Slot}
 use Rattle.slot_table.specs.Slots.{value_in, ChangesPlace, SamePlaces, Puts, Takes, filled}
@@ -79,7 +79,7 @@ pub record Attaches (old new : HeldShown) (slot : Slot) (token : ℕ) : Type 0 w
 
 -- a claim for a ticket gave what the slot holds from then on: its lease, or the ticket while it still waits
 abbrev pub ClaimsTicket : PoolShown ℕ → PoolShown ℕ → Ticketed → Acquired ℕ → Type 0
-ClaimsTicket old new ticket (Lease lease) = GrantsLease old new lease × (lease.site ≡ ticket.site) × (lease.start.want ≡ ticket.wait.want)
+ClaimsTicket old new ticket (Lease lease) = DidToPool old new (grants lease) × (lease.site ≡ ticket.site) × (lease.start.want ≡ ticket.wait.want)
 ClaimsTicket old new ticket (Wait same) = KeepsTicket old new ticket × (same ≡ ticket)
 
 pub record ClaimsSlot (old new : HeldShown) (slot : Slot) (ticket : Ticketed) (got : Got) : Type 0 where
@@ -111,22 +111,22 @@ ticket_fault _ = Some Stranger
 pub record GivesBackSlot (old new : HeldShown) (slot : Slot) (facts : Facts) (now : ℕ) : Type 0 where
   pub lease : Leasing ℕ
   pub takes : Takes old.places new.places slot (Lease lease)
-  pub done : TakesBack old.pool new.pool lease facts now
+  pub done : DidToPool old.pool new.pool (gives_back lease facts now)
 
 -- it was abandoned
 pub record AbandonsSlot (old new : HeldShown) (slot : Slot) (now : ℕ) : Type 0 where
   pub lease : Leasing ℕ
   pub takes : Takes old.places new.places slot (Lease lease)
-  pub done : AbandonsLease old.pool new.pool lease now
+  pub done : DidToPool old.pool new.pool (abandons lease now)
 
 -- the slot's ticket was withdrawn
 pub record WithdrawsSlot (old new : HeldShown) (slot : Slot) (now : ℕ) : Type 0 where
   pub ticket : Ticketed
   pub takes : Takes old.places new.places slot (Wait ticket)
-  pub done : WithdrawsTicket old.pool new.pool ticket now
+  pub done : DidToPool old.pool new.pool (withdraws ticket now)
 
 -- how what a place holds is ended: a lease is abandoned, a ticket withdrawn
-abbrev pub ending_of : ℕ → Acquired ℕ → Deed ℕ
+abbrev pub ending_of : ℕ → Acquired ℕ → CacheCall ℕ
 ending_of now (Lease lease) = abandons lease now
 ending_of now (Wait ticket) = withdraws ticket now
 
@@ -135,8 +135,8 @@ abbrev pub EndsHeld : PoolShown ℕ → PoolShown ℕ → ℕ → Option (Acquir
 EndsHeld old new now (Some held) = DidToPool old new (ending_of now held)
 EndsHeld old new now None = new ≡ old
 
--- how all that places hold is ended, the last place first: the newest deed stands first
-abbrev pub endings_in : ℕ → List (Place (Acquired ℕ)) → List (Deed ℕ)
+-- how all that places hold is ended, the last place first: the newest call stands first
+abbrev pub endings_in : ℕ → List (Place (Acquired ℕ)) → List (CacheCall ℕ)
 endings_in now places = filter_map (λ (place : Place (Acquired ℕ)). option_map (ending_of now) place.held) places
 
 -- a site is unused: no connection is open there, and nobody waits

@@ -1,10 +1,10 @@
 //! What a pool gives to a transfer.
 
 ghost use Rattle.std.specs.Prelude.{◌≡◌, IfErr, IfOk, OnErr, OnOk};
-ghost use Rattle.leasing.specs.Deeds.{GivesBy};
-ghost use Rattle.leasing.specs.Homes.{Gives};
+ghost use Rattle.cache_trait.specs.CacheCalls.{GivesBy};
+ghost use Rattle.cache_trait.specs.Homes.{Gives};
 ghost use Rattle.cache.specs.Pools.{host_at};
-ghost use Rattle.cache.specs.Deeds.{DidToPool, IsRefusalOf, home_of};
+ghost use Rattle.cache.specs.PoolCalls.{DidToPool, IsRefusalOf, home_of};
 ghost use Rattle.held_pool.specs.Due.{HasNothing};
 ghost use Rattle.held_pool.specs.Calls.{got_of, told_stream};
 

@@ -7,8 +7,8 @@ ghost use Rattle.held_pool.specs.Calls.{ClaimsTicket};
 
 use bundle::{Acquired, Claimed, Ticket};
 use cache::Pool;
+use cache_trait::Cache;
 use closed_tokens::Token;
-use leasing::Cache;
 
 // Claims what a ticket was granted; the ticket itself while it still waits.
 #[inline(always)]

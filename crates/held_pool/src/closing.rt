@@ -1,8 +1,8 @@
 //! How all that the slots hold is ended.
 
 ghost use Rattle.std.specs.Prelude.{◌≡◌, [], IfSome};
-ghost use Rattle.leasing.specs.Deeds.{AllDone};
-ghost use Rattle.cache.specs.Deeds.{DidToPool};
+ghost use Rattle.cache_trait.specs.CacheCalls.{AllDone};
+ghost use Rattle.cache.specs.PoolCalls.{DidToPool};
 ghost use Rattle.held_pool.specs.Due.{AreDue, IsDue};
 ghost use Rattle.held_pool.specs.Calls.{EndsHeld, endings_in};
 

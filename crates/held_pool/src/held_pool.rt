@@ -2,16 +2,15 @@
 
 ghost use Rattle.std.specs.Prelude.{◌≡◌, ◌⊎◌, [], None, Some, IfErr, IfOk, IfNone, IfSome, OnErr};
 ghost use Rattle.std.specs.Prelude.{nat_lt, if◌then◌else◌, OnOk, ◌<◌, length, ◌≤◌, true, false};
-ghost use Rattle.host_rules.specs.Calls.{is_queued, limit_refusal};
+ghost use Rattle.host_rules.specs.Calls.{is_queued};
 ghost use Rattle.host_rules.specs.Counts.{snapshot_of};
 ghost use Rattle.pool_rules.specs.Calls.{after_limit_of, after_prune, prune_count};
-ghost use Rattle.leasing.specs.Deeds.{AllDone};
-ghost use Rattle.cache.specs.Pools.{IsNewPool, KeepsHosts, StaysPool, all_hosts, host_at};
-ghost use Rattle.cache.specs.Pools.{cut_at};
-ghost use Rattle.bundle.specs.Lease.{IsPartOf, cut_refusal};
+ghost use Rattle.cache_trait.specs.CacheCalls.{AllDone};
+ghost use Rattle.cache.specs.Pools.{IsNewPool, all_hosts, host_at};
 ghost use Rattle.conn_log.specs.Counts.{counts as counts_of};
 ghost use Rattle.conn_log.specs.Legal.{IsLegal};
-ghost use Rattle.cache.specs.Deeds.{DidToPool};
+ghost use Rattle.cache.specs.PoolCalls.{CutsHost, DidToPool, IsCallAtAll, IsReason};
+ghost use Rattle.cache.specs.PoolCalls.{cut_refusal_at, limit_refusal_at};
 ghost use Rattle.slot_table.specs.Slots.{value_in};
 ghost use Rattle.closed_tokens.specs.Numbers.{IsNext};
 ghost use Rattle.held_pool.specs.Calls.{AbandonsSlot, AcquiresSlot, Attaches, ClaimsHeld};
@@ -287,11 +286,10 @@ impl HeldPool {
     /// Closes each idle connection that is too old, as [`Pool::prune`] does: how many. `now`,
     /// `max_age` and `max_life` are in seconds.
     pub fn prune(&mut self, now: u64, max_age: u64, max_life: u64) -> u32
-        ensures all { all_hosts self.new.pool
-            ≡ after_prune self.old.pool.limits now max_age max_life (all_hosts self.old.pool) }
+        ensures done { let all = all_hosts self.old.pool in
+            let end = after_prune self.old.pool.limits now max_age max_life all in
+            IsCallAtAll end self.old.pool self.new.pool }
         ensures count { result ≡ prune_count now max_age max_life (all_hosts self.old.pool) }
-        ensures keeps { KeepsHosts self.old.pool self.new.pool }
-        ensures stays { StaysPool self.old.pool self.new.pool }
         ensures rest { self.new ≡ record self.old { pool = self.new.pool } }
     {
         self.waiters.ask();
@@ -301,18 +299,13 @@ impl HeldPool {
     /// Changes the most connections that the site's host may have open, as
     /// [`Pool::set_host_limit`] does, and refused as that is. `now` is in seconds.
     pub fn set_host_limit(&mut self, site: u32, limit: u32, now: u64) -> Result<(), Refusal>
-        ensures all { OnOk result (all_hosts self.new.pool
-            ≡ after_limit_of self.old.pool.limits site limit now (all_hosts self.old.pool)) }
-        ensures there { OnOk result (site < length self.old.pool.hosts) }
-        ensures bad_site { length self.old.pool.hosts ≤ site → result ≡ Err Refusal.BadSite }
-        ensures refused { let due = limit_refusal limit (host_at self.old.pool site).log in
-            site < length self.old.pool.hosts → IfSome due (λ reason. result ≡ Err reason) }
-        ensures else_memory { let due = limit_refusal limit (host_at self.old.pool site).log in
-            site < length self.old.pool.hosts →
-            IfErr result (λ reason. (due ≡ Some reason) ⊎ (reason ≡ Refusal.Memory)) }
-        ensures err { OnErr result (self.new ≡ self.old) }
-        ensures keeps { KeepsHosts self.old.pool self.new.pool }
-        ensures stays { StaysPool self.old.pool self.new.pool }
+        ensures done { let all = all_hosts self.old.pool in
+            let end = after_limit_of self.old.pool.limits site limit now all in
+            OnOk result (IsCallAtAll end self.old.pool self.new.pool) }
+        ensures refused { let due = limit_refusal_at self.old.pool site limit in
+            IfErr result (λ reason. (self.new.pool ≡ self.old.pool) × IsReason due reason) }
+        ensures due { let due = limit_refusal_at self.old.pool site limit in
+            IfSome due (λ reason. result ≡ Err reason) }
         ensures rest { self.new ≡ record self.old { pool = self.new.pool } }
     {
         self.waiters.ask();
@@ -360,14 +353,10 @@ impl HeldPool {
 
     /// Cuts a site's log, as [`Pool::cut`] does, and is refused as that is.
     pub fn cut(&mut self, site: u32) -> Result<Vec<Entry>, Refusal>
-        ensures part { IfOk result (λ part. IsPartOf (host_at self.old.pool site) part.items) }
-        ensures ok { OnOk result (self.new.pool ≡ cut_at site self.old.pool) }
-        ensures there { OnOk result (site < length self.old.pool.hosts) }
-        ensures bad_site { length self.old.pool.hosts ≤ site → result ≡ Err Refusal.BadSite }
-        ensures refused { let host = host_at self.old.pool site in
-            site < length self.old.pool.hosts → IfErr result (λ reason. reason ≡ cut_refusal host) }
-        ensures err { OnErr result (self.new ≡ self.old) }
-        ensures all { all_hosts self.new.pool ≡ all_hosts self.old.pool }
+        ensures done { let old = self.old.pool in
+            IfOk result (λ part. CutsHost site old self.new.pool part.items) }
+        ensures refused { IfErr result (λ reason. (self.new.pool ≡ self.old.pool)
+            × (reason ≡ cut_refusal_at self.old.pool site)) }
         ensures rest { self.new ≡ record self.old { pool = self.new.pool } }
     {
         self.pool.cut(site)

@@ -3,7 +3,8 @@
 ghost use Rattle.std.specs.Prelude.{◌≡◌, IfErr, IfOk, OnErr, None, Some, IsSome, true, false};
 ghost use Rattle.slot_table.specs.Slots.{Takes, value_in};
 ghost use Rattle.bundle.specs.declared.answers.Acquired.TheVariants as acquired;
-ghost use Rattle.cache.specs.Deeds.{AbandonsLease, TakesBack, WithdrawsTicket};
+ghost use Rattle.cache_trait.specs.CacheCalls.CacheCall.{abandons, gives_back, withdraws};
+ghost use Rattle.cache.specs.PoolCalls.{DidToPool};
 ghost use Rattle.held_pool.specs.Due.{IsDue};
 ghost use Rattle.held_pool.specs.declared.answers.SlotError.TheVariants as faults;
 ghost use Rattle.held_pool.specs.Calls.{attach_fault, back_fault, lease_fault, ticket_fault};
@@ -11,8 +12,8 @@ ghost use Rattle.held_pool.specs.Calls.{attach_fault, back_fault, lease_fault, t
 use crate::answers::SlotError;
 use bundle::{Acquired, Lease, Ticket};
 use cache::Pool;
+use cache_trait::Cache;
 use closed_tokens::Token;
-use leasing::Cache;
 use persistence::Facts;
 use slot_table::{Slot, SlotTable};
 
@@ -102,7 +103,7 @@ pub(crate) fn take_ticket(slots: &mut Slots, slot: Slot) -> Result<Ticket, SlotE
 pub(crate) fn give_back_to(pool: &mut Pool<Token>, lease: Lease<Token>, facts: Facts, now: u64)
     requires due { IsDue pool.old (acquired.Lease lease) }
     requires stream { IsSome lease.stream }
-    ensures { TakesBack pool.old pool.new lease facts now }
+    ensures { DidToPool pool.old pool.new (gives_back lease facts now) }
 {
     match Cache::give_back(pool, lease, facts, now) {
         Ok(()) => {}
@@ -113,7 +114,7 @@ pub(crate) fn give_back_to(pool: &mut Pool<Token>, lease: Lease<Token>, facts: F
 // Abandons a lease of the pool's own.
 pub(crate) fn abandon_from(pool: &mut Pool<Token>, lease: Lease<Token>, now: u64)
     requires { IsDue pool.old (acquired.Lease lease) }
-    ensures { AbandonsLease pool.old pool.new lease now }
+    ensures { DidToPool pool.old pool.new (abandons lease now) }
 {
     match Cache::abandon(pool, lease, now) {
         Ok(()) => {}
@@ -153,7 +154,7 @@ pub(crate) fn attach_fault(slots: &Slots, slot: Slot) -> Option<SlotError>
 // Withdraws a ticket of the pool's own.
 pub(crate) fn withdraw_from(pool: &mut Pool<Token>, ticket: Ticket, now: u64)
     requires { IsDue pool.old (acquired.Wait ticket) }
-    ensures { WithdrawsTicket pool.old pool.new ticket now }
+    ensures { DidToPool pool.old pool.new (withdraws ticket now) }
 {
     match Cache::withdraw(pool, ticket, now) {
         Ok(()) => {}

@@ -26,9 +26,9 @@ use Rattle.host_rules.specs.Calls.{is_anyone, returned, becomes_idle}
 use Rattle.host_rules.specs.Effects.{open_len, idle_len, Closes}
 use Rattle.host_rules.proofs.Soundness.{none_first, held_want}
 use Rattle.host_rules.proofs.Counts.{evict_closes}
-use Rattle.oldest.specs.Oldest.{earlier_of, earliest, stamps_from, stamp_at}
+use Rattle.oldest_stamp.specs.Oldest.{earlier_of, earliest, stamps_from, stamp_at}
 use Rattle.pool_rules.specs.AllHosts.{AllHosts, log_at, terms, total, kept, waiting_len, total_waiting, oldest_of_all, closed_of, without_oldest, IsLawful}
-use Rattle.oldest.proofs.StampOrder.{earliest_own, there_at, length_stamps, stamp_from, own_host}
+use Rattle.oldest_stamp.proofs.StampOrder.{earliest_own, there_at, length_stamps, stamp_from, own_host}
 use Rattle.pool_rules.proofs.Lawfulness.{log_changed, log_other, sum_moved, lawful_unmarked, queued_same}
 
 -- where there is no oldest of all nothing is kept

@@ -11,10 +11,10 @@ use Rattle.conn_log.specs.Fit.{is_earlier, is_idle_longer, stamp_of, oldest, old
 use Rattle.conn_log.proofs.Firsts.{first_among}
 use Rattle.conn_log.proofs.Extremes.{none_first, first_before}
 use Rattle.conn_log.proofs.Order.{idle_longer_strict}
-use Rattle.oldest.specs.Oldest.{is_before, stamp_at, stamps_from}
-use Rattle.oldest.proofs.NotedStamps.{not_before_itself}
-use Rattle.oldest.proofs.StampOrder.{within, not_before_onward, before_tie, earliest_before, stamp_from}
-use Rattle.oldest.proofs.EarliestStamps.{no_earliest}
+use Rattle.oldest_stamp.specs.Oldest.{is_before, stamp_at, stamps_from}
+use Rattle.oldest_stamp.proofs.NotedStamps.{not_before_itself}
+use Rattle.oldest_stamp.proofs.StampOrder.{within, not_before_onward, before_tie, earliest_before, stamp_from}
+use Rattle.oldest_stamp.proofs.EarliestStamps.{no_earliest}
 use Rattle.pool_rules.specs.AllHosts.{AllHosts, log_at, oldest_of_all}
 use Rattle.pool_rules.specs.OldestLaws.{IsOfIdle, IsIdleBefore, OldestOfAllGoesFirst, NoOldestOfAllIfNoneIsIdle}
 use Rattle.pool_rules.proofs.OldestOfAll.{oldest_is}

@@ -10,7 +10,7 @@ use Rattle.conn_log.specs.declared.entry.Entry.{Entry}
 use Rattle.conn_log.specs.Connections.{idle_connections}
 use Rattle.conn_log.specs.Fit.{first_by, is_earlier, is_idle_longer, oldest, oldest_stamp, stamp_of}
 use Rattle.host_rules.specs.Effects.{idle_len}
-use Rattle.oldest.specs.Oldest.{earlier_of, earliest, stamps_from}
+use Rattle.oldest_stamp.specs.Oldest.{earlier_of, earliest, stamps_from}
 use Rattle.pool_rules.specs.AllHosts.{AllHosts, log_at, kept, oldest_of_all}
 
 -- a host without an oldest has nothing idle

@@ -27,7 +27,7 @@ use Rattle.host_state.specs.declared.closing.Closing.TheVariants.{TooOld}
 use Rattle.host_rules.specs.Calls.{acquired, start, start_behind, start_on, start_as_told, start_in_place_of, start_in_place, start_new, open_for, grant_to, unfit_cause, settle, after_give_back}
 use Rattle.host_rules.specs.Effects.{tidied}
 use Rattle.host_rules.proofs.Soundness.{none_first}
-use Rattle.oldest.specs.Oldest.{is_before, is_since_before}
+use Rattle.oldest_stamp.specs.Oldest.{is_before, is_since_before}
 
 -- what is idle after it was idle before, and since then
 pub record WasIdle (log after : List Entry) (c : ℕ) : Type 0 where

@@ -17,7 +17,7 @@ use Rattle.host_rules.specs.Calls.{after_turn, is_queued}
 use Rattle.host_rules.specs.Effects.{open_len, idle_len}
 use Rattle.host_rules.specs.Laws.{IsSoundAndQuiet}
 use Rattle.host_rules.specs.Orders.{order_after_turn}
-use Rattle.oldest.specs.Oldest.{earliest, stamps_from}
+use Rattle.oldest_stamp.specs.Oldest.{earliest, stamps_from}
 
 pub record AllHosts : Type 0 where
   pub logs : List (List Entry)

@@ -14,7 +14,9 @@ use Rattle.pool_rules.specs.AllHosts.{AllHosts, log_at, terms, IsAtRest}
 use Rattle.pool_rules.specs.Calls.{after_acquire, reply_of, after_abandoning, after_withdrawing}
 use Rattle.bundle.specs.declared.answers.Acquired.TheVariants as gives
 use Rattle.cache.specs.Pools.{PoolShown, host_at, all_hosts, IsAcquired, IsTicketHere, AreInPlace, StaysHost, StaysPool, KeepsOtherHosts}
+use Rattle.cache.specs.PoolCalls.{acquire_refusal}
 use Rattle.cache.proofs.OneHost.{log_is}
+use Rattle.cache.proofs.Refusals.{due_at, owed_in}
 use Rattle.cache.proofs.Keeping.{stays_host_on, keeps_others_on}
 use Rattle.script_text.specs.declared.command.Action.{Action}
 use Rattle.script_text.specs.declared.fault.FaultKind.{FaultKind}
@@ -23,7 +25,7 @@ use Rattle.script_rules.specs.Meaning.{AtSite, AnswerAt, with_ticket, without_ti
 use Rattle.script_rules.specs.Ending.{after_dropping, after_giving_up}
 use Rattle.script_engine.specs.Hosted.{IsUntold, Gives, lease_facts, KeepsDue, KeepsLeases, KeepsTickets, leases_of, tickets_of, due_others}
 use Rattle.script_rules.specs.Telling.{AllGrowAfter}
-use Rattle.script_engine.specs.declared.kept.Kept.{Kept}
+use Rattle.script_engine.specs.declared.site_leases.SiteLeases.{SiteLeases}
 use Rattle.script_rules.proofs.TicketLists.{turned, among-with}
 use Rattle.script_engine.proofs.Leases.{itself, accepted-free, free-none, leased-held, ticket-no-lease, still-unheld, kept-valid, same-whereabouts, kept-due, leases-same}
 use Rattle.script_engine.proofs.Spending.{IsTicketFor, sound-at, ticketed, kept-ticket, lease-awaits, ticket-awaits, lease-own, lease-no-ticket, ticket-own, started-kept, claimed-kept}
@@ -92,9 +94,9 @@ module _ (limits : Bounds) (site transfer : ℕ) (old : AtSite) (rest : List ℕ
 
 -- a transfer that is not refused has nothing at the site
 module _ {S : Type 0} (pool : PoolShown S) (site : ℕ) (there : site < length pool.hosts) (places : AreInPlace pool) (want : Want) where
-  pub let-in : {A : Type 0} (got : A) → (let host = host_at pool site in site < length pool.hosts → IfSome (refusal host.settings host.log [] want) (λ reason. ◌≡◌ {A = Result A Refusal} (Ok got) (Err reason)))
-      → refusal (host_at pool site).settings (host_at pool site).log [] want ≡ None
-  let-in got refused = accepted got (refusal (host_at pool site).settings (host_at pool site).log [] want) (refused there)
+  pub let-in : {A : Type 0} (got : A) → IfSome (acquire_refusal pool site want) (λ reason. ◌≡◌ {A = Result A Refusal} (Ok got) (Err reason)) → refusal (host_at pool site).settings (host_at pool site).log [] want ≡ None
+  let-in {A = A} got refused =
+      accepted got (refusal (host_at pool site).settings (host_at pool site).log [] want) (owed_in (acquire_refusal pool site want) _ (λ reason. ◌≡◌ {A = Result A Refusal} (Ok got) (Err reason)) (due_at pool site there want) refused)
 
   pub let-in-there : refusal (host_at pool site).settings (host_at pool site).log [] want ≡ None → refusal (terms pool.limits) (log_at (all_hosts pool) site) [] want ≡ None
   let-in-there only =
@@ -145,7 +147,7 @@ module _ {S : Type 0} (old new : PoolShown S) (limits : Bounds) (site : ℕ) (wa
       record { here = reply.0; own = waited-of limits site want moment (all_hosts old) ticket.wait reply.1; gets = gets; stays = stays }
 
 -- the ticket that is kept of a site at rest, and whom tickets are kept of there
-module _ (pool : PoolShown (Unit {0})) (site : ℕ) (there : site < length pool.hosts) (rest : IsAtRest pool.limits (all_hosts pool)) (places : AreInPlace pool) (kept : Kept) (due : KeepsDue (host_at pool site) kept) (transfer : ℕ) (ticket : Ticketed) (is : Some ticket ≡ get nat_cmp kept.tickets transfer) where
+module _ (pool : PoolShown (Unit {0})) (site : ℕ) (there : site < length pool.hosts) (rest : IsAtRest pool.limits (all_hosts pool)) (places : AreInPlace pool) (kept : SiteLeases) (due : KeepsDue (host_at pool site) kept) (transfer : ℕ) (ticket : Ticketed) (is : Some ticket ≡ get nat_cmp kept.tickets transfer) where
   pub ticket-kept : IsTicketFor (host_at pool site) transfer ticket
   ticket-kept = kept-ticket (host_at pool site) (sound-at pool site there rest places) kept.tickets.entries transfer ticket due.keeps.tickets is
 
@@ -221,7 +223,7 @@ module _ {S : Type 0} (old new : PoolShown S) (site : ℕ) (want : Want) (ticket
     ticket-others stays first next = keeps_others_on site old new final stays first (subst (λ s. KeepsOtherHosts s new final) got.here next)
 
 -- what is kept of the site then: of a lease where the transfer had no ticket, or its ticket is taken out
-module _ (old new final : PoolShown (Unit {0})) (site transfer : ℕ) (lease : Leasing (Unit {0})) (got : GotLease old new site transfer lease) (still : StaysHost (host_at new lease.site) (host_at final lease.site)) (kept : Kept) (due : KeepsDue (host_at old site) kept) (leases : BTreeMap ℕ (Leasing (Unit {0}))) (after : KeepsLeases (leases_of (host_at final lease.site)) (get nat_cmp leases)) (same : (t : ℕ) → ticket_want (host_at final lease.site) t ≡ ticket_want (host_at new lease.site) t) (ordered : IsOrdered nat_cmp leases) where
+module _ (old new final : PoolShown (Unit {0})) (site transfer : ℕ) (lease : Leasing (Unit {0})) (got : GotLease old new site transfer lease) (still : StaysHost (host_at new lease.site) (host_at final lease.site)) (kept : SiteLeases) (due : KeepsDue (host_at old site) kept) (leases : BTreeMap ℕ (Leasing (Unit {0}))) (after : KeepsLeases (leases_of (host_at final lease.site)) (get nat_cmp leases)) (same : (t : ℕ) → ticket_want (host_at final lease.site) t ≡ ticket_want (host_at new lease.site) t) (ordered : IsOrdered nat_cmp leases) where
   pub started-due : ticket_want (host_at old site) transfer ≡ None → KeepsDue (host_at final site) (record kept { leases = leases })
   started-due none = record {
     keeps = started-kept (host_at old site) (host_at new site) (host_at final site) (same-whereabouts (host_at old site) (host_at final site) (lease-stays old new site transfer lease got final still).same)
@@ -246,7 +248,7 @@ module _ (old new final : PoolShown (Unit {0})) (site transfer : ℕ) (lease : L
   }
 
 -- and of a ticket
-pub waited-due : (old final : HostShown (Unit {0})) (kept : Kept) (tickets : BTreeMap ℕ Ticketed) → StaysHost old final → KeepsDue old kept → ((t : ℕ) → lease_number final t ≡ lease_number old t)
+pub waited-due : (old final : HostShown (Unit {0})) (kept : SiteLeases) (tickets : BTreeMap ℕ Ticketed) → StaysHost old final → KeepsDue old kept → ((t : ℕ) → lease_number final t ≡ lease_number old t)
     → KeepsTickets (tickets_of final) (get nat_cmp tickets) → IsOrdered nat_cmp tickets → KeepsDue final (record kept { tickets = tickets })
 waited-due old final kept tickets stays due same after ordered = record {
   keeps = record {
@@ -260,7 +262,7 @@ waited-due old final kept tickets stays due same after ordered = record {
 }
 
 pub ticketed-due : (old new final : PoolShown (Unit {0})) (site : ℕ) (want : Want) (ticket : Ticketed) → GotTicket old new site want ticket → StaysHost (host_at new ticket.site) (host_at final ticket.site)
-    → (kept : Kept) → KeepsDue (host_at old site) kept → (tickets : BTreeMap ℕ Ticketed) → KeepsTickets (tickets_of (host_at final ticket.site)) (get nat_cmp tickets)
+    → (kept : SiteLeases) → KeepsDue (host_at old site) kept → (tickets : BTreeMap ℕ Ticketed) → KeepsTickets (tickets_of (host_at final ticket.site)) (get nat_cmp tickets)
     → ((t : ℕ) → lease_number (host_at final ticket.site) t ≡ lease_number (host_at new ticket.site) t) → IsOrdered nat_cmp tickets → KeepsDue (host_at final site) (record kept { tickets = tickets })
 ticketed-due old new final site want ticket got still kept due tickets after same ordered =
     let same_here = subst (λ s. (t : ℕ) → lease_number (host_at final s) t ≡ lease_number (host_at new s) t) got.here same in
@@ -316,7 +318,7 @@ module _ {S : Type 0} (pool new : PoolShown S) (site transfer : ℕ) (ticket : T
     still-others-keep others = subst (λ s. KeepsOtherHosts s pool final) still.here (subst (λ (x : PoolShown S). KeepsOtherHosts ticket.site x final) still.same others)
 
 pub still-due : (pool new final : PoolShown (Unit {0})) (site transfer : ℕ) (ticket : Ticketed) → StillWaits pool new site transfer ticket → StaysHost (host_at new ticket.site) (host_at final ticket.site)
-    → (kept : Kept) → KeepsDue (host_at pool site) kept → (tickets : BTreeMap ℕ Ticketed) → KeepsTickets (tickets_of (host_at final ticket.site)) (get nat_cmp tickets)
+    → (kept : SiteLeases) → KeepsDue (host_at pool site) kept → (tickets : BTreeMap ℕ Ticketed) → KeepsTickets (tickets_of (host_at final ticket.site)) (get nat_cmp tickets)
     → ((t : ℕ) → lease_number (host_at final ticket.site) t ≡ lease_number (host_at new ticket.site) t) → IsOrdered nat_cmp tickets → KeepsDue (host_at final site) (record kept { tickets = tickets })
 still-due pool new final site transfer ticket still stays kept due tickets after same ordered =
     waited-due (host_at pool site) (host_at final site) kept tickets (at-its-site pool new site transfer ticket still final (λ x y. StaysHost x y) stays) due

@@ -19,17 +19,17 @@ use Rattle.cache.specs.Pools.{PoolShown, IsNewPool, host_in, host_at, logs_of, a
 use Rattle.script_text.specs.Printing.{GivesText, upkeep_line}
 use Rattle.script_text.specs.declared.command.Action.{Action}
 use Rattle.script_text.specs.declared.fault.FaultKind.{FaultKind}
-use Rattle.script_engine.specs.declared.asked.Asked.TheVariants as asks
-use Rattle.script_engine.specs.declared.kept.Kept.{Kept}
-use Rattle.script_rules.specs.Meaning.{new_hosts, at_site, act_at, grown, replied, lines_of_growth, prune_all, upkeep_all}
+use Rattle.script_text.specs.declared.command.HostCommand.TheVariants as asks
+use Rattle.script_engine.specs.declared.site_leases.SiteLeases.{SiteLeases}
+use Rattle.script_rules.specs.Meaning.{new_hosts, at_site, act_at, grown, replied, lines_of_growth, asked_answer, prune_all, upkeep_all}
 use Rattle.script_rules.specs.Telling.{AllGrowAfter, WereTold, lines_told}
-use Rattle.script_engine.specs.Hosted.{Hosted, Gives, GivesAt, GivesAll, asked_answer, KeepsDue, KeepsAllDue, NoneIsCut, AreHosted, NothingIsKept, kept_at, tickets_kept, lease_facts, leases_of, tickets_of, wanted}
+use Rattle.script_engine.specs.Hosted.{Hosted, Gives, GivesAt, GivesAll, KeepsDue, KeepsAllDue, NoneIsCut, AreHosted, NothingIsKept, kept_at, tickets_kept, lease_facts, leases_of, tickets_of, wanted}
 use Rattle.script_engine.proofs.Answering.{gives-answer, gives-grown}
 use Rattle.script_engine.proofs.GrowthOfAll.{lines-of-growth, were-told, pruned-grow}
 use Rattle.script_engine.proofs.Spending.{due-stays}
 
 -- what the callers see of a pool, and of what is kept at its sites
-abbrev pub shown : PoolShown (Unit {0}) → List Kept → Hosted
+abbrev pub shown : PoolShown (Unit {0}) → List SiteLeases → Hosted
 shown pool kept = record { limits = pool.limits; hosts = record { all = all_hosts pool; tickets = tickets_kept kept } }
 
 -- what is read where one was replaced
@@ -43,20 +43,20 @@ set-other items site other new one apart is =
     (sym (get_or_from_slice_get (slice_set items site new) other one one is) ∙ get_or-set_other items site other new one apart)
 
 -- all hosts keep what they have
-pub all-due : (pool new : PoolShown (Unit {0})) (kept : List Kept) → KeepsAllDue pool kept → KeepsHosts pool new → StaysPool pool new → KeepsAllDue new kept
+pub all-due : (pool new : PoolShown (Unit {0})) (kept : List SiteLeases) → KeepsAllDue pool kept → KeepsHosts pool new → StaysPool pool new → KeepsAllDue new kept
 all-due pool new kept due keeps stays = record {
   count = due.count ∙ sym stays.count;
   each = λ site here is. due-stays (host_at pool site) (host_at new site) here (keeps site (subst (λ (n : ℕ). site < n) due.count (slice_get_within kept site here is))) (due.each site here is);
 }
 
 -- so nothing was cut away from their logs
-pub none-cut : (pool : PoolShown (Unit {0})) (kept : List Kept) → KeepsAllDue pool kept → NoneIsCut pool
+pub none-cut : (pool : PoolShown (Unit {0})) (kept : List SiteLeases) → KeepsAllDue pool kept → NoneIsCut pool
 none-cut pool kept due site there = elim (slice_get_cases kept site).1 [
   | inl found ↦ (due.each site found.0 found.2).uncut
   | inr past ↦ absurd (omega (arith, there, due.count, past.0))
 ]
 
-module _ (pool : PoolShown (Unit {0})) (kept : List Kept) (due : KeepsAllDue pool kept) (site : ℕ) where
+module _ (pool : PoolShown (Unit {0})) (kept : List SiteLeases) (due : KeepsAllDue pool kept) (site : ℕ) where
   -- the site is there
   pub host-there : site < length (logs_of pool.hosts) → site < length pool.hosts
   host-there there = subst (λ (n : ℕ). site < n) (length-map pool.hosts (λ (h : HostShown (Unit {0})). h.log)) there
@@ -65,18 +65,18 @@ module _ (pool : PoolShown (Unit {0})) (kept : List Kept) (due : KeepsAllDue poo
   kept-there there = subst (λ (n : ℕ). site < n) (sym due.count) (host-there there)
 
   -- what is kept of it
-  pub due-at : (here : Kept) → site < length kept → here ≡ slice_index_or kept site here → KeepsDue (host_at pool site) here
+  pub due-at : (here : SiteLeases) → site < length kept → here ≡ slice_index_or kept site here → KeepsDue (host_at pool site) here
   due-at here there is = due.each site here (slice_get_read kept (length kept) site here refl there is)
 
   -- all of it once the site and the pool have changed
-  pub due-after : (new : PoolShown (Unit {0})) (here : Kept) → site < length kept → KeepsOtherHosts site pool new → StaysPool pool new → KeepsDue (host_at new site) here
+  pub due-after : (new : PoolShown (Unit {0})) (here : SiteLeases) → site < length kept → KeepsOtherHosts site pool new → StaysPool pool new → KeepsDue (host_at new site) here
       → KeepsAllDue new (slice_set kept site here)
   due-after new here there others stays keeps = record {
     count = length-set kept site here ∙ due.count ∙ sym stays.count;
     each = λ other one is. elim (eqb_tells other site) [
       | inl same ↦
           let at : here ≡ one = set-here kept site here one there (subst (λ (k : ℕ). slice_get (slice_set kept site here) k ≡ Some one) same.1 is) in
-          subst (λ (k : Kept). KeepsDue (host_at new other) k) at (subst (λ (k : ℕ). KeepsDue (host_at new k) here) (sym same.1) keeps)
+          subst (λ (k : SiteLeases). KeepsDue (host_at new other) k) at (subst (λ (k : ℕ). KeepsDue (host_at new k) here) (sym same.1) keeps)
       | inr apart ↦
           let was = set-other kept site other here one apart.1 is in
           let within = subst (λ (n : ℕ). other < n) due.count (slice_get_within kept other one was) in
@@ -85,14 +85,14 @@ module _ (pool : PoolShown (Unit {0})) (kept : List Kept) (due : KeepsAllDue poo
   }
 
   -- the transfers whose tickets are kept
-  pub tickets-at : (was : Kept) → site < length kept → was ≡ slice_index_or kept site was → slice_index_or (tickets_kept kept) site [] ≡ keys was.tickets
+  pub tickets-at : (was : SiteLeases) → site < length kept → was ≡ slice_index_or kept site was → slice_index_or (tickets_kept kept) site [] ≡ keys was.tickets
   tickets-at was there is =
-      let tickets : Kept → List ℕ = λ k. keys k.tickets in
+      let tickets : SiteLeases → List ℕ = λ k. keys k.tickets in
       get_or_default (tickets_kept kept) site [] (tickets was) (subst (λ (n : ℕ). site < n) (sym (length-map kept tickets)) there)
       ∙ get_or-map tickets kept site was ∙ ap tickets (sym is)
 
   -- an action at the site
-  pub gives-at : {T : Type 0} (bytes : T → List ℕ) (action : Action) (result : Result T FaultKind) (new : PoolShown (Unit {0})) (was here : Kept)
+  pub gives-at : {T : Type 0} (bytes : T → List ℕ) (action : Action) (result : Result T FaultKind) (new : PoolShown (Unit {0})) (was here : SiteLeases)
       → site < length kept → was ≡ slice_index_or kept site was → StaysPool pool new
       → Gives bytes pool.limits site (kept_at pool was) action result (kept_at new here)
       → GivesAt bytes (shown pool kept) site action result (shown new (slice_set kept site here))
@@ -100,7 +100,7 @@ module _ (pool : PoolShown (Unit {0})) (kept : List Kept) (due : KeepsAllDue poo
     here = kept_at new here;
     gives = subst (λ (tickets : List ℕ). Gives bytes pool.limits site (record { all = all_hosts pool; tickets = tickets }) action result (kept_at new here)) (sym (tickets-at was there is)) gives;
     left = ap (λ (limits : Bounds). with_hosts limits (tickets_kept (slice_set kept site here))) stays.limits
-        ∙ ap (with_hosts pool.limits) (map-set (λ (k : Kept). keys k.tickets) kept site here);
+        ∙ ap (with_hosts pool.limits) (map-set (λ (k : SiteLeases). keys k.tickets) kept site here);
   }
     where
       with_hosts : Bounds → List (List ℕ) → Hosted
@@ -116,17 +116,17 @@ pub told-before : (by : ℕ) (old new : AllHosts) (told : List ℕ) → told ≡
 told-before by old new told all_told grow = subst (λ (tolds : List ℕ). WereTold tolds new.logs) (sym all_told) (were-told by old new grow)
 
 -- the same from what a method of the pooled hosts knows: they are what its callers see
-module _ (pool : PoolShown (Unit {0})) (kept : List Kept) (told : List ℕ) (are : AreHosted pool kept told) (now : Hosted) (seen : shown pool kept ≡ now) where
+module _ (pool : PoolShown (Unit {0})) (kept : List SiteLeases) (told : List ℕ) (are : AreHosted pool kept told) (now : Hosted) (seen : shown pool kept ≡ now) where
   pub seen-host : (site : ℕ) → site < length now.hosts.all.logs → site < length pool.hosts
   seen-host site there = host-there pool kept are.due_kept site (subst (λ (h : Hosted). site < length h.hosts.all.logs) (sym seen) there)
 
   pub seen-kept : (site : ℕ) → site < length now.hosts.all.logs → site < length kept
   seen-kept site there = kept-there pool kept are.due_kept site (subst (λ (h : Hosted). site < length h.hosts.all.logs) (sym seen) there)
 
-  pub seen-due : (site : ℕ) (was : Kept) → site < length now.hosts.all.logs → was ≡ slice_index_or kept site was → KeepsDue (host_at pool site) was
+  pub seen-due : (site : ℕ) (was : SiteLeases) → site < length now.hosts.all.logs → was ≡ slice_index_or kept site was → KeepsDue (host_at pool site) was
   seen-due site was there is = due-at pool kept are.due_kept site was (seen-kept site there) is
 
-  pub hosted-after : (site : ℕ) (new : PoolShown (Unit {0})) (here : Kept) (tolds : List ℕ) → site < length now.hosts.all.logs
+  pub hosted-after : (site : ℕ) (new : PoolShown (Unit {0})) (here : SiteLeases) (tolds : List ℕ) → site < length now.hosts.all.logs
       → KeepsOtherHosts site pool new → StaysPool pool new → KeepsDue (host_at new site) here → tolds ≡ map length (logs_of new.hosts)
       → AreHosted new (slice_set kept site here) tolds
   hosted-after site new here tolds there others stays keeps all_told = record {
@@ -135,10 +135,10 @@ module _ (pool : PoolShown (Unit {0})) (kept : List Kept) (told : List ℕ) (are
   }
 
   -- and before they are told
-  pub seen-uncut : (site : ℕ) (new : PoolShown (Unit {0})) (here : Kept) → site < length now.hosts.all.logs → KeepsOtherHosts site pool new → StaysPool pool new → KeepsDue (host_at new site) here → NoneIsCut new
+  pub seen-uncut : (site : ℕ) (new : PoolShown (Unit {0})) (here : SiteLeases) → site < length now.hosts.all.logs → KeepsOtherHosts site pool new → StaysPool pool new → KeepsDue (host_at new site) here → NoneIsCut new
   seen-uncut site new here there others stays keeps = none-cut new (slice_set kept site here) (due-after pool kept are.due_kept site new here (seen-kept site there) others stays keeps)
 
-  pub seen-gives : {T : Type 0} (bytes : T → List ℕ) (site : ℕ) (action : Action) (result : Result T FaultKind) (new : PoolShown (Unit {0})) (was here : Kept)
+  pub seen-gives : {T : Type 0} (bytes : T → List ℕ) (site : ℕ) (action : Action) (result : Result T FaultKind) (new : PoolShown (Unit {0})) (was here : SiteLeases)
       → site < length now.hosts.all.logs → was ≡ slice_index_or kept site was → StaysPool pool new
       → Gives bytes pool.limits site (kept_at pool was) action result (kept_at new here)
       → GivesAt bytes now site action result (shown new (slice_set kept site here))
@@ -147,7 +147,7 @@ module _ (pool : PoolShown (Unit {0})) (kept : List Kept) (told : List ℕ) (are
       (gives-at pool kept are.due_kept site bytes action result new was here (seen-kept site there) is stays gives)
 
   -- where the entries that were added are written
-  pub seen-grown : {T : Type 0} (bytes : T → List ℕ) (site : ℕ) (action : Action) (by : ℕ) (result : Result T FaultKind) (new : PoolShown (Unit {0})) (was here : Kept)
+  pub seen-grown : {T : Type 0} (bytes : T → List ℕ) (site : ℕ) (action : Action) (by : ℕ) (result : Result T FaultKind) (new : PoolShown (Unit {0})) (was here : SiteLeases)
       → site < length now.hosts.all.logs → was ≡ slice_index_or kept site was → StaysPool pool new
       → act_at pool.limits site (kept_at pool was) action ≡ grown (kept_at pool was) (kept_at new here)
       → AllGrowAfter by (all_hosts pool) (all_hosts new) → GivesText bytes (lines_told by 0 told (logs_of new.hosts)) result
@@ -158,7 +158,7 @@ module _ (pool : PoolShown (Unit {0})) (kept : List Kept) (told : List ℕ) (are
       (text-of-growth bytes by (all_hosts pool) (all_hosts new) told result are.all_told grow text))
 
   -- where nothing changed at the site, and a line is answered
-  pub seen-replied : {T : Type 0} (bytes : T → List ℕ) (site : ℕ) (action : Action) (line : List ℕ) (result : Result T FaultKind) (new : PoolShown (Unit {0})) (was here : Kept)
+  pub seen-replied : {T : Type 0} (bytes : T → List ℕ) (site : ℕ) (action : Action) (line : List ℕ) (result : Result T FaultKind) (new : PoolShown (Unit {0})) (was here : SiteLeases)
       → site < length now.hosts.all.logs → was ≡ slice_index_or kept site was → StaysPool pool new
       → act_at pool.limits site (kept_at pool was) action ≡ replied (kept_at new here) line → GivesText bytes line result
       → GivesAt bytes now site action result (shown new (slice_set kept site here))
@@ -204,10 +204,10 @@ module _ (pool : PoolShown (Unit {0})) (kept : List Kept) (told : List ℕ) (are
   })
 
 -- nobody has anything at a site that is added
-pub nothing-more : (kept : List Kept) (here : Kept) → NothingIsKept kept → IsEmpty here.leases → IsEmpty here.tickets → NothingIsKept (kept ++ here ∷ [])
+pub nothing-more : (kept : List SiteLeases) (here : SiteLeases) → NothingIsKept kept → IsEmpty here.leases → IsEmpty here.tickets → NothingIsKept (kept ++ here ∷ [])
 nothing-more [] here none no_lease no_ticket zero one is =
     let same : here ≡ one = cc in
-    subst (λ (k : Kept). IsEmpty k.leases × IsEmpty k.tickets) same (no_lease, no_ticket)
+    subst (λ (k : SiteLeases). IsEmpty k.leases × IsEmpty k.tickets) same (no_lease, no_ticket)
 nothing-more [] here none no_lease no_ticket (suc s) one is = absurd (cc)
 nothing-more (first ∷ kept) here none no_lease no_ticket zero one is = none zero one is
 nothing-more (first ∷ kept) here none no_lease no_ticket (suc s) one is = nothing-more kept here (λ k. none (suc k)) no_lease no_ticket s one is
@@ -217,7 +217,7 @@ unfolding IsStrictlySortedBy
 none-ordered = tt
 
 -- and at a new host nobody is due to
-new-due : (limit index first : ℕ) (host : HostShown (Unit {0})) (here : Kept) → IsNewHost limit index first host → IsEmpty here.leases → IsEmpty here.tickets → KeepsDue host here
+new-due : (limit index first : ℕ) (host : HostShown (Unit {0})) (here : SiteLeases) → IsNewHost limit index first host → IsEmpty here.leases → IsEmpty here.tickets → KeepsDue host here
 new-due limit index first host here new no_lease no_ticket = record {
   keeps = record {
     leases = λ t. ap (λ (entries : List (ℕ × Leasing (Unit {0}))). option_map lease_facts (lookup (is_at (nat_cmp t)) entries)) no_lease ∙ sym (ap (λ (h : HostShown (Unit {0})). leases_of h t) new);
@@ -237,14 +237,14 @@ no-lengths : (n : ℕ) → map length (replicate {A = List Entry} n []) ≡ repl
 no-lengths zero = refl
 no-lengths (suc n) = ap (λ (l : List ℕ). 0 ∷ l) (no-lengths n)
 
-no-tickets : (kept : List Kept) → NothingIsKept kept → tickets_kept kept ≡ replicate (length kept) []
+no-tickets : (kept : List SiteLeases) → NothingIsKept kept → tickets_kept kept ≡ replicate (length kept) []
 no-tickets [] none = refl
 no-tickets (first ∷ kept) none =
     ap (λ (entries : List (ℕ × Ticketed)). keys_of entries ∷ tickets_kept kept) (none 0 first refl).1
     ∙ ap (λ (l : List (List ℕ)). [] ∷ l) (no-tickets kept (λ k. none (suc k)))
 
 -- the hosts of a new pool, where nothing is kept or told
-module _ (limits : Bounds) (sites : ℕ) (pool : PoolShown (Unit {0})) (kept : List Kept) (told : List ℕ) (new : IsNewPool limits sites pool) (count : length kept ≡ sites) (none : NothingIsKept kept) where
+module _ (limits : Bounds) (sites : ℕ) (pool : PoolShown (Unit {0})) (kept : List SiteLeases) (told : List ℕ) (new : IsNewPool limits sites pool) (count : length kept ≡ sites) (none : NothingIsKept kept) where
   pub new-hosted : told ≡ replicate sites 0 → AreHosted pool kept told
   new-hosted is = record {
     due_kept = record {

@@ -13,7 +13,7 @@ use Rattle.pool_rules.specs.AllHosts.{AllHosts, log_at, terms, IsAtRest}
 use Rattle.bundle.specs.Seats.{Tables}
 use Rattle.cache.specs.Pools.{PoolShown, host_at, all_hosts, AreInPlace, IsMadeHere, IsTicketHere, KeepsHost}
 use Rattle.cache.proofs.OneHost.{log_is}
-use Rattle.script_engine.specs.declared.kept.Kept.{Kept}
+use Rattle.script_engine.specs.declared.site_leases.SiteLeases.{SiteLeases}
 use Rattle.script_rules.specs.Meaning.{claimed_number}
 use Rattle.script_engine.specs.Hosted.{Keeps, KeepsDue, KeepsLeases, KeepsTickets, LeaseFacts, lease_facts, whereabouts, kept_facts, leases_of, wanted, wanted_at, tickets_of, due_others}
 use Rattle.script_engine.proofs.Tickets.{among-keys}
@@ -187,7 +187,7 @@ module _ {S : Type 0} (old new final : HostShown S) (here : whereabouts final �
   }
 
 -- where nobody's lease or ticket changed, what is due stays kept
-pub due-stays : (old new : HostShown (Unit {0})) (kept : Kept) → KeepsHost old new → KeepsDue old kept → KeepsDue new kept
+pub due-stays : (old new : HostShown (Unit {0})) (kept : SiteLeases) → KeepsHost old new → KeepsDue old kept → KeepsDue new kept
 due-stays old new kept stays due = record {
   keeps = keeps-same old new (same-whereabouts old new stays.stays.same) (get nat_cmp kept.leases) (get nat_cmp kept.tickets) due.keeps stays.keeps;
   holders = due.holders;

@@ -20,7 +20,7 @@ use Rattle.script_text.specs.declared.command.Action.{Action}
 use Rattle.script_text.specs.declared.command.Ending.{Ending}
 use Rattle.script_text.specs.declared.fault.FaultKind.{FaultKind}
 use Rattle.script_text.specs.Printing.{GivesText, refused}
-use Rattle.script_engine.specs.declared.kept.Kept.{Kept}
+use Rattle.script_engine.specs.declared.site_leases.SiteLeases.{SiteLeases}
 use Rattle.script_engine.specs.Hosted.{KeepsDue, KeepsAllDue, NoneIsCut, AreHosted, GivesAt, kept_at, lease_facts}
 use Rattle.script_rules.specs.Telling.{AllGrowAfter, WereTold, lines_told}
 use Rattle.script_rules.specs.Meaning.{AtSite, act_at, claimed_number, back_at, drop_at, leave_at, grown, stranger, facts_of_ending, without_ticket}
@@ -54,7 +54,7 @@ module _ (by : ℕ) (limits : Bounds) (site : ℕ) (old new : AllHosts) where
 pub others-at : {S : Type 0} (pool new : PoolShown S) (named site : ℕ) → named ≡ site → KeepsOtherHosts named pool new → KeepsOtherHosts site pool new
 others-at pool new named site at others = subst (λ (one : ℕ). KeepsOtherHosts one pool new) at others
 
-module _ (pool : PoolShown (Unit {0})) (rest : IsAtRest pool.limits (all_hosts pool)) (places : AreInPlace pool) (site : ℕ) (there : site < length pool.hosts) (kept : Kept) (keeps : KeepsDue (host_at pool site) kept) (transfer : ℕ) where
+module _ (pool : PoolShown (Unit {0})) (rest : IsAtRest pool.limits (all_hosts pool)) (places : AreInPlace pool) (site : ℕ) (there : site < length pool.hosts) (kept : SiteLeases) (keeps : KeepsDue (host_at pool site) kept) (transfer : ℕ) where
   sound : IsSound (host_at pool site).settings (host_at pool site).log
   sound = sound-at pool rest places site there
 
@@ -175,8 +175,8 @@ module _ (pool : PoolShown (Unit {0})) (rest : IsAtRest pool.limits (all_hosts p
           ∙ ap (λ (tickets : List ℕ). grown (kept_at pool kept) (record { all = all_hosts new; tickets = tickets })) (sym fewer)
 
 -- a command that spends what the transfer has at a site, or answers that it is a stranger
-module _ (pool new : PoolShown (Unit {0})) (kept : List Kept) (told : List ℕ) (hosted : AreHosted pool kept told) (site : ℕ) (there : site < length (logs_of pool.hosts))
-    (was here : Kept) (is : was ≡ slice_index_or kept site was) (transfer : ℕ) (grow : AllGrowAfter transfer (all_hosts pool) (all_hosts new)) (keeps : KeepsDue (host_at new site) here)
+module _ (pool new : PoolShown (Unit {0})) (kept : List SiteLeases) (told : List ℕ) (hosted : AreHosted pool kept told) (site : ℕ) (there : site < length (logs_of pool.hosts))
+    (was here : SiteLeases) (is : was ≡ slice_index_or kept site was) (transfer : ℕ) (grow : AllGrowAfter transfer (all_hosts pool) (all_hosts new)) (keeps : KeepsDue (host_at new site) here)
     (others : KeepsOtherHosts site pool new) (stays : StaysPool pool new) where
   placed : site < length kept
   placed = kept-there pool kept hosted.due_kept site there

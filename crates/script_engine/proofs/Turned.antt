@@ -13,7 +13,7 @@ use Rattle.pool_rules.specs.AllHosts.{IsAtRest}
 use Rattle.cache.specs.Pools.{PoolShown, host_at, logs_of, all_hosts, AreInPlace, KeepsOtherHosts, StaysPool}
 use Rattle.cache.proofs.Keeping.{stays_pool, stays_pool_on}
 use Rattle.cache.proofs.OneHost.{log_is}
-use Rattle.script_engine.specs.declared.kept.Kept.{Kept}
+use Rattle.script_engine.specs.declared.site_leases.SiteLeases.{SiteLeases}
 use Rattle.script_rules.specs.Meaning.{AtSite}
 use Rattle.script_rules.specs.Ending.{AreThoseLeft, after_all_at, after_all_from, IsEnding}
 use Rattle.script_engine.specs.Hosted.{KeepsDue, KeepsAllDue, NothingIsKept, kept_at, tickets_kept, merged}
@@ -22,13 +22,13 @@ use Rattle.script_engine.proofs.Spending.{sound-at}
 use Rattle.script_engine.proofs.PooledSites.{set-here, set-other, due-after, tickets-at}
 
 -- the transfers that have something at a site, and at each site
-abbrev pub those : Kept → List ℕ
+abbrev pub those : SiteLeases → List ℕ
 those here = merged (keys here.leases) (keys here.tickets)
 
-abbrev pub leaving : List Kept → List (List ℕ)
+abbrev pub leaving : List SiteLeases → List (List ℕ)
 leaving kept = map those kept
 
-pub those-left : (pool : PoolShown (Unit {0})) (site : ℕ) (here : Kept) → site < length pool.hosts → IsAtRest pool.limits (all_hosts pool) → AreInPlace pool → KeepsDue (host_at pool site) here
+pub those-left : (pool : PoolShown (Unit {0})) (site : ℕ) (here : SiteLeases) → site < length pool.hosts → IsAtRest pool.limits (all_hosts pool) → AreInPlace pool → KeepsDue (host_at pool site) here
     → AreThoseLeft site (kept_at pool here) (those here)
 those-left pool site here there rest places keeps = record {
   ascending = IsStrictlyIncreasing-from_sorted (those here) (sorted-merged (keys here.leases) (keys here.tickets) keeps.holders);
@@ -36,15 +36,15 @@ those-left pool site here there rest places keeps = record {
 }
 
 -- those before a site gave up what they had, the others have it still, and what is left to do leads to what is due
-pub record AreTurned (site : ℕ) (start pool : PoolShown (Unit {0})) (first kept : List Kept) : Type 0 where
+pub record AreTurned (site : ℕ) (start pool : PoolShown (Unit {0})) (first kept : List SiteLeases) : Type 0 where
   pub due : KeepsAllDue pool kept
   pub stays : StaysPool start pool
   pub count : length kept ≡ length first
-  pub rest : (s : ℕ) (d : Kept) → site ≤ s → slice_index_or kept s d ≡ slice_index_or first s d
-  pub spent : (s : ℕ) (here : Kept) → s < site → slice_get kept s ≡ Some here → IsEmpty here.leases × IsEmpty here.tickets
+  pub rest : (s : ℕ) (d : SiteLeases) → site ≤ s → slice_index_or kept s d ≡ slice_index_or first s d
+  pub spent : (s : ℕ) (here : SiteLeases) → s < site → slice_get kept s ≡ Some here → IsEmpty here.leases × IsEmpty here.tickets
   pub left : after_all_from start.limits site (all_hosts pool) (drop site (tickets_kept first)) (drop site (leaving first)) ≡ after_all_from start.limits 0 (all_hosts start) (tickets_kept first) (leaving first)
 
-pub none-turned : (start : PoolShown (Unit {0})) (first : List Kept) → KeepsAllDue start first → AreTurned 0 start start first first
+pub none-turned : (start : PoolShown (Unit {0})) (first : List SiteLeases) → KeepsAllDue start first → AreTurned 0 start start first first
 none-turned start first due = record {
   due = due;
   stays = stays_pool start;
@@ -55,13 +55,13 @@ none-turned start first due = record {
 }
 
 -- what is next, read from a list
-next-of : {A : Type 0} (of : Kept → A) (first : List Kept) (site : ℕ) (was : Kept) (none : A) → site < length first → slice_index_or first site was ≡ was
+next-of : {A : Type 0} (of : SiteLeases → A) (first : List SiteLeases) (site : ℕ) (was : SiteLeases) (none : A) → site < length first → slice_index_or first site was ≡ was
     → drop site (map of first) ≡ of was ∷ drop (suc site) (map of first)
 next-of of first site was none there is =
     let within : site < length (map of first) = subst (λ (n : ℕ). site < n) (sym (length-map first of)) there in
     drop-cons (map of first) site (of was) within ∙ ap (λ x. x ∷ drop (suc site) (map of first)) (get_or-map of first site was ∙ ap of is)
 
-module _ (site : ℕ) (start pool new : PoolShown (Unit {0})) (first kept : List Kept) (was here : Kept) where
+module _ (site : ℕ) (start pool new : PoolShown (Unit {0})) (first kept : List SiteLeases) (was here : SiteLeases) where
   -- one site more
   pub one-turned : AreTurned site start pool first kept → site < length kept → was ≡ slice_index_or kept site was
       → kept_at new here ≡ after_all_at pool.limits site (kept_at pool was) (those was) → IsEmpty here.leases → IsEmpty here.tickets
@@ -73,12 +73,12 @@ module _ (site : ℕ) (start pool new : PoolShown (Unit {0})) (first kept : List
     count = length-set kept site here ∙ turned.count;
     rest = λ s d le. get_or-set_other kept site s here d (λ e. omega (arith, le, e)) ∙ turned.rest s d (omega (arith, le));
     spent = λ s one lt is. elim (eqb_tells s site) [
-      | inl same ↦ subst (λ (k : Kept). IsEmpty k.leases × IsEmpty k.tickets) (set-here kept site here one there (subst (λ (i : ℕ). slice_get (slice_set kept site here) i ≡ Some one) same.1 is)) (no_lease, no_ticket)
+      | inl same ↦ subst (λ (k : SiteLeases). IsEmpty k.leases × IsEmpty k.tickets) (set-here kept site here one there (subst (λ (i : ℕ). slice_get (slice_set kept site here) i ≡ Some one) same.1 is)) (no_lease, no_ticket)
       | inr apart ↦ turned.spent s one (omega (arith, lt, apart.1)) (set-other kept site s here one apart.1 is)
     ];
     left = ap (λ (n : ℕ). after_all_from start.limits n (all_hosts new) (drop n tickets) (drop n transfers)) (add-one site)
         ∙ ap (λ (a : AtSite). after_all_from start.limits (suc site) a.all (drop (suc site) tickets) (drop (suc site) transfers)) all_is
-        ∙ ap (λ (l : List (List ℕ)). after_all_from start.limits site (all_hosts pool) l (those was ∷ drop (suc site) transfers)) (sym (next-of (λ (k : Kept). keys k.tickets) first site was [] there_first read_first))
+        ∙ ap (λ (l : List (List ℕ)). after_all_from start.limits site (all_hosts pool) l (those was ∷ drop (suc site) transfers)) (sym (next-of (λ (k : SiteLeases). keys k.tickets) first site was [] there_first read_first))
         ∙ ap (λ (l : List (List ℕ)). after_all_from start.limits site (all_hosts pool) (drop site tickets) l) (sym (next-of those first site was [] there_first read_first))
         ∙ turned.left;
   }
@@ -98,7 +98,7 @@ module _ (site : ℕ) (start pool new : PoolShown (Unit {0})) (first kept : List
       all_is : kept_at new here ≡ after_all_at start.limits site (kept_at pool was) (those was)
       all_is = all ∙ ap (λ (l : Bounds). after_all_at l site (kept_at pool was) (those was)) turned.stays.limits
 
-module _ (start pool : PoolShown (Unit {0})) (first kept : List Kept) (due : KeepsAllDue start first) (last : ℕ) (all : length first ≤ last) (turned : AreTurned last start pool first kept) where
+module _ (start pool : PoolShown (Unit {0})) (first kept : List SiteLeases) (due : KeepsAllDue start first) (last : ℕ) (all : length first ≤ last) (turned : AreTurned last start pool first kept) where
   pub nothing-kept : NothingIsKept kept
   nothing-kept s here is = turned.spent s here (omega (arith, slice_get_within kept s here is, turned.count, all)) is
 
@@ -114,9 +114,9 @@ module _ (start pool : PoolShown (Unit {0})) (first kept : List Kept) (due : Kee
       many = due.count ∙ sym (length-map start.hosts (λ h. h.log))
 
       none_left : drop last (tickets_kept first) ≡ []
-      none_left = drop_all last (tickets_kept first) (omega (arith, all, length-map first (λ (k : Kept). keys k.tickets)))
+      none_left = drop_all last (tickets_kept first) (omega (arith, all, length-map first (λ (k : SiteLeases). keys k.tickets)))
 
-      left_at : (site : ℕ) → site < length first → ((here : Kept) × (site < length first) × (slice_get first site ≡ Some here) × (slice_index_or first site here ≡ here)) ⊎ ((length first ≤ site) × (slice_get first site ≡ None))
+      left_at : (site : ℕ) → site < length first → ((here : SiteLeases) × (site < length first) × (slice_get first site ≡ Some here) × (slice_index_or first site here ≡ here)) ⊎ ((length first ≤ site) × (slice_get first site ≡ None))
           → AreThoseLeft site (record { all = all_hosts start; tickets = slice_index_or (tickets_kept first) site [] }) (slice_index_or (leaving first) site [])
       left_at site there (inl found) =
           let here = found.0 in

@@ -8,11 +8,9 @@ use Rattle.bundle.specs.Seats.{Tables}
 use Rattle.bundle.specs.Lease.{HostShown, Leasing, Ticketed, lease_number, ticket_want}
 use Rattle.conn_log.specs.declared.entry.Want.{Want}
 use Rattle.cache.specs.Pools.{PoolShown, host_at, all_hosts, logs_of}
-use Rattle.script_rules.specs.Meaning.{ScriptHosts, AtSite, at_site, with_site_as, with_ticket, Answer, get_at, claim_at, limit_at, act_at, answer_of, prune_all, upkeep_all}
+use Rattle.script_rules.specs.Meaning.{ScriptHosts, AtSite, at_site, with_site_as, with_ticket, Answer, get_at, claim_at, limit_at, act_at}
 use Rattle.script_rules.specs.Ending.{after_giving_up}
-use Rattle.script_engine.specs.declared.asked.Asked.{Asked}
-use Rattle.script_engine.specs.declared.asked.Asked.TheVariants as asks
-use Rattle.script_engine.specs.declared.kept.Kept.{Kept}
+use Rattle.script_engine.specs.declared.site_leases.SiteLeases.{SiteLeases}
 use Rattle.script_text.specs.Printing.{GivesText}
 use Rattle.script_text.specs.declared.command.Action.{Action}
 use Rattle.script_text.specs.declared.command.Action.TheVariants as actions
@@ -52,19 +50,13 @@ pub record GivesAll {T : Type 0} (bytes : T → List ℕ) (old : Hosted) (answer
   pub text : GivesText bytes (answer old.limits old.hosts).text result
   pub left : new ≡ record old { hosts = (answer old.limits old.hosts).hosts }
 
--- what a command after the limits asks of the hosts
-abbrev pub asked_answer : Asked → Bounds → ScriptHosts → Answer
-asked_answer (asks.At site action) limits hosts = answer_of limits hosts site action
-asked_answer (asks.Prune max_age max_life moment) limits hosts = prune_all limits max_age max_life moment hosts
-asked_answer asks.Upkeep limits hosts = upkeep_all hosts
-
--- it answers that; only memory can fail it
+-- the hosts answer that to a command; only memory can fail it
 abbrev pub AnswersAsked : {T : Type 0} → (T → List ℕ) → Hosted → (Bounds → ScriptHosts → Answer) → Result T FaultKind → Hosted → Type 0
 AnswersAsked bytes old answer (Ok text) new = (answer old.limits old.hosts ≡ record { hosts = new.hosts; text = bytes text }) × (new.limits ≡ old.limits)
 AnswersAsked bytes old answer (Err kind) new = (kind ≡ Memory) × (new.limits ≡ old.limits)
 
 -- all hosts of a pool, and the transfers whose tickets are kept of one site
-abbrev pub kept_at : {S : Type 0} → PoolShown S → Kept → AtSite
+abbrev pub kept_at : {S : Type 0} → PoolShown S → SiteLeases → AtSite
 kept_at pool kept = record { all = all_hosts pool; tickets = keys kept.tickets }
 
 -- where a lease or a ticket is made: the host's index, and its tables
@@ -112,33 +104,33 @@ pub record Keeps {S : Type 0} (host : HostShown S) (lease_of : ℕ → Option (L
   pub tickets : KeepsTickets (tickets_of host) ticket_of
 
 -- a host's leases and tickets are kept, each by its transfer, in ascending order; and nothing was cut away from its log
-pub record KeepsDue (host : HostShown (Unit {0})) (kept : Kept) : Type 0 where
+pub record KeepsDue (host : HostShown (Unit {0})) (kept : SiteLeases) : Type 0 where
   pub keeps : Keeps host (get nat_cmp kept.leases) (get nat_cmp kept.tickets)
   pub holders : IsOrdered nat_cmp kept.leases
   pub waiters : IsOrdered nat_cmp kept.tickets
   pub uncut : host.cut_away ≡ 0
 
 -- of each host of the pool its leases and tickets are kept
-pub record KeepsAllDue (pool : PoolShown (Unit {0})) (kept : List Kept) : Type 0 where
+pub record KeepsAllDue (pool : PoolShown (Unit {0})) (kept : List SiteLeases) : Type 0 where
   pub count : length kept ≡ length pool.hosts
-  pub each : (site : ℕ) (here : Kept) → slice_get kept site ≡ Some here → KeepsDue (host_at pool site) here
+  pub each : (site : ℕ) (here : SiteLeases) → slice_get kept site ≡ Some here → KeepsDue (host_at pool site) here
 
 -- nothing was cut away from the log of any host, so that what is left of each is the whole
 abbrev pub NoneIsCut : {S : Type 0} → PoolShown S → Type 0
 NoneIsCut pool = (site : ℕ) → site < length pool.hosts → (host_at pool site).cut_away ≡ 0
 
 -- so they are of a script's hosts, and all entries were told
-pub record AreHosted (pool : PoolShown (Unit {0})) (kept : List Kept) (told : List ℕ) : Type 0 where
+pub record AreHosted (pool : PoolShown (Unit {0})) (kept : List SiteLeases) (told : List ℕ) : Type 0 where
   pub due_kept : KeepsAllDue pool kept
   pub all_told : told ≡ map length (logs_of pool.hosts)
 
 -- nobody has a lease or a ticket
-abbrev pub NothingIsKept : List Kept → Type 0
-NothingIsKept kept = (site : ℕ) (here : Kept) → slice_get kept site ≡ Some here → IsEmpty here.leases × IsEmpty here.tickets
+abbrev pub NothingIsKept : List SiteLeases → Type 0
+NothingIsKept kept = (site : ℕ) (here : SiteLeases) → slice_get kept site ≡ Some here → IsEmpty here.leases × IsEmpty here.tickets
 
 -- the transfers whose tickets are kept of each site
-abbrev pub tickets_kept : List Kept → List (List ℕ)
-tickets_kept kept = map (λ (here : Kept). keys here.tickets) kept
+abbrev pub tickets_kept : List SiteLeases → List (List ℕ)
+tickets_kept kept = map (λ (here : SiteLeases). keys here.tickets) kept
 
 -- what is due of the other transfers alone
 abbrev pub due_others : {A : Type 0} → ℕ → (ℕ → Option A) → ℕ → Option A

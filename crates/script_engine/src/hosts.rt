@@ -1,18 +1,18 @@
-//! The hosts of a script: their pool, and what the transfers have at each of them.
+//! The hosts of a script: their pool, and the leases and tickets of its transfers.
 
 ghost use Rattle.std.specs.Prelude.{◌≡◌, ◌<◌, ◌≤◌, length, string_bytes, IfOk, IfErr};
 ghost use Rattle.std.specs.Prelude.{IfNone, IfSome};
 ghost use Rattle.budget.specs.Limits.{Bounds};
 ghost use Rattle.cache.specs.Pools.{all_hosts, StaysPool};
 ghost use Rattle.script_text.specs.declared.command.Action.TheVariants as actions;
+ghost use Rattle.script_text.specs.declared.command.HostCommand.TheVariants as asks;
 ghost use Rattle.pool_rules.specs.AllHosts.{log_at};
-ghost use Rattle.script_rules.specs.Meaning.{new_hosts, at_site};
+ghost use Rattle.script_rules.specs.Meaning.{asked_answer, new_hosts, at_site};
 ghost use Rattle.script_rules.specs.Ending.{IsEnding};
-ghost use Rattle.script_engine.specs.Hosted.{GivesAt, GivesAll, asked_answer};
+ghost use Rattle.script_engine.specs.Hosted.{GivesAt, GivesAll};
 ghost use Rattle.script_engine.specs.Hosted.{KeepsAllDue, NothingIsKept, tickets_kept};
-ghost use Rattle.script_engine.specs.declared.asked.Asked.TheVariants as asks;
 
-use crate::kept::Kept;
+use crate::site_leases::SiteLeases;
 use crate::telling::lines;
 use budget::{Limits, Refusal};
 use bundle::Snapshot;
@@ -22,11 +22,11 @@ use script_text::{Ending, FaultKind, LookLine, reply, too_many_leased, upkeep};
 use std::alloc::Global;
 use std::marker::Model;
 
-/// The pool of the hosts, of each site the leases and tickets of its transfers, and how many
-/// entries of its log were told. No stream is behind a lease. It must be ended.
+/// The pool of the hosts, the leases and tickets of each site's transfers, and the number of its
+/// log's entries that were told. Leases have empty streams. It must be ended.
 pub struct PooledHosts {
     pool: Pool<()>,
-    kept: Vec<Kept>,
+    kept: Vec<SiteLeases>,
     told: Vec<usize>,
 }
 
@@ -45,7 +45,7 @@ impl Model for PooledHosts {
 }
 
 impl PooledHosts {
-    /// So many hosts without connections under these limits.
+    /// Makes hosts without connections, under these limits.
     pub fn new(alloc: Global, limits: Limits, sites: u32) -> Result<PooledHosts, FaultKind>
         requires few { sites ≤ 1024 }
         ensures ok { IfOk result (λ h. h ≡ record { limits = limits; hosts = new_hosts sites }) }
@@ -62,7 +62,7 @@ impl PooledHosts {
         };
         while told.len() < sites as usize {
             told.push_reserved(0);
-            kept.push_reserved(Kept::new(alloc));
+            kept.push_reserved(SiteLeases::new(alloc));
         }
         Ok(PooledHosts { pool, kept, told })
     }
@@ -95,13 +95,13 @@ impl PooledHosts {
         ensures { GivesAt string_bytes self.old site (actions.Get want moment) result self.new }
     {
         let begun = self.kept[site as usize].acquire(&mut self.pool, site, want, moment);
-        // What happened counts as told, also where what was acquired could not be kept.
+        // Events count as told even if the lease or ticket could not be kept.
         let text = lines(alloc, &self.pool, &mut self.told, want.transfer);
         match begun {
             Ok(()) => text,
             Err(Refusal::TransferBusy) => reply(alloc, "busy"),
             Err(Refusal::Exhausted) => reply(alloc, "exhausted"),
-            // The one other reason is want of memory.
+            // The only other reason is an allocation failure.
             Err(_) => Err(FaultKind::Memory),
         }
     }
@@ -114,7 +114,7 @@ impl PooledHosts {
         match self.kept[site as usize].claim(alloc, &mut self.pool, site, transfer) {
             Ok(text) => Ok(text),
             Err(kind) => {
-                // What is given up then is told to nobody.
+                // The transcript does not tell that the lease was given up.
                 let _untold = lines(alloc, &self.pool, &mut self.told, transfer);
                 Err(kind)
             }
@@ -161,7 +161,7 @@ impl PooledHosts {
         }
     }
 
-    /// The transfer leaves where it waits.
+    /// The transfer stops waiting.
     pub fn leave(
         &mut self,
         alloc: Global,
@@ -180,7 +180,7 @@ impl PooledHosts {
         }
     }
 
-    /// The site's host may have so many open connections from now on.
+    /// Changes the most open connections of the site's host.
     pub fn limit(
         &mut self,
         alloc: Global,
@@ -196,17 +196,17 @@ impl PooledHosts {
             Ok(()) => lines(alloc, &self.pool, &mut self.told, 0),
             Err(Refusal::BadLimit) => reply(alloc, "bad-limit"),
             Err(Refusal::Busy(held)) => too_many_leased(alloc, held),
-            // The one other reason is want of memory.
+            // The only other reason is an allocation failure.
             Err(_) => Err(FaultKind::Memory),
         }
     }
 
-    /// What the site's connections do.
+    /// The numbers of the site's connections and waiters.
     pub fn look(&self, alloc: Global, site: u32) -> Result<String, FaultKind>
         requires there { site < length self.now.hosts.all.logs }
         ensures { GivesAt string_bytes self.now site actions.Look result self.now }
     {
-        // For the proof: each host has the pool's limits.
+        // Proof: each host has the pool's limits.
         let _log = self.pool.log(site);
         let Ok(counts) = self.pool.look(site) else {
             unreachable!()
@@ -232,8 +232,8 @@ impl PooledHosts {
         }
     }
 
-    /// Closes, at all hosts, each idle connection that is idle for longer than `max_age`, or open
-    /// for longer than `max_life`.
+    /// Closes, at all hosts, the connections that are idle for longer than `max_age` seconds, or
+    /// open for longer than `max_life` seconds if that is not 0.
     pub fn prune(
         &mut self,
         alloc: Global,
@@ -256,8 +256,8 @@ impl PooledHosts {
         upkeep(alloc, self.pool.upkeep())
     }
 
-    /// Abandons the leases and withdraws the tickets, by site and then by transfer, at moment 0;
-    /// gives the pool that is left.
+    /// Abandons the leases and withdraws the tickets, by site and then by transfer, at moment 0.
+    /// Gives the pool.
     pub fn end(self) -> Pool<()>
         ensures ending { IsEnding self.limits self.hosts (all_hosts result) }
         ensures limits { result.limits ≡ self.limits }
@@ -275,7 +275,7 @@ impl PooledHosts {
 }
 
 /// Abandons the leases and withdraws the tickets, by site and then by transfer, at moment 0.
-fn spend_all(pool: &mut Pool<()>, kept: &mut Vec<Kept>)
+fn spend_all(pool: &mut Pool<()>, kept: &mut Vec<SiteLeases>)
     requires keeps { KeepsAllDue pool.old kept.old.items }
     ensures ending { IsEnding pool.old.limits
         (record { all = all_hosts pool.old; tickets = tickets_kept kept.old.items })
@@ -283,15 +283,15 @@ fn spend_all(pool: &mut Pool<()>, kept: &mut Vec<Kept>)
     ensures nothing { NothingIsKept kept.new.items }
     ensures stays { StaysPool pool.old pool.new }
 {
-    // For the proof: all hosts are at rest, each in its place.
+    // Proof: all hosts are at rest, each in its place.
     let _log = pool.log(0);
     for site in 0..pool.hosts() {
         kept[site as usize].spend_all(pool, site);
     }
 }
 
-/// Gives all of them up, where nobody has anything.
-fn destroy_all(kept: Vec<Kept>)
+/// Drops the leases and tickets, which must be empty.
+fn destroy_all(kept: Vec<SiteLeases>)
     requires { NothingIsKept kept.items }
 {
     let mut kept = kept;

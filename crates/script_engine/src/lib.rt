@@ -1,13 +1,11 @@
-//! What a script's commands do: the engine that runs them over a pool, and the laws of every
-//! script.
+//! The engine that runs a script's commands over a pool.
 #![tactic(auto)]
 
-mod asked;
 mod facts;
 mod hosts;
-mod kept;
 mod line;
 mod machine;
+mod site_leases;
 mod telling;
 
 pub use line::line_text;

@@ -1,4 +1,4 @@
-//! What a script's commands do, one after another.
+//! Runs a script's commands, one after another.
 
 ghost use Rattle.std.specs.Prelude.{◌≡◌, ◌<◌, ◌≤◌, ◌⊎◌, IfErr, IfOk, OnOk, IfNone, IfSome, length};
 ghost use Rattle.std.specs.Prelude.{IsSome, Some, None, true, string_bytes};
@@ -8,38 +8,37 @@ ghost use Rattle.script_text.specs.Printing.{GivesText};
 ghost use Rattle.script_text.specs.declared.command.Limits.{Limits};
 ghost use Rattle.script_rules.specs.Meaning.{Run, start, step, begun, with_limits, with_url};
 ghost use Rattle.script_rules.specs.Meaning.{with_answer, at_script_end, at_no_host, are_good};
-ghost use Rattle.script_rules.specs.Meaning.{bounds_given};
+ghost use Rattle.script_rules.specs.Meaning.{asked_answer, bounds_given};
 ghost use Rattle.script_rules.specs.Ending.{IsEnding};
 ghost use Rattle.script_rules.specs.Transcript.{Answers};
-ghost use Rattle.script_engine.specs.Hosted.{GivesAt, AnswersAsked, asked_answer};
+ghost use Rattle.script_engine.specs.Hosted.{GivesAt, AnswersAsked};
 
-use crate::asked::Asked;
 use crate::hosts::PooledHosts;
 use cache::Pool;
 use conn_key::{CountedMemory, Sites, SitesFault};
 use conn_log::Log;
-use script_text::{Action, Command, FaultKind, Limits, SiteWord, reply};
+use script_text::{Action, Command, FaultKind, HostCommand, Limits, SiteWord, reply};
 use std::alloc::Global;
 use std::marker::Model;
 use std::mem;
 
-/// What answers a script's commands.
+/// A machine that runs a script's commands.
 pub trait Machine {
     ghost use Rattle.script_rules.specs.Meaning.{Run};
 
-    /// What the commands so far came to.
+    /// The state of the run after the commands so far.
     ghost run: { Self → Run };
 
-    /// Does what a command says, and gives the lines that tell of it. Nothing changes where that
-    /// is refused, but for want of memory.
+    /// Carries out a command, and gives its lines of the transcript. A refused command changes
+    /// nothing, unless memory ran out.
     fn answer(&mut self, command: Command<'_>) -> Result<String, FaultKind>
         ensures meant { Answers string_bytes (step (run self.old) command.entry) result
             (run self.new) }
         ensures same { IfErr result (λ kind.
             (kind ≡ FaultKind.Memory) ⊎ (run self.new ≡ run self.old)) };
 
-    /// What is due at the script's end: where limits are given the hosts are made by then, also
-    /// where no command came. The only error is `Memory`.
+    /// Ends the script. If limits were given, the hosts are made by then, even if no command came.
+    /// The only error is `Memory`.
     fn end_of_script(&mut self) -> Result<(), FaultKind>
         ensures ok { OnOk result (run self.new ≡ at_script_end (run self.old)
             (run self.old).limits) }
@@ -84,17 +83,7 @@ impl Machine for Engine {
         match command {
             Command::Limits(limits) => self.set_limits(limits),
             Command::Site(word) => self.add_site(&word),
-            Command::At { site, action } => self.ask(Asked::At { site, action }),
-            Command::Prune {
-                max_age,
-                max_life,
-                moment,
-            } => self.ask(Asked::Prune {
-                max_age,
-                max_life,
-                moment,
-            }),
-            Command::Upkeep => self.ask(Asked::Upkeep),
+            Command::Ask(asked) => self.ask(asked),
         }
     }
 
@@ -107,7 +96,7 @@ impl Machine for Engine {
 }
 
 impl Engine {
-    /// A run before its first command. The only error is `Memory`.
+    /// Begins a run. The only error is `Memory`.
     pub fn new(alloc: Global) -> Result<Engine, FaultKind>
         ensures ok { IfOk result (λ engine. engine ≡ start) }
         ensures err { IfErr result (λ kind. kind ≡ FaultKind.Memory) }
@@ -138,7 +127,8 @@ impl Engine {
         &self.sites
     }
 
-    /// The log of a site's host; none before the first command after the sites, and at no site.
+    /// The log of a site's host. None before the first command after the sites, or if there is no
+    /// such site.
     pub fn log(&self, site: u32) -> Option<&Log>
         ensures there { IfSome result (λ log.
             log.now.entries ≡ log_at self.now.hosts.all site) }
@@ -151,7 +141,7 @@ impl Engine {
     }
 
     /// Abandons the leases that are left, and withdraws the tickets, by site and then by transfer,
-    /// at moment 0; gives the pool that is left, where one was made.
+    /// at moment 0. Gives the pool, if one was made.
     pub fn end(self) -> Option<Pool<()>>
         ensures ending { IfSome result (λ pool. IsEnding pool.limits self.hosts (all_hosts pool)) }
         ensures limits { (limits : Limits) → self.limits ≡ Some limits
@@ -203,8 +193,8 @@ impl Engine {
         }
     }
 
-    /// What comes after the limits and the sites.
-    fn ask(&mut self, asked: Asked) -> Result<String, FaultKind>
+    /// Asks the hosts, after the limits and the sites.
+    fn ask(&mut self, asked: HostCommand) -> Result<String, FaultKind>
         ensures meant { Answers string_bytes
             (with_answer self.old (asked_answer asked) self.old.limits) result self.new }
         ensures same { IfErr result (λ kind.
@@ -217,12 +207,12 @@ impl Engine {
         let alloc = self.alloc;
         match &mut self.hosts {
             Some(hosts) => answer_asked(hosts, alloc, asked),
-            // They were made.
+            // The hosts were made.
             None => unreachable!(),
         }
     }
 
-    /// Makes the hosts, at the first command after the sites. The only error is `Memory`.
+    /// Makes the hosts at the first command after the sites. The only error is `Memory`.
     fn begin(&mut self, limits: Limits) -> Result<(), FaultKind>
         requires limits { self.old.limits ≡ Some limits }
         ensures ok { OnOk result (self.new ≡ begun self.old) }
@@ -232,7 +222,7 @@ impl Engine {
             return Ok(());
         }
         let Ok(bounds) = budget::Limits::new(limits.host, limits.total, limits.kept) else {
-            // They were good when they were given.
+            // The limits were good when they were given.
             unreachable!()
         };
         let hosts = PooledHosts::new(self.alloc, bounds, self.sites.len() as u32)?;
@@ -250,28 +240,32 @@ fn are_good(limits: Limits) -> bool
     budget::Limits::new(limits.host, limits.total, limits.kept).is_ok()
 }
 
-/// What the hosts answer to that.
-fn answer_asked(hosts: &mut PooledHosts, alloc: Global, asked: Asked) -> Result<String, FaultKind>
+/// The hosts' answer to a command.
+fn answer_asked(
+    hosts: &mut PooledHosts,
+    alloc: Global,
+    asked: HostCommand,
+) -> Result<String, FaultKind>
     ensures { AnswersAsked string_bytes hosts.old (asked_answer asked) result hosts.new }
 {
     match asked {
-        Asked::At { site, action } => {
+        HostCommand::At { site, action } => {
             if site < hosts.sites() {
                 answer_at(hosts, alloc, site, action)
             } else {
                 answer_without_host(alloc, action)
             }
         }
-        Asked::Prune {
+        HostCommand::Prune {
             max_age,
             max_life,
             moment,
         } => hosts.prune(alloc, max_age, max_life, moment),
-        Asked::Upkeep => hosts.upkeep(alloc),
+        HostCommand::Upkeep => hosts.upkeep(alloc),
     }
 }
 
-/// What the hosts answer at a site that is there.
+/// The hosts' answer to an action at a site.
 fn answer_at(
     hosts: &mut PooledHosts,
     alloc: Global,
@@ -296,7 +290,7 @@ fn answer_at(
     }
 }
 
-/// The answer at a site that is not there.
+/// The answer to an action at a site that does not exist.
 fn answer_without_host(alloc: Global, action: Action) -> Result<String, FaultKind>
     ensures { GivesText string_bytes (at_no_host action) result }
 {
@@ -311,14 +305,14 @@ fn answer_without_host(alloc: Global, action: Action) -> Result<String, FaultKin
     }
 }
 
-/// Puts the hosts in their place, where none were; others would be ended.
+/// Puts the hosts in their place, and ends those that were there, if any.
 fn put_hosts(place: &mut Option<PooledHosts>, hosts: PooledHosts)
     ensures { place.new ≡ Some hosts }
 {
     let _ = end_hosts(mem::replace(place, Some(hosts)));
 }
 
-/// Ends the hosts, where there are some; gives their pool.
+/// Ends the hosts, if they were made, and gives their pool.
 fn end_hosts(hosts: Option<PooledHosts>) -> Option<Pool<()>>
     ensures some { IfSome hosts (λ h. IfSome result (λ pool.
         IsEnding h.limits h.hosts (all_hosts pool) × (pool.limits ≡ h.limits))) }

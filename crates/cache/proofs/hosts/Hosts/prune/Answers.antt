@@ -24,7 +24,7 @@ next g c =
     let settled : IsSoundAndQuiet settings (log_at (all_hosts pool) site) =
     subst (λ (p : PoolShown g.row.S.Denot). IsSoundAndQuiet settings (log_at (all_hosts p) site)) c.self-in-loop-site.view_is
     (settled_at inside.bundles.items inside.budget inside.lobby inside.pass inside.noted site c.self-in-loop-site.invariant here) in
-    one_more_pruned c.args.now c.args.max_age c.args.max_life site c.loop-site.closed c.prune_at-closed.result c.args.self.now pool c.prune_at-closed.new.self settings c.loop-site.invariant there settled done.all done.count done.keeps done.stays
+    one_more_pruned c.args.now c.args.max_age c.args.max_life site c.loop-site.closed c.prune_at-closed.result c.args.self.now pool c.prune_at-closed.new.self settings c.loop-site.invariant there settled done.done done.count
 
 pub overflow_add-closed : goal.overflow_add-closed
 overflow_add-closed g c = omega (arith, (next g c).fits)
@@ -32,7 +32,7 @@ overflow_add-closed g c = omega (arith, (next g c).fits)
 pub loop-site-smaller : goal.loop-site-smaller
 loop-site-smaller g c =
     let done = c.prune_at-closed.ensures in
-    omega (arith, (next g c).within, c.loop-site.invariant.stays.count, done.stays.count)
+    omega (arith, (next g c).within, c.loop-site.invariant.stays.count, done.done.stays.count)
 
 pub loop-site-preserved : goal.loop-site-preserved
 loop-site-preserved g c = next g c
@@ -41,16 +41,9 @@ loop-site-preserved g c = next g c
 over : (g : _) (c : goal.After-loop-site g) → length c.loop-site.self.hosts ≤ c.loop-site.site
 over g c = rw (← c.self-in-loop-site.view_is) (search rules)
 
-pub returns-clause-all : goal.returns-clause-all
-returns-clause-all g c =
-    all_pruned c.args.now c.args.max_age c.args.max_life c.loop-site.site c.loop-site.closed c.args.self.now c.loop-site.self c.loop-site.invariant (over g c)
+pub returns-clause-done : goal.returns-clause-done
+returns-clause-done g c = all_pruned c.args.now c.args.max_age c.args.max_life c.loop-site.site c.loop-site.closed c.args.self.now c.loop-site.self c.loop-site.invariant (over g c)
 
 pub returns-clause-count : goal.returns-clause-count
 returns-clause-count g c =
     all_pruned_counted c.args.now c.args.max_age c.args.max_life c.loop-site.site c.loop-site.closed c.args.self.now c.loop-site.self c.loop-site.invariant (over g c)
-
-pub returns-clause-keeps : goal.returns-clause-keeps
-returns-clause-keeps g c = c.loop-site.invariant.keeps
-
-pub returns-clause-stays : goal.returns-clause-stays
-returns-clause-stays g c = c.loop-site.invariant.stays

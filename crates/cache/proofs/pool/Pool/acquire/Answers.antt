@@ -1,38 +1,66 @@
-use Rattle.std.proofs.Common.{sym, subst}
-use Rattle.cache.specs.Pools.{host_at, StreamsStay, OtherStreamsStay, GivesLease, GivesTicket}
-use Rattle.cache.proofs.Keeping.{site_on, others_on, streams_at, all_streams_at}
+use Rattle.std.proofs.Common.{◌≡◌, ap, subst, ◌∙◌}
+use Rattle.cache_trait.specs.Homes.{IsLeaseFor, IsTicketFor}
+use Rattle.cache_trait.specs.CacheCalls.CacheCall.{leases, begins_wait}
+use Rattle.pool_rules.specs.Calls.{acquired}
+use Rattle.cache.specs.Pools.{all_hosts}
+use Rattle.cache.specs.PoolCalls.{home_of, AcquiresBy, DidToPool}
+use Rattle.cache.proofs.PoolCalls.{told_lease, told_ticket}
+use Rattle.cache.proofs.Refusals.{still_none, still_owed, still_refused}
 use Rattle.cache.proofs.pool.Pool.acquire.Goals as goal
 
-pub returns-in-Ok-Lease-clause-site : goal.returns-in-Ok-Lease-clause-site
-returns-in-Ok-Lease-clause-site g c =
-    let there = rw c.len.ensures.count at c.if-site-len.false in
-    rw (sym c.self.view_is) (site_on c.self.inside.hosts c.acquire.new.self c.serve.new.self c.args.site c.acquire.ensures.stays there c.in-Ok-Lease.ensures.site c.serve.ensures.keeps)
-
-pub returns-in-Ok-Wait-clause-site : goal.returns-in-Ok-Wait-clause-site
-returns-in-Ok-Wait-clause-site g c =
-    let there = rw c.len.ensures.count at c.if-site-len.false in
-    rw (sym c.self.view_is) (site_on c.self.inside.hosts c.acquire.new.self c.serve-in-Ok-Wait.new.self c.args.site c.acquire.ensures.stays there c.in-Ok-Wait.ensures.site c.serve-in-Ok-Wait.ensures.keeps)
-
-pub returns-in-Ok-Lease-clause-others : goal.returns-in-Ok-Lease-clause-others
-returns-in-Ok-Lease-clause-others g c =
-    rw (sym c.self.view_is) (others_on c.args.site c.self.inside.hosts c.acquire.new.self c.serve.new.self c.acquire.ensures.stays c.acquire.ensures.others c.serve.ensures.keeps)
-
-pub returns-in-Ok-Wait-clause-others : goal.returns-in-Ok-Wait-clause-others
-returns-in-Ok-Wait-clause-others g c =
-    rw (sym c.self.view_is) (others_on c.args.site c.self.inside.hosts c.acquire.new.self c.serve-in-Ok-Wait.new.self c.acquire.ensures.stays c.acquire.ensures.others c.serve-in-Ok-Wait.ensures.keeps)
-
-pub returns-in-Ok-Lease-clause-streams : goal.returns-in-Ok-Lease-clause-streams
-returns-in-Ok-Lease-clause-streams g c =
+lease_tells : (g : _) (c : goal.After-serve g)
+    → IsLeaseFor (home_of c.serve.new.self) c.args.site c.args.want c.in-Ok-Lease.lease × DidToPool c.args.self.now c.serve.new.self (leases c.in-Ok-Lease.lease c.args.now) × (home_of c.serve.new.self ≡ home_of c.args.self.now)
+lease_tells g c =
     let start = c.self.inside.hosts in
-    let there = rw c.len.ensures.count at c.if-site-len.false in
-    let done = c.in-Ok-Lease.ensures in
-    let first = subst (λ got. GivesLease got (λ lease. OtherStreamsStay lease.start.number (host_at start c.args.site) (host_at c.acquire.new.self c.args.site))) c.in-Ok-Lease.field-0-is done.streams in
-    rw (sym c.self.view_is) (streams_at c.in-Ok-Lease.lease.start.number start c.acquire.new.self c.serve.new.self c.args.site c.acquire.ensures.stays there done.site first c.serve.ensures.keeps)
+    let end = acquired start.limits c.args.site c.args.want c.args.now (all_hosts start) in
+    told_lease start c.acquire.new.self c.serve.new.self c.args.self.now c.self.view_is c.args.now c.serve.ensures.done c.args.site c.args.want c.in-Ok-Lease.lease
+    (subst (λ got. AcquiresBy c.args.site c.args.want end.all end.reply start c.acquire.new.self got) c.in-Ok-Lease.field-0-is c.in-Ok-Lease.ensures.done)
 
-pub returns-in-Ok-Wait-clause-kept : goal.returns-in-Ok-Wait-clause-kept
-returns-in-Ok-Wait-clause-kept g c =
+pub returns-in-Ok-Lease-clause-given : goal.returns-in-Ok-Lease-clause-given
+returns-in-Ok-Lease-clause-given g c = (lease_tells g c).0
+
+pub returns-in-Ok-Lease-clause-done : goal.returns-in-Ok-Lease-clause-done
+returns-in-Ok-Lease-clause-done g c = (lease_tells g c).1
+
+pub returns-in-Ok-Lease-clause-stays : goal.returns-in-Ok-Lease-clause-stays
+returns-in-Ok-Lease-clause-stays g c = (lease_tells g c).2
+
+ticket_tells : (g : _) (c : goal.After-serve-in-Ok-Wait g)
+    → IsTicketFor (home_of c.serve-in-Ok-Wait.new.self) c.args.site c.args.want c.in-Ok-Wait.ticket × DidToPool c.args.self.now c.serve-in-Ok-Wait.new.self (begins_wait c.in-Ok-Wait.ticket c.args.now) × (home_of c.serve-in-Ok-Wait.new.self ≡ home_of c.args.self.now)
+ticket_tells g c =
     let start = c.self.inside.hosts in
+    let end = acquired start.limits c.args.site c.args.want c.args.now (all_hosts start) in
+    told_ticket start c.acquire.new.self c.serve-in-Ok-Wait.new.self c.args.self.now c.self.view_is c.args.now c.serve-in-Ok-Wait.ensures.done c.args.site c.args.want c.in-Ok-Wait.ticket
+    (subst (λ got. AcquiresBy c.args.site c.args.want end.all end.reply start c.acquire.new.self got) c.in-Ok-Wait.field-0-is c.in-Ok-Wait.ensures.done)
+
+pub returns-in-Ok-Wait-clause-given : goal.returns-in-Ok-Wait-clause-given
+returns-in-Ok-Wait-clause-given g c = (ticket_tells g c).0
+
+pub returns-in-Ok-Wait-clause-done : goal.returns-in-Ok-Wait-clause-done
+returns-in-Ok-Wait-clause-done g c = (ticket_tells g c).1
+
+pub returns-in-Ok-Wait-clause-stays : goal.returns-in-Ok-Wait-clause-stays
+returns-in-Ok-Wait-clause-stays g c = (ticket_tells g c).2
+
+pub returns-in-Ok-Lease-clause-due : goal.returns-in-Ok-Lease-clause-due
+returns-in-Ok-Lease-clause-due g c =
     let there = rw c.len.ensures.count at c.if-site-len.false in
-    let done = c.in-Ok-Wait.ensures in
-    let first = subst (λ got. GivesTicket got (λ ticket. StreamsStay (host_at start c.args.site) (host_at c.acquire.new.self c.args.site))) c.in-Ok-Wait.field-0-is done.kept in
-    rw (sym c.self.view_is) (all_streams_at start c.acquire.new.self c.serve-in-Ok-Wait.new.self c.args.site c.acquire.ensures.stays there done.site first c.serve-in-Ok-Wait.ensures.keeps)
+    still_none c.self.inside.hosts c.args.self.now c.self.view_is c.args.site c.args.want there (c.self.invariant.none_booked c.args.site there) c.in-Ok-Lease.field-0 _ c.in-Ok-Lease.ensures.due
+
+pub returns-in-Ok-Wait-clause-due : goal.returns-in-Ok-Wait-clause-due
+returns-in-Ok-Wait-clause-due g c =
+    let there = rw c.len.ensures.count at c.if-site-len.false in
+    still_none c.self.inside.hosts c.args.self.now c.self.view_is c.args.site c.args.want there (c.self.invariant.none_booked c.args.site there) c.in-Ok-Wait.field-0 _ c.in-Ok-Wait.ensures.due
+
+pub returns-in-Err-clause-refused : goal.returns-in-Err-clause-refused
+returns-in-Err-clause-refused g c =
+    let there = rw c.len.ensures.count at c.if-site-len.false in
+    still_refused c.self.inside.hosts c.args.self.now c.self.view_is c.args.site c.args.want there (c.self.invariant.none_booked c.args.site there) c.acquire.new.self c.in-Err.refusal c.in-Err.ensures.refused
+
+pub returns-in-Err-clause-due : goal.returns-in-Err-clause-due
+returns-in-Err-clause-due g c =
+    let there = rw c.len.ensures.count at c.if-site-len.false in
+    still_owed c.self.inside.hosts c.args.self.now c.self.view_is c.args.site c.args.want there (c.self.invariant.none_booked c.args.site there) _ c.in-Err.ensures.due
+
+pub returns-in-Err-clause-stays : goal.returns-in-Err-clause-stays
+returns-in-Err-clause-stays g c = ap (λ p. home_of p) (c.in-Err.ensures.refused.0 ∙ c.self.view_is)

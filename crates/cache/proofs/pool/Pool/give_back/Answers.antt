@@ -1,21 +1,15 @@
-use Rattle.std.proofs.Common.{sym}
-use Rattle.cache.proofs.Keeping.{site_on, others_on, streams_at, own_stream_at}
+use Rattle.std.proofs.Common.{subst}
+use Rattle.cache_trait.specs.CacheCalls.CacheCall.{gives_back}
+use Rattle.pool_rules.specs.Calls.{given_back}
+use Rattle.cache.specs.Pools.{all_hosts}
+use Rattle.cache.specs.PoolCalls.{DidToPool}
+use Rattle.cache.proofs.PoolCalls.{back_on}
 use Rattle.cache.proofs.pool.Pool.give_back.Goals as goal
 
-pub returns-clause-site : goal.returns-clause-site
-returns-clause-site g c =
-    let site = c.args.lease.site in
-    rw (sym c.self.view_is) (site_on c.self.inside.hosts c.give_back.new.self c.serve.new.self site c.give_back.ensures.stays (rw c.self.view_is c.requires.here.there) c.give_back.ensures.site c.serve.ensures.keeps)
-
-pub returns-clause-others : goal.returns-clause-others
-returns-clause-others g c =
-    rw (sym c.self.view_is) (others_on c.args.lease.site c.self.inside.hosts c.give_back.new.self c.serve.new.self c.give_back.ensures.stays c.give_back.ensures.others c.serve.ensures.keeps)
-
-pub returns-clause-streams : goal.returns-clause-streams
-returns-clause-streams g c =
+pub returns : goal.returns
+returns g c =
     let lease = c.args.lease in
-    rw (sym c.self.view_is) (streams_at lease.start.number c.self.inside.hosts c.give_back.new.self c.serve.new.self lease.site c.give_back.ensures.stays (rw c.self.view_is c.requires.here.there) c.give_back.ensures.site c.give_back.ensures.streams c.serve.ensures.keeps)
-
-pub returns-clause-stream : goal.returns-clause-stream
-returns-clause-stream g c =
-    own_stream_at c.self.inside.hosts c.give_back.new.self c.serve.new.self c.args.lease c.give_back.ensures.stays (rw c.self.view_is c.requires.here.there) c.give_back.ensures.site c.give_back.ensures.was_open c.give_back.ensures.stream c.serve.ensures.keeps
+    let start = c.self.inside.hosts in
+    let end = given_back start.limits lease.site lease.start.number c.args.facts c.args.now (all_hosts start) in
+    subst (λ p. DidToPool p c.serve.new.self (gives_back lease c.args.facts c.args.now)) c.self.view_is
+    (back_on start c.give_back.new.self c.serve.new.self c.args.now c.serve.ensures.done end lease c.serve.ensures.spent c.give_back.ensures)

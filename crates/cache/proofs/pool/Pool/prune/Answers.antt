@@ -1,6 +1,6 @@
 use Rattle.std.proofs.Common.{sym}
-use Rattle.cache.proofs.Keeping.{keeps_hosts_on}
+use Rattle.cache.proofs.PoolCalls.{all_on}
 use Rattle.cache.proofs.pool.Pool.prune.Goals as goal
 
-pub returns-clause-keeps : goal.returns-clause-keeps
-returns-clause-keeps g c = rw (sym c.self.view_is) (keeps_hosts_on c.self.inside.hosts c.prune-closed.new.self c.serve.new.self c.prune-closed.ensures.stays c.prune-closed.ensures.keeps c.serve.ensures.keeps)
+pub returns-clause-done : goal.returns-clause-done
+returns-clause-done g c = rw (sym c.self.view_is) (all_on c.self.inside.hosts c.prune-closed.new.self c.serve.new.self c.args.now c.serve.ensures.done _ c.prune-closed.ensures.done)

@@ -1,6 +1,6 @@
 use Rattle.std.proofs.Common.{sym}
-use Rattle.cache.proofs.Keeping.{keeps_hosts_on}
+use Rattle.cache.proofs.PoolCalls.{all_on}
 use Rattle.cache.proofs.pool.Pool.set_host_limit.Goals as goal
 
-pub returns-clause-keeps : goal.returns-clause-keeps
-returns-clause-keeps g c = rw (sym c.self.view_is) (keeps_hosts_on c.self.inside.hosts c.set_host_limit.new.self c.serve.new.self c.set_host_limit.ensures.stays c.set_host_limit.ensures.keeps c.serve.ensures.keeps)
+pub returns-clause-done : goal.returns-clause-done
+returns-clause-done g c = rw (sym c.self.view_is) (all_on c.self.inside.hosts c.set_host_limit.new.self c.serve.new.self c.args.now c.serve.ensures.done _ c.in_ok-set_host_limit.ensures.done)

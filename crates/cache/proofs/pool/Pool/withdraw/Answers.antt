@@ -1,17 +1,20 @@
-use Rattle.std.proofs.Common.{sym}
-use Rattle.cache.proofs.Keeping.{site_on, others_on, all_streams_at}
+use Rattle.std.proofs.Common.{subst, ap, ◌∙◌}
+use Rattle.cache_trait.specs.CacheCalls.CacheCall.{withdraws}
+use Rattle.pool_rules.specs.Calls.{withdrawn}
+use Rattle.cache.specs.Pools.{all_hosts}
+use Rattle.cache.specs.PoolCalls.{home_of, DidToPool}
+use Rattle.cache.proofs.PoolCalls.{withdraw_on}
 use Rattle.cache.proofs.pool.Pool.withdraw.Goals as goal
 
-pub returns-clause-site : goal.returns-clause-site
-returns-clause-site g c =
-    let site = c.args.ticket.site in
-    rw (sym c.self.view_is) (site_on c.self.inside.hosts c.withdraw.new.self c.serve.new.self site c.withdraw.ensures.stays (rw c.self.view_is c.requires.here.there) c.withdraw.ensures.site c.serve.ensures.keeps)
+did : (g : _) (c : goal.After-serve g) → DidToPool c.self.inside.hosts c.serve.new.self (withdraws c.args.ticket c.args.now)
+did g c =
+    let ticket = c.args.ticket in
+    let start = c.self.inside.hosts in
+    let end = withdrawn start.limits ticket.site ticket.wait.want.transfer c.args.now (all_hosts start) in
+    withdraw_on start c.withdraw.new.self c.serve.new.self c.args.now c.serve.ensures.done end ticket c.serve.ensures.spent c.in_ok-withdraw.ensures.ok
 
-pub returns-clause-others : goal.returns-clause-others
-returns-clause-others g c =
-    rw (sym c.self.view_is) (others_on c.args.ticket.site c.self.inside.hosts c.withdraw.new.self c.serve.new.self c.withdraw.ensures.stays c.withdraw.ensures.others c.serve.ensures.keeps)
+pub returns-clause-ok : goal.returns-clause-ok
+returns-clause-ok g c = subst (λ p. DidToPool p c.serve.new.self (withdraws c.args.ticket c.args.now)) c.self.view_is (did g c)
 
-pub returns-clause-streams : goal.returns-clause-streams
-returns-clause-streams g c =
-    let site = c.args.ticket.site in
-    rw (sym c.self.view_is) (all_streams_at c.self.inside.hosts c.withdraw.new.self c.serve.new.self site c.withdraw.ensures.stays (rw c.self.view_is c.requires.here.there) c.withdraw.ensures.site c.in_ok-withdraw.ensures.streams c.serve.ensures.keeps)
+pub returns-clause-stays : goal.returns-clause-stays
+returns-clause-stays g c = (did g c).at_site.home ∙ ap (λ p. home_of p) c.self.view_is

@@ -3,7 +3,7 @@ use Rattle.std.proofs.Common.{refl, Some}
 use Rattle.bundle.specs.Lease.{Leasing}
 use Rattle.bundle.specs.declared.answers.Acquired.TheVariants.{Lease}
 use Rattle.held_pool.specs.Due.{holder_of}
-use Rattle.held_pool.proofs.DueDeeds.{replaced_due, changes_nothing, slot_due}
+use Rattle.held_pool.proofs.DueCalls.{replaced_due, changes_nothing, slot_due}
 use Rattle.held_pool.proofs.held_pool.HeldPool.attach.Goals as goal
 
 pub invariant_of-self : goal.invariant_of-self

@@ -1,6 +1,6 @@
 -- What the slot held was spent.
 use Rattle.bundle.specs.declared.answers.Acquired.TheVariants.{Wait}
-use Rattle.held_pool.proofs.DueDeeds.{spent_one, spent_due}
+use Rattle.held_pool.proofs.DueCalls.{spent_one, spent_due}
 use Rattle.held_pool.proofs.held_pool.HeldPool.withdraw.Goals as goal
 
 pub invariant_of-self-2 : goal.invariant_of-self-2

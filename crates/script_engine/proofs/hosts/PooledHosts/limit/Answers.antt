@@ -4,7 +4,10 @@ use Rattle.budget.specs.declared.refusal.Refusal.TheVariants as refusals
 use Rattle.host_rules.specs.Calls.{limit_refusal}
 use Rattle.pool_rules.specs.AllHosts.{AllHosts, log_at}
 use Rattle.cache.specs.Pools.{PoolShown, host_at, all_hosts}
+use Rattle.cache.specs.PoolCalls.{limit_refusal_at}
 use Rattle.cache.proofs.OneHost.{log_is}
+use Rattle.cache.proofs.Refusals.{limit_due, owed_in, reason_in}
+use Rattle.cache.proofs.PoolCalls.{all_same_as}
 use Rattle.script_text.specs.declared.command.Action.TheVariants as actions
 use Rattle.script_rules.specs.Meaning.{AtSite, at_site, grown, replied, limit_at, limit_word}
 use Rattle.script_rules.specs.Telling.{AllGrowAfter}
@@ -26,16 +29,16 @@ pub lines-requires-clause-told : goal.lines-requires-clause-told
 lines-requires-clause-told c =
     let old = all_hosts c.self.inside.pool in
     let new = all_hosts c.set_host_limit.new.self in
-    let grow : AllGrowAfter 0 old new = subst (AllGrowAfter 0 old) (sym c.in-Ok.ensures.all) (limited-grow 0 c.self.inside.pool.limits c.args.site c.args.limit c.args.moment old) in
+    let grow : AllGrowAfter 0 old new = subst (AllGrowAfter 0 old) (sym c.in-Ok.ensures.done.all) (limited-grow 0 c.self.inside.pool.limits c.args.site c.args.limit c.args.moment old) in
     told-before 0 old new c.self.inside.told.items c.self.invariant.all_told grow
 
 pub lines-requires-clause-uncut : goal.lines-requires-clause-uncut
 lines-requires-clause-uncut c =
-    none-cut c.set_host_limit.new.self c.self.inside.kept.items (all-due c.self.inside.pool c.set_host_limit.new.self c.self.inside.kept.items c.self.invariant.due_kept c.set_host_limit.ensures.keeps c.set_host_limit.ensures.stays)
+    none-cut c.set_host_limit.new.self c.self.inside.kept.items (all-due c.self.inside.pool c.set_host_limit.new.self c.self.inside.kept.items c.self.invariant.due_kept c.in-Ok.ensures.done.keeps c.in-Ok.ensures.done.stays)
 
 pub invariant_of-self : goal.invariant_of-self
 invariant_of-self c = record {
-  due_kept = all-due c.self.inside.pool c.set_host_limit.new.self c.self.inside.kept.items c.self.invariant.due_kept c.set_host_limit.ensures.keeps c.set_host_limit.ensures.stays;
+  due_kept = all-due c.self.inside.pool c.set_host_limit.new.self c.self.inside.kept.items c.self.invariant.due_kept c.in-Ok.ensures.done.keeps c.in-Ok.ensures.done.stays;
   all_told = c.lines.ensures.told;
 }
 
@@ -46,13 +49,13 @@ returns-in-Ok c =
     let site = c.args.site in
     let here = at_site (shown pool c.self.inside.kept.items).hosts site in
     let old = all_hosts pool in
-    let grow : AllGrowAfter 0 old (all_hosts new) = subst (AllGrowAfter 0 old) (sym c.in-Ok.ensures.all) (limited-grow 0 pool.limits site c.args.limit c.args.moment old) in
+    let grow : AllGrowAfter 0 old (all_hosts new) = subst (AllGrowAfter 0 old) (sym c.in-Ok.ensures.done.all) (limited-grow 0 pool.limits site c.args.limit c.args.moment old) in
     let there = seen-host pool c.self.inside.kept.items c.self.inside.told.items c.self.invariant c.args.self.now c.self.view_is site c.requires.there in
-    let only : limit_refusal c.args.limit (host_at pool site).log ≡ None = accepted c.in-Ok.field-0 (limit_refusal c.args.limit (host_at pool site).log) (c.in-Ok.ensures.refused there) in
-    seen-beside pool c.self.inside.kept.items c.self.inside.told.items c.self.invariant c.args.self.now c.self.view_is string_bytes site (actions.Limit c.args.limit c.args.moment) c.lines.result new c.set_host_limit.ensures.stays
+    let only : limit_refusal c.args.limit (host_at pool site).log ≡ None = accepted c.in-Ok.field-0 (limit_refusal c.args.limit (host_at pool site).log) (owed_in (limit_refusal_at pool site c.args.limit) _ _ (limit_due pool site there c.args.limit) c.in-Ok.ensures.due) in
+    seen-beside pool c.self.inside.kept.items c.self.inside.told.items c.self.invariant c.args.self.now c.self.view_is string_bytes site (actions.Limit c.args.limit c.args.moment) c.lines.result new c.in-Ok.ensures.done.stays
     (gives-grown string_bytes pool.limits site here (actions.Limit c.args.limit c.args.moment) (record here { all = all_hosts new }) c.lines.result
     (limit-changed pool.limits site c.args.limit c.args.moment here (ap (limit_refusal c.args.limit) (log_is pool site) ∙ only)
-    ∙ ap (λ (a : AllHosts). grown here (record here { all = a })) (sym c.in-Ok.ensures.all))
+    ∙ ap (λ (a : AllHosts). grown here (record here { all = a })) (sym c.in-Ok.ensures.done.all))
     (text-of-growth string_bytes 0 old (all_hosts new) c.self.inside.told.items c.lines.result c.self.invariant.all_told grow c.lines.ensures.text))
 
 pub returns-in-Err-BadLimit : goal.returns-in-Err-BadLimit
@@ -62,10 +65,10 @@ returns-in-Err-BadLimit c =
     let site = c.args.site in
     let here = at_site (shown pool c.self.inside.kept.items).hosts site in
     let there = seen-host pool c.self.inside.kept.items c.self.inside.told.items c.self.invariant c.args.self.now c.self.view_is site c.requires.there in
-    let why : (limit_refusal c.args.limit (host_at pool site).log ≡ Some refusals.BadLimit) ⊎ (refusals.BadLimit ≡ refusals.Memory) = rw c.in-Err-BadLimit.field-0-is at (c.in-Err-BadLimit.ensures.else_memory there) in
-    seen-beside pool c.self.inside.kept.items c.self.inside.told.items c.self.invariant c.args.self.now c.self.view_is string_bytes site (actions.Limit c.args.limit c.args.moment) c.reply.result new c.set_host_limit.ensures.stays
+    let why : (limit_refusal c.args.limit (host_at pool site).log ≡ Some refusals.BadLimit) ⊎ (refusals.BadLimit ≡ refusals.Memory) = reason_in (limit_refusal_at pool site c.args.limit) _ _ (limit_due pool site there c.args.limit) (rw c.in-Err-BadLimit.field-0-is at c.in-Err-BadLimit.ensures.refused.1) in
+    seen-beside pool c.self.inside.kept.items c.self.inside.told.items c.self.invariant c.args.self.now c.self.view_is string_bytes site (actions.Limit c.args.limit c.args.moment) c.reply.result new (all_same_as pool new c.in-Err-BadLimit.ensures.refused.0).stays
     (gives-answer string_bytes pool.limits site here (actions.Limit c.args.limit c.args.moment) (record here { all = all_hosts new }) (limit_word refusals.BadLimit) c.reply.result
-    (refused-for pool new site c.args.limit c.args.moment here refusals.BadLimit (λ e. cc) refl c.in-Err-BadLimit.ensures.err why) c.reply.ensures)
+    (refused-for pool new site c.args.limit c.args.moment here refusals.BadLimit (λ e. cc) refl c.in-Err-BadLimit.ensures.refused.0 why) c.reply.ensures)
 
 pub returns-in-Err-Busy : goal.returns-in-Err-Busy
 returns-in-Err-Busy c =
@@ -75,10 +78,10 @@ returns-in-Err-Busy c =
     let held = c.in-Err-Busy.held in
     let here = at_site (shown pool c.self.inside.kept.items).hosts site in
     let there = seen-host pool c.self.inside.kept.items c.self.inside.told.items c.self.invariant c.args.self.now c.self.view_is site c.requires.there in
-    let why : (limit_refusal c.args.limit (host_at pool site).log ≡ Some (refusals.Busy held)) ⊎ (refusals.Busy held ≡ refusals.Memory) = rw c.in-Err-Busy.field-0-is at (c.in-Err-Busy.ensures.else_memory there) in
-    seen-beside pool c.self.inside.kept.items c.self.inside.told.items c.self.invariant c.args.self.now c.self.view_is string_bytes site (actions.Limit c.args.limit c.args.moment) c.too_many_leased.result new c.set_host_limit.ensures.stays
+    let why : (limit_refusal c.args.limit (host_at pool site).log ≡ Some (refusals.Busy held)) ⊎ (refusals.Busy held ≡ refusals.Memory) = reason_in (limit_refusal_at pool site c.args.limit) _ _ (limit_due pool site there c.args.limit) (rw c.in-Err-Busy.field-0-is at c.in-Err-Busy.ensures.refused.1) in
+    seen-beside pool c.self.inside.kept.items c.self.inside.told.items c.self.invariant c.args.self.now c.self.view_is string_bytes site (actions.Limit c.args.limit c.args.moment) c.too_many_leased.result new (all_same_as pool new c.in-Err-Busy.ensures.refused.0).stays
     (gives-answer string_bytes pool.limits site here (actions.Limit c.args.limit c.args.moment) (record here { all = all_hosts new }) (limit_word (refusals.Busy held)) c.too_many_leased.result
-    (refused-for pool new site c.args.limit c.args.moment here (refusals.Busy held) (λ e. cc) refl c.in-Err-Busy.ensures.err why) c.too_many_leased.ensures)
+    (refused-for pool new site c.args.limit c.args.moment here (refusals.Busy held) (λ e. cc) refl c.in-Err-Busy.ensures.refused.0 why) c.too_many_leased.ensures)
 
 pub returns-in-Err : goal.returns-in-Err
 returns-in-Err c =
@@ -86,5 +89,5 @@ returns-in-Err c =
     let new = c.set_host_limit.new.self in
     let site = c.args.site in
     let here = at_site (shown pool c.self.inside.kept.items).hosts site in
-    seen-beside pool c.self.inside.kept.items c.self.inside.told.items c.self.invariant c.args.self.now c.self.view_is string_bytes site (actions.Limit c.args.limit c.args.moment) (Err _) new c.set_host_limit.ensures.stays
-    (refl, inl (ap (λ (p : PoolShown (Unit {0})). record here { all = all_hosts p }) c.in-Err.ensures.err))
+    seen-beside pool c.self.inside.kept.items c.self.inside.told.items c.self.invariant c.args.self.now c.self.view_is string_bytes site (actions.Limit c.args.limit c.args.moment) (Err _) new (all_same_as pool new c.in-Err.ensures.refused.0).stays
+    (refl, inl (ap (λ (p : PoolShown (Unit {0})). record here { all = all_hosts p }) c.in-Err.ensures.refused.0))

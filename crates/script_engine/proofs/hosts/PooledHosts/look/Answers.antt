@@ -24,7 +24,7 @@ returns-in-Ok-to_string c =
     let there = seen-host pool c.self.inside.kept.items c.self.inside.told.items c.self.invariant c.args.self.now c.self.view_is site c.requires.there in
     let settings : (host_at pool site).settings ≡ terms pool.limits = (c.log-log.ensures.places site there).settings in
     let counts : s ≡ snapshot_of (log_at (all_hosts pool) site) (is_queued (terms pool.limits) (log_at (all_hosts pool) site)) =
-    c.in-Ok.ensures.ok.1 ∙ ap (λ (l : LimitAndFirst). snapshot_of (host_at pool site).log (is_queued l (host_at pool site).log)) settings
+    c.in-Ok.ensures.there.1 ∙ ap (λ (l : LimitAndFirst). snapshot_of (host_at pool site).log (is_queued l (host_at pool site).log)) settings
     ∙ ap (λ (log : List Entry). snapshot_of log (is_queued (terms pool.limits) log)) (sym (log_is pool site)) in
     subst (λ (h : Hosted). GivesAt string_bytes c.args.self.now site actions.Look (Ok c.in-Ok-to_string.text) h) c.self.view_is
     (seen-beside pool c.self.inside.kept.items c.self.inside.told.items c.self.invariant c.args.self.now c.self.view_is string_bytes site actions.Look (Ok c.in-Ok-to_string.text) pool (stays_pool pool)

@@ -25,11 +25,11 @@ pub invariant_of-result : goal.invariant_of-result
 invariant_of-result c =
     let done = c.loop-alloc.invariant in
     let all : length c.loop-alloc.told.items ≡ c.args.sites = omega arith in
-    new-hosted c.args.limits c.args.sites c.in-Ok.pool c.loop-alloc.kept.items c.loop-alloc.told.items c.in-Ok.ensures.ok (done.count ∙ all) done.nothing
+    new-hosted c.args.limits c.args.sites c.in-Ok.pool c.loop-alloc.kept.items c.loop-alloc.told.items c.in-Ok.ensures.new_pool (done.count ∙ all) done.nothing
     (done.told ∙ ap (λ (n : ℕ). replicate n 0) all)
 
 pub returns-clause-ok : goal.returns-clause-ok
 returns-clause-ok c =
     let done = c.loop-alloc.invariant in
     let all : length c.loop-alloc.told.items ≡ c.args.sites = omega arith in
-    new-shown c.args.limits c.args.sites c.in-Ok.pool c.loop-alloc.kept.items c.loop-alloc.told.items c.in-Ok.ensures.ok (done.count ∙ all) done.nothing
+    new-shown c.args.limits c.args.sites c.in-Ok.pool c.loop-alloc.kept.items c.loop-alloc.told.items c.in-Ok.ensures.new_pool (done.count ∙ all) done.nothing
