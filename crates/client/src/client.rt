@@ -1,21 +1,19 @@
 //! A client, and how it fetches.
 
-ghost use Rattle.std.specs.Prelude.{◌≡◌, ℕ, ◌+◌, ◌<◌, ◌≤◌, length, IfOk, IfSome, ⊤};
-ghost use Rattle.std.specs.Option.{ForSome};
-ghost use Rattle.cache.specs.Deeds.{home_of, DidToPool};
-ghost use Rattle.exchange.specs.Answers.{IsPrepared, IsSameJob};
+ghost use Rattle.std.specs.Prelude.{◌≡◌, ◌+◌, ◌≤◌, IfOk, ⊤};
+ghost use Rattle.cache.specs.PoolCalls.{DidToPool};
 ghost use Rattle.exchange.specs.Worlds.{world_of};
-ghost use Rattle.exchange.specs.Owning.{IsReady, Owns};
-ghost use Rattle.exchange.specs.Exchanging.{Continues, OpensFew, DialsItsOwn};
 ghost use Rattle.exchange.specs.Carrying.{EndsItsDials};
 ghost use Rattle.client.specs.Fetching.{Fetches};
 
 use crate::fetched::Fetched;
+use crate::time_limit::TimeLimit;
 use cache::Pool;
-use exchange::{Clock, Dial, Done, Fault, Job, Prepared, Stage, Transfer, Turned, Wire};
+use exchange::{Dial, Done, Fault, Job, JobRunner, Wire};
 use futures::task::{Doorbell, Solo};
 use socket::SystemClock;
-use std::alloc::{AllocError, AllocGlobal, Global};
+use std::alloc::{AllocGlobal, Global};
+use std::marker::Model;
 use std::random::RandomSource;
 use std::time::Duration;
 use std::{io, time};
@@ -24,13 +22,18 @@ use std::{io, time};
 /// each connection back as its response says. The memory of one request serves the next.
 #[derive(Drop)]
 pub struct Client<'c, W: Wire, D: Dial<W> + Drop, C: time::Clock> {
-    alloc: Global,
     pool: Pool<W>,
     dial: D,
     clock: SystemClock<'c, C>,
-    task: Solo,
-    spare: Option<Prepared>,
-    ghost room: { ForSome spare (λ parts. 0 < length parts.buffer.items) },
+    runner: JobRunner,
+}
+
+impl<'c, W: Wire, D: Dial<W> + Drop, C: time::Clock> Model for Client<'c, W, D, C> {
+    ghost use Rattle.client.specs.Clients.{ClientShown};
+
+    ghost Value = { ClientShown W D };
+
+    ghost view = { λ client. record { pool = client.pool; dial = client.dial } };
 }
 
 impl<'c, W: Wire, D: Dial<W> + Drop, C: time::Clock> Client<'c, W, D, C> {
@@ -50,13 +53,12 @@ impl<'c, W: Wire, D: Dial<W> + Drop, C: time::Clock> Client<'c, W, D, C> {
         ensures pool { IfOk result (λ client. client.pool ≡ pool) }
         ensures dial { IfOk result (λ client. client.dial ≡ dial) }
     {
+        let task = Solo::new(rt, Doorbell::spinning())?;
         Ok(Client {
-            alloc,
             pool,
             dial,
             clock,
-            task: Solo::new(rt, Doorbell::spinning())?,
-            spare: None,
+            runner: JobRunner::new(alloc, task),
         })
     }
 
@@ -66,23 +68,23 @@ impl<'c, W: Wire, D: Dial<W> + Drop, C: time::Clock> Client<'c, W, D, C> {
     pub fn fetch(&mut self, job: &Job, limit: Duration) -> Fetched
         ensures fetches { Fetches DidToPool (world_of W.untouched W.happened (λ moment. ⊤)) job.now
             self.old.pool self.new.pool result }
-        ensures opens { D.opened self.new.dial ≤ D.opened self.old.dial + 1 }
-        ensures begun { EndsItsDials (D.begun self.old.dial) (D.begun self.new.dial)
+        ensures dials { EndsItsDials (D.shown self.old.dial) (D.shown self.new.dial)
             job.now.want.transfer }
     {
-        let Some(parts) = self.prepared(job) else {
+        let control = TimeLimit::new(&self.clock, limit);
+        let ran = self
+            .runner
+            .run(job, &mut self.pool, &mut self.dial, &self.clock, &control);
+        let Ok(ran) = ran else {
             return Fetched {
                 done: Done::Bad(Fault::Memory),
                 retried: false,
             };
         };
-        let mut transfer = Transfer::new(parts);
-        self.poll_to_its_end(&mut transfer, limit);
-        let now = self.clock.now();
-        let (done, used) = transfer.close(now, &mut self.pool, &mut self.dial);
-        let retried = used.retried();
-        self.spare = Some(used);
-        Fetched { done, retried }
+        Fetched {
+            done: ran.done,
+            retried: ran.retried,
+        }
     }
 
     /// The dial that opens its connections.
@@ -97,70 +99,5 @@ impl<'c, W: Wire, D: Dial<W> + Drop, C: time::Clock> Client<'c, W, D, C> {
         ensures { result.now ≡ self.now.pool }
     {
         &self.pool
-    }
-
-    // The job with the memory for it, that of the last one where there was one.
-    fn prepared(&mut self, job: &Job) -> Option<Prepared>
-        ensures prepared { IfSome result (IsPrepared job.now) }
-        ensures pool { self.new.pool ≡ self.old.pool }
-        ensures dial { self.new.dial ≡ self.old.dial }
-    {
-        match self.spare.take() {
-            None => Prepared::new(self.alloc, job).ok(),
-            Some(used) => match used.again(job) {
-                Ok(parts) => Some(parts),
-                Err((parts, _)) => {
-                    self.spare = Some(parts);
-                    None
-                }
-            },
-        }
-    }
-
-    // Polls a transfer until it has ended, its time is over, or its dial's event loop fails.
-    fn poll_to_its_end(&mut self, transfer: &mut Transfer<W>, limit: Duration)
-        requires owns { Owns (home_of self.old.pool) transfer.old.parts transfer.old.state }
-        requires ready { IsReady transfer.old.parts }
-        ensures owns { Owns (home_of self.new.pool) transfer.new.parts transfer.new.state }
-        ensures ready { IsReady transfer.new.parts }
-        ensures same { IsSameJob transfer.old.parts transfer.new.parts }
-        ensures story { Continues DidToPool (world_of W.untouched W.happened (λ moment. ⊤))
-            transfer.old.parts transfer.new.parts self.old.pool self.new.pool
-            transfer.old.state transfer.new.state }
-        ensures opens { OpensFew transfer.old.parts transfer.new.parts transfer.old.state
-            transfer.new.state (D.opened self.old.dial) (D.opened self.new.dial) }
-        ensures begun { DialsItsOwn (D.begun self.old.dial) (D.begun self.new.dial)
-            transfer.old.parts.want.transfer transfer.old.state transfer.new.state }
-    {
-        let begun = self.clock.elapsed();
-        for _ in 0..u64::MAX {
-            let mut context = self.task.begin();
-            let polled = transfer.poll(&mut context, &mut self.pool, &mut self.dial, &self.clock);
-            context.end(&polled);
-            if polled.is_ready() {
-                return;
-            }
-            if self.clock.is_past(begun, limit) {
-                return;
-            }
-            if !self.wait(transfer.waits_on()) {
-                return;
-            }
-        }
-    }
-
-    // Waits for what may bring a transfer on, by a turn of the dial's event loop; whether none
-    // failed.
-    fn wait(&mut self, stage: Stage) -> bool
-        ensures pool { self.new.pool ≡ self.old.pool }
-        ensures opens { D.opened self.new.dial ≡ D.opened self.old.dial }
-        ensures begun { (other : ℕ) → D.begun self.new.dial other → D.begun self.old.dial other }
-        ensures kept { (other : ℕ) → D.begun self.old.dial other → D.begun self.new.dial other }
-    {
-        match stage {
-            Stage::Grant | Stage::Turn => true,
-            Stage::Dialling | Stage::Sending | Stage::Reading => self.dial.turn(Duration::MAX)
-                == Turned::Done,
-        }
     }
 }

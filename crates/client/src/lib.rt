@@ -5,6 +5,7 @@
 mod client;
 mod fetched;
 mod many;
+mod time_limit;
 
 pub use client::Client;
 pub use fetched::Fetched;

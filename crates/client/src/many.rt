@@ -1,7 +1,8 @@
 //! Many requests at once over one pool.
 
+ghost use Rattle.exchange.specs.Dialling.{failed_turns};
 ghost use Rattle.std.specs.Prelude.{◌≡◌, ℕ, [], IfOk, OnErr};
-ghost use Rattle.cache.specs.Deeds.{home_of, DidToPool};
+ghost use Rattle.cache.specs.PoolCalls.{home_of, DidToPool};
 ghost use Rattle.exchange.specs.Worlds.{world_of};
 ghost use Rattle.run_loop.specs.Going.{rules_of, point, RunsToEnd, IfComplete, IfStopped, TurnsAt};
 
@@ -48,7 +49,7 @@ pub fn fetch_many<
     ensures stopped { IfOk result (λ end.
         IfStopped end ((number : ℕ) → T.may_stop timer.now number)) }
     ensures turns { IfOk result (λ end.
-        TurnsAt end (D.turn_failures dial.old) (D.turn_failures dial.new)) }
+        TurnsAt end (failed_turns D.shown dial.old) (failed_turns D.shown dial.new)) }
     ensures nothing { OnErr result ((pool.new ≡ pool.old) × (jobs.new ≡ jobs.old)
         × (results.new ≡ results.old)) }
 {

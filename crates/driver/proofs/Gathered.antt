@@ -7,7 +7,7 @@ use Rattle.std.proofs.lemmas.List.Elements.{All-nil, All-push, All-pop, All-head
 use Rattle.std.proofs.lemmas.List.Sums.{sum_by-append}
 use Rattle.std.proofs.lemmas.List.Concat.{flat_map-append, flat_map-cons}
 use Rattle.budget.proofs.Sums.{one_if}
-use Rattle.claim.specs.Draws.{Jobs, Drawn, times, AreFirst, together}
+use Rattle.job_counter.specs.Draws.{Jobs, Drawn, times, AreFirst, together}
 use Rattle.bundle.specs.Passes.{Accounts}
 use Rattle.exchange.specs.declared.job.Job.{Job}
 use Rattle.exchange.specs.declared.done.Done.{Done}
@@ -18,6 +18,7 @@ use Rattle.run_loop.specs.declared.run_end.RunEnd.{RunEnd}
 use Rattle.run_loop.specs.declared.run_end.RunEnd.TheVariants.{Complete, Stopped, TurnFailed, BrokenOff}
 use Rattle.run_loop.specs.Going.{worse_end, IfComplete}
 use Rattle.run_loop.specs.Running.{numbers_of}
+use Rattle.run_loop.specs.declared.results.Span.{Span}
 use Rattle.driver.specs.declared.many.worker.Finished.{Finished}
 use Rattle.driver.specs.ManyWork.{LoopWork, begun_of, back_of, told_of, drawn_of, end_of, IsLoopWork, worst_from, handed_back, LeftShown, LoopShown, LeavesAs, HasLeft, AllLeft, HaveLooped, IsManyRun}
 
@@ -86,16 +87,16 @@ none_left claim [] left none is = refl
 none_left claim (work ∷ works) [] none is = absurd is
 none_left claim (work ∷ works) (worker ∷ rest) none is = absurd (omega (arith, none))
 
-module _ {W F : Type 0} (world : World W) (may_stop : ℕ → Type 0) (names : CacheNames) (job_at : ℕ → Job) (took : F → F → ℕ → Done → Type 0) where
+module _ {W F : Type 0} (world : World W) (may_stop : ℕ → Type 0) (names : CacheNames) (job_at : ℕ → Job) (took : F → F → ℕ → Done → Span → Type 0) where
   -- each number that was drawn has a result, as often
   told_as_drawn : (works : List (LoopWork F)) → All (IsLoopWork world may_stop names job_at took) works → (job : ℕ) → times job (numbers_of (flat_map told_of works)) ≡ times job (flat_map drawn_of works)
   told_as_drawn [] worked job = refl
   told_as_drawn (work ∷ works) worked job =
       let its = All-head (IsLoopWork world may_stop names job_at took) work works worked in
       let rest = told_as_drawn works (All-tail (IsLoopWork world may_stop names job_at took) work works worked) job in
-      let told = ap (λ l. times job (numbers_of l)) (flat_map-cons told_of work works) ∙ times_both job work.told (flat_map told_of works) in
+      let told = ap (λ l. times job (numbers_of l)) (flat_map-cons told_of work works) ∙ times_both job (told_of work) (flat_map told_of works) in
       let drawn = ap (times job) (flat_map-cons drawn_of work works) ∙ sum_by-append (λ n. one_if (job == n)) work.drawn (flat_map drawn_of works) in
-      let counted : times job work.drawn ≡ times job (numbers_of work.told) + 0 = its.running.counted job in
+      let counted : times job work.drawn ≡ times job (numbers_of (told_of work)) + 0 = its.running.counted job in
       omega (arith, told, drawn, counted, rest)
 
   module _ {D : Type 0} (failures : D → ℕ) (claim : Jobs) (begun : List (F × ℕ)) where

@@ -1,12 +1,12 @@
--- Jobs that are carried out one after another are a run: each of its deeds has the number of its job.
+-- Jobs that are carried out one after another are a run: each of its calls has the number of its job.
 use Rattle.std.proofs.Common.{◌≡◌, refl, sym, subst, ap, ◌∙◌, ℕ, ◌<◌, List, [], ◌∷◌, ◌++◌, Option, Some, None, IsSomeAnd, arith}
 use Rattle.std.specs.Prelude.{slice_get}
 use Rattle.std.specs.List.{All}
 use Rattle.std.proofs.lemmas.List.{append_assoc}
 use Rattle.std.proofs.lemmas.List.Elements.{All-head, All-tail, All-push}
 use Rattle.std.proofs.lemmas.Option.{get_or_from_slice_get}
-use Rattle.claim.specs.Draws.{times}
-use Rattle.leasing.specs.Deeds.{Deed}
+use Rattle.job_counter.specs.Draws.{times}
+use Rattle.cache_trait.specs.CacheCalls.{CacheCall}
 use Rattle.exchange.specs.declared.job.Job.{Job}
 use Rattle.exchange.specs.declared.job.Prepared.{Prepared}
 use Rattle.exchange.specs.declared.done.Done.{Done}
@@ -19,7 +19,7 @@ use Rattle.exchange.specs.Since.{since}
 use Rattle.exchange.specs.Standing.{StandsFrom}
 use Rattle.exchange.specs.Exchanging.{Stands, Closes, ClosesAt, Cancels, CancelsAt}
 use Rattle.exchange.specs.Carrying.{IsForJob, CarriesOut}
-use Rattle.run_loop.specs.Deeds.{deeds_for, all_for}
+use Rattle.run_loop.specs.LoopCalls.{calls_for, all_for}
 use Rattle.run_loop.specs.Endings.{EndsFor}
 use Rattle.run_loop.specs.Running.{numbers_of, IsCarriedOut, IsRunning}
 use Rattle.run_loop.proofs.Numbers.{times_both, times_cons}
@@ -32,7 +32,7 @@ use Rattle.driver.proofs.Carried.{carried_more}
 use Rattle.driver.proofs.Collected.{numbers_both}
 
 -- a job that was carried out ended by all that was done for it
-module _ {C W : Type 0} (did : C → C → Deed W → Type 0) (world : World W) (may_stop : Type 0) (job : Job) (before last after : C) (moment : ℕ) (told : world.tells moment) where
+module _ {C W : Type 0} (did : C → C → CacheCall W → Type 0) (world : World W) (may_stop : Type 0) (job : Job) (before last after : C) (moment : ℕ) (told : world.tells moment) where
   -- its transfer was closed before it had ended
   stopped : (parts : Prepared) (state : State W) (done : Done) → IsForJob job parts → StandsFrom did world parts (since before) last state → ClosesAt done state → CancelsAt did last after moment state → may_stop
       → LeadsToEnd did world may_stop job before after [] done
@@ -40,18 +40,18 @@ module _ {C W : Type 0} (did : C → C → Deed W → Type 0) (world : World W) 
       let earlier = stands.0 in
       let was = stands.1 in
       let end = closed_so did world may_stop may job parts its last after earlier moment told (Some state) done stands.2 cancels closed in
-      let all : end.own ++ earlier ≡ (end.own ++ was.own) ++ [] = ap (λ (deeds : List (Deed W)). end.own ++ deeds) was.all ∙ sym (append_assoc end.own was.own []) in
+      let all : end.own ++ earlier ≡ (end.own ++ was.own) ++ [] = ap (λ (calls : List (CacheCall W)). end.own ++ calls) was.all ∙ sym (append_assoc end.own was.own []) in
       record {
         own = end.own ++ was.own;
         did_own = done_upon did before last after end.own was.own was.done end.did_own;
-        ends = subst (λ (deeds : List (Deed W)). EndsFor world may_stop job done deeds) all end.ends;
+        ends = subst (λ (calls : List (CacheCall W)). EndsFor world may_stop job done calls) all end.ends;
       }
 
   -- or it had ended
   ended : (parts : Prepared) (end done : Done) → IsForJob job parts → StandsFrom did world parts (since before) last (at.Finished end) → done ≡ end → after ≡ last → LeadsToEnd did world may_stop job before after [] done
   ended parts end done its stands closed same =
       let was = stands.1 in
-      let ends : EndsFor world may_stop job end (was.own ++ []) = subst (λ (deeds : List (Deed W)). EndsFor world may_stop job end deeds) was.all (end_is did world may_stop job parts end stands.0 its stands.2) in
+      let ends : EndsFor world may_stop job end (was.own ++ []) = subst (λ (calls : List (CacheCall W)). EndsFor world may_stop job end calls) was.all (end_is did world may_stop job parts end stands.0 its stands.2) in
       record {
         own = was.own;
         did_own = done_upon did before last after [] was.own was.done same;
@@ -77,7 +77,7 @@ module _ {C W : Type 0} (did : C → C → Deed W → Type 0) (world : World W) 
   closed parts None done its stands closes cancels result = absurd stands
 
 -- a result of a run may be told last as well as first
-told_last : {C W : Type 0} (did : C → C → Deed W → Type 0) (world : World W) (may_stop : ℕ → Type 0) (job_at : ℕ → Job) (first cache : C) (drawn : List ℕ) (results : List (ℕ × Done)) (number : ℕ) (done : Done)
+told_last : {C W : Type 0} (did : C → C → CacheCall W → Type 0) (world : World W) (may_stop : ℕ → Type 0) (job_at : ℕ → Job) (first cache : C) (drawn : List ℕ) (results : List (ℕ × Done)) (number : ℕ) (done : Done)
     → IsRunning did world may_stop job_at first cache drawn [] ((number, done) ∷ results) → IsRunning did world may_stop job_at first cache drawn [] (results ++ (number, done) ∷ [])
 told_last did world may_stop job_at first cache drawn results number done run =
     let Each : ℕ × Done → Type 0 = λ r. IsCarriedOut world may_stop job_at run.all r.0 r.1 in
@@ -91,7 +91,7 @@ told_last did world may_stop job_at first cache drawn results number done run =
       none_else = run.none_else;
     }
 
-module _ {C W : Type 0} (did : C → C → Deed W → Type 0) (world : World W) (may_stop : ℕ → Type 0) (jobs : List Job) where
+module _ {C W : Type 0} (did : C → C → CacheCall W → Type 0) (world : World W) (may_stop : ℕ → Type 0) (jobs : List Job) where
   leads_to_end : (other : Job) (number : ℕ) (before after : C) (done : Done) (found : Option Job) → slice_get jobs number ≡ found → IsSomeAnd found (λ job. CarriesOut did world job before after done) → IsSomeAnd found (λ job. IsResultOf world (may_stop number) job done)
       → LeadsToEnd did world (may_stop number) (job_in jobs other number) before after [] done
   leads_to_end other number before after done (Some job) is carried result =
@@ -109,8 +109,8 @@ module _ {C W : Type 0} (did : C → C → Deed W → Type 0) (world : World W) 
       let new = is_drawn did world may_stop job_at first before (numbers_of results) number [] [] results above run in
       let all = all_for number leads.own ++ run.all in
       let beside = goes_on_beside did world may_stop job_at first drawn number [] [] results before after leads.own run.all new.1 leads.did_own in
-      let its : deeds_for number all ≡ leads.own ++ [] = own_upon number leads.own run.all ∙ ap (λ (deeds : List (Deed W)). leads.own ++ deeds) new.0 in
-      let ends : IsCarriedOut world may_stop job_at all number done = subst (λ (deeds : List (Deed W)). EndsFor world (may_stop number) (job_at number) done deeds) (sym its) leads.ends in
+      let its : calls_for number all ≡ leads.own ++ [] = own_upon number leads.own run.all ∙ ap (λ (calls : List (CacheCall W)). leads.own ++ calls) new.0 in
+      let ends : IsCarriedOut world may_stop job_at all number done = subst (λ (calls : List (CacheCall W)). EndsFor world (may_stop number) (job_at number) done calls) (sym its) leads.ends in
       let more = told_last did world may_stop job_at first after drawn results number done (has_ended did world may_stop job_at first drawn number [] [] results after all beside done ends) in
       subst (λ (numbers : List ℕ). IsRunning did world may_stop job_at first after numbers [] (results ++ (number, done) ∷ [])) (sym (numbers_both results ((number, done) ∷ []))) more
 

@@ -3,7 +3,7 @@ use Rattle.std.proofs.Common.{◌≡◌, refl, sym, subst, ap, ◌∙◌, ℕ, s
 use Rattle.std.specs.Option.{ForSome}
 use Rattle.std.proofs.lemmas.List.{append-nil, map-append, reverse-append, reverse-reverse, append_assoc}
 use Rattle.std.proofs.lemmas.List.Elements.{All-nil, All-cons}
-use Rattle.claim.specs.Draws.{Jobs, new_seat}
+use Rattle.job_counter.specs.Draws.{Jobs, new_seat}
 use Rattle.exchange.specs.declared.job.Job.{Job}
 use Rattle.exchange.specs.declared.done.Done.{Done}
 use Rattle.exchange.specs.Worlds.{World}
@@ -12,7 +12,7 @@ use Rattle.shared_cache.specs.Passes.{IsPassOf, IsNewPass}
 use Rattle.run_loop.specs.declared.run_end.RunEnd.{RunEnd}
 use Rattle.run_loop.specs.declared.run_end.RunEnd.TheVariants.{Complete, Stopped, TurnFailed, BrokenOff}
 use Rattle.run_loop.specs.Going.{IfComplete, IfIncomplete}
-use Rattle.run_loop.specs.Taking.{AllTaken}
+use Rattle.run_loop.specs.declared.results.Span.{Span}
 use Rattle.driver.specs.declared.many.worker.Tools.{Tools}
 use Rattle.driver.specs.ManyJobs.{IsLast}
 use Rattle.driver.specs.ManyWork.{LoopWork, begun_of, IsLoopWork, handed_in, HiredShown, LeftShown, LoopShown, IsNewWorker, IsHiredLoop, BeginsAs, AllBegin, LeavesAs, Loops, LoopsFrom, HasLeft, HaveLooped}
@@ -34,11 +34,6 @@ none_left Stopped A B complete = tt
 none_left TurnFailed A B complete = tt
 none_left BrokenOff A B complete = tt
 
--- what takes results within something else
-pub taken_within : {R F : Type 0} (within : R → F) (took : F → F → ℕ → Done → Type 0) (old new : R) (told : List (ℕ × Done)) → AllTaken (λ (r s : R) (number : ℕ) (done : Done). took (within r) (within s) number done) old new told → AllTaken took (within old) (within new) told
-taken_within within took old new [] same = ap within same
-taken_within within took old new (result ∷ earlier) taken = (within taken.0, taken_within within took old taken.0 earlier taken.1, taken.2)
-
 -- one more worker, behind all others
 pub one_begins : {W F : Type 0} (begun : List (F × ℕ)) (workers : List (LoopShown W F)) (first : F × ℕ) (worker : LoopShown W F) → AllBegin begun workers → BeginsAs first worker → AllBegin (begun ++ first ∷ []) (workers ++ worker ∷ [])
 one_begins [] [] first worker all its = (its, tt)
@@ -52,7 +47,7 @@ moved_one all rest gone x is =
     let back : reverse (gone ++ x ∷ []) ≡ x ∷ reverse gone = reverse-append gone (x ∷ []) in
     ap (λ l. rest ++ l) back ∙ sym (append_assoc rest (x ∷ []) (reverse gone)) ∙ is
 
-module _ {W F : Type 0} (world : World W) (may_stop : ℕ → Type 0) (names : CacheNames) (job_at : ℕ → Job) (took : F → F → ℕ → Done → Type 0) (claim : Jobs) where
+module _ {W F : Type 0} (world : World W) (may_stop : ℕ → Type 0) (names : CacheNames) (job_at : ℕ → Job) (took : F → F → ℕ → Done → Span → Type 0) (claim : Jobs) where
   -- what each worker did, in the order of the workers
   abbrev pub EachLoops : List (LoopShown W F) → List (LoopShown W F) → Type 0
   EachLoops old new = (place : ℕ) (other : LoopShown W F) → place < length old → LoopsFrom world may_stop names job_at took claim (get_or old place other) (get_or new place other)

@@ -1,21 +1,22 @@
 -- What a worker of a run with many jobs at once does, and what such a run answers.
 use Rattle.std.specs.Prelude.{◌≡◌, ℕ, ◌<◌, ◌≤◌, List, [], ◌∷◌, map, Bool, true, ◌||◌, nat_lt, Option, Some, None, IsSomeAnd}
 use Rattle.std.specs.List.{All, flat_map}
-use Rattle.claim.specs.Draws.{Jobs, Drawn, new_seat, AreFirst}
+use Rattle.job_counter.specs.Draws.{Jobs, Drawn, new_seat, AreFirst}
 use Rattle.bundle.specs.Passes.{Accounts}
 use Rattle.exchange.specs.declared.job.Job.{Job}
 use Rattle.exchange.specs.declared.done.Done.{Done}
-use Rattle.exchange.specs.declared.transfer.Transfer.{Transfer}
+use Rattle.exchange.specs.Transfers.{TransferShown}
 use Rattle.exchange.specs.Worlds.{World}
 use Rattle.shared_cache.specs.Names.{CacheNames}
 use Rattle.shared_cache.specs.Passes.{IsPassOf, IsNewPass}
 use Rattle.desk.specs.Desks.{DeskShown}
-use Rattle.desk.specs.Deeds.{DidAtDesk}
+use Rattle.desk.specs.DeskCalls.{DidAtDesk}
 use Rattle.run_loop.specs.declared.run_end.RunEnd.{RunEnd}
 use Rattle.run_loop.specs.declared.run_end.RunEnd.TheVariants.{Complete}
 use Rattle.run_loop.specs.Going.{may_stop_at, worse_end, TurnsAt, IfComplete, IfStopped}
 use Rattle.run_loop.specs.Running.{IsRunning, numbers_of}
-use Rattle.run_loop.specs.Taking.{AllTaken}
+use Rattle.run_loop.specs.Taking.{JobResult, AllTaken, ends_of}
+use Rattle.run_loop.specs.declared.results.Span.{Span}
 use Rattle.driver.specs.declared.fault.DriverFault.{DriverFault}
 use Rattle.driver.specs.declared.fault.DriverFault.TheVariants.{BadWorkers, Memory}
 use Rattle.driver.specs.Faults.{are_bad_workers}
@@ -30,7 +31,7 @@ pub record LoopWork (F : Type 0) : Type 0 where
   pub failed : ℕ
   pub failed_now : ℕ
   pub drawn : List ℕ
-  pub told : List (ℕ × Done)
+  pub told : List JobResult
   pub pass : Accounts
   pub end : RunEnd
 
@@ -41,8 +42,9 @@ begun_of work = (work.begun, work.failed)
 abbrev pub back_of : {F : Type 0} → LoopWork F → F × ℕ × Accounts
 back_of work = (work.ended, work.failed_now, work.pass)
 
+-- how the job of each number that it drew ended
 abbrev pub told_of : {F : Type 0} → LoopWork F → List (ℕ × Done)
-told_of work = work.told
+told_of work = ends_of work.told
 
 abbrev pub drawn_of : {F : Type 0} → LoopWork F → List ℕ
 drawn_of work = work.drawn
@@ -52,14 +54,14 @@ end_of work = work.end
 
 -- with a new pass of the cache the worker carried out the jobs that it drew, any number at once, and did nothing else at its
 -- desk; each has its result, which was taken once
-pub record IsLoopWork {W F : Type 0} (world : World W) (may_stop : ℕ → Type 0) (names : CacheNames) (job_at : ℕ → Job) (took : F → F → ℕ → Done → Type 0) (work : LoopWork F) : Type 0 where
+pub record IsLoopWork {W F : Type 0} (world : World W) (may_stop : ℕ → Type 0) (names : CacheNames) (job_at : ℕ → Job) (took : F → F → ℕ → Done → Span → Type 0) (work : LoopWork F) : Type 0 where
   pub before : DeskShown W
   pub after : DeskShown W
   pub new_pass : IsNewPass before.pass
   pub pass_is : work.pass ≡ after.pass
   pub of_cache : IsPassOf names work.pass
   pub taken : AllTaken took work.begun work.ended work.told
-  pub running : IsRunning (DidAtDesk names) world (may_stop_at work.end may_stop) job_at before after work.drawn [] work.told
+  pub running : IsRunning (DidAtDesk names) world (may_stop_at work.end may_stop) job_at before after work.drawn [] (told_of work)
   pub stopped : IfStopped work.end ((number : ℕ) → may_stop number)
   pub turns : TurnsAt work.end work.failed work.failed_now
 
@@ -82,7 +84,7 @@ HavePasses {D} {F} names finished = All (λ (own : Finished D F). IsPassOf names
 -- Each worker carried out the jobs that it drew, with a pass of its own. All workers together drew the first jobs, as many
 -- as the report says, each of which has one result. The run ended as the worker that ended worst; if it is complete, all
 -- jobs were drawn.
-pub record IsManyRun {W F : Type 0} (world : World W) (may_stop : ℕ → Type 0) (names : CacheNames) (job_at : ℕ → Job) (took : F → F → ℕ → Done → Type 0) (jobs : ℕ) (begun : List (F × ℕ)) (back : List (F × ℕ × Accounts)) (end : RunEnd) (drawn : ℕ) : Type 0 where
+pub record IsManyRun {W F : Type 0} (world : World W) (may_stop : ℕ → Type 0) (names : CacheNames) (job_at : ℕ → Job) (took : F → F → ℕ → Done → Span → Type 0) (jobs : ℕ) (begun : List (F × ℕ)) (back : List (F × ℕ × Accounts)) (end : RunEnd) (drawn : ℕ) : Type 0 where
   pub all_work : List (LoopWork F)
   pub worked : All (IsLoopWork world may_stop names job_at took) all_work
   pub begun_is : map begun_of all_work ≡ begun
@@ -95,13 +97,13 @@ pub record IsManyRun {W F : Type 0} (world : World W) (may_stop : ℕ → Type 0
 -- a worker that was hired: the places of its loop, what takes its results, how many turns of its dial have failed, its seat
 -- and its pass
 pub record HiredShown (W F : Type 0) : Type 0 where
-  pub places : List (Option (Transfer W))
+  pub places : List (Option (TransferShown W))
   pub results : F
   pub failed : ℕ
   pub seat : Drawn
   pub pass : Accounts
 
-abbrev pub hired_with : {W F : Type 0} → List (Option (Transfer W)) → F → ℕ → Drawn → Accounts → HiredShown W F
+abbrev pub hired_with : {W F : Type 0} → List (Option (TransferShown W)) → F → ℕ → Drawn → Accounts → HiredShown W F
 hired_with places results failed seat pass = record { places = places; results = results; failed = failed; seat = seat; pass = pass }
 
 -- what a worker leaves, the same, and how its loop ended
@@ -153,14 +155,14 @@ pub record LeavesAs {F : Type 0} (claim : Jobs) (work : LoopWork F) (left : Left
   pub past : IfComplete left.end (0 < left.seat.past)
 
 -- so a worker did that was handed this
-pub record Loops {W F : Type 0} (world : World W) (may_stop : ℕ → Type 0) (names : CacheNames) (job_at : ℕ → Job) (took : F → F → ℕ → Done → Type 0) (claim : Jobs) (begun : F × ℕ) (left : LeftShown F) : Type 0 where
+pub record Loops {W F : Type 0} (world : World W) (may_stop : ℕ → Type 0) (names : CacheNames) (job_at : ℕ → Job) (took : F → F → ℕ → Done → Span → Type 0) (claim : Jobs) (begun : F × ℕ) (left : LeftShown F) : Type 0 where
   pub work : LoopWork F
   pub begun_is : begun_of work ≡ begun
   pub worked : IsLoopWork world may_stop names job_at took work
   pub leaves : LeavesAs claim work left
 
 -- whatever it was handed, so it did
-pub record LoopsFrom {W F : Type 0} (world : World W) (may_stop : ℕ → Type 0) (names : CacheNames) (job_at : ℕ → Job) (took : F → F → ℕ → Done → Type 0) (claim : Jobs) (old new : LoopShown W F) : Type 0 where
+pub record LoopsFrom {W F : Type 0} (world : World W) (may_stop : ℕ → Type 0) (names : CacheNames) (job_at : ℕ → Job) (took : F → F → ℕ → Done → Span → Type 0) (claim : Jobs) (old new : LoopShown W F) : Type 0 where
   pub left : LeftShown F
   pub is : new ≡ record { hired = None; left = Some left }
   pub loops : (begun : F × ℕ) → BeginsAs begun old → Loops world may_stop names job_at took claim begun left
@@ -176,7 +178,7 @@ AllLeft claim (work ∷ others) (worker ∷ rest) = HasLeft claim work worker ×
 AllLeft claim _ _ = ⊥
 
 -- all workers have left, which began with this
-pub record HaveLooped {W F : Type 0} (world : World W) (may_stop : ℕ → Type 0) (names : CacheNames) (job_at : ℕ → Job) (took : F → F → ℕ → Done → Type 0) (claim : Jobs) (begun : List (F × ℕ)) (left : List (LoopShown W F)) : Type 0 where
+pub record HaveLooped {W F : Type 0} (world : World W) (may_stop : ℕ → Type 0) (names : CacheNames) (job_at : ℕ → Job) (took : F → F → ℕ → Done → Span → Type 0) (claim : Jobs) (begun : List (F × ℕ)) (left : List (LoopShown W F)) : Type 0 where
   pub all_work : List (LoopWork F)
   pub worked : All (IsLoopWork world may_stop names job_at took) all_work
   pub begun_is : map begun_of all_work ≡ begun
@@ -186,7 +188,7 @@ pub record HaveLooped {W F : Type 0} (world : World W) (may_stop : ℕ → Type 
 abbrev pub are_bad_tools : ℕ → ℕ → Bool
 are_bad_tools tools places = are_bad_workers tools || nat_lt places tools
 
--- why a run did not begin: bad workers, only where they are; else want of memory
+-- why a run did not begin: bad workers, only if they are; else an allocation failure
 abbrev pub IsNotBegunFor : ℕ → ℕ → DriverFault → Type 0
 IsNotBegunFor tools places BadWorkers = are_bad_tools tools places ≡ true
 IsNotBegunFor tools places fault = fault ≡ Memory

@@ -1,7 +1,7 @@
 -- What a run answers.
 use Rattle.std.specs.Prelude.{◌≡◌, ℕ, ◌<◌, List, length, map, slice_get, true, IsSomeAnd}
 use Rattle.std.specs.List.{All, Contains, flat_map}
-use Rattle.claim.specs.Draws.{AreFirst}
+use Rattle.job_counter.specs.Draws.{AreFirst}
 use Rattle.exchange.specs.declared.job.Job.{Job}
 use Rattle.exchange.specs.declared.done.Done.{Done}
 use Rattle.exchange.specs.Worlds.{World}
@@ -9,7 +9,7 @@ use Rattle.bundle.specs.Passes.{Accounts}
 use Rattle.shared_cache.specs.Names.{CacheNames}
 use Rattle.shared_cache.specs.Passes.{IsPassOf, IsNewPass}
 use Rattle.desk.specs.Desks.{DeskShown}
-use Rattle.desk.specs.Deeds.{DidAtDesk}
+use Rattle.desk.specs.DeskCalls.{DidAtDesk}
 use Rattle.run_loop.specs.Running.{numbers_of}
 use Rattle.driver.specs.declared.fault.DriverFault.{DriverFault}
 use Rattle.driver.specs.declared.fault.DriverFault.TheVariants.{BadWorkers}
@@ -55,7 +55,7 @@ pub record IsRun {W : Type 0} (world : World W) (may_stop : ℕ → Type 0) (nam
   pub passes_number : length report.passes.items ≡ workers
   pub passes : All (IsPassOf names) report.passes.items
 
--- why there are no results: bad workers, only where there are none or too many; else what a worker met
+-- why there are no results: bad workers, only if there are none or too many; else what a worker met
 abbrev pub IsRefusedFor : ℕ → DriverFault → Type 0
 IsRefusedFor workers BadWorkers = are_bad_workers workers ≡ true
 IsRefusedFor workers fault = IsWorkerFault fault

@@ -1,9 +1,9 @@
 -- What a worker does, by the numbers that it draws.
 use Rattle.std.specs.Prelude.{◌≡◌, ℕ, ◌+◌, ◌<◌, ◌∷◌, ◌++◌, List, [], Bool, true, false, Result, Ok, Err, Option, Some}
 use Rattle.std.specs.List.{All}
-use Rattle.leasing.specs.Deeds.{Deed}
+use Rattle.cache_trait.specs.CacheCalls.{CacheCall}
 use Rattle.bundle.specs.Passes.{Accounts}
-use Rattle.claim.specs.Draws.{Drawn}
+use Rattle.job_counter.specs.Draws.{Drawn}
 use Rattle.exchange.specs.declared.job.Job.{Job}
 use Rattle.exchange.specs.declared.done.Done.{Done}
 use Rattle.exchange.specs.Worlds.{World}
@@ -30,7 +30,7 @@ AreResults world may_stop jobs results = All (λ (result : ℕ × Done). IsResul
 
 -- a worker drew the number of a job, which is above all that it drew before, and carried the job out; it has its result
 -- behind the others
-pub record DrawsOne {C W : Type 0} (did : C → C → Deed W → Type 0) (world : World W) (may_stop : ℕ → Type 0) (jobs : List Job) (before after : C) (seat next : Drawn) (results more : List (ℕ × Done)) : Type 0 where
+pub record DrawsOne {C W : Type 0} (did : C → C → CacheCall W → Type 0) (world : World W) (may_stop : ℕ → Type 0) (jobs : List Job) (before after : C) (seat next : Drawn) (results more : List (ℕ × Done)) : Type 0 where
   pub number : ℕ
   pub done : Done
   pub above : All (λ n. n < number) seat.drawn
@@ -46,7 +46,7 @@ pub record DrawsNone {C : Type 0} (before after : C) (seat next : Drawn) (result
   pub nothing : after ≡ before
 
 -- whether there was a job; nothing is said of a worker that gives up
-abbrev pub Goes : {C W : Type 0} → (C → C → Deed W → Type 0) → World W → (ℕ → Type 0) → List Job → C → C → Drawn → Drawn → List (ℕ × Done) → List (ℕ × Done) → Result Bool Quit → Type 0
+abbrev pub Goes : {C W : Type 0} → (C → C → CacheCall W → Type 0) → World W → (ℕ → Type 0) → List Job → C → C → Drawn → Drawn → List (ℕ × Done) → List (ℕ × Done) → Result Bool Quit → Type 0
 Goes did world may_stop jobs before after seat next results more (Ok true) = DrawsOne did world may_stop jobs before after seat next results more
 Goes did world may_stop jobs before after seat next results more (Ok false) = DrawsNone before after seat next results more
 Goes did world may_stop jobs before after seat next results more (Err quit) = Unit {0}

@@ -1,10 +1,11 @@
 //! The end of a run: the results in the order of the jobs, and the passes.
 
+ghost use Rattle.exchange.specs.Dialling.{failed_turns};
 ghost use Rattle.std.specs.Prelude.{◌≡◌, ◌+◌, ◌<◌, ◌≤◌, List, length, IfOk, IfErr, []};
 ghost use Rattle.std.specs.Prelude.{vec_len, vec_capacity};
 ghost use Rattle.std.specs.List.{All, sum_by};
 ghost use Rattle.budget.specs.Words.{whole};
-ghost use Rattle.claim.specs.Draws.{first_seat};
+ghost use Rattle.job_counter.specs.Draws.{first_seat};
 ghost use Rattle.exchange.specs.Worlds.{world_of};
 ghost use Rattle.shared_cache.specs.Passes.{IsPassOf};
 ghost use Rattle.driver.specs.Faults.{IsWorkerFault};
@@ -12,21 +13,21 @@ ghost use Rattle.driver.specs.Running.{IsRun};
 ghost use Rattle.driver.specs.Hiring.{HasWorked, IsPlaced};
 ghost use Rattle.driver.specs.Turns.{TurnedTogether, DialsTurned};
 
+use crate::context::RunContext;
 use crate::fault::DriverFault;
 use crate::gate::Gate;
 use crate::quit::first_of;
 use crate::running::RunReport;
-use crate::shared::Shared;
-use crate::worker::{Left, Worker};
+use crate::worker::{Worker, WorkerResult};
 use budget::Pass;
 use bundle::Did;
-use claim::ClaimSeat;
 use exchange::{Clock, Dial, Done, Wire};
+use job_counter::ClaimSeat;
 use shared_cache::Names;
 
 /// Puts the results of all workers in the order of the jobs, and takes their passes back.
 pub(crate) fn collect<W: Wire, N: Names, D: Dial<W>, K: Clock, G: Gate>(
-    shared: &Shared<'_, K, G>,
+    shared: &RunContext<'_, K, G>,
     seat: ClaimSeat,
     workers: Vec<Worker<'_, W, D>>,
     results: Vec<Done>,
@@ -49,8 +50,8 @@ pub(crate) fn collect<W: Wire, N: Names, D: Dial<W>, K: Clock, G: Gate>(
     ensures passes { IfErr result (λ refused. All (IsPassOf N.names) refused.1.items) }
     ensures come_back { IfErr result (λ refused. vec_len refused.1 ≡ vec_len workers.entry) }
     ensures turns { (dials : List D) → length dials ≡ vec_len workers.entry →
-        TurnedTogether (sum_by D.turn_failures dials) workers.entry.items →
-        DialsTurned D.turn_failures dials result }
+        TurnedTogether (sum_by (failed_turns D.shown) dials) workers.entry.items →
+        DialsTurned (failed_turns D.shown) dials result }
 {
     let mut seat = seat;
     let mut workers = workers;
@@ -58,7 +59,7 @@ pub(crate) fn collect<W: Wire, N: Names, D: Dial<W>, K: Clock, G: Gate>(
     let mut passes = passes;
     let mut quit = None;
     while let Some(worker) = workers.pop() {
-        let Left {
+        let WorkerResult {
             seat: other,
             pass,
             results: own,

@@ -13,7 +13,7 @@ pub enum DriverFault {
     Doubled,
     /// A job has no result. It is never answered: all numbers are drawn.
     Missing,
-    /// A thread could not be started. It is never answered: where no thread starts, the workers
+    /// A thread could not be started. It is never answered: if no thread starts, the workers
     /// work one after another.
     Spawn,
 }

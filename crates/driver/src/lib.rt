@@ -3,16 +3,18 @@
 #![tactic(auto)]
 
 mod bell;
-mod carrier;
+mod carrying;
 mod collecting;
+mod context;
+mod control;
 mod fault;
 mod faults;
 mod gate;
 mod many;
 mod quit;
-mod room;
 mod running;
-mod shared;
+mod stopped;
+mod storage;
 mod worker;
 
 pub use fault::DriverFault;

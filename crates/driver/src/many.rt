@@ -5,9 +5,9 @@ mod gathering;
 mod job_source;
 mod listed_jobs;
 mod loop_states;
-mod room;
 mod run_timer;
 mod running;
+mod storage;
 mod worker;
 
 pub use job_source::JobSource;

@@ -1,5 +1,6 @@
 //! A run: threads that share a cache, each with a dial and a pass of its own.
 
+ghost use Rattle.exchange.specs.Dialling.{failed_turns};
 ghost use Rattle.std.specs.Prelude.{◌≡◌, ◌<◌, length, IfOk, IfErr, IsErrAnd, [], true};
 ghost use Rattle.std.specs.Prelude.{vec_len};
 ghost use Rattle.std.specs.List.{All, sum_by};
@@ -13,11 +14,11 @@ ghost use Rattle.driver.specs.Turns.{failed_of, TurnedTogether, DialsTurned};
 
 use crate::bell::Bell;
 use crate::collecting::collect;
+use crate::context::RunContext;
 use crate::fault::DriverFault;
 use crate::faults::Faults;
 use crate::gate::Gate;
-use crate::room::{Room, hire, passes_for};
-use crate::shared::Shared;
+use crate::storage::{RunStorage, hire, passes_for};
 use crate::worker::Worker;
 use budget::Pass;
 use bundle::Did;
@@ -46,9 +47,9 @@ pub struct RunReport {
 ///
 /// # Errors
 ///
-/// [`DriverFault::BadWorkers`] where there are no dials, or more than 64. [`DriverFault::Memory`]
-/// where there is no memory for what the run keeps or to prepare a job, or the system gives no
-/// random number, and [`DriverFault::Poll`] where a turn of a dial failed: then each worker cancels
+/// [`DriverFault::BadWorkers`] if there are no dials, or more than 64. [`DriverFault::Memory`]
+/// if there is no memory for what the run keeps or to prepare a job, or the system gives no
+/// random number, and [`DriverFault::Poll`] if a turn of a dial failed: then each worker cancels
 /// what it holds and takes no more jobs. At `Poll` as many passes come back as there are dials, at
 /// `Memory` those made so far. What jobs did at the cache stays.
 pub fn run<
@@ -75,17 +76,17 @@ pub fn run<
     ensures passes { IfErr result (λ refused. All (IsPassOf N.names) refused.1.items) }
     ensures come_back { IfErr result (λ refused.
         ComeBack refused.0 (vec_len refused.1) (length dials.old)) }
-    ensures turns { DialsTurned D.turn_failures dials.old result }
+    ensures turns { DialsTurned (failed_turns D.shown) dials.old result }
 {
     let count = dials.len();
     if count == 0 || count > MOST_WORKERS {
         return Err((DriverFault::BadWorkers, Vec::new(alloc)));
     }
     let passes = passes_for(rt, alloc, cache, count)?;
-    let Ok(room) = Room::new(rt, alloc, jobs.len(), count) else {
+    let Ok(room) = RunStorage::new(rt, alloc, jobs.len(), count) else {
         return Err((DriverFault::Memory, passes));
     };
-    let Room {
+    let RunStorage {
         claim,
         mut seat,
         results,
@@ -93,7 +94,7 @@ pub fn run<
         mut workers,
     } = room;
     let passes = hire::<W, N, D>(alloc, &claim, &mut seat, dials, passes, tasks, &mut workers);
-    let shared = Shared {
+    let shared = RunContext {
         claim: &claim,
         jobs,
         clock,
@@ -113,7 +114,12 @@ fn work_at_once<
     K: Clock + Sync,
     G: Gate + Sync,
     R: Threads + Wait + Sync,
->(rt: &R, cache: &SharedCache<W, N>, shared: &Shared<'_, K, G>, workers: &mut Vec<Worker<'_, W, D>>)
+>(
+    rt: &R,
+    cache: &SharedCache<W, N>,
+    shared: &RunContext<'_, K, G>,
+    workers: &mut Vec<Worker<'_, W, D>>,
+)
     requires some { 0 < vec_len workers.old }
     requires jobs { shared.now.claim.now.jobs ≡ length shared.now.jobs.now }
     requires hired { All (IsHired N.names shared.now.claim.now) workers.old.items }
@@ -143,7 +149,7 @@ fn work_at_once<
 fn work<W: Wire, N: Names, D: Dial<W>, K: Clock, G: Gate, R: Wait>(
     rt: &R,
     cache: &SharedCache<W, N>,
-    shared: &Shared<'_, K, G>,
+    shared: &RunContext<'_, K, G>,
     worker: &mut Worker<'_, W, D>,
 )
     requires jobs { shared.now.claim.now.jobs ≡ length shared.now.jobs.now }

@@ -1,5 +1,6 @@
 //! A worker, which draws jobs and carries out one after another.
 
+ghost use Rattle.exchange.specs.Dialling.{failed_turns};
 ghost use Rattle.std.specs.Prelude.{◌≡◌, ◌+◌, ◌<◌, ◌≤◌, length, IfNone, IsSome, OnErr};
 ghost use Rattle.std.specs.Prelude.{Some, None, []};
 ghost use Rattle.exchange.specs.Worlds.{world_of};
@@ -8,26 +9,29 @@ ghost use Rattle.run_loop.specs.Running.{numbers_of};
 ghost use Rattle.driver.specs.Results.{RunsInTurn};
 ghost use Rattle.driver.specs.Workers.{AreResults, Goes, left_with};
 
-use crate::carrier::Carrier;
+use crate::carrying::carry_out;
+use crate::context::RunContext;
 use crate::gate::Gate;
 use crate::quit::Quit;
-use crate::shared::Shared;
 use budget::Pass;
 use bundle::Did;
-use claim::ClaimSeat;
-use exchange::{Clock, Dial, Done, Wire};
-use leasing::Cache;
+use cache_trait::Cache;
+use exchange::{Clock, Dial, Done, JobRunner, Wire};
+use job_counter::ClaimSeat;
 use std::alloc::Global;
-use std::marker::Model;
+use std::marker::{Model, PhantomData};
 use std::mem;
 use std::sync::Wait;
 
-/// What a thread works with: what carries its jobs out, its seat at the word that they are drawn
-/// from, its pass, how its jobs ended, and why it gave up, if it did.
+/// A thread of a run: the runner of its jobs and the dial that opens their connections, its seat at
+/// the counter that it draws jobs from, its pass, how its jobs ended, and why it gave up, if it
+/// did.
 pub(crate) struct Worker<'d, W: Wire, D: Dial<W>> {
-    carrier: Carrier<'d, W, D>,
+    runner: JobRunner,
+    dial: &'d mut D,
+    of: PhantomData<W>,
     seat: ClaimSeat,
-    // None while a desk has it.
+    // `None` while a desk has it.
     pass: Option<Pass<Did>>,
     // Each with the number of its job.
     results: Vec<(u64, Done)>,
@@ -35,13 +39,14 @@ pub(crate) struct Worker<'d, W: Wire, D: Dial<W>> {
 }
 
 impl<'d, W: Wire, D: Dial<W>> Model for Worker<'d, W, D> {
+    ghost use Rattle.exchange.specs.Dialling.{failed_turns};
     ghost use Rattle.driver.specs.Workers.{WorkerShown};
 
     ghost Value = { WorkerShown };
 
     ghost view = { λ worker. record {
-      opened = D.opened worker.carrier.dial.now;
-      failed = D.turn_failures worker.carrier.dial.now;
+      opened = (D.shown worker.dial.now).opened;
+      failed = failed_turns D.shown worker.dial.now;
       seat = worker.seat;
       pass = worker.pass;
       results = worker.results.items;
@@ -49,8 +54,8 @@ impl<'d, W: Wire, D: Dial<W>> Model for Worker<'d, W, D> {
     } };
 }
 
-/// What a worker leaves.
-pub(crate) struct Left {
+/// The results of a worker that has ended, with its seat and its pass.
+pub(crate) struct WorkerResult {
     pub(crate) seat: ClaimSeat,
     pub(crate) pass: Pass<Did>,
     pub(crate) results: Vec<(u64, Done)>,
@@ -58,10 +63,11 @@ pub(crate) struct Left {
 }
 
 impl<'d, W: Wire, D: Dial<W>> Worker<'d, W, D> {
-    /// A worker with that pass and that seat, which has done nothing yet.
+    /// Makes a worker with that pass and that seat, which has done nothing yet.
     pub(crate) fn new(
         alloc: Global,
-        carrier: Carrier<'d, W, D>,
+        runner: JobRunner,
+        dial: &'d mut D,
         seat: ClaimSeat,
         pass: Pass<Did>,
     ) -> Self
@@ -69,10 +75,12 @@ impl<'d, W: Wire, D: Dial<W>> Worker<'d, W, D> {
         ensures pass { result.pass ≡ Some pass }
         ensures no_results { result.results ≡ [] }
         ensures well { result.quit ≡ None }
-        ensures turns { result.failed ≡ D.turn_failures carrier.entry.dial.now }
+        ensures turns { result.failed ≡ failed_turns D.shown dial.old }
     {
         Worker {
-            carrier,
+            runner,
+            dial,
+            of: PhantomData,
             seat,
             pass: Some(pass),
             results: Vec::new(alloc),
@@ -80,7 +88,7 @@ impl<'d, W: Wire, D: Dial<W>> Worker<'d, W, D> {
         }
     }
 
-    /// Lends its pass, which it has.
+    /// Lends its pass, which it must have.
     pub(crate) fn take_pass(&mut self) -> Pass<Did>
         requires { IsSome self.old.pass }
         ensures pass { self.old.pass ≡ Some result }
@@ -103,22 +111,24 @@ impl<'d, W: Wire, D: Dial<W>> Worker<'d, W, D> {
         }
     }
 
-    /// Ends it, once it has its pass again. Its dial is where its turns are counted.
-    pub(crate) fn leave(self) -> Left
+    /// Ends the worker, which must have its pass again. Its dial counts its failed turns.
+    pub(crate) fn leave(self) -> WorkerResult
         requires { IsSome self.pass }
         ensures left { self.entry ≡ left_with self.entry.opened self.entry.failed result.seat
             result.pass result.results.items result.quit }
-        ensures dial { (dial : D) × (D.turn_failures dial ≡ self.entry.failed) }
+        ensures dial { (dial : D) × (failed_turns D.shown dial ≡ self.entry.failed) }
     {
         let Worker {
-            carrier: _,
+            runner: _,
+            dial: _,
+            of: _,
             seat,
             pass,
             results,
             quit,
         } = self;
         let Some(pass) = pass else { unreachable!() };
-        Left {
+        WorkerResult {
             seat,
             pass,
             results,
@@ -126,11 +136,11 @@ impl<'d, W: Wire, D: Dial<W>> Worker<'d, W, D> {
         }
     }
 
-    /// Draws jobs and carries them out, until none is left or any worker gives up.
+    /// Draws jobs and carries them out, until no job is left or any worker gives up.
     pub(crate) fn draw_all<C: Cache<W>, K: Clock, G: Gate, R: Wait>(
         &mut self,
         rt: &R,
-        shared: &Shared<'_, K, G>,
+        shared: &RunContext<'_, K, G>,
         cache: &mut C,
     )
         requires claim { self.old.seat.claim ≡ shared.now.claim.now }
@@ -169,11 +179,11 @@ impl<'d, W: Wire, D: Dial<W>> Worker<'d, W, D> {
         unreachable!()
     }
 
-    // Draws a job and carries it out; whether there was one.
+    // Draws a job and carries it out; answers whether a job was left.
     fn draw<C: Cache<W>, K: Clock, G: Gate, R: Wait>(
         &mut self,
         rt: &R,
-        shared: &Shared<'_, K, G>,
+        shared: &RunContext<'_, K, G>,
         cache: &mut C,
     ) -> Result<bool, Quit>
         requires claim { self.old.seat.claim ≡ shared.now.claim.now }
@@ -201,7 +211,7 @@ impl<'d, W: Wire, D: Dial<W>> Worker<'d, W, D> {
         let Some(number) = shared.claim.draw(&mut self.seat) else {
             return Ok(false);
         };
-        let done = self.carrier.carry_out(rt, shared, cache, number)?;
+        let done = carry_out(rt, shared, &mut self.runner, cache, self.dial, number)?;
         self.results.push_reserved((number, done));
         Ok(true)
     }

@@ -9,8 +9,8 @@ use Rattle.exchange.specs.declared.done.Done.TheVariants.{Bad}
 use Rattle.exchange.specs.declared.state.State.{State}
 use Rattle.exchange.specs.declared.state.State.TheVariants as at
 use Rattle.exchange.specs.Wires.Happening.{is_adopted}
-use Rattle.leasing.specs.Deeds.{Deed, DropsBy}
-use Rattle.leasing.specs.Deeds.Deed.{leases, begins_wait, grants, keeps_waiting, refuses, abandons, finds_strange_lease, finds_strange_ticket}
+use Rattle.cache_trait.specs.CacheCalls.{CacheCall, DropsBy}
+use Rattle.cache_trait.specs.CacheCalls.CacheCall.{leases, begins_wait, grants, keeps_waiting, refuses, abandons, finds_strange_lease, finds_strange_ticket}
 use Rattle.exchange.specs.Answers.{unread, wanted, IsSent}
 use Rattle.exchange.specs.Worlds.{World, BeginsWith}
 use Rattle.exchange.specs.Story.{IsGiven, IsGranted, Asks, Has}
@@ -24,24 +24,24 @@ use Rattle.exchange.proofs.OnWires.{CarriesSo, same_still}
 nothing_sent : {W : Type 0} (world : World W) (p : Prepared) (given : Leasing W) (wire : W) → BeginsWith world given.site given.start.want.transfer given.stream wire → CarriesSo world given (IsSent p 0) wire
 nothing_sent world p given wire begins = ([], record { first = wire; begins = begins; happened = refl }, record { front = refl; received = refl; well = record { going = refl; unfailed = record { reads = refl; writes = refl } } })
 
-module _ {C W : Type 0} (does : C → C → Deed W → Type 0) (world : World W) (p : Prepared) (first : Outset C W) (before after : C) (deeds : List (Deed W)) (deed : Deed W) (done : DoneSince does first before deeds) (reader : p.reader ≡ unread p) where
-  -- that deed gave the lease, or granted it
+module _ {C W : Type 0} (does : C → C → CacheCall W → Type 0) (world : World W) (p : Prepared) (first : Outset C W) (before after : C) (calls : List (CacheCall W)) (call : CacheCall W) (done : DoneSince does first before calls) (reader : p.reader ≡ unread p) where
+  -- that call gave the lease, or granted it
   abbrev pub Got : Leasing W → Type 0
-  Got lease = IsGiven world (Asks world p) lease (deed ∷ deeds) ⊎ IsGranted world (Asks world p) p.site (wanted p) lease (deed ∷ deeds)
+  Got lease = IsGiven world (Asks world p) lease (call ∷ calls) ⊎ IsGranted world (Asks world p) p.site (wanted p) lease (call ∷ calls)
 
   -- so the lease is its own
-  its_own : (lease : Leasing W) → Got lease → lease.site ≡ p.site → lease.start.want ≡ wanted p → is_some lease.stream ≡ lease.start.reused → Has world p lease lease (deed ∷ deeds)
+  its_own : (lease : Leasing W) → Got lease → lease.site ≡ p.site → lease.start.want ≡ wanted p → is_some lease.stream ≡ lease.start.reused → Has world p lease lease (call ∷ calls)
   its_own lease how site want wire = record { got = record { how = how; site_is = site; want_is = want; wire = wire }; same = refl }
 
   -- where its wire was adopted it sends
-  sends : (lease same : Leasing W) → Got lease → does before after deed → lease.site ≡ p.site → lease.start.want ≡ wanted p → is_some lease.stream ≡ lease.start.reused → StepsWire lease same (λ old new. world.happened old new is_adopted) → StandsFrom does world p first after (at.Sending same 0)
+  sends : (lease same : Leasing W) → Got lease → does before after call → lease.site ≡ p.site → lease.start.want ≡ wanted p → is_some lease.stream ≡ lease.start.reused → StepsWire lease same (λ old new. world.happened old new is_adopted) → StandsFrom does world p first after (at.Sending same 0)
   sends lease same how did site want has_wire step =
       let own = its_own lease how site want has_wire in
       let begins : BeginsWith world lease.site lease.start.want.transfer lease.stream step.after = subst (λ (s : Option W). BeginsWith world lease.site lease.start.want.transfer s step.after) (sym step.was) step.stepped in
       let stream = ap (λ (l : Leasing W). l.stream) step.is_now in
       let wire = subst (λ (s : Option W). IsSomeAnd s (CarriesSo world lease (IsSent p 0))) (sym stream) (nothing_sent world p lease step.after begins) in (
-        deed ∷ deeds,
-        one_more does first before after deed deeds done did,
+        call ∷ calls,
+        one_more does first before after call calls done did,
         record {
           given = lease;
           reader = reader;
@@ -51,18 +51,18 @@ module _ {C W : Type 0} (does : C → C → Deed W → Type 0) (world : World W)
       )
 
   -- a lease that was given begins
-  pub begins_lease : (lease : Leasing W) (next : State W) → Got lease → does before after deed → lease.site ≡ p.site → lease.start.want ≡ wanted p → is_some lease.stream ≡ lease.start.reused → Begins world.happened lease next → StandsFrom does world p first after next
+  pub begins_lease : (lease : Leasing W) (next : State W) → Got lease → does before after call → lease.site ≡ p.site → lease.start.want ≡ wanted p → is_some lease.stream ≡ lease.start.reused → Begins world.happened lease next → StandsFrom does world p first after next
   begins_lease lease at.Asking how did site want has_wire begins = absurd begins
   begins_lease lease (at.Waiting ticket) how did site want has_wire begins = absurd begins
   begins_lease lease (at.Dialling same) how did site want has_wire begins =
-      let dials : StandsFrom does world p first after (at.Dialling lease) = (deed ∷ deeds, one_more does first before after deed deeds done did, record { reader = reader; has = its_own lease how site want has_wire; none = begins.1 }) in
+      let dials : StandsFrom does world p first after (at.Dialling lease) = (call ∷ calls, one_more does first before after call calls done did, record { reader = reader; has = its_own lease how site want has_wire; none = begins.1 }) in
       subst (λ (l : Leasing W). StandsFrom does world p first after (at.Dialling l)) (sym begins.0) dials
   begins_lease lease (at.Sending same sent) how did site want has_wire begins =
       subst (λ (n : ℕ). StandsFrom does world p first after (at.Sending same n)) (sym begins.1) (sends lease same how did site want has_wire begins.0)
   begins_lease lease (at.Reading same) how did site want has_wire begins = absurd begins
   begins_lease lease (at.Finished end) how did site want has_wire begins = absurd begins
 
-module _ {C W : Type 0} (does : C → C → Deed W → Type 0) (world : World W) (p : Prepared) (before after : C) (now : ℕ) (told : world.tells now) where
+module _ {C W : Type 0} (does : C → C → CacheCall W → Type 0) (world : World W) (p : Prepared) (before after : C) (now : ℕ) (told : world.tells now) where
   -- it asks, and is given a lease
   pub asks_leases : (lease : Leasing W) (next : State W) → does before after (leases lease now) → lease.site ≡ p.site → lease.start.want ≡ wanted p → is_some lease.stream ≡ lease.start.reused → Begins world.happened lease next → GoesOn does world p p before after at.Asking next
   asks_leases lease next did site want wire begins first stands =
@@ -85,7 +85,7 @@ module _ {C W : Type 0} (does : C → C → Deed W → Type 0) (world : World W)
     inl (record { earlier = stands.0; now = now; last = refl; told = told; asks = stands.2.asks }),
   )
 
-module _ {C W : Type 0} (does : C → C → Deed W → Type 0) (world : World W) (p : Prepared) (before after : C) where
+module _ {C W : Type 0} (does : C → C → CacheCall W → Type 0) (world : World W) (p : Prepared) (before after : C) where
   -- it waits, and is granted the lease of its ticket
   pub waits_leases : (ticket : Ticketed) (lease : Leasing W) (next : State W) → does before after (grants lease) → lease.site ≡ ticket.site → lease.start.want ≡ ticket.wait.want → is_some lease.stream ≡ lease.start.reused → Begins world.happened lease next → GoesOn does world p p before after (at.Waiting ticket) next
   waits_leases ticket lease next did site want wire begins first stands =
@@ -117,10 +117,10 @@ module _ {C W : Type 0} (does : C → C → Deed W → Type 0) (world : World W)
   dials_in_vain lease now told (inl did) first stands = (
     abandons lease now ∷ stands.0,
     one_more does first before after (abandons lease now) stands.0 stands.1 did,
-    record { lease = lease; deed = abandons lease now; earlier = stands.0; last = refl; drops = inl (now, told, refl); has = stands.2.has; none = stands.2.none },
+    record { lease = lease; call = abandons lease now; earlier = stands.0; last = refl; drops = inl (now, told, refl); has = stands.2.has; none = stands.2.none },
   )
   dials_in_vain lease now told (inr did) first stands = (
     finds_strange_lease lease ∷ stands.0,
     one_more does first before after (finds_strange_lease lease) stands.0 stands.1 did,
-    record { lease = lease; deed = finds_strange_lease lease; earlier = stands.0; last = refl; drops = inr refl; has = stands.2.has; none = stands.2.none },
+    record { lease = lease; call = finds_strange_lease lease; earlier = stands.0; last = refl; drops = inr refl; has = stands.2.has; none = stands.2.none },
   )

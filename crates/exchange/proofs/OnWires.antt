@@ -3,7 +3,7 @@ use Rattle.std.proofs.Common.{◌≡◌, sym, ap, subst, ◌∙◌, List, ◌∷
 use Rattle.bundle.specs.Lease.{Leasing}
 use Rattle.exchange.specs.declared.job.Prepared.{Prepared}
 use Rattle.exchange.specs.Wires.{Happening, Carried, carries_more, carried_by}
-use Rattle.leasing.specs.Deeds.{Deed}
+use Rattle.cache_trait.specs.CacheCalls.{CacheCall}
 use Rattle.exchange.specs.Worlds.{World, HasHappened, OnWire}
 use Rattle.exchange.specs.Story.{Has}
 use Rattle.exchange.specs.Steps.{StepsWire}
@@ -34,5 +34,5 @@ same_still {W} given old new P step same =
     let stream : new.stream ≡ Some step.after = ap (λ (lease : Leasing W). lease.stream) step.is_now in
     step.is_now ∙ ap (λ (lease : Leasing W). record lease { stream = Some step.after }) same ∙ ap (λ (s : Option W). record given { stream = s }) (sym stream)
 
-pub has_still : {W : Type 0} (world : World W) (p : Prepared) (given old new : Leasing W) (deeds : List (Deed W)) (P : W → W → Type 0) → StepsWire old new P → Has world p given old deeds → Has world p given new deeds
-has_still world p given old new deeds P step has = record { got = has.got; same = same_still given old new P step has.same }
+pub has_still : {W : Type 0} (world : World W) (p : Prepared) (given old new : Leasing W) (calls : List (CacheCall W)) (P : W → W → Type 0) → StepsWire old new P → Has world p given old calls → Has world p given new calls
+has_still world p given old new calls P step has = record { got = has.got; same = same_still given old new P step has.same }

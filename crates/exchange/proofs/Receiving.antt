@@ -16,7 +16,7 @@ use Rattle.exchange.specs.declared.wire.Read.{Read}
 use Rattle.exchange.specs.declared.wire.Read.TheVariants.{Bytes, NotYet, End, Fault}
 use Rattle.exchange.specs.Wires.{Happening, Carried, carries_more, Reads}
 use Rattle.exchange.specs.Wires.Happening.{nothing, gives, ends, fails_to_read}
-use Rattle.leasing.specs.Deeds.{Deed}
+use Rattle.cache_trait.specs.CacheCalls.{CacheCall}
 use Rattle.exchange.specs.Worlds.{World}
 use Rattle.exchange.specs.Answers.{ReadsWire, IsFaulty}
 use Rattle.exchange.specs.Standing.{StandsFrom, GoesOn}
@@ -82,13 +82,13 @@ module _ (p : Prepared) (count : ℕ) (reader : Reading) (feeds : Feeds p count 
         facts_are = rw (← method, ← close, ← bytes) told;
       }
 
-module _ {C W : Type 0} (does : C → C → Deed W → Type 0) (world : World W) (p : Prepared) (before : C) (lease : Leasing W) (count : ℕ) (reader : Reading) (feeds : Feeds p count reader) where
+module _ {C W : Type 0} (does : C → C → CacheCall W → Type 0) (world : World W) (p : Prepared) (before : C) (lease : Leasing W) (count : ℕ) (reader : Reading) (feeds : Feeds p count reader) where
   -- it reads on
   pub reads_on : reader.fault ≡ None → IsNotWhole reader.method reader.bytes false → LeadsOn does world p (record p { reader = reader }) before before lease (HasCome p count) (at.Reading lease)
   reads_on none open_end first from =
       let new = record p { reader = reader } in
       let now = leased_in does world p new first before lease (HasCome p count) (ReadsWire new) (λ c come. reads_so p count reader feeds c come none open_end) from in
-      (now.deeds, now.done, record { given = now.given; has = now.has; wire = now.wire })
+      (now.calls, now.done, record { given = now.given; has = now.has; wire = now.wire })
 
   -- its response is whole, and its lease can be settled
   pub can_settle_whole : reader.fault ≡ None → (parts : Parts) × IsSplit reader.method reader.bytes false parts → (first : Outset C W) → LeasedFrom does world p first before lease (HasCome p count)
@@ -141,7 +141,7 @@ module _ (p : Prepared) (buffer : List ℕ) (c : Carried) (was : ReadsWire p c) 
     close = was.close;
   }
 
-module _ {C W : Type 0} (does : C → C → Deed W → Type 0) (world : World W) (p : Prepared) (cache : C) (old new : Leasing W) (buffer : List ℕ) where
+module _ {C W : Type 0} (does : C → C → CacheCall W → Type 0) (world : World W) (p : Prepared) (cache : C) (old new : Leasing W) (buffer : List ℕ) where
   -- what its wire answers to a read into that buffer
   abbrev pub Answers : Read → Type 0
   Answers read = StepsWire old new (λ before after. Reads buffer (world.happened before after) read)
@@ -152,7 +152,7 @@ module _ {C W : Type 0} (does : C → C → Deed W → Type 0) (world : World W)
   leased_on h Q leads step first stands =
       let from : LeasedFrom does world p first cache new Q = record {
         given = stands.2.given;
-        deeds = stands.0;
+        calls = stands.0;
         done = stands.1;
         has = has_still world p stands.2.given old new stands.0 (λ before after. world.happened before after h) step stands.2.has;
         wire = wire_steps world stands.2.given old new h (ReadsWire p) Q leads step stands.2.wire;
@@ -170,7 +170,7 @@ module _ {C W : Type 0} (does : C → C → Deed W → Type 0) (world : World W)
   pub reads_later : Answers NotYet → GoesOn does world p (filled p buffer) cache cache (at.Reading old) (at.Reading new)
   reads_later step first stands =
       let from = leased_on nothing (ReadsWire (filled p buffer)) (still_so p buffer) step first stands in
-      (from.deeds, from.done, record { given = from.given; has = from.has; wire = from.wire })
+      (from.calls, from.done, record { given = from.given; has = from.has; wire = from.wire })
 
   -- its wire has ended
   pub reads_end : Answers End → (first : Outset C W) → StandsFrom does world p first cache (at.Reading old) → LeasedFrom does world (filled p buffer) first cache new (IsAtEnd (filled p buffer))

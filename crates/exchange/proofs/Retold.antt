@@ -4,8 +4,8 @@ use Rattle.conn_log.specs.declared.entry.Want.{Want}
 use Rattle.bundle.specs.Lease.{Leasing, Ticketed}
 use Rattle.exchange.specs.declared.job.Prepared.{Prepared}
 use Rattle.exchange.specs.Wires.{Carried}
-use Rattle.leasing.specs.Deeds.{Deed}
-use Rattle.leasing.specs.Deeds.Deed.{begins_wait, keeps_waiting}
+use Rattle.cache_trait.specs.CacheCalls.{CacheCall}
+use Rattle.cache_trait.specs.CacheCalls.CacheCall.{begins_wait, keeps_waiting}
 use Rattle.exchange.specs.Worlds.{World}
 use Rattle.exchange.specs.Answers.{text_of, FailsReading, FailsWriting, IsEnded, IsFruitless}
 use Rattle.exchange.specs.Story.{Waits, IsGiven, IsGranted, Gets, Holds, AsksAt}
@@ -35,17 +35,17 @@ over_in p q same c (inr (inr end)) = inr (inr (record { sent = end.sent ∙ same
 pub fruitless_in : (p q : Prepared) → text_of p ≡ text_of q → (c : Carried) → IsFruitless p c → IsFruitless q c
 fruitless_in p q same c was = record { none = was.none; over = over_in p q same c was.over }
 
-module _ {W : Type 0} (world : World W) (One Other : List (Deed W) → Type 0) (leads : (deeds : List (Deed W)) → One deeds → Other deeds) where
+module _ {W : Type 0} (world : World W) (One Other : List (CacheCall W) → Type 0) (leads : (calls : List (CacheCall W)) → One calls → Other calls) where
   -- a wait since what was done before is one since what follows from that
-  waits_so : (ticket : Ticketed) (deeds : List (Deed W)) → Waits world One ticket deeds → Waits world Other ticket deeds
+  waits_so : (ticket : Ticketed) (calls : List (CacheCall W)) → Waits world One ticket calls → Waits world Other ticket calls
   waits_so ticket (begins_wait same now ∷ earlier) waits = (waits.0, waits.1, leads earlier waits.2)
   waits_so ticket (keeps_waiting same ∷ earlier) waits = (waits.0, waits_so ticket earlier waits.1)
   waits_so ticket _ waits = absurd waits
 
   -- and so is a lease that was got at once, or after a wait
-  how_so : (site : ℕ) (want : Want) (lease : Leasing W) (deeds : List (Deed W)) → IsGiven world One lease deeds ⊎ IsGranted world One site want lease deeds → IsGiven world Other lease deeds ⊎ IsGranted world Other site want lease deeds
-  how_so site want lease deeds (inl one) = inl (record { now = one.now; earlier = one.earlier; last = one.last; told = one.told; before = leads one.earlier one.before })
-  how_so site want lease deeds (inr one) =
+  how_so : (site : ℕ) (want : Want) (lease : Leasing W) (calls : List (CacheCall W)) → IsGiven world One lease calls ⊎ IsGranted world One site want lease calls → IsGiven world Other lease calls ⊎ IsGranted world Other site want lease calls
+  how_so site want lease calls (inl one) = inl (record { now = one.now; earlier = one.earlier; last = one.last; told = one.told; before = leads one.earlier one.before })
+  how_so site want lease calls (inr one) =
       let waited = one.waited in
       inr (record {
         ticket = one.ticket;
@@ -55,24 +55,24 @@ module _ {W : Type 0} (world : World W) (One Other : List (Deed W) → Type 0) (
       })
 
   -- and what it has become
-  holds_so : (site : ℕ) (want : Want) (given lease : Leasing W) (deeds : List (Deed W)) → Holds world One site want given lease deeds → Holds world Other site want given lease deeds
-  holds_so site want given lease deeds holds =
+  holds_so : (site : ℕ) (want : Want) (given lease : Leasing W) (calls : List (CacheCall W)) → Holds world One site want given lease calls → Holds world Other site want given lease calls
+  holds_so site want given lease calls holds =
       let got = holds.got in
-      let now : Gets world Other site want given deeds = record { how = how_so site want given deeds got.how; site_is = got.site_is; want_is = got.want_is; wire = got.wire } in
+      let now : Gets world Other site want given calls = record { how = how_so site want given calls got.how; site_is = got.site_is; want_is = got.want_is; wire = got.wire } in
       record { got = now; same = holds.same }
 
 -- the one, with what the other has read
 abbrev pub read_as : Prepared → Prepared → Prepared
 read_as p other = record p { reader = other.reader; buffer = other.buffer }
 
-module _ {C W : Type 0} (does : C → C → Deed W → Type 0) (world : World W) (p other : Prepared) where
+module _ {C W : Type 0} (does : C → C → CacheCall W → Type 0) (world : World W) (p other : Prepared) where
   -- it was tried, and asks, as before
-  asks_in : (retried : Bool) (deeds : List (Deed W)) → AsksAt world p retried deeds → AsksAt world (read_as p other) retried deeds
-  asks_in false deeds asks = asks
-  asks_in true deeds was = record {
+  asks_in : (retried : Bool) (calls : List (CacheCall W)) → AsksAt world p retried calls → AsksAt world (read_as p other) retried calls
+  asks_in false calls asks = asks
+  asks_in true calls was = record {
     given = was.given;
     lease = was.lease;
-    deed = was.deed;
+    call = was.call;
     earlier = was.earlier;
     last = was.last;
     dropped = was.dropped;
@@ -81,12 +81,12 @@ module _ {C W : Type 0} (does : C → C → Deed W → Type 0) (world : World W)
     wire = on_wire_so world was.given was.lease (IsFruitless p) (IsFruitless (read_as p other)) (fruitless_in p (read_as p other) refl) was.wire;
   }
 
-  -- it has its lease since the same deeds, where what held of its wire leads to what holds of it now
+  -- it has its lease since the same calls, where what held of its wire leads to what holds of it now
   pub leased_in : (first : Outset C W) (cache : C) (lease : Leasing W) (P Q : Carried → Type 0) → ((c : Carried) → P c → Q c) → LeasedFrom does world p first cache lease P → LeasedFrom does world (read_as p other) first cache lease Q
   leased_in first cache lease P Q leads from = record {
     given = from.given;
-    deeds = from.deeds;
+    calls = from.calls;
     done = from.done;
-    has = holds_so world (AsksAt world p p.retried) (AsksAt world (read_as p other) p.retried) (asks_in p.retried) p.site _ from.given lease from.deeds from.has;
+    has = holds_so world (AsksAt world p p.retried) (AsksAt world (read_as p other) p.retried) (asks_in p.retried) p.site _ from.given lease from.calls from.has;
     wire = on_wire_so world from.given lease P Q leads from.wire;
   }

@@ -9,8 +9,8 @@ use Rattle.exchange.specs.declared.done.Fault.TheVariants.{Read, Write, Refused}
 use Rattle.exchange.specs.declared.done.Done.TheVariants.{Bad}
 use Rattle.exchange.specs.declared.state.State.TheVariants.{Asking, Finished}
 use Rattle.exchange.specs.Wires.{Carried}
-use Rattle.leasing.specs.Deeds.{Deed, DropsBy}
-use Rattle.leasing.specs.Deeds.Deed.{abandons, finds_strange_lease}
+use Rattle.cache_trait.specs.CacheCalls.{CacheCall, DropsBy}
+use Rattle.cache_trait.specs.CacheCalls.CacheCall.{abandons, finds_strange_lease}
 use Rattle.exchange.specs.Worlds.{World}
 use Rattle.exchange.specs.Answers.{unread, wanted_at, FailsReading, FailsWriting, IsFruitless, may_retry}
 use Rattle.exchange.specs.Story.{AsksAt, Holds, WasTried, IsStray}
@@ -35,7 +35,7 @@ may_again retried reused bytes first reuse none = rw (first, reuse, none) refl
 is_final : (p : Prepared) (reused : Bool) (c : Carried) → IsFed p c → may_retry p.retried reused p.reader.bytes ≡ false → may_retry p.retried reused c.received ≡ false
 is_final p reused c fed final = subst (λ (bytes : List ℕ). may_retry p.retried reused bytes ≡ false) fed.bytes final
 
-module _ {C W : Type 0} (does : C → C → Deed W → Type 0) (world : World W) (p : Prepared) (first : Outset C W) (before : C) (lease : Leasing W) where
+module _ {C W : Type 0} (does : C → C → CacheCall W → Type 0) (world : World W) (p : Prepared) (first : Outset C W) (before : C) (lease : Leasing W) where
   -- a lease whose wire has ended can be settled, once its reader was told, where the request may not be sent once more
   pub can_settle : (reader : Reading) → reader ≡ record p.reader { ended = true } → may_retry p.retried lease.start.reused p.reader.bytes ≡ false
       → LeasedFrom does world p first before lease (IsAtEnd p) → LeasedFrom does world (record p { reader = reader }) first before lease (CanSettle (record p { reader = reader }) lease.start.reused)
@@ -53,26 +53,26 @@ module _ {C W : Type 0} (does : C → C → Deed W → Type 0) (world : World W)
         over = inl (was.ended.ended, is_final p lease.start.reused c was.fed final);
       }) from
 
-module _ {C W : Type 0} (does : C → C → Deed W → Type 0) (world : World W) (p : Prepared) (before after : C) (lease : Leasing W) (now : ℕ) (tells : world.tells now) where
+module _ {C W : Type 0} (does : C → C → CacheCall W → Type 0) (world : World W) (p : Prepared) (before after : C) (lease : Leasing W) (now : ℕ) (tells : world.tells now) where
   -- its lease is abandoned, and it asks once more
   pub asks_again : (reader : Reading) → reader ≡ new_reader p.reader.method p.reader.request_close → does before after (abandons lease now) → p.retried ≡ false → lease.start.reused ≡ true
       → LeadsOn does world p (record p { reader = reader; retried = true }) before after lease (IsRetriable p) Asking
   asks_again reader cleared did first reuse start from =
       let new = record p { reader = reader; retried = true } in
       let unread_now : reader ≡ unread p = from_some _ (reader ≡ unread p) lease.stream (λ wire on. let fed = on.2.fed in let method = fed.method in let close = fed.close in cc) from.wire in
-      let held = subst (λ (retried : Bool). Holds world (AsksAt world p retried) p.site (wanted_at p retried) from.given lease from.deeds) first from.has in
-      let tried : WasTried world new (abandons lease now ∷ from.deeds) = record {
+      let held = subst (λ (retried : Bool). Holds world (AsksAt world p retried) p.site (wanted_at p retried) from.given lease from.calls) first from.has in
+      let tried : WasTried world new (abandons lease now ∷ from.calls) = record {
         given = from.given;
         lease = lease;
-        deed = abandons lease now;
-        earlier = from.deeds;
+        call = abandons lease now;
+        earlier = from.calls;
         last = refl;
         dropped = (now, tells, refl);
         held = held;
         reused = reuse;
         wire = on_wire_so world from.given lease (IsRetriable p) (IsFruitless new) (λ c was. fruitless_in p new refl c was.fruitless) from.wire;
       } in
-      (abandons lease now ∷ from.deeds, one_more does start before after (abandons lease now) from.deeds from.done did, record { reader = unread_now; asks = tried })
+      (abandons lease now ∷ from.calls, one_more does start before after (abandons lease now) from.calls from.done did, record { reader = unread_now; asks = tried })
 
   -- its lease is taken for a stranger
   pub loses_lease : does before after (finds_strange_lease lease) → p.retried ≡ false → lease.start.reused ≡ true

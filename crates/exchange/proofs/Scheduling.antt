@@ -7,7 +7,7 @@ use Rattle.std.proofs.lemmas.Option.{slice_get_past}
 use Rattle.futures.specs.LinkedLists.{LinkedLists, list_of, key_limit, IsEmpty, SameLists, Moves}
 use Rattle.futures.proofs.LinkedListsLemmas.{owned_within}
 use Rattle.exchange.specs.declared.state.State.{State}
-use Rattle.exchange.specs.declared.transfer.Transfer.{Transfer}
+use Rattle.exchange.specs.Transfers.{TransferShown}
 use Rattle.exchange.specs.Stepping.{has_lease}
 use Rattle.exchange.specs.Slabs.{one_if_some}
 use Rattle.exchange.specs.Scheduling.{free_list, parked_list, is_waiting, awaits_wire, awaits_grant, suits, IsDueList, IsListFor, StandsIn, IsScheduled, Becomes, IsWoken, Wakes, HasNoneDue, IsIdle, AreIdle}
@@ -42,20 +42,20 @@ free_at W None stands = absurd (false≢true stands)
 free_at W (Some list) stands = ap Some (eqb-true list free_list stands)
 
 module _ {W : Type 0} where
-  stands_as : (was slot : Option (Option (Transfer W))) (list now : Option ℕ) → slot ≡ was → now ≡ list → StandsIn was list → StandsIn slot now
-  stands_as was slot list now same moved stands = subst (λ (l : Option ℕ). StandsIn slot l) (sym moved) (subst (λ (s : Option (Option (Transfer W))). StandsIn s list) (sym same) stands)
+  stands_as : (was slot : Option (Option (TransferShown W))) (list now : Option ℕ) → slot ≡ was → now ≡ list → StandsIn was list → StandsIn slot now
+  stands_as was slot list now same moved stands = subst (λ (l : Option ℕ). StandsIn slot l) (sym moved) (subst (λ (s : Option (Option (TransferShown W))). StandsIn s list) (sym same) stands)
 
   -- no place is there
   pub law_of_none : (lists : LinkedLists) → ((place : ℕ) → list_of lists place ≡ None) → IsScheduled {W = W} [] lists
   law_of_none lists none = record { stands = λ place. stands_as None (slice_get [] place) None (list_of lists place) refl (none place) refl }
 
-  module _ (slots : List (Option (Transfer W))) (old new : LinkedLists) (law : IsScheduled slots old) where
+  module _ (slots : List (Option (TransferShown W))) (old new : LinkedLists) (law : IsScheduled slots old) where
     -- each place is in the list that it was in
     pub law_of_same : SameLists old new → IsScheduled slots new
     law_of_same same = record { stands = λ place. stands_as (slice_get slots place) (slice_get slots place) (list_of old place) (list_of new place) refl (same.keys place) (law.stands place) }
 
     -- something else stands at a place, in its list
-    pub law_of_set : (place : ℕ) (was now : Option (Transfer W)) (list : ℕ) → slice_get slots place ≡ Some was → StandsIn (Some now) (Some list) → Moves old new place (Some list) → IsScheduled (set slots place now) new
+    pub law_of_set : (place : ℕ) (was now : Option (TransferShown W)) (list : ℕ) → slice_get slots place ≡ Some was → StandsIn (Some now) (Some list) → Moves old new place (Some list) → IsScheduled (set slots place now) new
     law_of_set place was now list is fits moves = record {
       stands = λ other. elim (cases_eq other place) [
         | inl here ↦ subst (λ (k : ℕ). StandsIn (slice_get (set slots place now) k) (list_of new k)) (sym here) (stands_as (Some now) (slice_get (set slots place now) place) (Some list) (list_of new place) (get_set_same slots place was now is) moves.moved fits)
@@ -64,7 +64,7 @@ module _ {W : Type 0} where
     }
 
     -- something stands behind all others, in its list
-    pub law_of_push : (place : ℕ) (now : Option (Transfer W)) (list : ℕ) → place ≡ length slots → StandsIn (Some now) (Some list) → Moves old new place (Some list) → IsScheduled (slots ++ (now ∷ [])) new
+    pub law_of_push : (place : ℕ) (now : Option (TransferShown W)) (list : ℕ) → place ≡ length slots → StandsIn (Some now) (Some list) → Moves old new place (Some list) → IsScheduled (slots ++ (now ∷ [])) new
     law_of_push place now list last fits moves = record {
       stands = λ other. elim (cases_eq other place) [
         | inl here ↦ subst (λ (k : ℕ). StandsIn (slice_get (slots ++ (now ∷ [])) k) (list_of new k)) (sym here) (stands_as (Some now) (slice_get (slots ++ (now ∷ [])) place) (Some list) (list_of new place) (ap (slice_get (slots ++ (now ∷ []))) last ∙ get_push_last slots now) moves.moved fits)
@@ -73,46 +73,46 @@ module _ {W : Type 0} where
     }
 
   -- the place behind all others is taken away
-  pub law_of_pop : (slots left : List (Option (Transfer W))) (old new : LinkedLists) (place : ℕ) (last : Option (Transfer W)) → IsScheduled slots old → slots ≡ left ++ (last ∷ []) → place ≡ length left → Moves old new place None → IsScheduled left new
+  pub law_of_pop : (slots left : List (Option (TransferShown W))) (old new : LinkedLists) (place : ℕ) (last : Option (TransferShown W)) → IsScheduled slots old → slots ≡ left ++ (last ∷ []) → place ≡ length left → Moves old new place None → IsScheduled left new
   law_of_pop slots left old new place last law pops is moves = record {
     stands = λ other. elim (cases_eq other place) [
       | inl here ↦ subst (λ (k : ℕ). StandsIn (slice_get left k) (list_of new k)) (sym here) (stands_as None (slice_get left place) None (list_of new place) (slice_get_past left place (omega (arith, is))) moves.moved refl)
-      | inr differs ↦ stands_as (slice_get slots other) (slice_get left other) (list_of old other) (list_of new other) (sym (ap (λ (l : List (Option (Transfer W))). slice_get l other) pops ∙ get_push_other left last other (λ same. differs (same ∙ sym is)))) (moves.others other differs) (law.stands other)
+      | inr differs ↦ stands_as (slice_get slots other) (slice_get left other) (list_of old other) (list_of new other) (sym (ap (λ (l : List (Option (TransferShown W))). slice_get l other) pops ∙ get_push_other left last other (λ same. differs (same ∙ sym is)))) (moves.others other differs) (law.stands other)
     ];
   }
 
   -- places that were parked are due
-  pub due_suits : (t : Transfer W) (list : ℕ) → IsDueList list → suits t list ≡ true
+  pub due_suits : (t : TransferShown W) (list : ℕ) → IsDueList list → suits t list ≡ true
   due_suits t list (inl is) = subst (λ (l : ℕ). suits t l ≡ true) (sym is) refl
   due_suits t list (inr is) = subst (λ (l : ℕ). suits t l ≡ true) (sym is) refl
 
-  woken_at : (slot : Option (Option (Transfer W))) (was now : Option ℕ) → IsWoken was now → StandsIn slot was → StandsIn slot now
+  woken_at : (slot : Option (Option (TransferShown W))) (was now : Option ℕ) → IsWoken was now → StandsIn slot was → StandsIn slot now
   woken_at slot was now (inl same) stands = subst (λ (l : Option ℕ). StandsIn slot l) (sym same) stands
   woken_at slot was None (inr woken) stands = absurd woken.1
   woken_at None was (Some list) (inr woken) stands = let was_none : StandsIn {W = W} None (Some parked_list) = subst (λ (l : Option ℕ). StandsIn {W = W} None l) woken.0 stands in absurd (false≢true was_none)
   woken_at (Some None) was (Some list) (inr woken) stands = let was_free : StandsIn {W = W} (Some None) (Some parked_list) = subst (λ (l : Option ℕ). StandsIn {W = W} (Some None) l) woken.0 stands in absurd (false≢true was_free)
   woken_at (Some (Some t)) was (Some list) (inr woken) stands = due_suits t list woken.1
 
-  pub law_of_wakes : (slots : List (Option (Transfer W))) (old new : LinkedLists) → IsScheduled slots old → Wakes old new → IsScheduled slots new
+  pub law_of_wakes : (slots : List (Option (TransferShown W))) (old new : LinkedLists) → IsScheduled slots old → Wakes old new → IsScheduled slots new
   law_of_wakes slots old new law wakes = record { stands = λ place. woken_at (slice_get slots place) (list_of old place) (list_of new place) (wakes place) (law.stands place) }
 
   -- no transfer stands at a free place
-  vacant_at : (slot : Option (Option (Transfer W))) → StandsIn slot (Some free_list) → slot ≡ Some None
+  vacant_at : (slot : Option (Option (TransferShown W))) → StandsIn slot (Some free_list) → slot ≡ Some None
   vacant_at None stands = absurd (false≢true stands)
   vacant_at (Some None) stands = refl
   vacant_at (Some (Some t)) stands = absurd (false≢true stands)
 
-  pub free_is_vacant : (slots : List (Option (Transfer W))) (lists : LinkedLists) (place : ℕ) → IsScheduled slots lists → list_of lists place ≡ Some free_list → slice_get slots place ≡ Some None
+  pub free_is_vacant : (slots : List (Option (TransferShown W))) (lists : LinkedLists) (place : ℕ) → IsScheduled slots lists → list_of lists place ≡ Some free_list → slice_get slots place ≡ Some None
   free_is_vacant slots lists place law free = vacant_at (slice_get slots place) (subst (λ (l : Option ℕ). StandsIn (slice_get slots place) l) free (law.stands place))
 
   -- if no place is free, a transfer stands at each
-  all_taken : (slots : List (Option (Transfer W))) → ((place : ℕ) → slice_get slots place ≢ Some None) → sum_by one_if_some slots ≡ length slots
+  all_taken : (slots : List (Option (TransferShown W))) → ((place : ℕ) → slice_get slots place ≢ Some None) → sum_by one_if_some slots ≡ length slots
   all_taken [] none = refl
   all_taken (Some t ∷ rest) none = let more = all_taken rest (λ place. none (suc place)) in let sum = sum_by-cons (one_if_some {W = W}) (Some t) rest in omega (arith, more, sum)
   all_taken (None ∷ rest) none = absurd (none zero refl)
 
-  pub taken_if_none_free : (slots : List (Option (Transfer W))) (lists : LinkedLists) → IsScheduled slots lists → IsEmpty lists free_list → sum_by one_if_some slots ≡ length slots
-  taken_if_none_free slots lists law empty = all_taken slots (λ place is. empty place (free_at W (list_of lists place) (subst (λ (s : Option (Option (Transfer W))). StandsIn s (list_of lists place)) is (law.stands place))))
+  pub taken_if_none_free : (slots : List (Option (TransferShown W))) (lists : LinkedLists) → IsScheduled slots lists → IsEmpty lists free_list → sum_by one_if_some slots ≡ length slots
+  taken_if_none_free slots lists law empty = all_taken slots (λ place is. empty place (free_at W (list_of lists place) (subst (λ (s : Option (Option (TransferShown W))). StandsIn s (list_of lists place)) is (law.stands place))))
 
   -- if no place is due, each transfer waits
   wire_meant : (yielded : Bool) (state : Option (State W)) → awaits_wire yielded state ≡ true → (yielded ≡ false) × IsSomeAnd state (λ s. has_lease s ≡ true)
@@ -125,34 +125,34 @@ module _ {W : Type 0} where
   grant_meant true None is = absurd (false≢true is)
   grant_meant true (Some state) is = is
 
-  idle_by : (t : Transfer W) (list : ℕ) → (list ≡ 2 → ⊥) → (list ≡ 3 → ⊥) → suits t list ≡ true → IsIdle t
+  idle_by : (t : TransferShown W) (list : ℕ) → (list ≡ 2 → ⊥) → (list ≡ 3 → ⊥) → suits t list ≡ true → IsIdle t
   idle_by t zero even odd is = absurd (false≢true is)
   idle_by t (suc zero) even odd is = inl (wire_meant t.has_yielded t.state is)
   idle_by t (suc (suc zero)) even odd is = absurd (even refl)
   idle_by t (suc (suc (suc zero))) even odd is = absurd (odd refl)
   idle_by t (suc (suc (suc (suc site)))) even odd is = inr (grant_meant (site == t.parts.site) t.state is)
 
-  idle_at : (slot : Option (Option (Transfer W))) (list : Option ℕ) → list ≢ Some 2 → list ≢ Some 3 → StandsIn slot list → IfSome slot (λ its. IfSome its (IsIdle {W = W}))
+  idle_at : (slot : Option (Option (TransferShown W))) (list : Option ℕ) → list ≢ Some 2 → list ≢ Some 3 → StandsIn slot list → IfSome slot (λ its. IfSome its (IsIdle {W = W}))
   idle_at None list even odd stands = tt
   idle_at (Some None) list even odd stands = tt
   idle_at (Some (Some t)) None even odd stands = absurd (false≢true stands)
   idle_at (Some (Some t)) (Some list) even odd stands = idle_by t list (λ is. even (ap Some is)) (λ is. odd (ap Some is)) stands
 
-  idle_if_none_due : (slots : List (Option (Transfer W))) (lists : LinkedLists) → IsScheduled slots lists → HasNoneDue lists → AreIdle slots
+  idle_if_none_due : (slots : List (Option (TransferShown W))) (lists : LinkedLists) → IsScheduled slots lists → HasNoneDue lists → AreIdle slots
   idle_if_none_due slots lists law none place = idle_at (slice_get slots place) (list_of lists place) (none.even place) (none.odd place) (law.stands place)
 
-  pub idle_unless_due : (slots : List (Option (Transfer W))) (lists : LinkedLists) → IsScheduled slots lists → (due : Bool) → OnFalse due (HasNoneDue lists) → OnFalse due (AreIdle slots)
+  pub idle_unless_due : (slots : List (Option (TransferShown W))) (lists : LinkedLists) → IsScheduled slots lists → (due : Bool) → OnFalse due (HasNoneDue lists) → OnFalse due (AreIdle slots)
   idle_unless_due slots lists law true none = tt
   idle_unless_due slots lists law false none = idle_if_none_due slots lists law none
 
   -- a place that is there has room in the lists
-  in_list : (slot : Option (Transfer W)) (list : Option ℕ) → StandsIn (Some slot) list → (l : ℕ) × (list ≡ Some l)
+  in_list : (slot : Option (TransferShown W)) (list : Option ℕ) → StandsIn (Some slot) list → (l : ℕ) × (list ≡ Some l)
   in_list slot None stands = absurd (false≢true stands)
   in_list slot (Some l) stands = (l, refl)
 
-  pub has_room : (slots : List (Option (Transfer W))) (lists : LinkedLists) (place : ℕ) (slot : Option (Transfer W)) → IsScheduled slots lists → slice_get slots place ≡ Some slot → place < key_limit lists
+  pub has_room : (slots : List (Option (TransferShown W))) (lists : LinkedLists) (place : ℕ) (slot : Option (TransferShown W)) → IsScheduled slots lists → slice_get slots place ≡ Some slot → place < key_limit lists
   has_room slots lists place slot law is =
-      let its = in_list slot (list_of lists place) (subst (λ (s : Option (Option (Transfer W))). StandsIn s (list_of lists place)) is (law.stands place)) in
+      let its = in_list slot (list_of lists place) (subst (λ (s : Option (Option (TransferShown W))). StandsIn s (list_of lists place)) is (law.stands place)) in
       owned_within lists.owners place its.0 its.1
 
 -- a list that is for a transfer suits it
@@ -165,7 +165,7 @@ module _ {W : Type 0} where
   grant_told own None its has = absurd has
   grant_told own (Some state) its has = subst (λ (b : Bool). awaits_grant b (Some state) ≡ true) (sym its) has
 
-  pub list_suits : (t : Transfer W) (list : ℕ) → IsListFor t list → suits t list ≡ true
+  pub list_suits : (t : TransferShown W) (list : ℕ) → IsListFor t list → suits t list ≡ true
   list_suits t list (inl due) = due_suits t list due
   list_suits t list (inr (inl parks)) = subst (λ (l : ℕ). suits t l ≡ true) (sym parks.0) (wire_told t.has_yielded t.state parks.1.0 parks.1.1)
   list_suits t list (inr (inr waits)) =

@@ -9,7 +9,7 @@ use Rattle.exchange.specs.declared.wire.Written.TheVariants.{Took, NotYet, Fault
 use Rattle.exchange.specs.Wires.{Carried, Writes}
 use Rattle.exchange.specs.Wires.Happening.{nothing, takes, fails_to_write}
 use Rattle.exchange.specs.Answers.{text_of, unread, IsSent, ReadsWire}
-use Rattle.leasing.specs.Deeds.{Deed}
+use Rattle.cache_trait.specs.CacheCalls.{CacheCall}
 use Rattle.exchange.specs.Worlds.{World}
 use Rattle.exchange.specs.Standing.{StandsFrom, GoesOn}
 use Rattle.exchange.specs.Steps.{StepsWire, LeasedFrom, FailsSo}
@@ -41,7 +41,7 @@ reads_all p sent all reader c was = record {
   close = ap (λ r. r.request_close) reader;
 }
 
-module _ {C W : Type 0} (does : C → C → Deed W → Type 0) (world : World W) (p : Prepared) (cache : C) (old new : Leasing W) (sent : ℕ) where
+module _ {C W : Type 0} (does : C → C → CacheCall W → Type 0) (world : World W) (p : Prepared) (cache : C) (old new : Leasing W) (sent : ℕ) where
   -- what its wire answers to the rest of that text
   abbrev pub Answers : List ℕ → Written → Type 0
   Answers text written = StepsWire old new (λ before after. Writes (take (length text - sent) (drop sent text)) (world.happened before after) written)
@@ -107,7 +107,7 @@ module _ {C W : Type 0} (does : C → C → Deed W → Type 0) (world : World W)
   pub sends_in_vain : (text : List ℕ) → sent < length (text_of p) → Answers text Fault → (first : Outset C W) → StandsFrom does world p first cache (at.Sending old sent) → LeasedFrom does world p first cache new (FailsSo p Write)
   sends_in_vain text short step first stands = record {
     given = stands.2.given;
-    deeds = stands.0;
+    calls = stands.0;
     done = stands.1;
     has = has_still world p stands.2.given old new stands.0 (λ before after. world.happened before after fails_to_write) step stands.2.has;
     wire = wire_steps world stands.2.given old new fails_to_write (IsSent p sent) (FailsSo p Write) (fails_so short stands.2.reader) step stands.2.wire;

@@ -16,8 +16,8 @@ use Rattle.exchange.specs.declared.done.Fault.TheVariants.{Cut, Refused}
 use Rattle.exchange.specs.declared.done.Done.TheVariants.{Good, Bad}
 use Rattle.exchange.specs.declared.state.State.TheVariants.{Finished}
 use Rattle.exchange.specs.Wires.{Carried}
-use Rattle.leasing.specs.Deeds.Deed.{gives_back, finds_strange_lease}
-use Rattle.leasing.specs.Deeds.{Deed}
+use Rattle.cache_trait.specs.CacheCalls.CacheCall.{gives_back, finds_strange_lease}
+use Rattle.cache_trait.specs.CacheCalls.{CacheCall}
 use Rattle.exchange.specs.Worlds.{World}
 use Rattle.exchange.specs.Answers.{IsAnswer, IsCut, IsWhole, may_retry}
 use Rattle.exchange.specs.Story.{IsReturn, IsStray}
@@ -97,7 +97,7 @@ is_cut p facts reused told cut c can =
       },
     )
 
-module _ {C W : Type 0} (does : C → C → Deed W → Type 0) (world : World W) (p : Prepared) (before after : C) (lease : Leasing W) (now : ℕ) (tells : world.tells now) where
+module _ {C W : Type 0} (does : C → C → CacheCall W → Type 0) (world : World W) (p : Prepared) (before after : C) (lease : Leasing W) (now : ℕ) (tells : world.tells now) where
   -- a whole response is answered, and its lease is given back
   pub ends_good : (answer : Answer) → does before after (gives_back lease answer.facts now) → answer.reused ≡ lease.start.reused → ToldAnswer p answer
       → LeadsOn does world p p before after lease (CanSettle p lease.start.reused) (Finished (Good answer))

@@ -1,8 +1,8 @@
--- A deed more since some time.
+-- A call more since some time.
 use Rattle.std.proofs.Common.{ap, List, ◌∷◌}
-use Rattle.leasing.specs.Deeds.{Deed}
+use Rattle.cache_trait.specs.CacheCalls.{CacheCall}
 use Rattle.exchange.specs.Since.{Outset, DoneSince}
 
-pub one_more : {C W : Type 0} (does : C → C → Deed W → Type 0) (first : Outset C W) (before after : C) (deed : Deed W) (deeds : List (Deed W)) → DoneSince does first before deeds → does before after deed → DoneSince does first after (deed ∷ deeds)
-one_more {W = W} does first before after deed deeds done did =
-    record { own = deed ∷ done.own; all = ap (λ (l : List (Deed W)). deed ∷ l) done.all; done = (before, done.done, did) }
+pub one_more : {C W : Type 0} (does : C → C → CacheCall W → Type 0) (first : Outset C W) (before after : C) (call : CacheCall W) (calls : List (CacheCall W)) → DoneSince does first before calls → does before after call → DoneSince does first after (call ∷ calls)
+one_more {W = W} does first before after call calls done did =
+    record { own = call ∷ done.own; all = ap (λ (l : List (CacheCall W)). call ∷ l) done.all; done = (before, done.done, did) }

@@ -5,12 +5,12 @@ use Rattle.std.proofs.lemmas.List.{append_assoc, append-nil}
 use Rattle.std.proofs.lemmas.List.Elements.{All-set, All-push, All-get_or, filter_map-append}
 use Rattle.std.proofs.lemmas.Option.{slice_get_within, get_or_from_slice_get}
 use Rattle.bundle.specs.Seats.{Tables}
-use Rattle.leasing.specs.Deeds.{Deed}
+use Rattle.cache_trait.specs.CacheCalls.{CacheCall}
 use Rattle.exchange.specs.declared.job.Prepared.{Prepared}
 use Rattle.exchange.specs.declared.done.Done.{Done}
 use Rattle.exchange.specs.declared.state.State.{State}
 use Rattle.exchange.specs.declared.state.State.TheVariants as at
-use Rattle.exchange.specs.declared.transfer.Transfer.{Transfer}
+use Rattle.exchange.specs.Transfers.{TransferShown}
 use Rattle.exchange.specs.Worlds.{World}
 use Rattle.exchange.specs.Answers.{IsUnused}
 use Rattle.exchange.specs.Story.{AsksAt}
@@ -21,22 +21,22 @@ use Rattle.exchange.specs.Exchanging.{Stands, Continues, IsToldAt, IsTold, Cance
 use Rattle.exchange.specs.Slabs.{IsKept, AreKept, HasEnded, HasClosed, ClosesAll, transfers_in, one_if_some}
 
 -- no more transfers than places
-pub within : {W : Type 0} (slots : List (Option (Transfer W))) → sum_by one_if_some slots ≤ length slots
+pub within : {W : Type 0} (slots : List (Option (TransferShown W))) → sum_by one_if_some slots ≤ length slots
 within [] = omega arith
 within {W} (Some t ∷ rest) = let less = within rest in let sum = sum_by-cons (one_if_some {W = W}) (Some t) rest in omega (arith, less, sum)
 within {W} (None ∷ rest) = let less = within rest in let sum = sum_by-cons (one_if_some {W = W}) None rest in omega (arith, less, sum)
 
 -- what stands at a place is kept
-pub kept_at : {W : Type 0} (world : World W) (home : List Tables) (slots : List (Option (Transfer W))) (place : ℕ) (t : Transfer W) → slice_get slots place ≡ Some (Some t) → AreKept world home slots → IsKept world home t
+pub kept_at : {W : Type 0} (world : World W) (home : List Tables) (slots : List (Option (TransferShown W))) (place : ℕ) (t : TransferShown W) → slice_get slots place ≡ Some (Some t) → AreKept world home slots → IsKept world home t
 kept_at world home slots place t is kept =
-    subst (λ (slot : Option (Transfer _)). IfSome slot (IsKept world home)) (get_or_from_slice_get slots place (Some t) None is) (All-get_or (λ slot. IfSome slot (IsKept world home)) slots place None (slice_get_within slots place (Some t) is) kept)
+    subst (λ (slot : Option (TransferShown _)). IfSome slot (IsKept world home)) (get_or_from_slice_get slots place (Some t) None is) (All-get_or (λ slot. IfSome slot (IsKept world home)) slots place None (slice_get_within slots place (Some t) is) kept)
 
-module _ {W : Type 0} (slots : List (Option (Transfer W))) (place : ℕ) (was now : Option (Transfer W)) (is : slice_get slots place ≡ Some was) where
+module _ {W : Type 0} (slots : List (Option (TransferShown W))) (place : ℕ) (was now : Option (TransferShown W)) (is : slice_get slots place ≡ Some was) where
   -- one is put in another's stead
   pub sum_set : sum_by one_if_some (set slots place now) + one_if_some was ≡ sum_by one_if_some slots + one_if_some now
-  sum_set = subst (λ (slot : Option (Transfer W)). sum_by one_if_some (set slots place now) + one_if_some slot ≡ sum_by one_if_some slots + one_if_some now) (get_or_from_slice_get slots place was None is) (sum_by-set one_if_some slots place now None (slice_get_within slots place was is))
+  sum_set = subst (λ (slot : Option (TransferShown W)). sum_by one_if_some (set slots place now) + one_if_some slot ≡ sum_by one_if_some slots + one_if_some now) (get_or_from_slice_get slots place was None is) (sum_by-set one_if_some slots place now None (slice_get_within slots place was is))
 
-module _ {W : Type 0} (slots : List (Option (Transfer W))) (place : ℕ) (t : Transfer W) (is : slice_get slots place ≡ Some None) where
+module _ {W : Type 0} (slots : List (Option (TransferShown W))) (place : ℕ) (t : TransferShown W) (is : slice_get slots place ≡ Some None) where
   -- where one more stands there, there is one more
   pub one_more_at : sum_by one_if_some (set slots place (Some t)) ≡ sum_by one_if_some slots + 1
   one_more_at = let sums = sum_set slots place None (Some t) is in omega (arith, sums)
@@ -49,7 +49,11 @@ module _ {W : Type 0} (slots : List (Option (Transfer W))) (place : ℕ) (t : Tr
       let same = length-set slots place (Some t) in
       omega (arith, more, most, same)
 
-module _ {W : Type 0} (world : World W) (home : List Tables) (slots : List (Option (Transfer W))) (t : Transfer W) (its : IsKept world home t) (kept : AreKept world home slots) where
+-- all are kept where a place is set to what is
+pub kept_set : {W : Type 0} (world : World W) (home : List Tables) (slots : List (Option (TransferShown W))) (place : ℕ) (slot : Option (TransferShown W)) → IfSome slot (IsKept world home) → AreKept world home slots → AreKept world home (set slots place slot)
+kept_set world home slots place slot its kept = All-set (λ slot. IfSome slot (IsKept world home)) slots place slot its kept
+
+module _ {W : Type 0} (world : World W) (home : List Tables) (slots : List (Option (TransferShown W))) (t : TransferShown W) (its : IsKept world home t) (kept : AreKept world home slots) where
   -- all are kept where one more is
   pub kept_with : (place : ℕ) → AreKept world home (set slots place (Some t))
   kept_with place = All-set (λ slot. IfSome slot (IsKept world home)) slots place (Some t) its kept
@@ -58,7 +62,7 @@ module _ {W : Type 0} (world : World W) (home : List Tables) (slots : List (Opti
   kept_behind = All-push (λ slot. IfSome slot (IsKept world home)) slots (Some t) kept its
 
 -- what was done for a transfer is told of it still, once a poll has gone on from there
-module _ {C W : Type 0} (does : C → C → Deed W → Type 0) (world : World W) where
+module _ {C W : Type 0} (does : C → C → CacheCall W → Type 0) (world : World W) where
   told_at : (q : Prepared) (first : Outset C W) (after : C) (next : Option (State W)) → Stands does world q first after next → IsTold world q next
   told_at q first after (Some state) stands = (stands.0, stands.2)
   told_at q first after None stands = absurd stands
@@ -71,7 +75,7 @@ module _ {C W : Type 0} (does : C → C → Deed W → Type 0) (world : World W)
   told_on p q before after None next on told = absurd told
 
 -- nothing was done yet for a new transfer
-pub begins_kept : {W : Type 0} (world : World W) (home : List Tables) (t : Transfer W) → IsUnused t.parts → Owns home t.parts t.state → IsReady t.parts → t.state ≡ Some at.Asking → IsKept world home t
+pub begins_kept : {W : Type 0} (world : World W) (home : List Tables) (t : TransferShown W) → IsUnused t.parts → Owns home t.parts t.state → IsReady t.parts → t.state ≡ Some at.Asking → IsKept world home t
 begins_kept world home t unused owns ready begins =
     let asks : AsksAt world t.parts t.parts.retried [] = subst (λ (retried : Bool). AsksAt world t.parts retried []) (sym unused.first) refl in
     let told : IsToldAt world t.parts at.Asking = ([], record { reader = unused.reader; asks = asks }) in
@@ -97,26 +101,26 @@ module _ {W : Type 0} (world : World W) (done : Done) (p : Prepared) (ready : Is
   closed_is q None closes same told = absurd closes
 
 -- without its last place a list of places has the transfers of the others
-pub transfers_popped : {W : Type 0} (slots left : List (Option (Transfer W))) (last : Option (Transfer W)) → slots ≡ left ++ (last ∷ []) → transfers_in slots ≡ transfers_in left ++ transfers_in (last ∷ [])
+pub transfers_popped : {W : Type 0} (slots left : List (Option (TransferShown W))) (last : Option (TransferShown W)) → slots ≡ left ++ (last ∷ []) → transfers_in slots ≡ transfers_in left ++ transfers_in (last ∷ [])
 transfers_popped slots left last pops = ap transfers_in pops ∙ filter_map-append (λ slot. slot) left (last ∷ [])
 
 -- of all these no more than those are left, and the others were closed, the last one first
-abbrev pub ClosesRest : {C W : Type 0} → (C → C → Deed W → Type 0) → World W → C → C → List (Transfer W) → List (Transfer W) → Type 0
-ClosesRest {C} {W} did world before after all left = (closed : List (Transfer W)) × (all ≡ left ++ closed) × ClosesAll did world before after closed
+abbrev pub ClosesRest : {C W : Type 0} → (C → C → CacheCall W → Type 0) → World W → C → C → List (TransferShown W) → List (TransferShown W) → Type 0
+ClosesRest {C} {W} did world before after all left = (closed : List (TransferShown W)) × (all ≡ left ++ closed) × ClosesAll did world before after closed
 
 -- none of them was closed yet
-pub closes_none : {C W : Type 0} (does : C → C → Deed W → Type 0) (world : World W) (cache : C) (all : List (Transfer W)) → ClosesRest does world cache cache all all
+pub closes_none : {C W : Type 0} (does : C → C → CacheCall W → Type 0) (world : World W) (cache : C) (all : List (TransferShown W)) → ClosesRest does world cache cache all all
 closes_none does world cache all = ([], sym (append-nil all), refl)
 
 -- and without an empty last place it has the same
-pub transfers_left : {W : Type 0} (slots left : List (Option (Transfer W))) → slots ≡ left ++ (None ∷ []) → transfers_in left ≡ transfers_in slots
+pub transfers_left : {W : Type 0} (slots left : List (Option (TransferShown W))) → slots ≡ left ++ (None ∷ []) → transfers_in left ≡ transfers_in slots
 transfers_left slots left pops = sym (transfers_popped slots left None pops ∙ append-nil (transfers_in left))
 
-module _ {C W : Type 0} (does : C → C → Deed W → Type 0) (world : World W) (before middle after : C) (all : List (Transfer W)) where
+module _ {C W : Type 0} (does : C → C → CacheCall W → Type 0) (world : World W) (before middle after : C) (all : List (TransferShown W)) where
   -- the last of those that are left is closed too
-  pub closes_more : (left next : List (Transfer W)) (t : Transfer W) → ClosesRest does world before middle all left → left ≡ next ++ (t ∷ []) → (moment : ℕ) → world.tells moment → Cancels does middle after moment t.state → ClosesRest does world before after all next
-  closes_more left next t rest taken moment told cancels = (t ∷ rest.0, rest.1 ∙ (ap (λ (l : List (Transfer W)). l ++ rest.0) taken ∙ append_assoc next (t ∷ []) rest.0), (middle, rest.2, (moment, told, cancels)))
+  pub closes_more : (left next : List (TransferShown W)) (t : TransferShown W) → ClosesRest does world before middle all left → left ≡ next ++ (t ∷ []) → (moment : ℕ) → world.tells moment → Cancels does middle after moment t.state → ClosesRest does world before after all next
+  closes_more left next t rest taken moment told cancels = (t ∷ rest.0, rest.1 ∙ (ap (λ (l : List (TransferShown W)). l ++ rest.0) taken ∙ append_assoc next (t ∷ []) rest.0), (middle, rest.2, (moment, told, cancels)))
 
   -- none is left
-  pub closes_all : (left : List (Transfer W)) → ClosesRest does world before middle all left → left ≡ [] → after ≡ middle → ClosesAll does world before after all
-  closes_all left rest none same = subst (λ (c : C). ClosesAll does world before c all) (sym same) (subst (λ (l : List (Transfer W)). ClosesAll does world before middle l) (sym (rest.1 ∙ ap (λ (l : List (Transfer W)). l ++ rest.0) none)) rest.2)
+  pub closes_all : (left : List (TransferShown W)) → ClosesRest does world before middle all left → left ≡ [] → after ≡ middle → ClosesAll does world before after all
+  closes_all left rest none same = subst (λ (c : C). ClosesAll does world before c all) (sym same) (subst (λ (l : List (TransferShown W)). ClosesAll does world before middle l) (sym (rest.1 ∙ ap (λ (l : List (TransferShown W)). l ++ rest.0) none)) rest.2)

@@ -6,8 +6,8 @@ use Rattle.futures.specs.declared.task.context.Context.{Context}
 use Rattle.futures.specs.declared.task.waker.Waker.{Waker}
 use Rattle.persistence.specs.declared.facts.Facts.{Facts}
 use Rattle.bundle.specs.Lease.{Leasing, Ticketed}
-use Rattle.leasing.specs.Deeds.{Deed, DropsBy}
-use Rattle.leasing.specs.Deeds.Deed.{leases, grants}
+use Rattle.cache_trait.specs.CacheCalls.{CacheCall, DropsBy}
+use Rattle.cache_trait.specs.CacheCalls.CacheCall.{leases, grants}
 use Rattle.exchange.specs.declared.state.State.{State}
 use Rattle.exchange.specs.declared.state.State.TheVariants as at
 use Rattle.exchange.specs.declared.wire.Read.TheVariants.{Bytes}
@@ -19,7 +19,7 @@ use Rattle.exchange.specs.Steps.{Begins, StepsWire, IsGivenBack}
 use Rattle.exchange.specs.Exchanging.{StepEnds}
 use Rattle.exchange.specs.Stepping.{AsksOnce, SpendsIt, AsksCache, ClaimsIt, StepAnswers, StepSpends, TakesSome, PollsFew}
 
-module _ {W : Type 0} (did : Deed W → Type 0) (lease : Leasing W) (now : ℕ) where
+module _ {W : Type 0} (did : CacheCall W → Type 0) (lease : Leasing W) (now : ℕ) where
   -- a lease that came back, or was dropped, was spent
   pub spends_back : (facts : Facts) (known : Bool) → IsGivenBack did lease facts now known → SpendsIt did lease
   spends_back facts true given = inl (facts, now, given)
@@ -36,7 +36,7 @@ module _ {W : Type 0} (world : World W) (old new : Leasing W) where
   pub read_once : (buffer : List ℕ) (n : ℕ) → StepsWire old new (λ before after. Reads buffer (world.happened before after) (Bytes n)) → AsksOnce world old new
   read_once buffer n step = (gives (take n buffer), tt, record { before = step.before; after = step.after; was = step.was; is_now = step.is_now; stepped = step.stepped.2 })
 
-module _ {W : Type 0} (world : World W) (did : Deed W → Type 0) (lease : Leasing W) where
+module _ {W : Type 0} (world : World W) (did : CacheCall W → Type 0) (lease : Leasing W) where
   -- a lease that begins is a step on, for who asked and for who waited
   pub asks_on : (now : ℕ) → world.tells now → did (leases lease now) → (next : State W) → Begins world.happened lease next → AsksCache world did next
   asks_on now told gave at.Asking begins = absurd begins
@@ -54,7 +54,7 @@ module _ {W : Type 0} (world : World W) (did : Deed W → Type 0) (lease : Leasi
   claims_on ticket gave (at.Reading same) begins = absurd begins
   claims_on ticket gave (at.Finished done) begins = absurd begins
 
-module _ {C W : Type 0} (does : C → C → Deed W → Type 0) (world : World W) (first before after : C) (count : ℕ) (already spent : Bool) where
+module _ {C W : Type 0} (does : C → C → CacheCall W → Type 0) (world : World W) (first before after : C) (count : ℕ) (already spent : Bool) where
   -- one step more
   takes_next : (a b c : Option (State W)) → TakesSome does world count first before already a b → StepAnswers does world before after None b c → StepSpends None already spent b c → TakesSome does world (suc count) first after spent a c
   takes_next (Some a) (Some b) (Some c) taken step spends = (before, b, already, taken, step, spends)
@@ -81,7 +81,7 @@ module _ {C W : Type 0} (does : C → C → Deed W → Type 0) (world : World W)
   polls_few false answer None b c name dial old new waker not few taken step spends ends = absurd taken
 
 -- all steps of a poll were taken
-pub polls_all : {C W : Type 0} (does : C → C → Deed W → Type 0) (world : World W) (first after : C) (count : ℕ) (spent : Bool) (a c : Option (State W)) → count ≡ 64 → TakesSome does world count first after spent a c → PollsFew does world first after true spent a c
+pub polls_all : {C W : Type 0} (does : C → C → CacheCall W → Type 0) (world : World W) (first after : C) (count : ℕ) (spent : Bool) (a c : Option (State W)) → count ≡ 64 → TakesSome does world count first after spent a c → PollsFew does world first after true spent a c
 polls_all does world first after count spent (Some a) (Some c) all taken = subst (λ (n : ℕ). TakesSome does world n first after spent (Some a) (Some c)) all taken
 polls_all does world first after count spent (Some a) None all taken = absurd taken
 polls_all does world first after count spent None c all taken = absurd taken

@@ -44,7 +44,7 @@ pub record IsSameJob (old new : Prepared) : Type 0 where
   pub text : text_of new ≡ text_of old
   pub room : 0 < length old.buffer.items → 0 < length new.buffer.items
 
--- what the transfer wants of the cache: where its request is sent once more, a new connection
+-- what the transfer wants of the cache: for a retry, a new connection
 abbrev pub wanted_at : Prepared → Bool → Want
 wanted_at p retried = record p.want { fresh = p.want.fresh || retried }
 

@@ -7,7 +7,7 @@ use Rattle.bundle.specs.Lease.{Leasing, Ticketed}
 use Rattle.exchange.specs.declared.job.Prepared.{Prepared}
 use Rattle.exchange.specs.declared.state.State.{State}
 use Rattle.exchange.specs.declared.state.State.TheVariants.{Asking, Waiting, Dialling, Sending, Reading, Finished}
-use Rattle.exchange.specs.declared.transfer.Transfer.{Transfer}
+use Rattle.exchange.specs.Transfers.{TransferShown}
 use Rattle.exchange.specs.Owning.{ReaderGoesOn, OwnsLease, OwnsTicket, OwnsWire, OwnsAt, Owns}
 
 reader_prop : (p : Prepared) → IsProp (ReaderGoesOn p)
@@ -35,8 +35,8 @@ owns_some_prop code home p (Some state) = owns_at_prop code home p state
 owns_some_prop code home p None = ⊥_prop
 
 -- a transfer has what was made there
-abbrev pub OwnsIts : {W : Type 0} → List Tables → Transfer W → Type 0
+abbrev pub OwnsIts : {W : Type 0} → List Tables → TransferShown W → Type 0
 OwnsIts home transfer = Owns home transfer.parts transfer.state
 
-pub owns_prop : {W : Type 0} (code : Coded W) (home : List Tables) (transfer : Transfer W) → IsProp (OwnsIts home transfer)
+pub owns_prop : {W : Type 0} (code : Coded W) (home : List Tables) (transfer : TransferShown W) → IsProp (OwnsIts home transfer)
 owns_prop code home transfer = owns_some_prop code home transfer.parts transfer.state

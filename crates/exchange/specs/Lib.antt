@@ -1,4 +1,5 @@
 pub mod Request
+pub mod Transfers
 pub mod Wires
 pub mod Dialling
 pub mod Answers

@@ -2,7 +2,7 @@
 use Rattle.std.specs.Prelude.{◌≡◌, ◌<◌, false, length, List, None, Option, IsSome, IsSomeAnd}
 use Rattle.bundle.specs.Seats.{Tables}
 use Rattle.bundle.specs.Lease.{Leasing, Ticketed}
-use Rattle.leasing.specs.Homes.{IsMadeBy}
+use Rattle.cache_trait.specs.Homes.{IsMadeBy}
 use Rattle.exchange.specs.declared.job.Prepared.{Prepared}
 use Rattle.exchange.specs.declared.state.State.{State}
 use Rattle.exchange.specs.declared.state.State.TheVariants.{Asking, Waiting, Dialling, Sending, Reading, Finished}

@@ -8,11 +8,11 @@ abbrev pub method_word : Method → List ℕ
 method_word Get = codes "GET"
 method_word Head = codes "HEAD"
 
--- the port of a Host field, left out where it is that of the scheme
+-- the port of a Host field, left out if it is that of the scheme
 abbrev pub port_text : ℕ → List ℕ
 port_text port = if port == 80 then [] else codes ":" ++ decimal port
 
--- the connection option `close`, where the connection may not be used again
+-- the connection option `close`, if the connection may not be used again
 abbrev pub close_line : Bool → List ℕ
 close_line true = codes "Connection: close\r\n"
 close_line false = []

@@ -3,7 +3,7 @@ use Rattle.std.specs.Prelude.{◌≡◌, ◌==◌, ℕ, zero, suc, ◌+◌, ◌�
 use Rattle.futures.specs.LinkedLists.{LinkedLists, list_of, IsEmpty, Moves}
 use Rattle.exchange.specs.declared.state.State.{State}
 use Rattle.exchange.specs.declared.state.State.TheVariants.{Waiting}
-use Rattle.exchange.specs.declared.transfer.Transfer.{Transfer}
+use Rattle.exchange.specs.Transfers.{TransferShown}
 use Rattle.exchange.specs.Stepping.{has_lease}
 
 -- the lists of free places, of parked ones, and of those that wait at a site; there are two lists of places that are due, for
@@ -32,18 +32,18 @@ abbrev pub is_waiting : {W : Type 0} → State W → Bool
 is_waiting (Waiting ticket) = true
 is_waiting _ = false
 
-abbrev pub HasTicket : {W : Type 0} → Transfer W → Type 0
+abbrev pub HasTicket : {W : Type 0} → TransferShown W → Type 0
 HasTicket transfer = IsSomeAnd transfer.state (λ state. is_waiting state ≡ true)
 
-abbrev pub HasLease : {W : Type 0} → Transfer W → Type 0
+abbrev pub HasLease : {W : Type 0} → TransferShown W → Type 0
 HasLease transfer = IsSomeAnd transfer.state (λ state. has_lease state ≡ true)
 
 -- it waits for its dial or its wire, and has not asked for another turn
-abbrev pub IsAtWire : {W : Type 0} → Transfer W → Type 0
+abbrev pub IsAtWire : {W : Type 0} → TransferShown W → Type 0
 IsAtWire transfer = (transfer.has_yielded ≡ false) × HasLease transfer
 
 -- it is due; or it is parked, since it waits for its dial or its wire; or it waits at its own site
-abbrev pub IsListFor : {W : Type 0} → Transfer W → ℕ → Type 0
+abbrev pub IsListFor : {W : Type 0} → TransferShown W → ℕ → Type 0
 IsListFor transfer list = IsDueList list ⊎ (((list ≡ parked_list) × IsAtWire transfer) ⊎ ((list ≡ site_list_of transfer.parts.site) × HasTicket transfer))
 
 -- the same as a question: whether it waits for dial or wire, or at its own site, and whether the list is for it
@@ -57,7 +57,7 @@ awaits_grant false state = false
 awaits_grant true None = false
 awaits_grant true (Some state) = is_waiting state
 
-abbrev pub suits : {W : Type 0} → Transfer W → ℕ → Bool
+abbrev pub suits : {W : Type 0} → TransferShown W → ℕ → Bool
 suits transfer zero = false
 suits transfer (suc zero) = awaits_wire transfer.has_yielded transfer.state
 suits transfer (suc (suc zero)) = true
@@ -65,18 +65,18 @@ suits transfer (suc (suc (suc zero))) = true
 suits transfer (suc (suc (suc (suc site)))) = awaits_grant (site == transfer.parts.site) transfer.state
 
 -- whether a place stands in its list: one without a transfer is free, and one that is not there is in none
-abbrev pub stands_in : {W : Type 0} → Option (Option (Transfer W)) → Option ℕ → Bool
+abbrev pub stands_in : {W : Type 0} → Option (Option (TransferShown W)) → Option ℕ → Bool
 stands_in None None = true
 stands_in None (Some list) = false
 stands_in (Some slot) None = false
 stands_in (Some None) (Some list) = list == free_list
 stands_in (Some (Some transfer)) (Some list) = suits transfer list
 
-abbrev pub StandsIn : {W : Type 0} → Option (Option (Transfer W)) → Option ℕ → Type 0
+abbrev pub StandsIn : {W : Type 0} → Option (Option (TransferShown W)) → Option ℕ → Type 0
 StandsIn slot list = stands_in slot list ≡ true
 
 -- each place is in its list: where a transfer stands, that is the due list, the parked one or the one of its own site
-pub record IsScheduled {W : Type 0} (slots : List (Option (Transfer W))) (lists : LinkedLists) : Type 0 where
+pub record IsScheduled {W : Type 0} (slots : List (Option (TransferShown W))) (lists : LinkedLists) : Type 0 where
   pub stands : (place : ℕ) → StandsIn (slice_get slots place) (list_of lists place)
 
 -- the place is in such a list now, and every other one where it was
@@ -98,9 +98,9 @@ pub record HasNoneDue (lists : LinkedLists) : Type 0 where
   pub odd : IsEmpty lists 3
 
 -- a transfer waits for its dial or its wire, or for a connection
-abbrev pub IsIdle : {W : Type 0} → Transfer W → Type 0
+abbrev pub IsIdle : {W : Type 0} → TransferShown W → Type 0
 IsIdle transfer = IsAtWire transfer ⊎ HasTicket transfer
 
 -- each transfer does
-abbrev pub AreIdle : {W : Type 0} → List (Option (Transfer W)) → Type 0
+abbrev pub AreIdle : {W : Type 0} → List (Option (TransferShown W)) → Type 0
 AreIdle {W} slots = (place : ℕ) → IfSome (slice_get slots place) (λ slot. IfSome slot (IsIdle {W = W}))

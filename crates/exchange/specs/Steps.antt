@@ -12,8 +12,8 @@ use Rattle.exchange.specs.declared.state.State.{State}
 use Rattle.exchange.specs.declared.state.State.TheVariants.{Asking, Waiting, Dialling, Sending, Reading, Finished}
 use Rattle.exchange.specs.Wires.{Carried, Happening}
 use Rattle.exchange.specs.Wires.Happening.{is_adopted}
-use Rattle.leasing.specs.Deeds.{Deed}
-use Rattle.leasing.specs.Deeds.Deed.{gives_back, finds_strange_lease}
+use Rattle.cache_trait.specs.CacheCalls.{CacheCall}
+use Rattle.cache_trait.specs.CacheCalls.CacheCall.{gives_back, finds_strange_lease}
 use Rattle.exchange.specs.Worlds.{World, OnWire}
 use Rattle.exchange.specs.Since.{Outset, DoneSince}
 use Rattle.exchange.specs.Answers.{text_of, NoneFailed, GoesWell, FailsReading, FailsWriting, IsEnded, IsFruitless, may_retry}
@@ -35,21 +35,21 @@ Begins happened lease (Sending same sent) = StepsWire lease same (λ old new. ha
 Begins happened lease _ = ⊥
 
 -- a lease was given back at that moment, or taken for a stranger
-abbrev pub IsGivenBack : {W : Type 0} → (Deed W → Type 0) → Leasing W → Facts → ℕ → Bool → Type 0
+abbrev pub IsGivenBack : {W : Type 0} → (CacheCall W → Type 0) → Leasing W → Facts → ℕ → Bool → Type 0
 IsGivenBack did lease facts now true = did (gives_back lease facts now)
 IsGivenBack did lease facts now false = did (finds_strange_lease lease)
 
 -- all that was done gave it a lease, and this holds of what its wire carried since; since that outset nothing else was
 -- done
-pub record LeasedFrom {C W : Type 0} (did : C → C → Deed W → Type 0) (world : World W) (p : Prepared) (first : Outset C W) (cache : C) (lease : Leasing W) (P : Carried → Type 0) : Type 0 where
+pub record LeasedFrom {C W : Type 0} (did : C → C → CacheCall W → Type 0) (world : World W) (p : Prepared) (first : Outset C W) (cache : C) (lease : Leasing W) (P : Carried → Type 0) : Type 0 where
   pub given : Leasing W
-  pub deeds : List (Deed W)
-  pub done : DoneSince did first cache deeds
-  pub has : Has world p given lease deeds
+  pub calls : List (CacheCall W)
+  pub done : DoneSince did first cache calls
+  pub has : Has world p given lease calls
   pub wire : OnWire world given lease P
 
 -- whatever was done before, it goes on from a lease of which that held
-abbrev pub LeadsOn : {C W : Type 0} → (C → C → Deed W → Type 0) → World W → Prepared → Prepared → C → C → Leasing W → (Carried → Type 0) → State W → Type 0
+abbrev pub LeadsOn : {C W : Type 0} → (C → C → CacheCall W → Type 0) → World W → Prepared → Prepared → C → C → Leasing W → (Carried → Type 0) → State W → Type 0
 LeadsOn {C} {W} did world old new before after lease P next = (first : Outset C W) → LeasedFrom did world old first before lease P → StandsFrom did world new first after next
 
 -- the connection failed so
@@ -79,7 +79,7 @@ pub record FailsSo (p : Prepared) (fault : Fault) (wire : Carried) : Type 0 wher
   pub fed : IsFed p wire
   pub fails : Fails p fault wire
 
--- the reader, where its wire has ended and it was not told so yet
+-- the reader, if its wire has ended and it was not told so yet
 pub record IsAtEnd (p : Prepared) (wire : Carried) : Type 0 where
   pub ended : IsEnded p wire
   pub fed : IsFed p wire
@@ -107,7 +107,7 @@ abbrev pub HasNoDialFault : {W : Type 0} → State W → Type 0
 HasNoDialFault (Finished (Bad Dial)) = ⊥
 HasNoDialFault _ = Unit {0}
 
--- a dial has failed, so that its count rose, where that is what came of it, and only there
+-- a dial has failed, so that its count rose, if that is what came of it, and only then
 abbrev pub DialFails : {W : Type 0} → ℕ → ℕ → State W → Type 0
 DialFails old new (Finished (Bad Dial)) = Rises old new
 DialFails old new _ = new ≡ old
@@ -136,7 +136,7 @@ BeginsNone begun transfer (Dialling lease) = Unit {0}
 BeginsNone begun transfer _ = begun transfer → ⊥
 
 -- for no other transfer anything was begun, and what was begun for others still is; and for this one nothing is begun,
--- but while it dials, where that was so
+-- but while it dials, if that was so
 pub record DialsAlone {W : Type 0} (old new : ℕ → Type 0) (transfer : ℕ) (state next : State W) : Type 0 where
   pub others : (other : ℕ) → other ≢ transfer → new other → old other
   pub kept : (other : ℕ) → other ≢ transfer → old other → new other

@@ -28,7 +28,7 @@ pub record IsRegistered (old new : Context) (waker : Option Waker) (source : ℕ
 abbrev pub OnSource : {W : Type 0} → (W → ℕ) → Leasing W → (ℕ → Type 0) → Type 0
 OnSource name lease P = IsSomeAnd lease.stream (λ wire. P (name wire))
 
--- what a pending transfer left where it stands: it asked to be polled again, where it took all steps of its poll or waits
+-- what a pending transfer left where it stands: it asked to be polled again, if it took all steps of its poll or waits
 -- for a grant; else it is registered with its dial or with its wire
 abbrev pub LeavesAt : {W : Type 0} → (W → ℕ) → ℕ → Context → Context → Option Waker → Bool → State W → Type 0
 LeavesAt name dial old new waker true (at.Finished done) = ⊥

@@ -48,14 +48,14 @@ abbrev pub AllHappened : {W : Type 0} → (W → W → Happening → Type 0) →
 AllHappened happened old new [] = new ≡ old
 AllHappened {W} happened old new (h ∷ earlier) = (middle : W) × AllHappened happened old middle earlier × happened middle new h
 
--- a read into a buffer, which it leaves so, answers that, where this happened
+-- a read into a buffer, which it leaves so, answers that, if this happened
 abbrev pub Reads : List ℕ → (Happening → Type 0) → Read → Type 0
 Reads buffer happened (Bytes n) = (0 < n) × (n ≤ length buffer) × happened (Happening.gives (take n buffer))
 Reads buffer happened NotReadable = happened Happening.nothing
 Reads buffer happened End = happened Happening.ends
 Reads buffer happened ReadFault = happened Happening.fails_to_read
 
--- a write of those bytes answers that, where this happened
+-- a write of those bytes answers that, if this happened
 abbrev pub Writes : List ℕ → (Happening → Type 0) → Written → Type 0
 Writes bytes happened (Took n) = (0 < n) × (n ≤ length bytes) × happened (Happening.takes (take n bytes))
 Writes bytes happened NotWritable = happened Happening.nothing

@@ -1,4 +1,4 @@
--- What contracts may know of wires, clocks and dials.
+-- What contracts may know of wires and clocks.
 use Rattle.std.specs.Prelude.{ℕ, List, Option, Some, None, IsSomeAnd}
 use Rattle.bundle.specs.Lease.{Leasing}
 use Rattle.exchange.specs.Wires.{Happening, Carried, carried_by, AllHappened}
@@ -13,15 +13,6 @@ pub record World (W : Type 0) : Type 1 where
 
 abbrev pub world_of : {W : Type 0} → (W → ℕ → ℕ → Type 0) → (W → W → Happening → Type 0) → (ℕ → Type 0) → World W
 world_of untouched happened tells = record { untouched = untouched; happened = happened; tells = tells }
-
--- what a dial has begun, by transfer, how many connections it has opened, and how often a dial failed
-pub record Dials (D : Type 0) : Type 1 where
-  pub begun : D → ℕ → Type 0
-  pub opened : D → ℕ
-  pub failures : D → ℕ
-
-abbrev pub dials_of : {D : Type 0} → (D → ℕ → Type 0) → (D → ℕ) → (D → ℕ) → Dials D
-dials_of begun opened failures = record { begun = begun; opened = opened; failures = failures }
 
 -- how the wire of a lease at that site for that transfer begins: the one that came with it is adopted, and a dialled one
 -- is untouched

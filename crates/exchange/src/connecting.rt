@@ -1,10 +1,12 @@
 //! How a transfer gets its connection: it asks the cache, waits, and dials.
 
-ghost use Rattle.std.specs.Prelude.{◌≡◌, ◌<◌, ℕ, None, length, is_some, false};
+ghost use Rattle.std.specs.Prelude.{◌≡◌, ◌<◌, None, length, is_some, false};
 ghost use Rattle.exchange.specs.Answers.{text_of};
 ghost use Rattle.exchange.specs.Worlds.{world_of};
 ghost use Rattle.exchange.specs.Standing.{GoesOn};
-ghost use Rattle.exchange.specs.Steps.{Begins, DialFails, Opens, DialsAlone};
+ghost use Rattle.exchange.specs.Steps.{Begins};
+ghost use Rattle.exchange.specs.Dialling.{KeepsDial};
+ghost use Rattle.exchange.specs.Exchanging.{DialsAt};
 ghost use Rattle.exchange.specs.Waiting.{AtStep, StepLeaves};
 ghost use Rattle.exchange.specs.Stepping.{StepsOn, StepIs};
 ghost use Rattle.exchange.specs.Owning.{OwnsLease, OwnsTicket, OwnsAt, ReaderGoesOn};
@@ -13,22 +15,19 @@ ghost use Rattle.exchange.specs.declared.state.State.TheVariants as at;
 use crate::done::{Done, Fault};
 use crate::ending::abandon;
 use crate::job::Prepared;
+use crate::reason::Reason;
 use crate::state::{State, Step};
 use crate::wire::{Clock, Dial, Dialled, Wire};
 use budget::Refusal;
 use bundle::{Acquired, Claimed, Lease, Ticket};
+use cache_trait::Cache;
 use futures::task::{Context, Poll, Waker};
-use leasing::Cache;
 
 // Where a lease begins: its connection is dialled, or its wire is used again.
 fn begin<W: Wire, D: Dial<W>>(mut lease: Lease<W>, dial: &mut D) -> State<W>
     requires { is_some lease.stream ≡ lease.start.reused }
     ensures begins { Begins W.happened lease result }
-    ensures counted { D.failures dial.new ≡ D.failures dial.old }
-    ensures opens { D.opened dial.new ≡ D.opened dial.old }
-    ensures begun { (other : ℕ) → D.begun dial.new other → D.begun dial.old other }
-    ensures kept { (other : ℕ) → D.begun dial.old other → D.begun dial.new other }
-    ensures turns { D.turn_failures dial.new ≡ D.turn_failures dial.old }
+    ensures same { KeepsDial (D.shown dial.old) (D.shown dial.new) }
 {
     match lease.stream_mut() {
         Some(wire) => dial.adopt(wire),
@@ -54,12 +53,8 @@ pub(crate) fn ask<W: Wire, C: Cache<W>, D: Dial<W>, K: Clock>(
         parts.now cache.old cache.new at.Asking result }
     ensures steps { StepsOn C.did (world_of W.untouched W.happened (K.tells _clock.now))
         cache.old cache.new at.Asking result }
-    ensures dialled { DialFails (D.failures dial.old) (D.failures dial.new) result }
-    ensures opens { Opens parts.now parts.now at.Asking (D.opened dial.old)
-        (D.opened dial.new) result }
-    ensures begun { DialsAlone (D.begun dial.old) (D.begun dial.new) parts.now.want.transfer
-        at.Asking result }
-    ensures turns { D.turn_failures dial.new ≡ D.turn_failures dial.old }
+    ensures dials { DialsAt parts.now parts.now at.Asking (D.shown dial.old) (D.shown dial.new)
+        result }
 {
     match cache.acquire(parts.site, parts.wanted(), now) {
         Ok(Acquired::Lease(lease)) => begin(lease, dial),
@@ -87,13 +82,10 @@ pub(crate) fn claim<W: Wire, C: Cache<W>, D: Dial<W>, K: Clock>(
         _clock.now)) parts.now parts.now cache.old cache.new (at.Waiting ticket)) }
     ensures steps { StepIs C.did (world_of W.untouched W.happened (K.tells _clock.now))
         cache.old cache.new (at.Waiting ticket) result }
-    ensures dialled { AtStep result (DialFails (D.failures dial.old) (D.failures dial.new)) }
-    ensures opens { AtStep result (Opens parts.now parts.now (at.Waiting ticket)
-        (D.opened dial.old) (D.opened dial.new)) }
-    ensures begun { AtStep result (DialsAlone (D.begun dial.old) (D.begun dial.new)
-        parts.now.want.transfer (at.Waiting ticket)) }
-    ensures turns { D.turn_failures dial.new ≡ D.turn_failures dial.old }
-    ensures leaves { StepLeaves W.source_name (D.source_name dial.new) cx.old cx.new None result }
+    ensures dials { AtStep result (DialsAt parts.now parts.now (at.Waiting ticket)
+        (D.shown dial.old) (D.shown dial.new)) }
+    ensures leaves { StepLeaves W.source_name (D.shown dial.new).source_name cx.old cx.new None
+        result }
 {
     match cache.claim(ticket) {
         Ok(Claimed::Lease(lease)) => Step::Goes(begin(lease, dial)),
@@ -119,10 +111,11 @@ pub(crate) fn dial_up<W: Wire, C: Cache<W>, D: Dial<W>, K: Clock>(
     mut lease: Lease<W>,
     cx: &mut Context<'_>,
     waker: &mut Option<Waker>,
+    reason: &mut Option<Reason>,
 ) -> Step<W>
     requires told { K.tells _clock.now now }
     requires owns { OwnsLease (C.home cache.old) lease }
-    requires none { lease.stream ≡ None }
+    requires no_stream { lease.stream ≡ None }
     requires fresh { lease.start.reused ≡ false }
     requires its { lease.start.want.transfer ≡ _parts.now.want.transfer }
     requires text { 0 < length (text_of _parts.now) }
@@ -133,14 +126,10 @@ pub(crate) fn dial_up<W: Wire, C: Cache<W>, D: Dial<W>, K: Clock>(
         _clock.now)) _parts.now _parts.now cache.old cache.new (at.Dialling lease)) }
     ensures steps { StepIs C.did (world_of W.untouched W.happened (K.tells _clock.now))
         cache.old cache.new (at.Dialling lease) result }
-    ensures dialled { AtStep result (DialFails (D.failures dial.old) (D.failures dial.new)) }
-    ensures opens { AtStep result (Opens _parts.now _parts.now (at.Dialling lease)
-        (D.opened dial.old) (D.opened dial.new)) }
-    ensures begun { AtStep result (DialsAlone (D.begun dial.old) (D.begun dial.new)
-        _parts.now.want.transfer (at.Dialling lease)) }
-    ensures turns { D.turn_failures dial.new ≡ D.turn_failures dial.old }
-    ensures leaves { StepLeaves W.source_name (D.source_name dial.new) cx.old cx.new waker.new
-        result }
+    ensures dials { AtStep result (DialsAt _parts.now _parts.now (at.Dialling lease)
+        (D.shown dial.old) (D.shown dial.new)) }
+    ensures leaves { StepLeaves W.source_name (D.shown dial.new).source_name cx.old cx.new
+        waker.new result }
 {
     match dial.dial(&lease) {
         Dialled::Up(wire) => {
@@ -152,6 +141,7 @@ pub(crate) fn dial_up<W: Wire, C: Cache<W>, D: Dial<W>, K: Clock>(
             Step::Waits(State::Dialling(lease))
         }
         Dialled::Fault => {
+            *reason = dial.reason();
             abandon(cache, lease, now);
             Step::Goes(State::Finished(Done::Bad(Fault::Dial)))
         }

@@ -2,6 +2,8 @@
 
 use crate::done::Done;
 use crate::job::Prepared;
+use crate::phases::Phases;
+use crate::reason::Reason;
 
 /// A transfer of a slab that has ended.
 #[derive(Drop)]
@@ -12,4 +14,8 @@ pub struct Ended {
     pub done: Done,
     /// What was prepared; its memory serves another job.
     pub parts: Prepared,
+    /// The moments of its progress.
+    pub phases: Phases,
+    /// Why its connection failed, if it ended by that and the system said why.
+    pub reason: Option<Reason>,
 }

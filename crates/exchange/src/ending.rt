@@ -2,7 +2,7 @@
 //! perhaps tried again.
 
 ghost use Rattle.std.specs.Prelude.{◌≡◌, ℕ, true, false, IsSome};
-ghost use Rattle.leasing.specs.Deeds.{DropsBy, WithdrawsBy};
+ghost use Rattle.cache_trait.specs.CacheCalls.{DropsBy, WithdrawsBy};
 ghost use Rattle.exchange.specs.Answers.{IsSameJob, IsFruitless, may_retry};
 ghost use Rattle.exchange.specs.Worlds.{world_of};
 ghost use Rattle.exchange.specs.Steps.{IsGivenBack, LeadsOn, IsRetriable, FailsSo, IsAtEnd};
@@ -17,7 +17,7 @@ use crate::state::State;
 use crate::wire::{Clock, Wire};
 use budget::Refusal;
 use bundle::{Lease, Ticket};
-use leasing::Cache;
+use cache_trait::Cache;
 use persistence::Facts;
 
 // Gives a lease back; whether the cache knew it.
@@ -30,7 +30,7 @@ pub(crate) fn give_back<W: Wire, C: Cache<W>>(
     requires here { OwnsLease (C.home cache.old) lease }
     requires wire { IsSome lease.stream }
     ensures stays { C.home cache.new ≡ C.home cache.old }
-    ensures done { IsGivenBack (C.did cache.old cache.new) lease facts now result }
+    ensures did { IsGivenBack (C.did cache.old cache.new) lease facts now result }
 {
     match cache.give_back(lease, facts, now) {
         Ok(()) => true,
@@ -45,7 +45,7 @@ pub(crate) fn give_back<W: Wire, C: Cache<W>>(
 pub(crate) fn abandon<W: Wire, C: Cache<W>>(cache: &mut C, lease: Lease<W>, now: u64)
     requires here { OwnsLease (C.home cache.old) lease }
     ensures stays { C.home cache.new ≡ C.home cache.old }
-    ensures done { DropsBy (C.did cache.old cache.new) lease now }
+    ensures did { DropsBy (C.did cache.old cache.new) lease now }
 {
     if let Err(stray) = cache.abandon(lease, now) {
         stray.scrap();
@@ -56,7 +56,7 @@ pub(crate) fn abandon<W: Wire, C: Cache<W>>(cache: &mut C, lease: Lease<W>, now:
 pub(crate) fn withdraw<W: Wire, C: Cache<W>>(cache: &mut C, ticket: Ticket, now: u64)
     requires here { OwnsTicket (C.home cache.old) ticket }
     ensures stays { C.home cache.new ≡ C.home cache.old }
-    ensures done { WithdrawsBy (C.did cache.old cache.new) ticket now }
+    ensures did { WithdrawsBy (C.did cache.old cache.new) ticket now }
 {
     if let Err(stray) = cache.withdraw(ticket, now) {
         stray.scrap();
@@ -88,7 +88,7 @@ fn retry<W: Wire, C: Cache<W>, K: Clock>(
     ensures stays { C.home cache.new ≡ C.home cache.old }
     ensures owns { OwnsAt (C.home cache.new) parts.new result }
     ensures ready { IsReady parts.new }
-    ensures same { IsSameJob parts.old parts.new }
+    ensures same_job { IsSameJob parts.old parts.new }
     ensures story { LeadsOn C.did (world_of W.untouched W.happened (K.tells _clock.now)) parts.old
         parts.new cache.old cache.new lease (IsRetriable parts.old) result }
     ensures left { IsLeft C.did cache.old cache.new lease result }
@@ -108,7 +108,7 @@ fn retry<W: Wire, C: Cache<W>, K: Clock>(
     }
 }
 
-// Its wire failed: tries it again where it may, or abandons it.
+// Its wire failed: retries the request if it may, or abandons the lease.
 pub(crate) fn fail<W: Wire, C: Cache<W>, K: Clock>(
     parts: &mut Prepared,
     cache: &mut C,
@@ -120,11 +120,11 @@ pub(crate) fn fail<W: Wire, C: Cache<W>, K: Clock>(
     requires told { K.tells clock.now now }
     requires owns { OwnsLease (C.home cache.old) lease }
     requires ready { IsReady parts.old }
-    requires fault { IsWireFault fault }
+    requires wire_fault { IsWireFault fault }
     ensures stays { C.home cache.new ≡ C.home cache.old }
     ensures owns { OwnsAt (C.home cache.new) parts.new result }
     ensures ready { IsReady parts.new }
-    ensures same { IsSameJob parts.old parts.new }
+    ensures same_job { IsSameJob parts.old parts.new }
     ensures story { LeadsOn C.did (world_of W.untouched W.happened (K.tells clock.now)) parts.old
         parts.new cache.old cache.new lease (FailsSo parts.old fault) result }
     ensures left { IsLeft C.did cache.old cache.new lease result }
@@ -138,7 +138,7 @@ pub(crate) fn fail<W: Wire, C: Cache<W>, K: Clock>(
     State::Finished(Done::Bad(fault))
 }
 
-// Its connection ended: tries it again where it may, or answers what came.
+// Its connection ended: retries the request if it may, or answers what came.
 pub(crate) fn end<W: Wire, C: Cache<W>, K: Clock>(
     parts: &mut Prepared,
     cache: &mut C,
@@ -152,7 +152,7 @@ pub(crate) fn end<W: Wire, C: Cache<W>, K: Clock>(
     ensures stays { C.home cache.new ≡ C.home cache.old }
     ensures owns { OwnsAt (C.home cache.new) parts.new result }
     ensures ready { IsReady parts.new }
-    ensures same { IsSameJob parts.old parts.new }
+    ensures same_job { IsSameJob parts.old parts.new }
     ensures story { LeadsOn C.did (world_of W.untouched W.happened (K.tells clock.now)) parts.old
         parts.new cache.old cache.new lease (IsAtEnd parts.old) result }
     ensures left { IsLeft C.did cache.old cache.new lease result }

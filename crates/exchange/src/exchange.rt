@@ -1,29 +1,32 @@
 //! One transfer at a time, which borrows its cache, its dial and its clock for its life.
 
-ghost use Rattle.std.specs.Prelude.{◌≡◌, ◌<◌, ℕ, false, length, string_bytes};
+ghost use Rattle.std.specs.Prelude.{◌≡◌, ◌<◌, false, length, string_bytes};
 ghost use Rattle.std.specs.Prelude.{Some, IfSome};
 ghost use Rattle.futures.specs.Task.{Keeps};
 ghost use Rattle.futures.specs.Poll.{IfReady, OnPending};
-ghost use Rattle.exchange.specs.Dialling.{CountsTurn};
-ghost use Rattle.exchange.specs.Answers.{IsUnused, IsSameJob};
+ghost use Rattle.exchange.specs.Dialling.{TakesTurn};
+ghost use Rattle.exchange.specs.Answers.{IsUnused};
 ghost use Rattle.exchange.specs.Worlds.{world_of};
 ghost use Rattle.exchange.specs.Since.{since};
 ghost use Rattle.exchange.specs.Waiting.{stage_at};
-ghost use Rattle.exchange.specs.Stepping.{PollsFew};
 ghost use Rattle.exchange.specs.Kept.{OwnsIts, owns_prop};
-ghost use Rattle.exchange.specs.Exchanging.{Stands, Continues, IsFinished, Leaves, Cancels};
-ghost use Rattle.exchange.specs.Exchanging.{Closes, GivesUpDial, LeavesDial, DialFailed, OpensFew};
-ghost use Rattle.exchange.specs.Exchanging.{DialsItsOwn};
+ghost use Rattle.exchange.specs.Owning.{IsReady};
+ghost use Rattle.exchange.specs.Exchanging.{Stands, IsFinished, Leaves, Cancels};
+ghost use Rattle.exchange.specs.Exchanging.{Closes, GivesUpDial, LeavesDial};
+ghost use Rattle.exchange.specs.Rounds.{IsPolled};
 ghost use Rattle.exchange.specs.Balance.{HasAll, SpendsAll};
 ghost use Rattle.exchange.specs.declared.state.State.TheVariants as at;
 
 use crate::done::Done;
 use crate::job::Prepared;
+use crate::phases::Phases;
+use crate::reason::Reason;
 use crate::state::Stage;
 use crate::transfer::Transfer;
 use crate::wire::{Clock, Dial, Turned, Wire};
+use cache_trait::Cache;
 use futures::task::{Context, Poll};
-use leasing::Cache;
+use std::marker::Model;
 use std::time::Duration;
 
 /// One request and its response over a connection of a cache, which it borrows for its life. It is
@@ -35,24 +38,39 @@ pub struct Exchange<'a, W: Wire, C: Cache<W>, D: Dial<W>, K: Clock> {
     transfer: Transfer<W>,
     ghost owns: { OwnsIts (C.home cache.now) transfer } by { owns_prop W.code _ transfer },
     ghost text: { 0 < length (string_bytes transfer.parts.text) },
-    ghost room: { 0 < length transfer.parts.buffer.items },
+    ghost buffer: { 0 < length transfer.parts.buffer.items },
+}
+
+impl<'a, W: Wire, C: Cache<W>, D: Dial<W>, K: Clock> Model for Exchange<'a, W, C, D, K> {
+    ghost use Rattle.exchange.specs.Transfers.{ExchangeShown};
+
+    ghost Value = { ExchangeShown W C D K };
+
+    ghost view = { λ exchange. record {
+      cache = exchange.cache.now;
+      cache_name = exchange.cache.ghost_name;
+      dial = exchange.dial.now;
+      dial_name = exchange.dial.ghost_name;
+      clock = exchange.clock;
+      transfer = exchange.transfer;
+    } };
 }
 
 impl<'a, W: Wire, C: Cache<W>, D: Dial<W>, K: Clock> Exchange<'a, W, C, D, K> {
     /// An exchange of what was prepared, over that cache, dial and clock. It takes no memory, so
-    /// that the cache stays with its caller where memory is short: [`Prepared::new`] takes it all.
+    /// that the cache stays with its caller if memory is short: [`Prepared::new`] takes it all.
     pub fn new(parts: Prepared, cache: &'a mut C, dial: &'a mut D, clock: &'a K) -> Self
         requires unused { IsUnused parts }
         ensures stands { Stands C.did (world_of W.untouched W.happened (K.tells clock.now))
-            result.transfer.parts (since cache.old) result.cache.now result.transfer.state }
+            result.transfer.parts (since cache.old) result.cache result.transfer.state }
         ensures parts { result.transfer.parts ≡ parts }
-        ensures begins { result.transfer.state ≡ Some at.Asking }
-        ensures turn { result.transfer.has_yielded ≡ false }
-        ensures cache { result.cache.now ≡ cache.old }
-        ensures dial { result.dial.now ≡ dial.old }
+        ensures asking { result.transfer.state ≡ Some at.Asking }
+        ensures yielded { result.transfer.has_yielded ≡ false }
+        ensures cache { result.cache ≡ cache.old }
+        ensures dial { result.dial ≡ dial.old }
         ensures clock { result.clock ≡ clock.entry }
-        ensures same_cache { result.cache.ghost_name ≡ cache.entry.ghost_name }
-        ensures same_dial { result.dial.ghost_name ≡ dial.entry.ghost_name }
+        ensures same_cache { result.cache_name ≡ cache.entry.ghost_name }
+        ensures same_dial { result.dial_name ≡ dial.entry.ghost_name }
     {
         Exchange {
             cache,
@@ -63,40 +81,24 @@ impl<'a, W: Wire, C: Cache<W>, D: Dial<W>, K: Clock> Exchange<'a, W, C, D, K> {
     }
 
     /// Goes on as far as it can, with at most 64 reads and writes. Once it is ready it has ended,
-    /// owns nothing, and every later poll is ready at once. Where it is pending it has registered
+    /// owns nothing, and every later poll is ready at once. If it is pending, it has registered
     /// with the wire or the dial that it waits for, or has asked to be polled again: see
     /// [`Exchange::waits_on`].
     pub fn poll(&mut self, cx: &mut Context<'_>) -> Poll<()>
-        ensures stays { C.home self.new.cache.now ≡ C.home self.old.cache.now }
-        ensures same { IsSameJob self.old.transfer.parts self.new.transfer.parts }
-        ensures story { Continues C.did
+        ensures stays { C.home self.new.cache ≡ C.home self.old.cache }
+        ensures polled { IsPolled C.did
             (world_of W.untouched W.happened (K.tells self.old.clock.now))
-            self.old.transfer.parts self.new.transfer.parts self.old.cache.now
-            self.new.cache.now self.old.transfer.state self.new.transfer.state }
+            self.old.cache self.new.cache (D.shown self.old.dial)
+            (D.shown self.new.dial) self.old.transfer self.new.transfer }
         ensures out { HasAll (world_of W.untouched W.happened (K.tells self.old.clock.now))
             self.new.transfer.parts self.new.transfer.state }
-        ensures steps { PollsFew C.did
-            (world_of W.untouched W.happened (K.tells self.old.clock.now))
-            self.old.cache.now self.new.cache.now self.new.transfer.has_yielded
-            self.new.transfer.has_spent self.old.transfer.state self.new.transfer.state }
-        ensures over { IsFinished self.old.transfer.state →
-            self.new.transfer.state ≡ self.old.transfer.state }
-        ensures dialled { DialFailed self.old.transfer.state self.new.transfer.state
-            (D.failures self.old.dial.now) (D.failures self.new.dial.now) }
-        ensures opens { OpensFew self.old.transfer.parts self.new.transfer.parts
-            self.old.transfer.state self.new.transfer.state
-            (D.opened self.old.dial.now) (D.opened self.new.dial.now) }
-        ensures begun { DialsItsOwn (D.begun self.old.dial.now) (D.begun self.new.dial.now)
-            self.old.transfer.parts.want.transfer self.old.transfer.state
-            self.new.transfer.state }
-        ensures turns { D.turn_failures self.new.dial.now ≡ D.turn_failures self.old.dial.now }
         ensures finished { IfReady result (λ _. IsFinished self.new.transfer.state) }
         ensures pending { OnPending result (Leaves W.source_name
-            (D.source_name self.new.dial.now) cx.old cx.new self.new.transfer.waker
+            (D.shown self.new.dial).source_name cx.old cx.new self.new.transfer.waker
             self.new.transfer.has_yielded self.new.transfer.state) }
         ensures kept { Keeps cx.old cx.new }
-        ensures same_cache { self.new.cache.ghost_name ≡ self.old.cache.ghost_name }
-        ensures same_dial { self.new.dial.ghost_name ≡ self.old.dial.ghost_name }
+        ensures same_cache { self.new.cache_name ≡ self.old.cache_name }
+        ensures same_dial { self.new.dial_name ≡ self.old.dial_name }
         ensures same_clock { self.new.clock ≡ self.old.clock }
     {
         self.transfer.poll(cx, self.cache, self.dial, self.clock)
@@ -110,22 +112,24 @@ impl<'a, W: Wire, C: Cache<W>, D: Dial<W>, K: Clock> Exchange<'a, W, C, D, K> {
         self.transfer.waits_on()
     }
 
+    /// The moments of its progress. No contract speaks of them.
+    pub fn phases(&self) -> Phases {
+        self.transfer.phases()
+    }
+
+    /// Why its dial or its wire failed: see [`Transfer::reason`].
+    pub fn reason(&self) -> Option<Reason> {
+        self.transfer.reason()
+    }
+
     /// Takes a turn of its dial's event loop, which waits at most ten milliseconds.
     pub fn turn(&mut self) -> Turned
-        ensures fault { CountsTurn result (D.turn_failures self.old.dial.now)
-            (D.turn_failures self.new.dial.now) }
-        ensures done { D.turned self.old.dial.now self.new.dial.now }
-        ensures counted { D.failures self.new.dial.now ≡ D.failures self.old.dial.now }
-        ensures opens { D.opened self.new.dial.now ≡ D.opened self.old.dial.now }
-        ensures begun { (other : ℕ) → D.begun self.new.dial.now other →
-            D.begun self.old.dial.now other }
-        ensures kept { (other : ℕ) → D.begun self.old.dial.now other →
-            D.begun self.new.dial.now other }
-        ensures source { D.source_name self.new.dial.now ≡ D.source_name self.old.dial.now }
+        ensures turn { TakesTurn result (D.shown self.old.dial) (D.shown self.new.dial) }
+        ensures turned { D.turned self.old.dial self.new.dial }
         ensures transfer { self.new.transfer ≡ self.old.transfer }
-        ensures cache { self.new.cache.now ≡ self.old.cache.now }
-        ensures same_cache { self.new.cache.ghost_name ≡ self.old.cache.ghost_name }
-        ensures same_dial { self.new.dial.ghost_name ≡ self.old.dial.ghost_name }
+        ensures cache { self.new.cache ≡ self.old.cache }
+        ensures same_cache { self.new.cache_name ≡ self.old.cache_name }
+        ensures same_dial { self.new.dial_name ≡ self.old.dial_name }
         ensures same_clock { self.new.clock ≡ self.old.clock }
     {
         self.dial.turn(Duration::MAX)
@@ -137,10 +141,11 @@ impl<'a, W: Wire, C: Cache<W>, D: Dial<W>, K: Clock> Exchange<'a, W, C, D, K> {
         requires finished { IsFinished self.transfer.state }
         ensures done { self.entry.transfer.state ≡ Some (at.Finished result.0) }
         ensures parts { result.1 ≡ self.entry.transfer.parts }
-        ensures cache { result.2.now ≡ self.entry.cache.now }
-        ensures dial { result.3.now ≡ self.entry.dial.now }
-        ensures same_cache { result.2.ghost_name ≡ self.entry.cache.ghost_name }
-        ensures same_dial { result.3.ghost_name ≡ self.entry.dial.ghost_name }
+        ensures ready { IsReady result.1 }
+        ensures cache { result.2.now ≡ self.entry.cache }
+        ensures dial { result.3.now ≡ self.entry.dial }
+        ensures same_cache { result.2.ghost_name ≡ self.entry.cache_name }
+        ensures same_dial { result.3.ghost_name ≡ self.entry.dial_name }
     {
         let Exchange {
             cache,
@@ -156,20 +161,18 @@ impl<'a, W: Wire, C: Cache<W>, D: Dial<W>, K: Clock> Exchange<'a, W, C, D, K> {
     /// seconds, and what was begun at the dial is given up. Before the first poll, and once a poll
     /// was ready, it changes nothing. Gives back what was prepared, the cache and the dial.
     pub fn cancel(self, now: u64) -> (Prepared, &'a mut C, &'a mut D)
-        ensures stays { C.home result.1.now ≡ C.home self.entry.cache.now }
-        ensures cancels { Cancels C.did self.entry.cache.now result.1.now now
+        ensures stays { C.home result.1.now ≡ C.home self.entry.cache }
+        ensures cancels { Cancels C.did self.entry.cache result.1.now now
             self.entry.transfer.state }
-        ensures out { SpendsAll C.did self.entry.cache.now result.1.now
+        ensures spends_all { SpendsAll C.did self.entry.cache result.1.now
             self.entry.transfer.state }
         ensures parts { result.0 ≡ self.entry.transfer.parts }
-        ensures begun { GivesUpDial (D.begun self.entry.dial.now) (D.begun result.2.now)
+        ensures ready { IsReady result.0 }
+        ensures begun { GivesUpDial (D.shown self.entry.dial) (D.shown result.2.now)
             self.entry.transfer.parts.want.transfer self.entry.transfer.state }
-        ensures leaves { LeavesDial self.entry.dial.now result.2.now self.entry.transfer.state }
-        ensures counted { D.failures result.2.now ≡ D.failures self.entry.dial.now }
-        ensures opens { D.opened result.2.now ≡ D.opened self.entry.dial.now }
-        ensures turns { D.turn_failures result.2.now ≡ D.turn_failures self.entry.dial.now }
-        ensures same_cache { result.1.ghost_name ≡ self.entry.cache.ghost_name }
-        ensures same_dial { result.2.ghost_name ≡ self.entry.dial.ghost_name }
+        ensures leaves_dial { LeavesDial self.entry.dial result.2.now self.entry.transfer.state }
+        ensures same_cache { result.1.ghost_name ≡ self.entry.cache_name }
+        ensures same_dial { result.2.ghost_name ≡ self.entry.dial_name }
     {
         let Exchange {
             cache,
@@ -181,23 +184,21 @@ impl<'a, W: Wire, C: Cache<W>, D: Dial<W>, K: Clock> Exchange<'a, W, C, D, K> {
         (parts, cache, dial)
     }
 
-    /// How it ended, where a poll was ready; else the same as `cancel`, and that it was cancelled.
+    /// How it ended, if a poll was ready; else the same as `cancel`, and that it was cancelled.
     pub fn close(self, now: u64) -> (Done, Prepared, &'a mut C, &'a mut D)
-        ensures stays { C.home result.2.now ≡ C.home self.entry.cache.now }
-        ensures cancels { Cancels C.did self.entry.cache.now result.2.now now
+        ensures stays { C.home result.2.now ≡ C.home self.entry.cache }
+        ensures cancels { Cancels C.did self.entry.cache result.2.now now
             self.entry.transfer.state }
-        ensures out { SpendsAll C.did self.entry.cache.now result.2.now
+        ensures spends_all { SpendsAll C.did self.entry.cache result.2.now
             self.entry.transfer.state }
-        ensures closes { Closes result.0 self.entry.transfer.state }
+        ensures done { Closes result.0 self.entry.transfer.state }
         ensures parts { result.1 ≡ self.entry.transfer.parts }
-        ensures begun { GivesUpDial (D.begun self.entry.dial.now) (D.begun result.3.now)
+        ensures ready { IsReady result.1 }
+        ensures begun { GivesUpDial (D.shown self.entry.dial) (D.shown result.3.now)
             self.entry.transfer.parts.want.transfer self.entry.transfer.state }
-        ensures leaves { LeavesDial self.entry.dial.now result.3.now self.entry.transfer.state }
-        ensures counted { D.failures result.3.now ≡ D.failures self.entry.dial.now }
-        ensures opens { D.opened result.3.now ≡ D.opened self.entry.dial.now }
-        ensures turns { D.turn_failures result.3.now ≡ D.turn_failures self.entry.dial.now }
-        ensures same_cache { result.2.ghost_name ≡ self.entry.cache.ghost_name }
-        ensures same_dial { result.3.ghost_name ≡ self.entry.dial.ghost_name }
+        ensures leaves_dial { LeavesDial self.entry.dial result.3.now self.entry.transfer.state }
+        ensures same_cache { result.2.ghost_name ≡ self.entry.cache_name }
+        ensures same_dial { result.3.ghost_name ≡ self.entry.dial_name }
     {
         let Exchange {
             cache,

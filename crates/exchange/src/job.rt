@@ -38,7 +38,7 @@ pub struct Prepared {
 
 impl Prepared {
     /// Makes the request's text and takes all memory. The request line names the target's path,
-    /// the Host field its host, with the port where that is not 80, and where the want forbids
+    /// the Host field its host, with the port unless that is 80, and if the want forbids
     /// reuse the request has the connection option `close` (RFC 9112, sections 3 and 3.2; RFC
     /// 9110, section 7.6.1).
     ///
@@ -66,7 +66,7 @@ impl Prepared {
         })
     }
 
-    /// The same memory, with another job: the text takes more only where it does not fit, and
+    /// The same memory, with another job: the text takes more only if it does not fit, and
     /// reader and buffer take none.
     ///
     /// # Errors
@@ -76,9 +76,9 @@ impl Prepared {
     ///
     /// Asked of the caller: it has room to read into, as all that was prepared has.
     pub fn again(self, job: &Job) -> Result<Prepared, (Prepared, AllocError)>
-        requires room { 0 < length self.buffer.items }
-        ensures ok { IfOk result (IsPrepared job.now) }
-        ensures err { IfErr result (λ refused. 0 < length refused.0.buffer.items) }
+        requires buffer { 0 < length self.buffer.items }
+        ensures prepared { IfOk result (IsPrepared job.now) }
+        ensures buffer { IfErr result (λ refused. 0 < length refused.0.buffer.items) }
     {
         let mut parts = self;
         let close = job.want.forbid_reuse;
@@ -137,14 +137,14 @@ fn method_word(method: Method) -> &'static str
     }
 }
 
-// The line of the connection option `close`, where it is asked for.
+// The line of the connection option `close`, if it is asked for.
 fn close_line(close: bool) -> &'static str
     ensures { result.now ≡ close_line close }
 {
     if close { "Connection: close\r\n" } else { "" }
 }
 
-// Writes the text of a request, where none stands yet.
+// Writes the text of a request into an empty text.
 fn write_request(
     text: &mut String,
     method: Method,

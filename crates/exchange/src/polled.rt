@@ -3,18 +3,16 @@
 ghost use Rattle.std.specs.Prelude.{◌≡◌, ⊤};
 ghost use Rattle.futures.specs.Poll.{IfReady, OnPending};
 ghost use Rattle.futures.specs.Task.{Covers, Keeps};
-ghost use Rattle.exchange.specs.Answers.{IsSameJob};
 ghost use Rattle.exchange.specs.Worlds.{world_of};
-ghost use Rattle.exchange.specs.Stepping.{PollsFew};
 ghost use Rattle.exchange.specs.Balance.{HasAll};
-ghost use Rattle.exchange.specs.Exchanging.{Needs, Continues, IsFinished, Leaves, DialFailed};
-ghost use Rattle.exchange.specs.Exchanging.{OpensFew, DialsItsOwn};
+ghost use Rattle.exchange.specs.Exchanging.{Needs, IsFinished, Leaves};
+ghost use Rattle.exchange.specs.Rounds.{IsPolled};
 
 use crate::exchange::Exchange;
 use crate::wire::{Clock, Dial, Wire};
+use cache_trait::Cache;
 use futures::Future;
 use futures::task::{Context, Poll};
-use leasing::Cache;
 
 /// An exchange as a future, which borrows it: once the future is ready or let go, whoever lent the
 /// exchange closes it.
@@ -27,7 +25,7 @@ impl<'b, 'a, W: Wire, C: Cache<W>, D: Dial<W>, K: Clock> Polled<'b, 'a, W, C, D,
     /// The future of an exchange.
     pub fn new(exchange: &'b mut Exchange<'a, W, C, D, K>) -> Self
         ensures exchange { result.exchange.now ≡ exchange.old }
-        ensures same { result.exchange.ghost_name ≡ exchange.entry.ghost_name }
+        ensures borrow { result.exchange.ghost_name ≡ exchange.entry.ghost_name }
     {
         Polled { exchange }
     }
@@ -39,7 +37,7 @@ impl<'b, 'a, W: Wire, C: Cache<W>, D: Dial<W>, K: Clock> Future for Polled<'b, '
     ghost can_poll = { λ polled. ⊤ };
 
     ghost needs = { λ polled source. Needs W.source_name
-        (D.source_name polled.exchange.now.dial.now) source
+        (D.shown polled.exchange.now.dial).source_name source
         polled.exchange.now.transfer.has_yielded polled.exchange.now.transfer.state };
 
     fn poll(&mut self, cx: &mut Context<'_>) -> Poll<()>
@@ -48,51 +46,26 @@ impl<'b, 'a, W: Wire, C: Cache<W>, D: Dial<W>, K: Clock> Future for Polled<'b, '
         ensures again { OnPending result ⊤ }
         ensures same { OnPending result ((x : Unit {0}) → ⊤ → ⊤) }
         ensures can_poll { ⊤ }
-        ensures stays { C.home self.new.exchange.now.cache.now
-            ≡ C.home self.old.exchange.now.cache.now }
-        ensures same_job { IsSameJob self.old.exchange.now.transfer.parts
-            self.new.exchange.now.transfer.parts }
-        ensures story { Continues C.did
+        ensures stays { C.home self.new.exchange.now.cache ≡ C.home self.old.exchange.now.cache }
+        ensures polled { IsPolled C.did
             (world_of W.untouched W.happened (K.tells self.old.exchange.now.clock.now))
-            self.old.exchange.now.transfer.parts self.new.exchange.now.transfer.parts
-            self.old.exchange.now.cache.now self.new.exchange.now.cache.now
-            self.old.exchange.now.transfer.state self.new.exchange.now.transfer.state }
+            self.old.exchange.now.cache self.new.exchange.now.cache
+            (D.shown self.old.exchange.now.dial) (D.shown self.new.exchange.now.dial)
+            self.old.exchange.now.transfer self.new.exchange.now.transfer }
         ensures out { HasAll
             (world_of W.untouched W.happened (K.tells self.old.exchange.now.clock.now))
             self.new.exchange.now.transfer.parts self.new.exchange.now.transfer.state }
-        ensures steps { PollsFew C.did
-            (world_of W.untouched W.happened (K.tells self.old.exchange.now.clock.now))
-            self.old.exchange.now.cache.now self.new.exchange.now.cache.now
-            self.new.exchange.now.transfer.has_yielded self.new.exchange.now.transfer.has_spent
-            self.old.exchange.now.transfer.state self.new.exchange.now.transfer.state }
-        ensures over { IsFinished self.old.exchange.now.transfer.state →
-            self.new.exchange.now.transfer.state ≡ self.old.exchange.now.transfer.state }
-        ensures dialled { DialFailed self.old.exchange.now.transfer.state
-            self.new.exchange.now.transfer.state (D.failures self.old.exchange.now.dial.now)
-            (D.failures self.new.exchange.now.dial.now) }
-        ensures opens { OpensFew self.old.exchange.now.transfer.parts
-            self.new.exchange.now.transfer.parts self.old.exchange.now.transfer.state
-            self.new.exchange.now.transfer.state (D.opened self.old.exchange.now.dial.now)
-            (D.opened self.new.exchange.now.dial.now) }
-        ensures begun { DialsItsOwn (D.begun self.old.exchange.now.dial.now)
-            (D.begun self.new.exchange.now.dial.now)
-            self.old.exchange.now.transfer.parts.want.transfer
-            self.old.exchange.now.transfer.state self.new.exchange.now.transfer.state }
-        ensures turns { D.turn_failures self.new.exchange.now.dial.now
-            ≡ D.turn_failures self.old.exchange.now.dial.now }
         ensures finished { IfReady result (λ _. IsFinished self.new.exchange.now.transfer.state) }
         ensures pending { OnPending result (Leaves W.source_name
-            (D.source_name self.new.exchange.now.dial.now) cx.old cx.new
+            (D.shown self.new.exchange.now.dial).source_name cx.old cx.new
             self.new.exchange.now.transfer.waker self.new.exchange.now.transfer.has_yielded
             self.new.exchange.now.transfer.state) }
         ensures registered { OnPending result (Covers cx.new (λ source. Needs W.source_name
-            (D.source_name self.new.exchange.now.dial.now) source
+            (D.shown self.new.exchange.now.dial).source_name source
             self.new.exchange.now.transfer.has_yielded self.new.exchange.now.transfer.state)) }
         ensures kept { Keeps cx.old cx.new }
-        ensures same_cache { self.new.exchange.now.cache.ghost_name
-            ≡ self.old.exchange.now.cache.ghost_name }
-        ensures same_dial { self.new.exchange.now.dial.ghost_name
-            ≡ self.old.exchange.now.dial.ghost_name }
+        ensures same_cache { self.new.exchange.now.cache_name ≡ self.old.exchange.now.cache_name }
+        ensures same_dial { self.new.exchange.now.dial_name ≡ self.old.exchange.now.dial_name }
         ensures same_clock { self.new.exchange.now.clock ≡ self.old.exchange.now.clock }
         ensures borrow { self.new.exchange.ghost_name ≡ self.old.exchange.ghost_name }
     {

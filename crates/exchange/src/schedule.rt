@@ -77,8 +77,8 @@ fn site_list(site: usize) -> Option<usize>
 // So many lists without keys, with room for so many keys.
 fn lists_of(alloc: Global, count: usize, room: usize) -> Result<LinkedLists, AllocError>
     ensures count { IfOk result (λ made. list_count made ≡ count) }
-    ensures none { IfOk result (λ made. (key : ℕ) → list_of made key ≡ None) }
-    ensures room { IfOk result (λ made. room ≤ key_limit made) }
+    ensures unlisted { IfOk result (λ made. (key : ℕ) → list_of made key ≡ None) }
+    ensures reserved { IfOk result (λ made. room ≤ key_limit made) }
 {
     let mut lists = LinkedLists::new(alloc, count)?;
     let Some(last) = room.checked_sub(1) else {
@@ -154,8 +154,8 @@ pub(crate) struct Schedule {
 impl Schedule {
     /// No transfers, and memory for so many places.
     pub(crate) fn with_room(alloc: Global, room: usize) -> Result<Schedule, AllocError>
-        ensures none { IfOk result (λ made. (place : ℕ) → list_of made.lists place ≡ None) }
-        ensures room { IfOk result (λ made. room ≤ key_limit made.lists) }
+        ensures unlisted { IfOk result (λ made. (place : ℕ) → list_of made.lists place ≡ None) }
+        ensures reserved { IfOk result (λ made. room ≤ key_limit made.lists) }
     {
         Ok(Schedule {
             lists: lists_of(alloc, LISTS, room)?,
@@ -168,11 +168,11 @@ impl Schedule {
         })
     }
 
-    /// Makes room for that place, where it is the one behind all others.
+    /// Makes room for that place, if it is the one behind all others.
     pub(crate) fn add_place(&mut self, place: usize) -> Result<(), AllocError>
-        ensures room { OnOk result (place < key_limit self.new.lists) }
+        ensures place_in { OnOk result (place < key_limit self.new.lists) }
         ensures grows { key_limit self.old.lists ≤ key_limit self.new.lists }
-        ensures same { SameLists self.old.lists self.new.lists }
+        ensures same_lists { SameLists self.old.lists self.new.lists }
     {
         let seat = Seat::at(place)?;
         if self.seats.len() <= place {
@@ -185,7 +185,7 @@ impl Schedule {
     pub(crate) fn first_free(&self) -> Option<usize>
         ensures free { IfSome result (λ place.
             list_of self.now.lists place ≡ Some free_list) }
-        ensures none { IfNone result (IsEmpty self.now.lists free_list) }
+        ensures none_free { IfNone result (IsEmpty self.now.lists free_list) }
     {
         self.lists.front(FREE)
     }
@@ -317,8 +317,8 @@ impl Schedule {
 
     // Puts the place behind all others of that list.
     fn moves(&mut self, place: usize, list: usize)
-        requires place { place < key_limit self.old.lists }
-        requires list { list < most_lists }
+        requires place_in { place < key_limit self.old.lists }
+        requires list_in { list < most_lists }
         ensures { Moves self.old.lists self.new.lists place (Some list) }
     {
         if let Some(seat) = self.seats.get_mut(place) {
@@ -414,7 +414,7 @@ impl Schedule {
     pub(crate) fn take_spent(&mut self) -> bool
         ensures spent { result ≡ self.old.has_spent }
         ensures taken { self.new.has_spent ≡ false }
-        ensures same { self.new.lists ≡ self.old.lists }
+        ensures lists { self.new.lists ≡ self.old.lists }
     {
         let has_spent = self.has_spent;
         self.has_spent = false;

@@ -2,13 +2,13 @@
 
 ghost use Rattle.std.specs.Prelude.{◌≡◌, ◌+◌, [], sum_by, IfSome, IfErr, OnSome, OnOk, OnErr};
 ghost use Rattle.std.specs.Prelude.{IfNone, IfOk, None, Some, false, ◌==◌, ◌<◌, ◌≤◌, ◌∷◌, ◌++◌};
-ghost use Rattle.std.specs.Prelude.{vec_len, vec_capacity, slice_get, slice_set};
+ghost use Rattle.std.specs.Prelude.{length, vec_capacity, slice_get, slice_set};
 ghost use Rattle.futures.specs.Poll.{IfReady, OnPending};
 ghost use Rattle.exchange.specs.Answers.{IsUnused};
-ghost use Rattle.exchange.specs.Dialling.{KeepsDial, TurnsDial};
+ghost use Rattle.exchange.specs.Dialling.{KeepsDial, KeepsCounts, TurnsDial, failed_turns};
 ghost use Rattle.exchange.specs.Owning.{IsReady, Owns};
 ghost use Rattle.exchange.specs.Exchanging.{IsFinished, Leaves};
-ghost use Rattle.exchange.specs.Worlds.{world_of, dials_of};
+ghost use Rattle.exchange.specs.Worlds.{world_of};
 ghost use Rattle.exchange.specs.Slabs.{AreKept, HasEnded, HasClosed, ClosesOne, ClosesPlace};
 ghost use Rattle.exchange.specs.Slabs.{ClosesAll, GivesUpAll, transfers_in, one_if_some};
 ghost use Rattle.exchange.specs.Slabs.{HasNumberAt, HasNoneAt};
@@ -20,13 +20,15 @@ ghost use Rattle.exchange.specs.Rounds.{Joins, IsPolled, TriesPlace, PollsInTurn
 use crate::done::Done;
 use crate::ended::Ended;
 use crate::job::Prepared;
+use crate::phases::Phases;
 use crate::ready::{Place, Ready};
 use crate::schedule::Schedule;
 use crate::transfer::{Transfer, put};
 use crate::wire::{Clock, Dial, Turned, Wire};
+use cache_trait::Cache;
 use futures::task::{Context, Poll};
-use leasing::Cache;
 use std::alloc::{AllocError, Global};
+use std::marker::Model;
 use std::time::Duration;
 
 /// Any number of transfers that go on over one cache, one dial and one clock, and are polled in
@@ -50,6 +52,22 @@ pub struct Slab<W: Wire> {
     ghost listed: { room ≤ key_limit schedule.lists },
 }
 
+impl<W: Wire> Model for Slab<W> {
+    ghost use Rattle.std.specs.Prelude.{vec_capacity};
+    ghost use Rattle.futures.specs.LinkedLists.{key_limit};
+    ghost use Rattle.exchange.specs.Slabs.{SlabShown};
+
+    ghost Value = { SlabShown W };
+
+    ghost view = { λ slab. record {
+      slots = slab.slots.items;
+      room = slab.room;
+      has_spent = slab.schedule.has_spent;
+      capacity = vec_capacity slab.slots;
+      seats = key_limit slab.schedule.lists;
+    } };
+}
+
 // Polls a transfer, whose place the dial is told of before.
 fn poll_told<W: Wire, C: Cache<W>, D: Dial<W>, K: Clock>(
     transfer: &mut Transfer<W>,
@@ -65,11 +83,9 @@ fn poll_told<W: Wire, C: Cache<W>, D: Dial<W>, K: Clock>(
     ensures owns { Owns (C.home cache.new) transfer.new.parts transfer.new.state }
     ensures ready { IsReady transfer.new.parts }
     ensures polled { IsPolled C.did (world_of W.untouched W.happened (K.tells clock.now))
-        (dials_of D.begun D.opened D.failures) cache.old cache.new dial.old dial.new
-        transfer.old transfer.new }
-    ensures turns { D.turn_failures dial.new ≡ D.turn_failures dial.old }
+        cache.old cache.new (D.shown dial.old) (D.shown dial.new) transfer.old transfer.new }
     ensures finished { IfReady result (λ _. IsFinished transfer.new.state) }
-    ensures pending { OnPending result (Leaves W.source_name (D.source_name dial.new)
+    ensures pending { OnPending result (Leaves W.source_name (D.shown dial.new).source_name
         cx.old cx.new transfer.new.waker transfer.new.has_yielded transfer.new.state) }
 {
     tell_place(dial, place);
@@ -78,8 +94,7 @@ fn poll_told<W: Wire, C: Cache<W>, D: Dial<W>, K: Clock>(
 
 // Tells a dial of a place.
 fn tell_place<W: Wire, D: Dial<W>>(dial: &mut D, place: Option<Place>)
-    ensures { KeepsDial D.failures D.opened D.turn_failures D.source_name D.begun dial.old
-        dial.new }
+    ensures { KeepsDial (D.shown dial.old) (D.shown dial.new) }
 {
     if let Some(place) = place {
         dial.set_place(place);
@@ -93,7 +108,7 @@ impl<W: Wire> Slab<W> {
     ///
     /// There is no memory for the queues of all sites, some 50,000 bytes.
     pub fn new(alloc: Global) -> Result<Slab<W>, AllocError>
-        ensures { IfOk result (λ made. made.slots.items ≡ []) }
+        ensures { IfOk result (λ made. made.slots ≡ []) }
     {
         Slab::with_room(alloc, 0)
     }
@@ -104,7 +119,7 @@ impl<W: Wire> Slab<W> {
     ///
     /// There is no memory for them, or there are more than 2^32.
     pub fn with_room(alloc: Global, room: usize) -> Result<Slab<W>, AllocError>
-        ensures none { IfOk result (λ made. made.slots.items ≡ []) }
+        ensures empty { IfOk result (λ made. made.slots ≡ []) }
         ensures room { IfOk result (λ made. made.room ≡ room) }
     {
         let schedule = Schedule::with_room(alloc, room)?;
@@ -119,35 +134,56 @@ impl<W: Wire> Slab<W> {
 
     /// How many transfers there are that have not ended.
     pub fn len(&self) -> usize
-        ensures { result ≡ sum_by one_if_some self.now.slots.items }
+        ensures { result ≡ sum_by one_if_some self.now.slots }
     {
         self.len
     }
 
     /// Whether all transfers have ended.
     pub fn is_empty(&self) -> bool
-        ensures { result ≡ (sum_by one_if_some self.now.slots.items == 0) }
+        ensures { result ≡ (sum_by one_if_some self.now.slots == 0) }
     {
         self.len == 0
     }
 
     /// How many places there are, counted from 0: at some of them a transfer stands.
     pub fn places(&self) -> usize
-        ensures { result ≡ vec_len self.now.slots }
+        ensures { result ≡ length self.now.slots }
     {
         self.slots.len()
     }
 
     /// The transfer number of the transfer at that place, if one stands there.
     pub fn transfer_at(&self, place: usize) -> Option<u64>
-        ensures number { IfSome result (HasNumberAt self.now.slots.items place) }
-        ensures none { IfNone result (HasNoneAt self.now.slots.items place) }
+        ensures number { IfSome result (HasNumberAt self.now.slots place) }
+        ensures none { IfNone result (HasNoneAt self.now.slots place) }
     {
         match self.slots.get(place) {
             Some(Some(transfer)) => Some(transfer.number()),
             Some(None) => None,
             None => None,
         }
+    }
+
+    /// The moments of the transfer at that place; none if no transfer stands there. No contract
+    /// speaks of them.
+    pub fn phases_at(&self, place: usize) -> Phases {
+        match self.slots.get(place) {
+            Some(Some(transfer)) => transfer.phases(),
+            Some(None) => Phases::default(),
+            None => Phases::default(),
+        }
+    }
+
+    /// The moments of the transfer that [`Slab::close_last`] closes next. No contract speaks of
+    /// them.
+    pub fn last_phases(&self) -> Phases {
+        for slot in self.slots.iter().rev() {
+            if let Some(transfer) = slot {
+                return transfer.phases();
+            }
+        }
+        Phases::default()
     }
 
     /// Begins a transfer of what was prepared, which is polled from the next round on: the place
@@ -162,16 +198,16 @@ impl<W: Wire> Slab<W> {
         _clock: &K,
     ) -> Result<usize, Prepared>
         requires unused { IsUnused parts }
-        requires kept { AreKept (world_of W.untouched W.happened (K.tells _clock.now))
-            (C.home _cache.now) self.old.slots.items }
-        ensures kept { AreKept (world_of W.untouched W.happened (K.tells _clock.now))
-            (C.home _cache.now) self.new.slots.items }
-        ensures joins { IfOk result (Joins self.old.slots.items self.new.slots.items parts) }
-        ensures ok { OnOk result (sum_by one_if_some self.new.slots.items
-            ≡ sum_by one_if_some self.old.slots.items + 1) }
-        ensures err { IfErr result (λ same. (same ≡ parts)
-            × (self.new.slots.items ≡ self.old.slots.items)
-            × (self.old.room ≤ sum_by one_if_some self.old.slots.items)) }
+        requires all_kept { AreKept (world_of W.untouched W.happened (K.tells _clock.now))
+            (C.home _cache.now) self.old.slots }
+        ensures all_kept { AreKept (world_of W.untouched W.happened (K.tells _clock.now))
+            (C.home _cache.now) self.new.slots }
+        ensures joins { IfOk result (Joins self.old.slots self.new.slots parts) }
+        ensures more { OnOk result (sum_by one_if_some self.new.slots
+            ≡ sum_by one_if_some self.old.slots + 1) }
+        ensures given_back { IfErr result (λ same. (same ≡ parts)
+            × (self.new.slots ≡ self.old.slots)
+            × (self.old.room ≤ sum_by one_if_some self.old.slots)) }
         ensures room { self.new.room ≡ self.old.room }
     {
         if let Some(place) = self.schedule.first_free() {
@@ -187,12 +223,12 @@ impl<W: Wire> Slab<W> {
 
     // Makes room for one place more, behind all others, unless it is there: that place.
     fn grow(&mut self) -> Result<usize, AllocError>
-        ensures place { IfOk result (λ place. place ≡ vec_len self.new.slots) }
-        ensures room { OnOk result (vec_len self.new.slots < vec_capacity self.new.slots) }
-        ensures list { IfOk result (λ place. place < key_limit self.new.schedule.lists) }
-        ensures items { self.new.slots.items ≡ self.old.slots.items }
-        ensures same { self.new.room ≡ self.old.room }
-        ensures err { OnErr result (self.old.room ≤ vec_len self.old.slots) }
+        ensures place { IfOk result (λ place. place ≡ length self.new.slots) }
+        ensures spare { OnOk result (length self.new.slots < self.new.capacity) }
+        ensures seat { IfOk result (λ place. place < self.new.seats) }
+        ensures items { self.new.slots ≡ self.old.slots }
+        ensures room { self.new.room ≡ self.old.room }
+        ensures past_room { OnErr result (self.old.room ≤ length self.old.slots) }
     {
         let place = self.slots.len();
         if place < self.room {
@@ -205,10 +241,10 @@ impl<W: Wire> Slab<W> {
 
     // Puts a transfer there.
     fn fill(&mut self, place: usize, transfer: Transfer<W>)
-        requires vacant { slice_get self.old.slots.items place ≡ Some None }
-        ensures items { self.new.slots.items
-            ≡ slice_set self.old.slots.items place (Some transfer) }
-        ensures same { self.new.room ≡ self.old.room }
+        requires vacant { slice_get self.old.slots place ≡ Some None }
+        ensures items { self.new.slots
+            ≡ slice_set self.old.slots place (Some transfer) }
+        ensures room { self.new.room ≡ self.old.room }
     {
         let Some(slot) = self.slots.get_mut(place) else {
             unreachable!()
@@ -220,11 +256,11 @@ impl<W: Wire> Slab<W> {
 
     // Puts a transfer behind all others.
     fn append(&mut self, place: usize, transfer: Transfer<W>)
-        requires place { place ≡ vec_len self.old.slots }
-        requires room { vec_len self.old.slots < vec_capacity self.old.slots }
-        requires seat { place < key_limit self.old.schedule.lists }
-        ensures items { self.new.slots.items ≡ self.old.slots.items ++ (Some transfer ∷ []) }
-        ensures same { self.new.room ≡ self.old.room }
+        requires place { place ≡ length self.old.slots }
+        requires spare { length self.old.slots < self.old.capacity }
+        requires seat { place < self.old.seats }
+        ensures items { self.new.slots ≡ self.old.slots ++ (Some transfer ∷ []) }
+        ensures room { self.new.room ≡ self.old.room }
     {
         self.slots.push_reserved(Some(transfer));
         self.len += 1;
@@ -252,21 +288,21 @@ impl<W: Wire> Slab<W> {
         dial: &mut D,
         clock: &K,
     ) -> Option<Ended>
-        requires kept { AreKept (world_of W.untouched W.happened (K.tells clock.now))
-            (C.home cache.old) self.old.slots.items }
+        requires all_kept { AreKept (world_of W.untouched W.happened (K.tells clock.now))
+            (C.home cache.old) self.old.slots }
         ensures stays { C.home cache.new ≡ C.home cache.old }
-        ensures kept { AreKept (world_of W.untouched W.happened (K.tells clock.now))
-            (C.home cache.new) self.new.slots.items }
+        ensures all_kept { AreKept (world_of W.untouched W.happened (K.tells clock.now))
+            (C.home cache.new) self.new.slots }
         ensures ended { IfSome result (λ it. HasEnded
             (world_of W.untouched W.happened (K.tells clock.now)) (it.done, it.parts)) }
-        ensures fewer { OnSome result (sum_by one_if_some self.new.slots.items + 1
-            ≡ sum_by one_if_some self.old.slots.items) }
-        ensures same { IfNone result (sum_by one_if_some self.new.slots.items
-            ≡ sum_by one_if_some self.old.slots.items) }
+        ensures fewer { OnSome result (sum_by one_if_some self.new.slots + 1
+            ≡ sum_by one_if_some self.old.slots) }
+        ensures as_many { IfNone result (sum_by one_if_some self.new.slots
+            ≡ sum_by one_if_some self.old.slots) }
         ensures polls { PollsInTurn C.did (world_of W.untouched W.happened (K.tells clock.now))
-            (dials_of D.begun D.opened D.failures) cache.old cache.new dial.old dial.new
-            self.old.slots.items self.new.slots.items result }
-        ensures turns { D.turn_failures dial.new ≡ D.turn_failures dial.old }
+            D.shown cache.old cache.new dial.old dial.new
+            self.old.slots self.new.slots result }
+        ensures turns { failed_turns D.shown dial.new ≡ failed_turns D.shown dial.old }
         ensures room { self.new.room ≡ self.old.room }
     {
         for _ in 0..self.schedule.most_polls() {
@@ -290,21 +326,21 @@ impl<W: Wire> Slab<W> {
         dial: &mut D,
         clock: &K,
     ) -> Option<Ended>
-        requires kept { AreKept (world_of W.untouched W.happened (K.tells clock.now))
-            (C.home cache.old) self.old.slots.items }
+        requires all_kept { AreKept (world_of W.untouched W.happened (K.tells clock.now))
+            (C.home cache.old) self.old.slots }
         ensures stays { C.home cache.new ≡ C.home cache.old }
-        ensures kept { AreKept (world_of W.untouched W.happened (K.tells clock.now))
-            (C.home cache.new) self.new.slots.items }
+        ensures all_kept { AreKept (world_of W.untouched W.happened (K.tells clock.now))
+            (C.home cache.new) self.new.slots }
         ensures ended { IfSome result (λ it. HasEnded
             (world_of W.untouched W.happened (K.tells clock.now)) (it.done, it.parts)) }
-        ensures fewer { OnSome result (sum_by one_if_some self.new.slots.items + 1
-            ≡ sum_by one_if_some self.old.slots.items) }
-        ensures same { IfNone result (sum_by one_if_some self.new.slots.items
-            ≡ sum_by one_if_some self.old.slots.items) }
+        ensures fewer { OnSome result (sum_by one_if_some self.new.slots + 1
+            ≡ sum_by one_if_some self.old.slots) }
+        ensures as_many { IfNone result (sum_by one_if_some self.new.slots
+            ≡ sum_by one_if_some self.old.slots) }
         ensures polls { TriesPlace C.did (world_of W.untouched W.happened (K.tells clock.now))
-            (dials_of D.begun D.opened D.failures) cache.old cache.new dial.old dial.new
-            self.old.slots.items self.new.slots.items place result }
-        ensures turns { D.turn_failures dial.new ≡ D.turn_failures dial.old }
+            D.shown cache.old cache.new dial.old dial.new
+            self.old.slots self.new.slots place result }
+        ensures turns { failed_turns D.shown dial.new ≡ failed_turns D.shown dial.old }
         ensures room { self.new.room ≡ self.old.room }
     {
         let slot = self.slots.get_mut(place)?;
@@ -322,8 +358,15 @@ impl<W: Wire> Slab<W> {
         let Some(transfer) = slot.take() else {
             unreachable!()
         };
+        let (phases, reason) = (transfer.phases(), transfer.reason());
         let (done, parts) = transfer.finish();
-        Some(Ended { place, done, parts })
+        Some(Ended {
+            place,
+            done,
+            parts,
+            phases,
+            reason,
+        })
     }
 
     /// Whether a transfer is due: one that has joined, that took all steps of its last poll, that
@@ -331,7 +374,7 @@ impl<W: Wire> Slab<W> {
     /// nothing until a transfer joins, a turn of the dial was taken by [`Slab::turn`], or
     /// [`Slab::ask_sites`] was called.
     pub fn has_due(&self) -> bool
-        ensures { OnFalse result (AreIdle self.now.slots.items) }
+        ensures { OnFalse result (AreIdle self.now.slots) }
     {
         self.schedule.has_due()
     }
@@ -342,8 +385,7 @@ impl<W: Wire> Slab<W> {
     pub fn turn<D: Dial<W>>(&mut self, dial: &mut D, most: Duration) -> Turned
         ensures slots { self.new.slots ≡ self.old.slots }
         ensures room { self.new.room ≡ self.old.room }
-        ensures turns { TurnsDial D.failures D.opened D.turn_failures D.source_name D.begun
-            D.turned result dial.old dial.new }
+        ensures turn { TurnsDial D.shown D.turned result dial.old dial.new }
     {
         let most = if self.has_due() { Duration::ZERO } else { most };
         let turned = dial.turn(most);
@@ -355,8 +397,7 @@ impl<W: Wire> Slab<W> {
     fn note_ready<D: Dial<W>>(&mut self, dial: &mut D)
         ensures slots { self.new.slots ≡ self.old.slots }
         ensures room { self.new.room ≡ self.old.room }
-        ensures tells { KeepsDial D.failures D.opened D.turn_failures D.source_name D.begun
-            dial.old dial.new }
+        ensures tells { KeepsDial (D.shown dial.old) (D.shown dial.new) }
     {
         for _ in 0..u64::MAX {
             match dial.next_ready() {
@@ -380,26 +421,24 @@ impl<W: Wire> Slab<W> {
         dial: &mut D,
         clock: &K,
     ) -> Option<(Done, Prepared)>
-        requires kept { AreKept (world_of W.untouched W.happened (K.tells clock.now))
-            (C.home cache.old) self.old.slots.items }
+        requires all_kept { AreKept (world_of W.untouched W.happened (K.tells clock.now))
+            (C.home cache.old) self.old.slots }
         ensures stays { C.home cache.new ≡ C.home cache.old }
-        ensures kept { AreKept (world_of W.untouched W.happened (K.tells clock.now))
-            (C.home cache.new) self.new.slots.items }
+        ensures all_kept { AreKept (world_of W.untouched W.happened (K.tells clock.now))
+            (C.home cache.new) self.new.slots }
         ensures closed { IfSome result
             (HasClosed (world_of W.untouched W.happened (K.tells clock.now))) }
         ensures closes { IfSome result (ClosesPlace C.did
             (world_of W.untouched W.happened (K.tells clock.now)) (C.home cache.old)
-            cache.old cache.new D.begun dial.old dial.new self.old.slots.items
-            self.new.slots.items place) }
-        ensures fewer { OnSome result (sum_by one_if_some self.new.slots.items + 1
-            ≡ sum_by one_if_some self.old.slots.items) }
-        ensures none { IfNone result (HasNoneAt self.old.slots.items place) }
-        ensures same { IfNone result (self.new.slots.items ≡ self.old.slots.items) }
-        ensures same_cache { IfNone result (cache.new ≡ cache.old) }
-        ensures same_dial { IfNone result (dial.new ≡ dial.old) }
-        ensures counted { D.failures dial.new ≡ D.failures dial.old }
-        ensures opens { D.opened dial.new ≡ D.opened dial.old }
-        ensures turns { D.turn_failures dial.new ≡ D.turn_failures dial.old }
+            cache.old cache.new D.shown dial.old dial.new self.old.slots
+            self.new.slots place) }
+        ensures fewer { OnSome result (sum_by one_if_some self.new.slots + 1
+            ≡ sum_by one_if_some self.old.slots) }
+        ensures none { IfNone result (HasNoneAt self.old.slots place) }
+        ensures slots { IfNone result (self.new.slots ≡ self.old.slots) }
+        ensures cache { IfNone result (cache.new ≡ cache.old) }
+        ensures dial { IfNone result (dial.new ≡ dial.old) }
+        ensures counts { KeepsCounts (D.shown dial.old) (D.shown dial.new) }
         ensures room { self.new.room ≡ self.old.room }
     {
         let slot = self.slots.get_mut(place)?;
@@ -417,8 +456,8 @@ impl<W: Wire> Slab<W> {
     /// Whether a lease or a ticket was spent since the last call, by a poll or a close: then a
     /// transfer of another slab over the same cache may have been granted a connection.
     pub fn take_spent(&mut self) -> bool
-        ensures spent { result ≡ self.old.schedule.has_spent }
-        ensures taken { self.new.schedule.has_spent ≡ false }
+        ensures spent { result ≡ self.old.has_spent }
+        ensures taken { self.new.has_spent ≡ false }
         ensures slots { self.new.slots ≡ self.old.slots }
         ensures room { self.new.room ≡ self.old.room }
     {
@@ -434,7 +473,7 @@ impl<W: Wire> Slab<W> {
     }
 
     /// Closes one of the transfers that are left, as [`Transfer::close`] does, at the time that the
-    /// clock tells: how it ended, or that it was cancelled, and what was prepared. `None` where
+    /// clock tells: how it ended, or that it was cancelled, and what was prepared. `None` if
     /// none is left.
     pub fn close_last<C: Cache<W>, D: Dial<W>, K: Clock>(
         &mut self,
@@ -442,26 +481,24 @@ impl<W: Wire> Slab<W> {
         dial: &mut D,
         clock: &K,
     ) -> Option<(Done, Prepared)>
-        requires kept { AreKept (world_of W.untouched W.happened (K.tells clock.now))
-            (C.home cache.old) self.old.slots.items }
+        requires all_kept { AreKept (world_of W.untouched W.happened (K.tells clock.now))
+            (C.home cache.old) self.old.slots }
         ensures stays { C.home cache.new ≡ C.home cache.old }
-        ensures kept { AreKept (world_of W.untouched W.happened (K.tells clock.now))
-            (C.home cache.new) self.new.slots.items }
+        ensures all_kept { AreKept (world_of W.untouched W.happened (K.tells clock.now))
+            (C.home cache.new) self.new.slots }
         ensures closed { IfSome result
             (HasClosed (world_of W.untouched W.happened (K.tells clock.now))) }
         ensures closes { IfSome result (ClosesOne C.did
             (world_of W.untouched W.happened (K.tells clock.now)) (C.home cache.old)
-            cache.old cache.new D.begun dial.old dial.new self.old.slots.items
-            self.new.slots.items) }
-        ensures fewer { OnSome result (sum_by one_if_some self.new.slots.items + 1
-            ≡ sum_by one_if_some self.old.slots.items) }
-        ensures none { IfNone result (self.new.slots.items ≡ []) }
-        ensures none_left { IfNone result (transfers_in self.old.slots.items ≡ []) }
-        ensures same_cache { IfNone result (cache.new ≡ cache.old) }
-        ensures same_dial { IfNone result (dial.new ≡ dial.old) }
-        ensures counted { D.failures dial.new ≡ D.failures dial.old }
-        ensures opens { D.opened dial.new ≡ D.opened dial.old }
-        ensures turns { D.turn_failures dial.new ≡ D.turn_failures dial.old }
+            cache.old cache.new D.shown dial.old dial.new self.old.slots
+            self.new.slots) }
+        ensures fewer { OnSome result (sum_by one_if_some self.new.slots + 1
+            ≡ sum_by one_if_some self.old.slots) }
+        ensures empty { IfNone result (self.new.slots ≡ []) }
+        ensures none_left { IfNone result (transfers_in self.old.slots ≡ []) }
+        ensures cache { IfNone result (cache.new ≡ cache.old) }
+        ensures dial { IfNone result (dial.new ≡ dial.old) }
+        ensures counts { KeepsCounts (D.shown dial.old) (D.shown dial.new) }
         ensures room { self.new.room ≡ self.old.room }
     {
         while let Some(slot) = self.slots.pop() {
@@ -478,16 +515,13 @@ impl<W: Wire> Slab<W> {
     /// Closes all transfers that are left, gives up what was begun for them at the dial, and lets
     /// go of the slab.
     pub fn close<C: Cache<W>, D: Dial<W>, K: Clock>(self, cache: &mut C, dial: &mut D, clock: &K)
-        requires kept { AreKept (world_of W.untouched W.happened (K.tells clock.now))
-            (C.home cache.old) self.slots.items }
+        requires all_kept { AreKept (world_of W.untouched W.happened (K.tells clock.now))
+            (C.home cache.old) self.slots }
         ensures stays { C.home cache.new ≡ C.home cache.old }
         ensures closes { ClosesAll C.did (world_of W.untouched W.happened (K.tells clock.now))
-            cache.old cache.new (transfers_in self.slots.items) }
-        ensures begun { GivesUpAll (D.begun dial.old) (D.begun dial.new)
-            (transfers_in self.slots.items) }
-        ensures counted { D.failures dial.new ≡ D.failures dial.old }
-        ensures opens { D.opened dial.new ≡ D.opened dial.old }
-        ensures turns { D.turn_failures dial.new ≡ D.turn_failures dial.old }
+            cache.old cache.new (transfers_in self.slots) }
+        ensures begun { GivesUpAll (D.shown dial.old) (D.shown dial.new)
+            (transfers_in self.slots) }
     {
         let mut slab = self;
         while let Some(_closed) = slab.close_last(cache, dial, clock) {}
@@ -496,7 +530,7 @@ impl<W: Wire> Slab<W> {
 
     /// Lets go of a slab. Asked of the caller: it was emptied by [`Slab::close_last`].
     pub fn destroy_empty(self)
-        requires { self.slots.items ≡ [] }
+        requires { self.slots ≡ [] }
     {
         let Slab {
             slots,

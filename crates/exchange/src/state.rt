@@ -1,7 +1,8 @@
 //! Where a transfer stands, and what it waits for.
 
-ghost use Rattle.std.specs.Prelude.{◌≡◌};
+ghost use Rattle.std.specs.Prelude.{◌≡◌, false};
 ghost use Rattle.exchange.specs.Stepping.{has_lease};
+ghost use Rattle.exchange.specs.Waiting.{stage_at};
 
 use crate::done::Done;
 use bundle::{Lease, Ticket};
@@ -46,6 +47,19 @@ impl<W> State<W> {
             self,
             State::Dialling(_) | State::Sending(_, _) | State::Reading(_)
         )
+    }
+
+    /// What it waits for there, if it has to wait.
+    pub(crate) fn stage(&self) -> Stage
+        ensures { result ≡ stage_at false self.now }
+    {
+        match self {
+            State::Waiting(_) => Stage::Grant,
+            State::Dialling(_) => Stage::Dialling,
+            State::Sending(_, _) => Stage::Sending,
+            State::Reading(_) => Stage::Reading,
+            State::Asking | State::Finished(_) => Stage::Turn,
+        }
     }
 }
 

@@ -7,13 +7,13 @@ ghost use Rattle.bundle.specs.Seats.{Tables};
 ghost use Rattle.exchange.specs.Answers.{IsUnused, IsSameJob};
 ghost use Rattle.exchange.specs.Worlds.{world_of};
 ghost use Rattle.exchange.specs.Standing.{GoesOn};
-ghost use Rattle.exchange.specs.Steps.{Opens, DialsAlone};
 ghost use Rattle.exchange.specs.Waiting.{AtStep, StepLeaves, stage_at};
-ghost use Rattle.exchange.specs.Stepping.{StepIs, StepAnswers, StepSpends, PollsFew};
+ghost use Rattle.exchange.specs.Stepping.{StepIs, StepAnswers, StepSpends};
 ghost use Rattle.exchange.specs.Owning.{IsReady, OwnsAt, Owns};
 ghost use Rattle.exchange.specs.Exchanging.{Continues, IsFinished, Leaves, StepEnds};
 ghost use Rattle.exchange.specs.Exchanging.{Cancels, Closes, StaysEnded, GivesUpDial, LeavesDial};
-ghost use Rattle.exchange.specs.Exchanging.{DialFailed, DialFailsSince, OpensFew, DialsItsOwn};
+ghost use Rattle.exchange.specs.Exchanging.{DialsAt, DialsItsOwn};
+ghost use Rattle.exchange.specs.Rounds.{IsPolled};
 ghost use Rattle.exchange.specs.Balance.{HasAll, SpendsAll};
 ghost use Rattle.exchange.specs.Scheduling.{HasTicket, HasLease, IsAtWire};
 ghost use Rattle.std.specs.Bool.{OnTrue};
@@ -23,11 +23,14 @@ use crate::connecting::{ask, claim, dial_up};
 use crate::done::{Done, Fault};
 use crate::ending::{abandon, withdraw};
 use crate::job::Prepared;
+use crate::phases::Phases;
+use crate::reason::Reason;
 use crate::state::{Stage, State, Step};
 use crate::transferring::{read, send};
 use crate::wire::{Clock, Dial, Wire};
+use cache_trait::Cache;
 use futures::task::{Context, Poll, Waker};
-use leasing::Cache;
+use std::marker::Model;
 use std::mem;
 
 /// The most steps of one poll: each is at most one read or one write.
@@ -46,9 +49,26 @@ pub struct Transfer<W: Wire> {
     has_yielded: bool,
     // Its last poll spent a lease.
     has_spent: bool,
+    phases: Phases,
+    // Why its dial or its wire failed, since it last asked for a connection.
+    reason: Option<Reason>,
 }
 
-// Puts a value where none is.
+impl<W: Wire> Model for Transfer<W> {
+    ghost use Rattle.exchange.specs.Transfers.{TransferShown};
+
+    ghost Value = { TransferShown W };
+
+    ghost view = { λ transfer. record {
+      parts = transfer.parts;
+      state = transfer.state;
+      has_yielded = transfer.has_yielded;
+      has_spent = transfer.has_spent;
+      waker = transfer.waker;
+    } };
+}
+
+// Puts a value into an empty slot.
 pub(crate) fn put<T>(slot: &mut Option<T>, value: T)
     requires { slot.old ≡ None }
     ensures { slot.new ≡ Some value }
@@ -69,6 +89,7 @@ fn advance<W: Wire, C: Cache<W>, D: Dial<W>, K: Clock>(
     now: u64,
     cx: &mut Context<'_>,
     waker: &mut Option<Waker>,
+    reason: &mut Option<Reason>,
 ) -> Step<W>
     requires told { K.tells clock.now now }
     requires owns { OwnsAt (C.home cache.old) parts.old state }
@@ -76,28 +97,30 @@ fn advance<W: Wire, C: Cache<W>, D: Dial<W>, K: Clock>(
     ensures stays { C.home cache.new ≡ C.home cache.old }
     ensures owns { AtStep result (OwnsAt (C.home cache.new) parts.new) }
     ensures ready { IsReady parts.new }
-    ensures same { IsSameJob parts.old parts.new }
+    ensures same_job { IsSameJob parts.old parts.new }
     ensures story { AtStep result (GoesOn C.did (world_of W.untouched W.happened (K.tells
         clock.now)) parts.old parts.new cache.old cache.new state) }
     ensures steps { StepIs C.did (world_of W.untouched W.happened (K.tells clock.now))
         cache.old cache.new state result }
     ensures over { AtStep result (StaysEnded state) }
-    ensures dialled { AtStep result
-        (DialFailsSince state (D.failures dial.old) (D.failures dial.new)) }
-    ensures opens { AtStep result
-        (Opens parts.old parts.new state (D.opened dial.old) (D.opened dial.new)) }
-    ensures begun { AtStep result (DialsAlone (D.begun dial.old) (D.begun dial.new)
-        parts.old.want.transfer state) }
-    ensures turns { D.turn_failures dial.new ≡ D.turn_failures dial.old }
-    ensures leaves { StepLeaves W.source_name (D.source_name dial.new) cx.old cx.new waker.new
-        result }
+    ensures dials { AtStep result
+        (DialsAt parts.old parts.new state (D.shown dial.old) (D.shown dial.new)) }
+    ensures leaves { StepLeaves W.source_name (D.shown dial.new).source_name cx.old cx.new
+        waker.new result }
 {
     match state {
-        State::Asking => Step::Goes(ask(parts, cache, dial, clock, now)),
+        State::Asking => {
+            *reason = None;
+            Step::Goes(ask(parts, cache, dial, clock, now))
+        }
         State::Waiting(ticket) => claim(parts, cache, dial, clock, ticket, cx),
-        State::Dialling(lease) => dial_up(parts, cache, dial, clock, now, lease, cx, waker),
-        State::Sending(lease, sent) => send(parts, cache, clock, now, lease, sent, cx, waker),
-        State::Reading(lease) => read(parts, cache, clock, now, lease, cx, waker),
+        State::Dialling(lease) => {
+            dial_up(parts, cache, dial, clock, now, lease, cx, waker, reason)
+        }
+        State::Sending(lease, sent) => {
+            send(parts, cache, clock, now, lease, sent, cx, waker, reason)
+        }
+        State::Reading(lease) => read(parts, cache, clock, now, lease, cx, waker, reason),
         State::Finished(done) => Step::Goes(State::Finished(done)),
     }
 }
@@ -109,8 +132,8 @@ impl<W: Wire> Transfer<W> {
         ensures owns { (home : List Tables) → Owns home result.parts result.state }
         ensures ready { IsReady result.parts }
         ensures parts { result.parts ≡ parts }
-        ensures begins { result.state ≡ Some at.Asking }
-        ensures turn { result.has_yielded ≡ false }
+        ensures asking { result.state ≡ Some at.Asking }
+        ensures yielded { result.has_yielded ≡ false }
         ensures unspent { result.has_spent ≡ false }
     {
         Transfer {
@@ -119,11 +142,13 @@ impl<W: Wire> Transfer<W> {
             waker: None,
             has_yielded: false,
             has_spent: false,
+            phases: Phases::default(),
+            reason: None,
         }
     }
 
     /// Goes on as far as it can, with at most 64 reads and writes. Once it is ready it has ended,
-    /// owns nothing, and every later poll is ready at once. Where it is pending it has registered
+    /// owns nothing, and every later poll is ready at once. If it is pending, it has registered
     /// with the wire or the dial that it waits for, or has asked to be polled again: see
     /// [`Transfer::waits_on`].
     ///
@@ -140,24 +165,12 @@ impl<W: Wire> Transfer<W> {
         ensures stays { C.home cache.new ≡ C.home cache.old }
         ensures owns { Owns (C.home cache.new) self.new.parts self.new.state }
         ensures ready { IsReady self.new.parts }
-        ensures same { IsSameJob self.old.parts self.new.parts }
-        ensures story { Continues C.did (world_of W.untouched W.happened (K.tells clock.now))
-            self.old.parts self.new.parts cache.old cache.new self.old.state self.new.state }
+        ensures polled { IsPolled C.did (world_of W.untouched W.happened (K.tells clock.now))
+            cache.old cache.new (D.shown dial.old) (D.shown dial.new) self.old self.new }
         ensures out { HasAll (world_of W.untouched W.happened (K.tells clock.now)) self.new.parts
             self.new.state }
-        ensures steps { PollsFew C.did (world_of W.untouched W.happened (K.tells clock.now))
-            cache.old cache.new self.new.has_yielded self.new.has_spent self.old.state
-            self.new.state }
-        ensures over { IsFinished self.old.state → self.new.state ≡ self.old.state }
-        ensures dialled { DialFailed self.old.state self.new.state
-            (D.failures dial.old) (D.failures dial.new) }
-        ensures opens { OpensFew self.old.parts self.new.parts self.old.state self.new.state
-            (D.opened dial.old) (D.opened dial.new) }
-        ensures begun { DialsItsOwn (D.begun dial.old) (D.begun dial.new)
-            self.old.parts.want.transfer self.old.state self.new.state }
-        ensures turns { D.turn_failures dial.new ≡ D.turn_failures dial.old }
         ensures finished { IfReady result (λ _. IsFinished self.new.state) }
-        ensures pending { OnPending result (Leaves W.source_name (D.source_name dial.new)
+        ensures pending { OnPending result (Leaves W.source_name (D.shown dial.new).source_name
             cx.old cx.new self.new.waker self.new.has_yielded self.new.state) }
         ensures kept { Keeps cx.old cx.new }
     {
@@ -173,7 +186,7 @@ impl<W: Wire> Transfer<W> {
         cx.yield_now()
     }
 
-    // Takes one step; how the poll ends, where it ends.
+    // Takes one step; how the poll ends, if it ends there.
     fn step<C: Cache<W>, D: Dial<W>, K: Clock>(
         &mut self,
         cx: &mut Context<'_>,
@@ -185,31 +198,26 @@ impl<W: Wire> Transfer<W> {
         requires told { K.tells clock.now now }
         requires owns { Owns (C.home cache.old) self.old.parts self.old.state }
         requires ready { IsReady self.old.parts }
-        requires goes { self.old.has_yielded ≡ false }
         ensures stays { C.home cache.new ≡ C.home cache.old }
         ensures owns { Owns (C.home cache.new) self.new.parts self.new.state }
         ensures ready { IsReady self.new.parts }
-        ensures same { IsSameJob self.old.parts self.new.parts }
+        ensures same_job { IsSameJob self.old.parts self.new.parts }
         ensures story { Continues C.did (world_of W.untouched W.happened (K.tells clock.now))
             self.old.parts self.new.parts cache.old cache.new self.old.state self.new.state }
         ensures steps { StepAnswers C.did (world_of W.untouched W.happened (K.tells clock.now))
             cache.old cache.new result self.old.state self.new.state }
         ensures over { IsFinished self.old.state → self.new.state ≡ self.old.state }
-        ensures dialled { DialFailed self.old.state self.new.state
-            (D.failures dial.old) (D.failures dial.new) }
-        ensures opens { OpensFew self.old.parts self.new.parts self.old.state self.new.state
-            (D.opened dial.old) (D.opened dial.new) }
-        ensures begun { DialsItsOwn (D.begun dial.old) (D.begun dial.new)
-            self.old.parts.want.transfer self.old.state self.new.state }
-        ensures turns { D.turn_failures dial.new ≡ D.turn_failures dial.old }
-        ensures ends { StepEnds W.source_name (D.source_name dial.new) cx.old cx.new
+        ensures dials { DialsItsOwn self.old.parts self.new.parts self.old.state self.new.state
+            (D.shown dial.old) (D.shown dial.new) }
+        ensures ends { StepEnds W.source_name (D.shown dial.new).source_name cx.old cx.new
             self.new.waker self.new.state result }
-        ensures goes { self.new.has_yielded ≡ false }
+        ensures yielded { self.new.has_yielded ≡ self.old.has_yielded }
         ensures spent { StepSpends result self.old.has_spent self.new.has_spent self.old.state
             self.new.state }
     {
         let state = self.state.take().unwrap();
         let had_lease = state.has_lease();
+        let before = state.stage();
         let step = advance(
             state,
             &mut self.parts,
@@ -219,7 +227,10 @@ impl<W: Wire> Transfer<W> {
             now,
             cx,
             &mut self.waker,
+            &mut self.reason,
         );
+        let has_bytes = self.parts.reader.any_byte();
+        self.phases.note(before, &step, has_bytes, clock);
         match step {
             Step::Goes(State::Finished(done)) => {
                 self.has_spent |= had_lease;
@@ -246,12 +257,9 @@ impl<W: Wire> Transfer<W> {
         if self.has_yielded {
             return Stage::Turn;
         }
-        match self.state {
-            Some(State::Waiting(_)) => Stage::Grant,
-            Some(State::Dialling(_)) => Stage::Dialling,
-            Some(State::Sending(_, _)) => Stage::Sending,
-            Some(State::Reading(_)) => Stage::Reading,
-            _ => Stage::Turn,
+        match &self.state {
+            Some(state) => state.stage(),
+            None => Stage::Turn,
         }
     }
 
@@ -261,6 +269,17 @@ impl<W: Wire> Transfer<W> {
         ensures { result ≡ self.now.has_spent }
     {
         self.has_spent
+    }
+
+    /// The moments of its progress. No contract speaks of them.
+    pub fn phases(&self) -> Phases {
+        self.phases
+    }
+
+    /// Why its dial or its wire failed, if that happened since it last asked for a connection, and
+    /// the system said why. No contract speaks of it.
+    pub fn reason(&self) -> Option<Reason> {
+        self.reason
     }
 
     /// Whether it waits for a connection, with a ticket.
@@ -318,6 +337,8 @@ impl<W: Wire> Transfer<W> {
             waker: _,
             has_yielded: _,
             has_spent: _,
+            phases: _,
+            reason: _,
         } = self;
         match state {
             Some(State::Finished(done)) => (done, parts),
@@ -334,20 +355,17 @@ impl<W: Wire> Transfer<W> {
         requires owns { Owns (C.home cache.old) self.parts self.state }
         ensures stays { C.home cache.new ≡ C.home cache.old }
         ensures cancels { Cancels C.did cache.old cache.new now self.state }
-        ensures out { SpendsAll C.did cache.old cache.new self.state }
+        ensures spends_all { SpendsAll C.did cache.old cache.new self.state }
         ensures parts { result ≡ self.parts }
-        ensures begun { GivesUpDial (D.begun dial.old) (D.begun dial.new)
+        ensures begun { GivesUpDial (D.shown dial.old) (D.shown dial.new)
             self.parts.want.transfer self.state }
-        ensures leaves { LeavesDial dial.old dial.new self.state }
-        ensures counted { D.failures dial.new ≡ D.failures dial.old }
-        ensures opens { D.opened dial.new ≡ D.opened dial.old }
-        ensures turns { D.turn_failures dial.new ≡ D.turn_failures dial.old }
+        ensures leaves_dial { LeavesDial dial.old dial.new self.state }
     {
         let (_done, parts) = self.close(now, cache, dial);
         parts
     }
 
-    /// How it ended, where a poll was ready; else the same as `cancel`, and that it was cancelled.
+    /// How it ended, if a poll was ready; else the same as `cancel`, and that it was cancelled.
     ///
     /// Asked of the caller: what it has was made by this cache.
     pub fn close<C: Cache<W>, D: Dial<W>>(
@@ -359,15 +377,12 @@ impl<W: Wire> Transfer<W> {
         requires owns { Owns (C.home cache.old) self.parts self.state }
         ensures stays { C.home cache.new ≡ C.home cache.old }
         ensures cancels { Cancels C.did cache.old cache.new now self.state }
-        ensures out { SpendsAll C.did cache.old cache.new self.state }
-        ensures closes { Closes result.0 self.state }
+        ensures spends_all { SpendsAll C.did cache.old cache.new self.state }
+        ensures done { Closes result.0 self.state }
         ensures parts { result.1 ≡ self.parts }
-        ensures begun { GivesUpDial (D.begun dial.old) (D.begun dial.new)
+        ensures begun { GivesUpDial (D.shown dial.old) (D.shown dial.new)
             self.parts.want.transfer self.state }
-        ensures leaves { LeavesDial dial.old dial.new self.state }
-        ensures counted { D.failures dial.new ≡ D.failures dial.old }
-        ensures opens { D.opened dial.new ≡ D.opened dial.old }
-        ensures turns { D.turn_failures dial.new ≡ D.turn_failures dial.old }
+        ensures leaves_dial { LeavesDial dial.old dial.new self.state }
     {
         let Transfer {
             parts,
@@ -375,6 +390,8 @@ impl<W: Wire> Transfer<W> {
             waker: _,
             has_yielded: _,
             has_spent: _,
+            phases: _,
+            reason: _,
         } = self;
         match state {
             Some(State::Waiting(ticket)) => withdraw(cache, ticket, now),

@@ -14,15 +14,16 @@ ghost use Rattle.exchange.specs.declared.state.State.TheVariants as at;
 use crate::done::{Done, Fault};
 use crate::ending::{end, fail, give_back, settle};
 use crate::job::Prepared;
+use crate::reason::Reason;
 use crate::state::{State, Step};
 use crate::wire::{Clock, Read, Wire, Written};
 use bundle::Lease;
+use cache_trait::Cache;
 use futures::task::{Context, Poll, Waker};
-use leasing::Cache;
 use persistence::Fed;
 
-// Writes to its wire.
-fn write_to<W: Wire>(lease: &mut Lease<W>, bytes: &[u8]) -> Written
+// Writes to its wire; notes why, if that fails.
+fn write_to<W: Wire>(lease: &mut Lease<W>, bytes: &[u8], reason: &mut Option<Reason>) -> Written
     requires wire { IsSome lease.old.stream }
     requires some { 0 < length bytes.now }
     ensures { StepsWire lease.old lease.new
@@ -31,26 +32,34 @@ fn write_to<W: Wire>(lease: &mut Lease<W>, bytes: &[u8]) -> Written
     let Some(wire) = lease.stream_mut() else {
         unreachable!()
     };
-    wire.write(bytes)
+    let written = wire.write(bytes);
+    if let Written::Fault = written {
+        *reason = wire.reason();
+    }
+    written
 }
 
-// Reads from its wire.
-fn read_from<W: Wire>(lease: &mut Lease<W>, buffer: &mut [u8]) -> Read
+// Reads from its wire; notes why, if that fails.
+fn read_from<W: Wire>(lease: &mut Lease<W>, buffer: &mut [u8], reason: &mut Option<Reason>) -> Read
     requires wire { IsSome lease.old.stream }
-    requires room { 0 < length buffer.old }
+    requires buffer { 0 < length buffer.old }
     ensures { StepsWire lease.old lease.new
         (λ old new. Reads buffer.new (W.happened old new) result) }
 {
     let Some(wire) = lease.stream_mut() else {
         unreachable!()
     };
-    wire.read(buffer)
+    let read = wire.read(buffer);
+    if let Read::Fault = read {
+        *reason = wire.reason();
+    }
+    read
 }
 
 // Registers with its wire.
 fn wait_for<W: Wire>(lease: &mut Lease<W>, cx: &mut Context<'_>, waker: &mut Option<Waker>)
     requires wire { IsSome lease.old.stream }
-    ensures same { lease.new ≡ lease.old }
+    ensures same_lease { lease.new ≡ lease.old }
     ensures registered { OnSource W.source_name lease.old (IsRegistered cx.old cx.new waker.new) }
 {
     let Some(wire) = lease.stream_mut() else {
@@ -69,6 +78,7 @@ pub(crate) fn send<W: Wire, C: Cache<W>, K: Clock>(
     sent: usize,
     cx: &mut Context<'_>,
     waker: &mut Option<Waker>,
+    reason: &mut Option<Reason>,
 ) -> Step<W>
     requires told { K.tells clock.now now }
     requires owns { OwnsWire (C.home cache.old) lease }
@@ -78,7 +88,7 @@ pub(crate) fn send<W: Wire, C: Cache<W>, K: Clock>(
     ensures stays { C.home cache.new ≡ C.home cache.old }
     ensures owns { AtStep result (OwnsAt (C.home cache.new) parts.new) }
     ensures ready { IsReady parts.new }
-    ensures same { IsSameJob parts.old parts.new }
+    ensures same_job { IsSameJob parts.old parts.new }
     ensures story { AtStep result (GoesOn C.did (world_of W.untouched W.happened (K.tells
         clock.now)) parts.old parts.new cache.old cache.new (at.Sending lease sent)) }
     ensures steps { StepIs C.did (world_of W.untouched W.happened (K.tells clock.now))
@@ -88,7 +98,7 @@ pub(crate) fn send<W: Wire, C: Cache<W>, K: Clock>(
     ensures leaves { (dial : ℕ) → StepLeaves W.source_name dial cx.old cx.new waker.new result }
 {
     let text = parts.text.as_bytes();
-    match write_to(&mut lease, &text[sent..]) {
+    match write_to(&mut lease, &text[sent..], reason) {
         Written::Took(taken) => {
             let sent = sent + taken;
             if sent < text.len() {
@@ -114,6 +124,7 @@ pub(crate) fn read<W: Wire, C: Cache<W>, K: Clock>(
     mut lease: Lease<W>,
     cx: &mut Context<'_>,
     waker: &mut Option<Waker>,
+    reason: &mut Option<Reason>,
 ) -> Step<W>
     requires told { K.tells clock.now now }
     requires owns { OwnsWire (C.home cache.old) lease }
@@ -122,7 +133,7 @@ pub(crate) fn read<W: Wire, C: Cache<W>, K: Clock>(
     ensures stays { C.home cache.new ≡ C.home cache.old }
     ensures owns { AtStep result (OwnsAt (C.home cache.new) parts.new) }
     ensures ready { IsReady parts.new }
-    ensures same { IsSameJob parts.old parts.new }
+    ensures same_job { IsSameJob parts.old parts.new }
     ensures story { AtStep result (GoesOn C.did (world_of W.untouched W.happened (K.tells
         clock.now)) parts.old parts.new cache.old cache.new (at.Reading lease)) }
     ensures steps { StepIs C.did (world_of W.untouched W.happened (K.tells clock.now))
@@ -131,7 +142,7 @@ pub(crate) fn read<W: Wire, C: Cache<W>, K: Clock>(
     ensures opens { AtStep result (OpensNoMore parts.old parts.new (at.Reading lease)) }
     ensures leaves { (dial : ℕ) → StepLeaves W.source_name dial cx.old cx.new waker.new result }
 {
-    match read_from(&mut lease, &mut parts.buffer) {
+    match read_from(&mut lease, &mut parts.buffer, reason) {
         Read::Bytes(count) => Step::Goes(feed(parts, cache, clock, now, lease, count)),
         Read::NotYet => {
             wait_for(&mut lease, cx, waker);
@@ -155,11 +166,11 @@ fn feed<W: Wire, C: Cache<W>, K: Clock>(
     requires owns { OwnsWire (C.home cache.old) lease }
     requires reading { ReaderGoesOn parts.old }
     requires ready { IsReady parts.old }
-    requires room { count ≤ length parts.old.buffer.items }
+    requires within_buffer { count ≤ length parts.old.buffer.items }
     ensures stays { C.home cache.new ≡ C.home cache.old }
     ensures owns { OwnsAt (C.home cache.new) parts.new result }
     ensures ready { IsReady parts.new }
-    ensures same { IsSameJob parts.old parts.new }
+    ensures same_job { IsSameJob parts.old parts.new }
     ensures story { LeadsOn C.did (world_of W.untouched W.happened (K.tells clock.now)) parts.old
         parts.new cache.old cache.new lease (HasCome parts.old count) result }
     ensures left { IsLeft C.did cache.old cache.new lease result }

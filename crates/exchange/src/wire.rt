@@ -4,6 +4,7 @@ ghost use Rattle.std.specs.Prelude.{◌≡◌, ℕ, ◌<◌, length};
 ghost use Rattle.conn_key.specs.Wants.{Rises};
 
 use crate::ready::{Place, Ready};
+use crate::reason::Reason;
 use bundle::Lease;
 use futures::task::Source;
 use std::time::Duration;
@@ -88,6 +89,12 @@ pub trait Wire: Drop {
         ensures writes { Writes bytes.now (happened self.old self.new) result }
         ensures fault { OnWriteFault result (Rises (failures self.old) (failures self.new)) };
 
+    /// Why its last read or write failed, if it did and the system said why. No contract speaks of
+    /// it.
+    fn reason(&self) -> Option<Reason> {
+        None
+    }
+
     /// What a task registers with that waits until it can read or write.
     fn source(&self) -> &Source
         ensures { result.now.id ≡ source_name self.now };
@@ -97,94 +104,66 @@ pub trait Wire: Drop {
 /// transfer of its own: a transfer keeps to one dial. It is asked by lease, which no code but a
 /// cache's can make.
 ///
-/// The ghost members tell contracts how often a dial failed, how many connections were opened, how
-/// often a turn failed, counts that stay at the greatest `u64`, what a turn does, for which
-/// transfers a connection may be begun, and the name of its source.
+/// The ghost members tell contracts what it shows, and what a turn does. Its counts stay at the
+/// greatest `u64`.
 pub trait Dial<W: Wire> {
-    ghost use Rattle.std.specs.Prelude.{◌≢◌, None};
+    ghost use Rattle.std.specs.Prelude.{None};
     ghost use Rattle.exchange.specs.Wires.Happening.{is_adopted};
-    ghost use Rattle.exchange.specs.Dialling.{IfUp, CountsDial, OpensOne, CountsTurn};
-    ghost use Rattle.exchange.specs.Dialling.{CountsBegun, KeepsDial};
+    ghost use Rattle.exchange.specs.Dialling.{DialShown, IfUp, DialsFor, GivesUpFor};
+    ghost use Rattle.exchange.specs.Dialling.{KeepsDial, TakesTurn};
 
-    /// How often a dial failed.
-    ghost failures: { Self → ℕ };
-
-    /// How many connections it has opened.
-    ghost opened: { Self → ℕ };
-
-    /// How often a turn failed.
-    ghost turn_failures: { Self → ℕ };
+    /// How often a dial failed, how many connections it has opened, how often a turn failed, for
+    /// which transfers a connection may be begun that is not open yet, and the name of its source.
+    ghost shown: { Self → DialShown };
 
     /// From the one time to the other it took a turn, and did nothing else.
     ghost turned: { Self → Self → Type 0 };
 
-    /// For a transfer a connection may be begun that is not open yet.
-    ghost begun: { Self → ℕ → Type 0 };
-
-    /// The name of its source.
-    ghost source_name: { Self → ℕ };
-
     /// Opens the connection of a lease that has none yet, to the host of the lease's site, or goes
     /// on with the one that it began for the lease's transfer.
     fn dial(&mut self, lease: &Lease<W>) -> Dialled<W>
-        requires none { lease.now.stream ≡ None }
+        requires no_stream { lease.now.stream ≡ None }
         ensures up { IfUp result (λ wire.
             W.untouched wire lease.now.site lease.now.start.want.transfer) }
-        ensures counted { CountsDial result (failures self.old) (failures self.new) }
-        ensures opens { OpensOne result (opened self.old) (opened self.new) }
-        ensures begun { CountsBegun result lease.now.start.want.transfer (begun self.old)
-            (begun self.new) }
-        ensures turns { turn_failures self.new ≡ turn_failures self.old }
-        ensures source { source_name self.new ≡ source_name self.old };
+        ensures dials { DialsFor result lease.now.start.want.transfer (shown self.old)
+            (shown self.new) };
+
+    /// Why the last dial failed, if it did and the system said why. No contract speaks of it.
+    fn reason(&self) -> Option<Reason> {
+        None
+    }
 
     /// Ends what it began for the lease's transfer.
     fn give_up(&mut self, lease: &Lease<W>)
-        ensures none { begun self.new lease.now.start.want.transfer → ⊥ }
-        ensures begun { (other : ℕ) → begun self.new other → begun self.old other }
-        ensures kept { (other : ℕ) → other ≢ lease.now.start.want.transfer →
-            begun self.old other → begun self.new other }
-        ensures counted { failures self.new ≡ failures self.old }
-        ensures opens { opened self.new ≡ opened self.old }
-        ensures turns { turn_failures self.new ≡ turn_failures self.old }
-        ensures source { source_name self.new ≡ source_name self.old };
+        ensures { GivesUpFor lease.now.start.want.transfer (shown self.old) (shown self.new) };
 
     /// Takes a wire over, which another dial may have made, so that its readiness is seen here.
     fn adopt(&mut self, wire: &mut W)
         ensures adopted { W.happened wire.old wire.new is_adopted }
-        ensures counted { failures self.new ≡ failures self.old }
-        ensures opens { opened self.new ≡ opened self.old }
-        ensures begun { (other : ℕ) → begun self.new other → begun self.old other }
-        ensures kept { (other : ℕ) → begun self.old other → begun self.new other }
-        ensures turns { turn_failures self.new ≡ turn_failures self.old }
-        ensures source { source_name self.new ≡ source_name self.old };
+        ensures same { KeepsDial (shown self.old) (shown self.new) };
 
     /// Takes a turn of its event loop, which waits at most that long, and at most ten milliseconds.
     fn turn(&mut self, most: Duration) -> Turned
-        ensures fault { CountsTurn result (turn_failures self.old) (turn_failures self.new) }
-        ensures done { turned self.old self.new }
-        ensures counted { failures self.new ≡ failures self.old }
-        ensures opens { opened self.new ≡ opened self.old }
-        ensures begun { (other : ℕ) → begun self.new other → begun self.old other }
-        ensures kept { (other : ℕ) → begun self.old other → begun self.new other }
-        ensures source { source_name self.new ≡ source_name self.old };
+        ensures turn { TakesTurn result (shown self.old) (shown self.new) }
+        ensures turned { turned self.old self.new };
 
     /// Notes a place of a slab: what is dialled or adopted from now on belongs to the transfer
     /// there.
     fn set_place(&mut self, _place: Place)
-        ensures same { KeepsDial failures opened turn_failures source_name begun self.old self.new }
+        ensures same { KeepsDial (shown self.old) (shown self.new) }
     {}
 
     /// Tells one of the places whose transfers may go on after the last turn, each once, or that
     /// it can't tell.
     fn next_ready(&mut self) -> Ready
-        ensures same { KeepsDial failures opened turn_failures source_name begun self.old self.new }
+        ensures same { KeepsDial (shown self.old) (shown self.new) }
     {
         Ready::All
     }
 
     /// What a task registers with that waits until a connection is open.
     fn source(&self) -> &Source
-        ensures { result.now.id ≡ source_name self.now };
+        ensures { result.now.id ≡ (shown self.now).source_name };
 }
 
 /// What tells the time. The ghost member tells contracts which moments it tells.
@@ -194,4 +173,7 @@ pub trait Clock {
     /// The seconds since some moment that stays the same.
     fn now(&self) -> u64
         ensures { tells self.now result };
+
+    /// The microseconds since some moment that stays the same. No contract speaks of them.
+    fn micros(&self) -> u64;
 }

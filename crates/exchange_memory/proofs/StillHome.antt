@@ -5,7 +5,7 @@ use Rattle.std.proofs.Math.ListN.{get_or-map}
 use Rattle.bundle.specs.Seats.{Tables}
 use Rattle.bundle.specs.Lease.{HostShown, Ticketed}
 use Rattle.cache.specs.Pools.{PoolShown, no_host, StaysPool, StaysHosts}
-use Rattle.cache.specs.Deeds.{home_of, KeepsTicket}
+use Rattle.cache.specs.PoolCalls.{home_of, KeepsTicket}
 use Rattle.exchange_memory.specs.FakeCaches.{StillWaits}
 
 module _ {S : Type 0} where

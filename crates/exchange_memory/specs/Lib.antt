@@ -1,3 +1,4 @@
 pub mod Halts
 pub mod Memory
+pub mod MemoryDials
 pub mod FakeCaches

@@ -1,17 +1,17 @@
 //! A cache over a pool, which users' tests drive transfers with: it notes what they gave back.
 
 ghost use Rattle.std.specs.Prelude.{◌≡◌, IsSome, IfOk, IfErr, IfSome, None, nat_lt, if◌then◌else◌};
-ghost use Rattle.leasing.specs.Homes.{IsMadeBy};
+ghost use Rattle.cache_trait.specs.Homes.{IsMadeBy};
 ghost use Rattle.cache.specs.Pools.{IsNewPool, StaysHosts, StaysPool};
-ghost use Rattle.cache.specs.Deeds.{home_of};
+ghost use Rattle.cache.specs.PoolCalls.{home_of};
 
 use crate::calls::{Calls, NEVER};
 use crate::returned::Returned;
 use budget::{Limits, Refusal};
 use bundle::{Acquired, Claimed, Lease, Stray, Ticket};
 use cache::Pool;
+use cache_trait::Cache;
 use conn_log::Want;
-use leasing::Cache;
 use persistence::Facts;
 use std::alloc::Global;
 use std::marker::Model;
@@ -31,7 +31,7 @@ pub struct FakeCache<W: Drop> {
     pool: Pool<W>,
     acquires: Calls<Refusal>,
     other: Option<Other<W>>,
-    // The claims that have still to wait before the other lease is given back; 0 where it is kept.
+    // The claims that have still to wait before the other lease is given back; 0 if it is kept.
     waits: u32,
     leases: u64,
     tickets: u64,
@@ -42,8 +42,8 @@ pub struct FakeCache<W: Drop> {
 
 impl<W: Drop> Model for FakeCache<W> {
     ghost use Rattle.std.specs.Prelude.{IsSome, IfSome};
-    ghost use Rattle.leasing.specs.Homes.{IsMadeBy};
-    ghost use Rattle.cache.specs.Deeds.{home_of};
+    ghost use Rattle.cache_trait.specs.Homes.{IsMadeBy};
+    ghost use Rattle.cache.specs.PoolCalls.{home_of};
     ghost use Rattle.exchange_memory.specs.FakeCaches.{FakeShown, wire_of};
 
     ghost Value = { FakeShown W };
@@ -99,7 +99,7 @@ impl<W: Drop> FakeCache<W> {
         }
     }
 
-    /// The same, where another transfer has that lease until the cache is closed: it is given back
+    /// The same, but another transfer has that lease until the cache is closed: it is given back
     /// with these facts at that moment.
     pub fn with_other(pool: Pool<W>, lease: Lease<W>, facts: Facts, now: u64) -> FakeCache<W>
         requires here { IsMadeBy (home_of pool) lease.site lease.tables }
@@ -216,9 +216,9 @@ fn release<W: Drop>(pool: &mut Pool<W>, other: Option<Other<W>>)
 
 impl<W: Drop> Cache<W> for FakeCache<W> {
     ghost use Rattle.std.specs.Prelude.{◌≡◌, IsSome, OnOk, OnErr};
-    ghost use Rattle.leasing.specs.Deeds.Deed.{gives_back, abandons};
-    ghost use Rattle.leasing.specs.Homes.{IsMadeBy};
-    ghost use Rattle.cache.specs.Deeds.{home_of};
+    ghost use Rattle.cache_trait.specs.CacheCalls.CacheCall.{gives_back, abandons};
+    ghost use Rattle.cache_trait.specs.Homes.{IsMadeBy};
+    ghost use Rattle.cache.specs.PoolCalls.{home_of};
     ghost use Rattle.exchange_memory.specs.FakeCaches.{DidToFake};
 
     ghost home = { λ cache. home_of cache.pool };

@@ -17,4 +17,8 @@ impl Clock for FixedClock {
     fn now(&self) -> u64 {
         self.now
     }
+
+    fn micros(&self) -> u64 {
+        self.now.saturating_mul(1_000_000)
+    }
 }

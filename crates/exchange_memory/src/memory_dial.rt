@@ -7,15 +7,15 @@ ghost use Rattle.conn_key.specs.Wants.{Rises};
 use crate::calls::{Calls, Halt, NEVER};
 use crate::memory_wire::MemoryWire;
 use bundle::Lease;
-use exchange::{Dial, Dialled, Place, Ready, Turned};
+use exchange::{Dial, Dialled, Place, Ready, Reason, Turned};
 use futures::task::Source;
 use std::alloc::{AllocError, Global};
 use std::time::Duration;
 
 /// What opens connections in memory: at each dial it gives the next of its wires. Without one left
-/// it fails. It keeps which transfer was given up last, and, where it has room for them, the places
-/// of a slab that it was told of. What it tells of places that are ready is a script; without one
-/// it can't tell.
+/// it fails, and says that the host refused. It keeps which transfer was given up last, and, if it
+/// has room for them, the places of a slab that it was told of. What it tells of places that are
+/// ready is a script; without one it can't tell.
 #[derive(Drop)]
 pub struct MemoryDial {
     wires: Vec<MemoryWire>,
@@ -173,24 +173,17 @@ impl MemoryDial {
 }
 
 impl Dial<MemoryWire> for MemoryDial {
-    ghost use Rattle.std.specs.Prelude.{◌≡◌, ◌≢◌, ◌⊎◌, ◌∷◌, ◌++◌, [], ℕ, Some};
-    ghost use Rattle.exchange.specs.Dialling.{KeepsDial};
+    ghost use Rattle.std.specs.Prelude.{◌≡◌, ◌⊎◌, ◌∷◌, ◌++◌, [], Some};
+    ghost use Rattle.exchange.specs.Dialling.{GivesUpFor, KeepsDial};
+    ghost use Rattle.exchange_memory.specs.MemoryDials.{memory_dial_shown};
     ghost use Rattle.exchange.specs.declared.ready.Ready.TheVariants.{All};
 
-    ghost failures = { λ dial. dial.failures };
-
-    ghost opened = { λ dial. dial.opened };
-
-    ghost turn_failures = { λ dial. dial.turn_failures };
+    ghost shown = { memory_dial_shown };
 
     ghost turned = { λ old new. new ≡ record old {
       turns = new.turns;
       turn_failures = new.turn_failures;
     } };
-
-    ghost begun = { λ dial transfer. ⊥ };
-
-    ghost source_name = { λ dial. dial.source.id };
 
     fn dial(&mut self, _lease: &Lease<MemoryWire>) -> Dialled<MemoryWire> {
         match self.dials.next() {
@@ -211,14 +204,13 @@ impl Dial<MemoryWire> for MemoryDial {
         Dialled::Up(wire)
     }
 
+    fn reason(&self) -> Option<Reason> {
+        (self.failures > 0).then_some(Reason::Refused)
+    }
+
     fn give_up(&mut self, lease: &Lease<MemoryWire>)
-        ensures none { ⊥ → ⊥ }
-        ensures begun { (other : ℕ) → ⊥ → ⊥ }
-        ensures kept { (other : ℕ) → other ≢ lease.now.start.want.transfer → ⊥ → ⊥ }
-        ensures counted { self.new.failures ≡ self.old.failures }
-        ensures opens { self.new.opened ≡ self.old.opened }
-        ensures turns { self.new.turn_failures ≡ self.old.turn_failures }
-        ensures source { self.new.source.id ≡ self.old.source.id }
+        ensures gives_up { GivesUpFor lease.now.start.want.transfer (memory_dial_shown self.old)
+            (memory_dial_shown self.new) }
         ensures noted { self.new
             ≡ record self.old { given_up = Some lease.now.start.want.transfer } }
     {
@@ -236,9 +228,7 @@ impl Dial<MemoryWire> for MemoryDial {
     }
 
     fn set_place(&mut self, place: Place)
-        ensures same { KeepsDial (λ dial. dial.failures) (λ dial. dial.opened)
-            (λ dial. dial.turn_failures) (λ dial. dial.source.id) (λ dial transfer. ⊥)
-            self.old self.new }
+        ensures same { KeepsDial (memory_dial_shown self.old) (memory_dial_shown self.new) }
         ensures rest { self.new ≡ record self.old { places = self.new.places } }
     {
         if self.places.len() < self.places.capacity() {
@@ -247,9 +237,7 @@ impl Dial<MemoryWire> for MemoryDial {
     }
 
     fn next_ready(&mut self) -> Ready
-        ensures same { KeepsDial (λ dial. dial.failures) (λ dial. dial.opened)
-            (λ dial. dial.turn_failures) (λ dial. dial.source.id) (λ dial transfer. ⊥)
-            self.old self.new }
+        ensures same { KeepsDial (memory_dial_shown self.old) (memory_dial_shown self.new) }
         ensures told { (self.old.script.items ≡ []) × (result ≡ All)
             ⊎ (self.old.script.items ≡ self.new.script.items ++ (result ∷ [])) }
         ensures rest { self.new ≡ record self.old { script = self.new.script } }

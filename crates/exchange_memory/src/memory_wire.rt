@@ -4,12 +4,13 @@ ghost use Rattle.std.specs.Prelude.{◌≡◌, ◌+◌, ◌<◌, ◌≤◌, ℕ,
 ghost use Rattle.conn_key.specs.Wants.{Rises};
 
 use crate::calls::{Calls, Halt, NEVER};
-use exchange::{Read, Wire, Written};
+use exchange::{Read, Reason, Wire, Written};
 use futures::task::Source;
 use std::alloc::{AllocError, Global};
 
 /// A connection in memory: its peer answers the bytes of a script, whatever it is sent, and then
-/// ends the connection. What was sent is kept, and can be read.
+/// ends the connection. It keeps what was sent. Once a call has failed, it says that the peer reset
+/// it.
 #[derive(Drop)]
 pub struct MemoryWire {
     response: Vec<u8>,
@@ -177,6 +178,10 @@ impl Wire for MemoryWire {
             return Written::Fault;
         }
         Written::Took(count)
+    }
+
+    fn reason(&self) -> Option<Reason> {
+        (self.failures > 0).then_some(Reason::Reset)
     }
 
     fn source(&self) -> &Source {

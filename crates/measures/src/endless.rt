@@ -65,17 +65,12 @@ impl EndlessDial {
 }
 
 impl Dial<EndlessWire> for EndlessDial {
-    ghost failures = { λ dial. 0 };
+    ghost use Rattle.std.specs.Prelude.{⊤};
+    ghost use Rattle.exchange.specs.Dialling.{shows_counts};
 
-    ghost opened = { λ dial. dial.opened };
-
-    ghost turn_failures = { λ dial. 0 };
+    ghost shown = { λ dial. shows_counts 0 dial.opened 0 dial.source.id };
 
     ghost turned = { λ old new. ⊤ };
-
-    ghost begun = { λ dial transfer. ⊥ };
-
-    ghost source_name = { λ dial. dial.source.id };
 
     fn dial(&mut self, _lease: &Lease<EndlessWire>) -> Dialled<EndlessWire> {
         self.opened = self.opened.saturating_add(1);

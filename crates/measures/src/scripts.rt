@@ -6,14 +6,14 @@ ghost use Rattle.std.specs.Prelude.{◌≡◌};
 mod accounts;
 mod commands;
 mod heads;
-mod kept;
+mod site_leases;
 mod telling;
 
 use crate::counts::MeasureError;
 use crate::scripts::accounts::check_account;
 use crate::scripts::commands::answer;
 use crate::scripts::heads::{Head, MOST_LINES, read_head};
-use crate::scripts::kept::{Kept, NoStream};
+use crate::scripts::site_leases::{NoStream, SiteLeases};
 use script_text::{FaultKind, ScriptFault, first_line};
 use shared_cache::{Names, Plan, SharedCache};
 use std::env::Args;
@@ -95,7 +95,7 @@ fn run_commands<N: Names, R: Wait>(
     let Ok(mut told) = vec![in alloc; 0usize; cache.hosts() as usize] else {
         return Err(MeasureError::Memory);
     };
-    let Ok(mut kept) = Kept::new(rt, alloc, &cache) else {
+    let Ok(mut kept) = SiteLeases::new(rt, alloc, &cache) else {
         return Err(MeasureError::Memory);
     };
     let ran = print_lines(rt, system, &cache, &mut kept, &mut told, head);
@@ -109,7 +109,7 @@ fn print_lines<N: Names, R: Wait>(
     rt: &R,
     system: &HostRuntime,
     cache: &SharedCache<NoStream, N>,
-    kept: &mut Kept<N>,
+    kept: &mut SiteLeases<N>,
     told: &mut [usize],
     head: &Head<'_>,
 ) -> Result<(), MeasureError> {

@@ -1,7 +1,7 @@
 //! What a transfer costs: requests go over connections that answer each at once.
 
 ghost use Rattle.std.specs.Prelude.{◌<◌, length, ⊤};
-ghost use Rattle.cache.specs.Deeds.{home_of};
+ghost use Rattle.cache.specs.PoolCalls.{home_of};
 ghost use Rattle.exchange.specs.Answers.{IsUnused};
 ghost use Rattle.exchange.specs.Slabs.{AreKept};
 ghost use Rattle.measures.specs.Told.{all_told};
@@ -34,6 +34,10 @@ impl Clock for Still {
 
     fn now(&self) -> u64 {
         NOW
+    }
+
+    fn micros(&self) -> u64 {
+        0
     }
 }
 
@@ -114,8 +118,8 @@ fn all_join(
     job: &mut Job,
     count: u32,
 ) -> bool
-    requires kept { AreKept all_told (home_of pool.now) slab.old.slots.items }
-    ensures kept { AreKept all_told (home_of pool.now) slab.new.slots.items }
+    requires kept { AreKept all_told (home_of pool.now) slab.old.slots }
+    ensures kept { AreKept all_told (home_of pool.now) slab.new.slots }
 {
     for transfer in 0..count {
         job.want.transfer = transfer as u64;
@@ -137,8 +141,8 @@ fn joins_again(
     used: Prepared,
 ) -> bool
     requires room { 0 < length used.buffer.items }
-    requires kept { AreKept all_told (home_of pool.now) slab.old.slots.items }
-    ensures kept { AreKept all_told (home_of pool.now) slab.new.slots.items }
+    requires kept { AreKept all_told (home_of pool.now) slab.old.slots }
+    ensures kept { AreKept all_told (home_of pool.now) slab.new.slots }
 {
     job.want.transfer = used.transfer();
     match used.again(job) {
@@ -172,6 +176,8 @@ fn waiting<R: RandomSource + AllocGlobal>(
                 place: _,
                 done,
                 parts: used,
+                phases: _,
+                reason: _,
             } = ended;
             good = good.saturating_add(matches!(done, Done::Good(_)) as u32);
             goes_on = joins_again(&mut slab, &pool, &mut job, used);

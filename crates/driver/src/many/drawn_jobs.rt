@@ -4,8 +4,8 @@ ghost use Rattle.std.specs.Prelude.{◌≡◌, ◌<◌, None, IfNone};
 ghost use Rattle.driver.specs.ManyJobs.{given_out, fixed_of, IsDrawing};
 
 use crate::many::job_source::JobSource;
-use claim::{Claim, ClaimSeat};
 use exchange::Prepared;
+use job_counter::{Claim, ClaimSeat};
 use run_loop::{Draw, Jobs};
 
 /// The jobs of one worker: their numbers are drawn from the run's word. A number whose job is not
@@ -69,7 +69,7 @@ impl<'a, S: JobSource> DrawnJobs<'a, S> {
 
 impl<'a, S: JobSource> Jobs for DrawnJobs<'a, S> {
     ghost use Rattle.std.specs.Prelude.{◌≡◌, ℕ, ◌<◌, None};
-    ghost use Rattle.claim.specs.Draws.{Jobs as Claimed};
+    ghost use Rattle.job_counter.specs.Draws.{Jobs as Claimed};
     ghost use Rattle.driver.specs.ManyJobs.{given_out, fixed_of};
 
     ghost job_at = { λ jobs number. S.job_at jobs.source.now number };

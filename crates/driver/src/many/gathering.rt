@@ -1,17 +1,18 @@
 //! The end of a run with many jobs at once: what all workers leave.
 
+ghost use Rattle.exchange.specs.Dialling.{failed_turns};
 ghost use Rattle.std.specs.Prelude.{◌≡◌, ◌+◌, ◌<◌, ◌≤◌, ℕ, List, reverse, vec_len, []};
 ghost use Rattle.std.specs.Prelude.{vec_capacity};
 ghost use Rattle.budget.specs.Words.{whole};
-ghost use Rattle.claim.specs.Draws.{first_seat};
+ghost use Rattle.job_counter.specs.Draws.{first_seat};
 ghost use Rattle.exchange.specs.Worlds.{world_of};
 ghost use Rattle.driver.specs.ManyWork.{HaveLooped, IsManyRun, HavePasses, handed_back};
 
 use crate::many::job_source::JobSource;
 use crate::many::running::{Common, ManyReport};
-use crate::many::worker::{Finished, Left, LoopWorker};
-use claim::ClaimSeat;
+use crate::many::worker::{Finished, LoopWorker, WorkerResult};
 use exchange::{Dial, Wire};
+use job_counter::ClaimSeat;
 use run_loop::{Results, RunEnd, Timer};
 use shared_cache::Names;
 
@@ -37,7 +38,7 @@ pub(crate) fn gather_work<W: Wire, N: Names, D: Dial<W>, F: Results, S: JobSourc
         workers.items → IsManyRun (world_of W.untouched W.happened (T.tells
         common.now.timer.now)) (T.may_stop common.now.timer.now) N.names (S.job_at
         common.now.source.now) F.took common.now.claim.now.jobs (reverse begun) (handed_back
-        D.turn_failures result.workers.items) result.end result.drawn }
+        (failed_turns D.shown) result.workers.items) result.end result.drawn }
 {
     let claim = common.claim;
     let mut seat = seat;
@@ -45,7 +46,7 @@ pub(crate) fn gather_work<W: Wire, N: Names, D: Dial<W>, F: Results, S: JobSourc
     let mut finished = finished;
     let mut end = RunEnd::Complete;
     while let Some(worker) = workers.pop() {
-        let Left {
+        let WorkerResult {
             dial,
             results,
             seat: other,

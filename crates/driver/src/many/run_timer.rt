@@ -40,14 +40,14 @@ impl<'a, T: Timer, A: Alarm> Clock for RunTimer<'a, T, A> {
     fn now(&self) -> u64 {
         self.timer.now()
     }
-}
-
-impl<'a, T: Timer, A: Alarm> Timer for RunTimer<'a, T, A> {
-    ghost may_stop = { λ timer job. T.may_stop timer.timer.now job };
 
     fn micros(&self) -> u64 {
         self.timer.micros()
     }
+}
+
+impl<'a, T: Timer, A: Alarm> Timer for RunTimer<'a, T, A> {
+    ghost may_stop = { λ timer job. T.may_stop timer.timer.now job };
 
     fn stops(&self, number: u64, began: u64) -> bool {
         self.timer.stops(number, began)

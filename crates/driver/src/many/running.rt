@@ -1,9 +1,10 @@
 //! A run with many jobs at once over a shared cache.
 
+ghost use Rattle.exchange.specs.Dialling.{failed_turns};
 ghost use Rattle.std.specs.Prelude.{◌≡◌, ◌<◌, ◌≤◌, true, ℕ, List, reverse, vec_len, [], IfOk};
 ghost use Rattle.std.specs.Prelude.{vec_capacity, IfErr, IsErrAnd};
 ghost use Rattle.std.specs.List.{All};
-ghost use Rattle.claim.specs.Draws.{first_seat, new_seat};
+ghost use Rattle.job_counter.specs.Draws.{first_seat, new_seat};
 ghost use Rattle.exchange.specs.Worlds.{world_of};
 ghost use Rattle.shared_cache.specs.Passes.{IsPassOf, IsNewPass};
 ghost use Rattle.driver.specs.ManyWork.{IsManyRun, handed_in, handed_back, are_bad_tools};
@@ -17,16 +18,16 @@ use crate::many::drawn_jobs::DrawnJobs;
 use crate::many::gathering::gather_work;
 use crate::many::job_source::JobSource;
 use crate::many::loop_states::LoopStates;
-use crate::many::room::{ManyRoom, hire_all};
 use crate::many::run_timer::RunTimer;
-use crate::many::worker::{Finished, Left, LoopWorker, Ready, Tools};
-use crate::room::passes_for;
+use crate::many::storage::{ManyStorage, hire_all};
+use crate::many::worker::{Finished, LoopWorker, Ready, Tools, WorkerResult};
 use crate::running::MOST_WORKERS;
+use crate::storage::passes_for;
 use budget::Pass;
 use bundle::Did;
-use claim::Claim;
 use desk::Desk;
 use exchange::{Alarm, Dial, Wire};
+use job_counter::Claim;
 use run_loop::{Results, RunEnd, Timer};
 use shared_cache::{Names, SharedCache};
 use std::alloc::{AllocGlobal, Global};
@@ -101,8 +102,8 @@ pub fn run_many<
 ) -> Result<ManyReport<D, F>, NotBegun<D, F>>
     ensures ok { IfOk result (λ report. IsManyRun (world_of W.untouched W.happened (T.tells
         timer.now)) (T.may_stop timer.now) N.names (S.job_at source.now) F.took jobs (handed_in
-        D.turn_failures tools.items) (handed_back D.turn_failures report.workers.items)
-        report.end report.drawn) }
+        (failed_turns D.shown) tools.items) (handed_back (failed_turns D.shown)
+        report.workers.items) report.end report.drawn) }
     ensures passes_back { IfOk result (λ report. HavePasses N.names report.workers.items) }
     ensures bad_workers { are_bad_tools (vec_len tools) places ≡ true → IsErrAnd result
         (λ refused. (refused.fault ≡ DriverFault.BadWorkers) × (refused.passes.items ≡ [])) }
@@ -130,7 +131,7 @@ pub fn run_many<
             });
         }
     };
-    let Ok(room) = ManyRoom::new(rt, alloc, jobs, count, places) else {
+    let Ok(room) = ManyStorage::new(rt, alloc, jobs, count, places) else {
         return Err(NotBegun {
             fault: DriverFault::Memory,
             tools,
@@ -158,7 +159,7 @@ fn carry_all<
     alarms: &[A],
     tools: Vec<Tools<D, F>>,
     passes: Vec<Pass<Did>>,
-    room: ManyRoom<W, D, F>,
+    room: ManyStorage<W, D, F>,
 ) -> ManyReport<D, F>
     requires some { 0 < vec_len tools }
     requires few { vec_len tools ≤ 64 }
@@ -166,7 +167,7 @@ fn carry_all<
     requires new_passes { All IsNewPass passes.items }
     requires passes_number { vec_len passes ≡ vec_len tools }
     requires seat { room.seat ≡ first_seat room.claim }
-    requires loops { All (λ it. it.slab.slots.items ≡ []) room.loops.items }
+    requires loops { All (λ it. it.slab.slots ≡ []) room.loops.items }
     requires loops_number { vec_len room.loops ≡ vec_len tools }
     requires no_workers { room.workers.items ≡ [] }
     requires none_finished { room.finished.items ≡ [] }
@@ -175,10 +176,10 @@ fn carry_all<
     ensures passes { HavePasses N.names result.workers.items }
     ensures runs { IsManyRun (world_of W.untouched W.happened (T.tells timer.now)) (T.may_stop
         timer.now) N.names (S.job_at source.now) F.took room.claim.jobs (handed_in
-        D.turn_failures tools.items) (handed_back D.turn_failures result.workers.items)
-        result.end result.drawn }
+        (failed_turns D.shown) tools.items) (handed_back (failed_turns D.shown)
+        result.workers.items) result.end result.drawn }
 {
-    let ManyRoom {
+    let ManyStorage {
         claim,
         mut seat,
         loops,
@@ -292,15 +293,15 @@ impl<W: Wire, D: Dial<W>, F: Results> Ready<W, D, F> {
         common: &Common<'_, S, T>,
         alarms: &[A],
         alarm: usize,
-    ) -> Left<D, F>
-        requires empty { self.places.slab.slots.items ≡ [] }
+    ) -> WorkerResult<D, F>
+        requires empty { self.places.slab.slots ≡ [] }
         requires of_cache { IsPassOf N.names self.pass }
         requires new_pass { IsNewPass self.pass }
         requires seat { self.seat ≡ new_seat common.now.claim.now }
         ensures { Loops (world_of W.untouched W.happened (T.tells common.now.timer.now))
             (T.may_stop common.now.timer.now) N.names (S.job_at common.now.source.now) F.took
-            common.now.claim.now (self.results, D.turn_failures self.dial)
-            (left_with result.results (D.turn_failures result.dial) result.seat result.pass
+            common.now.claim.now (self.results, failed_turns D.shown self.dial)
+            (left_with result.results (failed_turns D.shown result.dial) result.seat result.pass
             result.end) }
     {
         let Ready {
@@ -322,7 +323,7 @@ impl<W: Wire, D: Dial<W>, F: Results> Ready<W, D, F> {
             woken: AtomicU64::new(0),
         };
         let end = places.run(rt, &mut desk, &mut dial, &mut jobs, &mut results, &timer);
-        Left {
+        WorkerResult {
             dial,
             results,
             seat: jobs.into_seat(),

@@ -1,12 +1,13 @@
 //! A worker of a run with many jobs at once.
 
+ghost use Rattle.exchange.specs.Dialling.{failed_turns};
 ghost use Rattle.std.specs.Prelude.{◌≡◌, Some, None, IsSome};
 ghost use Rattle.driver.specs.ManyWork.{hired_with, left_with};
 
 use budget::Pass;
 use bundle::Did;
-use claim::ClaimSeat;
 use exchange::{Dial, Wire};
+use job_counter::ClaimSeat;
 use run_loop::{RunEnd, RunLoop};
 use std::marker::Model;
 use std::mem;
@@ -40,7 +41,7 @@ pub(crate) struct Ready<W: Wire, D: Dial<W>, F> {
 }
 
 /// What a worker leaves.
-pub(crate) struct Left<D, F> {
+pub(crate) struct WorkerResult<D, F> {
     pub(crate) dial: D,
     pub(crate) results: F,
     pub(crate) seat: ClaimSeat,
@@ -51,19 +52,20 @@ pub(crate) struct Left<D, F> {
 /// A worker before its work, while it works, and after it.
 pub(crate) struct LoopWorker<W: Wire, D: Dial<W>, F> {
     hired: Option<Ready<W, D, F>>,
-    left: Option<Left<D, F>>,
+    left: Option<WorkerResult<D, F>>,
 }
 
 impl<W: Wire, D: Dial<W>, F> Model for LoopWorker<W, D, F> {
+    ghost use Rattle.exchange.specs.Dialling.{failed_turns};
     ghost use Rattle.std.specs.Option.{option_map};
     ghost use Rattle.driver.specs.ManyWork.{LoopShown, hired_with, left_with};
 
     ghost Value = { LoopShown W F };
 
     ghost view = { λ worker. record {
-      hired = option_map (λ it. hired_with it.places.slab.slots.items it.results
-          (D.turn_failures it.dial) it.seat it.pass) worker.hired;
-      left = option_map (λ it. left_with it.results (D.turn_failures it.dial) it.seat it.pass
+      hired = option_map (λ it. hired_with it.places.slab.slots it.results
+          (failed_turns D.shown it.dial) it.seat it.pass) worker.hired;
+      left = option_map (λ it. left_with it.results (failed_turns D.shown it.dial) it.seat it.pass
           it.end) worker.left;
     } };
 }
@@ -71,8 +73,8 @@ impl<W: Wire, D: Dial<W>, F> Model for LoopWorker<W, D, F> {
 impl<W: Wire, D: Dial<W>, F> LoopWorker<W, D, F> {
     /// One that has not begun.
     pub(crate) fn new(ready: Ready<W, D, F>) -> LoopWorker<W, D, F>
-        ensures hired { result.hired ≡ Some (hired_with ready.places.slab.slots.items
-            ready.results (D.turn_failures ready.dial) ready.seat ready.pass) }
+        ensures hired { result.hired ≡ Some (hired_with ready.places.slab.slots
+            ready.results (failed_turns D.shown ready.dial) ready.seat ready.pass) }
         ensures none { result.left ≡ None }
     {
         LoopWorker {
@@ -84,8 +86,8 @@ impl<W: Wire, D: Dial<W>, F> LoopWorker<W, D, F> {
     /// Begins its work.
     pub(crate) fn begin(&mut self) -> Ready<W, D, F>
         requires { IsSome self.old.hired }
-        ensures was { self.old.hired ≡ Some (hired_with result.places.slab.slots.items
-            result.results (D.turn_failures result.dial) result.seat result.pass) }
+        ensures was { self.old.hired ≡ Some (hired_with result.places.slab.slots
+            result.results (failed_turns D.shown result.dial) result.seat result.pass) }
         ensures now { self.new ≡ record self.old { hired = None } }
     {
         let Some(ready) = self.hired.take() else {
@@ -95,11 +97,11 @@ impl<W: Wire, D: Dial<W>, F> LoopWorker<W, D, F> {
     }
 
     /// Ends its work.
-    pub(crate) fn leave(&mut self, left: Left<D, F>)
+    pub(crate) fn leave(&mut self, left: WorkerResult<D, F>)
         requires { self.old.left ≡ None }
         ensures { self.new ≡ record self.old {
           left = Some (left_with left.results
-              (D.turn_failures left.dial) left.seat left.pass left.end);
+              (failed_turns D.shown left.dial) left.seat left.pass left.end);
         } }
     {
         match mem::replace(&mut self.left, Some(left)) {
@@ -109,10 +111,10 @@ impl<W: Wire, D: Dial<W>, F> LoopWorker<W, D, F> {
     }
 
     /// What it has left.
-    pub(crate) fn into_left(self) -> Left<D, F>
+    pub(crate) fn into_left(self) -> WorkerResult<D, F>
         requires none { self.hired ≡ None }
         requires some { IsSome self.left }
-        ensures { self.left ≡ Some (left_with result.results (D.turn_failures result.dial)
+        ensures { self.left ≡ Some (left_with result.results (failed_turns D.shown result.dial)
             result.seat result.pass result.end) }
     {
         let LoopWorker { hired, left } = self;

@@ -5,7 +5,7 @@ ghost use Rattle.std.specs.List.{All};
 ghost use Rattle.shared_cache.specs.Passes.{IsPassOf};
 
 use crate::counts::MeasureError;
-use crate::scripts::kept::NoStream;
+use crate::scripts::site_leases::NoStream;
 use budget::Pass;
 use bundle::Did;
 use conn_log::Counts;

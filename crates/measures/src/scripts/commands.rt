@@ -1,25 +1,26 @@
-//! What a script's commands of hosts ask of the cache, and the lines that tell of it.
+//! Carries out the commands of a script's hosts with a shared cache.
 
-use crate::scripts::kept::{Kept, NoStream};
+use crate::scripts::site_leases::{NoStream, SiteLeases};
 use crate::scripts::telling::lines;
 use crate::shared::KEEP;
 use budget::Refusal;
 use bundle::{Bundle, Snapshot};
 use persistence::{Facts, Framing, Version};
 use script_text::{
-    Action, Command, Ending, FaultKind, LookLine, read_line, reply, too_many_leased, upkeep,
+    Action, Command, Ending, FaultKind, HostCommand, LookLine, read_line, reply, too_many_leased,
+    upkeep,
 };
 use shared_cache::{Names, SharedCache};
 use std::alloc::Global;
 use std::sync::Wait;
 
-/// Does what a line says, and gives the lines that tell of it. `told` has how many entries of each
-/// host's log were told.
+/// Carries out a line, and gives its lines of the transcript. `told` counts, by host, the entries
+/// of its log that were told.
 pub(super) fn answer<N: Names, R: Wait>(
     rt: &R,
     alloc: Global,
     cache: &SharedCache<NoStream, N>,
-    kept: &mut Kept<N>,
+    kept: &mut SiteLeases<N>,
     told: &mut [usize],
     line: &[u8],
 ) -> Result<String, FaultKind> {
@@ -27,29 +28,39 @@ pub(super) fn answer<N: Names, R: Wait>(
         None => Ok(String::new(alloc)),
         Some(Command::Limits(_)) => Err(FaultKind::Place),
         Some(Command::Site(_)) => Err(FaultKind::Place),
-        Some(Command::At { site, action }) => {
-            answer_at(rt, alloc, cache, kept, told, site, action)
-        }
-        Some(
-            Command::Prune {
-                max_age,
-                max_life,
-                moment,
-            },
-        ) => {
-            kept.prune(rt, cache, moment, max_age, max_life);
-            lines(rt, alloc, cache, told, 0)
-        }
-        Some(Command::Upkeep) => upkeep(alloc, cache.upkeep()),
+        Some(Command::Ask(asked)) => answer_asked(rt, alloc, cache, kept, told, asked),
     }
 }
 
-/// The same of an action at a site.
+// Carries out a command of the hosts.
+fn answer_asked<N: Names, R: Wait>(
+    rt: &R,
+    alloc: Global,
+    cache: &SharedCache<NoStream, N>,
+    kept: &mut SiteLeases<N>,
+    told: &mut [usize],
+    asked: HostCommand,
+) -> Result<String, FaultKind> {
+    match asked {
+        HostCommand::At { site, action } => answer_at(rt, alloc, cache, kept, told, site, action),
+        HostCommand::Prune {
+            max_age,
+            max_life,
+            moment,
+        } => {
+            kept.prune(rt, cache, moment, max_age, max_life);
+            lines(rt, alloc, cache, told, 0)
+        }
+        HostCommand::Upkeep => upkeep(alloc, cache.upkeep()),
+    }
+}
+
+// Carries out an action at a site.
 fn answer_at<N: Names, R: Wait>(
     rt: &R,
     alloc: Global,
     cache: &SharedCache<NoStream, N>,
-    kept: &mut Kept<N>,
+    kept: &mut SiteLeases<N>,
     told: &mut [usize],
     site: u32,
     action: Action,
@@ -76,7 +87,7 @@ fn answer_at<N: Names, R: Wait>(
             let is_there = kept.withdraw(rt, cache, site, transfer, moment);
             (transfer, stranger_unless(is_there))
         }
-        // No connection comes back.
+        // A new limit gives no connection back.
         Action::Limit { limit, moment } => {
             (0, kept.set_host_limit(rt, cache, site, limit, moment))
         }
@@ -88,7 +99,7 @@ fn answer_at<N: Names, R: Wait>(
     }
 }
 
-/// Done, if the transfer has what it gives back.
+/// `StrangeLease` unless the transfer had the lease or ticket that it gives back.
 fn stranger_unless(is_there: bool) -> Result<(), Refusal> {
     if is_there {
         Ok(())
@@ -97,7 +108,7 @@ fn stranger_unless(is_there: bool) -> Result<(), Refusal> {
     }
 }
 
-/// The reply to a call that is refused.
+/// The reply to a refused call.
 fn refused(alloc: Global, refusal: Refusal) -> Result<String, FaultKind> {
     match refusal {
         Refusal::BadSite => reply(alloc, "bad-site"),
@@ -110,7 +121,7 @@ fn refused(alloc: Global, refusal: Refusal) -> Result<String, FaultKind> {
     }
 }
 
-/// What the site's connections do.
+/// The line of a `look` at a site.
 fn look<N: Names, R: Wait>(
     rt: &R,
     alloc: Global,
@@ -123,7 +134,7 @@ fn look<N: Names, R: Wait>(
     }
 }
 
-/// The line of what a look at a host shows.
+/// The line of a snapshot of a host.
 fn look_line(alloc: Global, host: u32, seen: Snapshot) -> Result<String, FaultKind> {
     let Snapshot {
         alive,
@@ -146,7 +157,7 @@ fn look_line(alloc: Global, host: u32, seen: Snapshot) -> Result<String, FaultKi
     }
 }
 
-/// The facts of a response that ended so.
+/// The facts of a response with that ending.
 fn facts_of(ending: Ending) -> Facts {
     match ending {
         Ending::Keep => KEEP,

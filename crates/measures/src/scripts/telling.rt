@@ -1,6 +1,6 @@
 //! The lines that tell of what the logs of all hosts have more than before.
 
-use crate::scripts::kept::NoStream;
+use crate::scripts::site_leases::NoStream;
 use bundle::Bundle;
 use script_text::{FaultKind, lines_since};
 use shared_cache::{Names, SharedCache};

@@ -2,8 +2,9 @@ use Rattle.std.proofs.Common.{rules, arith, ◌≡◌, ℕ, ◌<◌, ◌⊎◌, 
 use Rattle.std.specs.List.{sum_by}
 use Rattle.std.specs.Prelude.{IfNone}
 use Rattle.std.proofs.lemmas.List.{take_at}
-use Rattle.claim.specs.Draws.{AreFirst}
+use Rattle.job_counter.specs.Draws.{AreFirst}
 use Rattle.bundle.specs.Passes.{Accounts}
+use Rattle.exchange.specs.Dialling.{failed_turns}
 use Rattle.exchange.specs.declared.done.Done.{Done}
 use Rattle.exchange.specs.Worlds.{world_of}
 use Rattle.shared_cache.specs.Passes.{IsPassOf}
@@ -33,7 +34,7 @@ loop-worker-init g c =
       room = search rules;
       count = search rules;
       quits = none_quit c.args.workers.items;
-      dials = no_dials_left g.D.Dial.turn_failures c.args.workers.items;
+      dials = no_dials_left (failed_turns g.D.Dial.shown) c.args.workers.items;
     }
 
 pub leave-other-requires : goal.leave-other-requires
@@ -114,7 +115,7 @@ loop-worker-preserved g c =
       room = search rules;
       count = search rules;
       quits = subst (HaveQuit c.args.workers.items rest) (sym first) (one_quits c.args.workers.items workers rest gone c.loop-worker.quit last c.loop-worker.invariant.quits);
-      dials = one_dial_more g.D.Dial.turn_failures c.args.workers.items workers rest gone dial.0 last dial.1 c.loop-worker.invariant.dials;
+      dials = one_dial_more (failed_turns g.D.Dial.shown) c.args.workers.items workers rest gone dial.0 last dial.1 c.loop-worker.invariant.dials;
     }
 
 pub returns-clause-ok : goal.returns-clause-ok
@@ -155,12 +156,12 @@ returns-clause-turns g c =
     let well : c.loop-worker.quit ≡ None = search rules in
     let gone = c.loop-worker.invariant.dials in
     let have : HaveQuit all left None = subst (HaveQuit all left) well c.loop-worker.invariant.quits in
-    let end = all_dials g.D.Dial.turn_failures all left none gone in
+    let end = all_dials (failed_turns g.D.Dial.shown) all left none gone in
     let number = end.0 in
     λ dials same turned. record {
       later = gone.dials;
       number = omega (arith, number, same, count);
-      turns = end.1 ∙ all_still (sum_by g.D.Dial.turn_failures dials) all left none have turned;
+      turns = end.1 ∙ all_still (sum_by (failed_turns g.D.Dial.shown) dials) all left none have turned;
     }
 
 pub returns-in-Some-quit-clause-turns : goal.returns-in-Some-quit-clause-turns
@@ -171,10 +172,10 @@ returns-in-Some-quit-clause-turns g c =
     let count : length all ≡ vec_len c.args.workers = search rules in
     let gone = c.loop-worker.invariant.dials in
     let have : HaveQuit all left (Some c.in-Some-quit.quit) = subst (HaveQuit all left) c.in-Some-quit.is c.loop-worker.invariant.quits in
-    let end = all_dials g.D.Dial.turn_failures all left none gone in
+    let end = all_dials (failed_turns g.D.Dial.shown) all left none gone in
     let number = end.0 in
     λ dials same turned.
-    let before = sum_by g.D.Dial.turn_failures dials in
+    let before = sum_by (failed_turns g.D.Dial.shown) dials in
     let so : FaultTurns c.fault.result before (sum_by failed_of all) = subst (λ (found : DriverFault). FaultTurns found before (sum_by failed_of all)) (sym c.fault.ensures.is) (fault_turns before all left c.in-Some-quit.quit have turned) in
     record {
       later = gone.dials;

@@ -1,4 +1,5 @@
 use Rattle.std.proofs.Common.{◌≡◌, ◌+◌, ◌≤◌, length, vec_len, vec_capacity}
+use Rattle.exchange.specs.Dialling.{failed_turns}
 use Rattle.exchange.specs.Worlds.{world_of}
 use Rattle.driver.proofs.Collected.{IsGoing}
 use Rattle.driver.proofs.Turned.{HaveQuit, DialsLeft}
@@ -13,5 +14,5 @@ invariant-loop-worker g l = record {
   room : vec_len l.fn.workers ≤ vec_capacity l.passes;
   count : vec_len l.passes + vec_len l.workers ≡ vec_len l.fn.workers;
   quits : HaveQuit l.fn.workers.items l.workers.items l.quit;
-  dials : DialsLeft g.D.Dial.turn_failures l.fn.workers.items l.workers.items;
+  dials : DialsLeft (failed_turns g.D.Dial.shown) l.fn.workers.items l.workers.items;
 }

@@ -1,7 +1,7 @@
 -- What the cache gives is where the transfer goes on.
 use Rattle.std.proofs.Common.{rules}
-use Rattle.leasing.specs.Deeds.Deed.{leases, begins_wait, refuses}
-use Rattle.leasing.specs.Homes.{IsLeaseFor, IsTicketFor}
+use Rattle.cache_trait.specs.CacheCalls.CacheCall.{leases, begins_wait, refuses}
+use Rattle.cache_trait.specs.Homes.{IsLeaseFor, IsTicketFor}
 use Rattle.exchange.specs.Worlds.{world_of}
 use Rattle.exchange.specs.Answers.{wanted}
 use Rattle.exchange.proofs.Steps.{asks_on}

@@ -1,7 +1,7 @@
 -- What the claim gives is where the transfer goes on.
 use Rattle.std.proofs.Common.{rules, ◌≡◌}
-use Rattle.leasing.specs.Deeds.Deed.{grants, keeps_waiting}
-use Rattle.leasing.specs.Homes.{IsLeaseFor}
+use Rattle.cache_trait.specs.CacheCalls.CacheCall.{grants, keeps_waiting}
+use Rattle.cache_trait.specs.Homes.{IsLeaseFor}
 use Rattle.exchange.specs.Worlds.{world_of}
 use Rattle.exchange.proofs.Steps.{claims_on}
 use Rattle.exchange.proofs.FirstSteps.{waits_leases, waits_still, waits_strange}

@@ -19,7 +19,7 @@ returns-in-Ok-Whole-clause-story g c first from =
 pub returns-in-Err-clause-story : goal.returns-in-Err-clause-story
 returns-in-Err-clause-story g c =
     let feeds : Feeds c.args.parts.now c.args.count c.feed.new.self = record { bytes = search rules; same = c.feed.ensures.same } in
-    ends_faulty g.C.Cache.did (world_of g.W.Wire.untouched g.W.Wire.happened (g.K.Clock.tells c.args.clock.now)) c.args.parts.now c.args.cache.now c.args.lease c.args.count c.feed.new.self feeds c.give_back-known.new.cache c.args.now c.give_back-known.result c.facts.result c.in-Err.field-0 c.requires.told c.give_back-known.ensures.done c.in-Err.ensures.fault c.facts.ensures.after_fault
+    ends_faulty g.C.Cache.did (world_of g.W.Wire.untouched g.W.Wire.happened (g.K.Clock.tells c.args.clock.now)) c.args.parts.now c.args.cache.now c.args.lease c.args.count c.feed.new.self feeds c.give_back-known.new.cache c.args.now c.give_back-known.result c.facts.result c.in-Err.field-0 c.requires.told c.give_back-known.ensures.did c.in-Err.ensures.fault c.facts.ensures.after_fault
 
 pub returns-in-Err-clause-left : goal.returns-in-Err-clause-left
-returns-in-Err-clause-left g c = spends_back (g.C.Cache.did c.args.cache.now c.give_back-known.new.cache) c.args.lease c.args.now c.facts.result c.give_back-known.result c.give_back-known.ensures.done
+returns-in-Err-clause-left g c = spends_back (g.C.Cache.did c.args.cache.now c.give_back-known.new.cache) c.args.lease c.args.now c.facts.result c.give_back-known.result c.give_back-known.ensures.did

@@ -12,7 +12,7 @@ returns-in-Bytes-clause-story g c first stands =
     c.feed.ensures.story first (reads_bytes g.C.Cache.did (world_of g.W.Wire.untouched g.W.Wire.happened (g.K.Clock.tells c.args.clock.now)) c.args.parts.now c.args.cache.now c.args.lease c.read_from.new.lease c.read_from.new.buffer c.in-Bytes.count long c.in-Bytes.ensures first stands)
 
 pub returns-in-NotYet-clause-story : goal.returns-in-NotYet-clause-story
-returns-in-NotYet-clause-story g c = rw c.wait_for.ensures.same (reads_later g.C.Cache.did (world_of g.W.Wire.untouched g.W.Wire.happened (g.K.Clock.tells c.args.clock.now)) c.args.parts.now c.args.cache.now c.args.lease c.read_from.new.lease c.read_from.new.buffer c.in-NotYet.ensures)
+returns-in-NotYet-clause-story g c = rw c.wait_for.ensures.same_lease (reads_later g.C.Cache.did (world_of g.W.Wire.untouched g.W.Wire.happened (g.K.Clock.tells c.args.clock.now)) c.args.parts.now c.args.cache.now c.args.lease c.read_from.new.lease c.read_from.new.buffer c.in-NotYet.ensures)
 
 pub returns-in-End-clause-story : goal.returns-in-End-clause-story
 returns-in-End-clause-story g c first stands = c.end.ensures.story first (reads_end g.C.Cache.did (world_of g.W.Wire.untouched g.W.Wire.happened (g.K.Clock.tells c.args.clock.now)) c.args.parts.now c.args.cache.now c.args.lease c.read_from.new.lease c.read_from.new.buffer c.in-End.ensures first stands)

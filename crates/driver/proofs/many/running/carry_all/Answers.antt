@@ -1,13 +1,14 @@
 -- All that workers leave is gathered.
 use Rattle.std.proofs.Common.{reverse, subst}
 use Rattle.std.proofs.lemmas.List.{reverse-reverse}
+use Rattle.exchange.specs.Dialling.{failed_turns}
 use Rattle.exchange.specs.Worlds.{world_of}
 use Rattle.driver.specs.ManyWork.{IsManyRun, handed_in, handed_back}
 use Rattle.driver.proofs.many.running.carry_all.Goals as goal
 
 pub gather_work-requires-clause-left : goal.gather_work-requires-clause-left
 gather_work-requires-clause-left g c =
-    let begun = reverse (handed_in g.D.Dial.turn_failures c.args.tools.items) in
+    let begun = reverse (handed_in (failed_turns g.D.Dial.shown) c.args.tools.items) in
     (begun, c.loop_at_once.ensures.looped begun c.hire_all.ensures.begun)
 
 pub returns-clause-runs : goal.returns-clause-runs
@@ -16,7 +17,7 @@ returns-clause-runs g c =
     let world = world_of g.W.Wire.untouched g.W.Wire.happened (g.T.Clock.tells c.args.timer.now) in
     let may_stop = g.T.Timer.may_stop c.args.timer.now in
     let job_at = g.S.JobSource.job_at c.args.source.now in
-    let failures = g.D.Dial.turn_failures in
+    let failures = failed_turns g.D.Dial.shown in
     let handed = handed_in failures c.args.tools.items in
     let begun = reverse handed in
     let report = c.gather_work.result in

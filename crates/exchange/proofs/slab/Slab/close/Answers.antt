@@ -10,25 +10,19 @@ pub loop-closed-init : goal.loop-closed-init
 loop-closed-init g c = record {
   stays = search rules;
   kept = search rules;
-  closes = closes_none g.C.Cache.did (world_of g.W.Wire.untouched g.W.Wire.happened (g.K.Clock.tells c.args.clock.now)) c.args.cache.now (transfers_in c.args.self.slots.items);
-  begun = gives_up_none (g.D.Dial.begun c.args.dial.now) (transfers_in c.args.self.slots.items);
-  counted = search rules;
-  opens = search rules;
-  turns = search rules;
+  closes = closes_none g.C.Cache.did (world_of g.W.Wire.untouched g.W.Wire.happened (g.K.Clock.tells c.args.clock.now)) c.args.cache.now (transfers_in c.args.self.slots);
+  begun = gives_up_none (g.D.Dial.shown c.args.dial.now) (transfers_in c.args.self.slots);
 }
 
 pub loop-closed-preserved : goal.loop-closed-preserved
 loop-closed-preserved g c =
     let one = c.in-Some.ensures.closes in
-    let closes = closes_more g.C.Cache.did (world_of g.W.Wire.untouched g.W.Wire.happened (g.K.Clock.tells c.args.clock.now)) c.args.cache.now c.loop-closed.cache c.close_last.new.cache (transfers_in c.args.self.slots.items)
-    (transfers_in c.loop-closed.slab.slots.items) (transfers_in c.close_last.new.self.slots.items) one.transfer c.loop-closed.invariant.closes one.taken one.moment one.told one.cancels in
+    let closes = closes_more g.C.Cache.did (world_of g.W.Wire.untouched g.W.Wire.happened (g.K.Clock.tells c.args.clock.now)) c.args.cache.now c.loop-closed.cache c.close_last.new.cache (transfers_in c.args.self.slots)
+    (transfers_in c.loop-closed.slab.slots) (transfers_in c.close_last.new.self.slots) one.transfer c.loop-closed.invariant.closes one.taken one.moment one.told one.cancels in
     record {
       stays = search rules;
       kept = search rules;
       closes = closes;
-      begun = gives_up_more (g.D.Dial.begun c.args.dial.now) (g.D.Dial.begun c.loop-closed.dial) (g.D.Dial.begun c.close_last.new.dial) (transfers_in c.args.self.slots.items)
-          (transfers_in c.loop-closed.slab.slots.items) (transfers_in c.close_last.new.self.slots.items) one.transfer c.loop-closed.invariant.begun one.taken one.begun;
-      counted = search rules;
-      opens = search rules;
-      turns = search rules;
+      begun = gives_up_more (g.D.Dial.shown c.args.dial.now) (g.D.Dial.shown c.loop-closed.dial) (g.D.Dial.shown c.close_last.new.dial) (transfers_in c.args.self.slots)
+          (transfers_in c.loop-closed.slab.slots) (transfers_in c.close_last.new.self.slots) one.transfer c.loop-closed.invariant.begun one.taken one.begun;
     }

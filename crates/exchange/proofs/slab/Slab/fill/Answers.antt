@@ -6,23 +6,23 @@ use Rattle.exchange.proofs.slab.Slab.fill.Goals as goal
 
 pub overflow_add-self : goal.overflow_add-self
 overflow_add-self g c =
-    let most = one_more_within c.args.self.now.slots.items c.args.place c.args.transfer c.requires.vacant in
-    let few : length c.args.self.now.slots.items < 2 ^ 64 = search rules in
-    let counted = c.args.self.now.counted in
+    let most = one_more_within c.self.inside.slots.items c.args.place c.args.transfer (rw (← c.self.view_is) at c.requires.vacant) in
+    let few : length c.self.inside.slots.items < 2 ^ 64 = search rules in
+    let counted = c.self.inside.counted in
     omega (arith, most, few, counted)
 
 pub joins-requires : goal.joins-requires
-joins-requires g c = has_room c.args.self.now.slots.items c.args.self.now.schedule.lists c.args.place None c.args.self.now.scheduled c.requires.vacant
+joins-requires g c = has_room c.self.inside.slots.items c.self.inside.schedule.lists c.args.place None c.self.inside.scheduled (rw (← c.self.view_is) at c.requires.vacant)
 
-pub invariant_of-self : goal.invariant_of-self
-invariant_of-self g c =
-    let slots = c.args.self.now.slots.items in
+pub invariant_of-self-inside : goal.invariant_of-self-inside
+invariant_of-self-inside g c =
+    let slots = c.self.inside.slots.items in
     let joins = c.joins.ensures in
-    let more = one_more_at slots c.args.place c.args.transfer c.requires.vacant in
-    let counted = c.args.self.now.counted in
-    record {
-      counted = rw c.put.ensures (omega (arith, more, counted));
-      scheduled = rw c.put.ensures (law_of_set slots c.args.self.now.schedule.lists c.joins.new.self.lists c.args.self.now.scheduled c.args.place None (Some c.args.transfer) joins.list c.requires.vacant (due_suits c.args.transfer joins.list joins.fits) joins.moves);
-      roomy = search rules;
-      listed = subst (λ (n : ℕ). c.args.self.now.room ≤ n) (sym joins.moves.limit) c.args.self.now.listed;
-    }
+    let more = one_more_at slots c.args.place c.args.transfer (rw (← c.self.view_is) at c.requires.vacant) in
+    let counted = c.self.inside.counted in (
+      rw c.put.ensures (omega (arith, more, counted)),
+      (
+        rw c.put.ensures (law_of_set slots c.self.inside.schedule.lists c.joins.new.self.lists c.self.inside.scheduled c.args.place None (Some c.args.transfer) joins.list (rw (← c.self.view_is) at c.requires.vacant) (due_suits c.args.transfer joins.list joins.fits) joins.moves),
+        (search rules, (subst (λ (n : ℕ). c.self.inside.room ≤ n) (sym joins.moves.limit) c.self.inside.listed, tt)),
+      ),
+    )

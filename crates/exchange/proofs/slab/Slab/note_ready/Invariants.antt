@@ -4,7 +4,7 @@ use Rattle.exchange.proofs.slab.Slab.note_ready.Given as goal
 
 abbrev pub invariant-loop : goal.invariant-loop
 invariant-loop g l = record {
-  slots : l.self.slots ≡ l.fn.self.slots;
-  room : l.self.room ≡ l.fn.self.room;
-  tells : KeepsDial g.D.Dial.failures g.D.Dial.opened g.D.Dial.turn_failures g.D.Dial.source_name g.D.Dial.begun l.fn.dial l.dial;
+  slots : l.self-inside.slots.items ≡ l.fn.self.slots;
+  room : l.self-inside.room ≡ l.fn.self.room;
+  tells : KeepsDial (g.D.Dial.shown l.fn.dial) (g.D.Dial.shown l.dial);
 }

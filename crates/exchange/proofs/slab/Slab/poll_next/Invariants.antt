@@ -1,5 +1,6 @@
 use Rattle.std.proofs.Common.{◌≡◌, None, sum_by}
-use Rattle.exchange.specs.Worlds.{world_of, dials_of}
+use Rattle.exchange.specs.Dialling.{failed_turns}
+use Rattle.exchange.specs.Worlds.{world_of}
 use Rattle.exchange.specs.Slabs.{AreKept, one_if_some}
 use Rattle.exchange.specs.Rounds.{PollsInTurn}
 use Rattle.exchange.proofs.slab.Slab.poll_next.Given as goal
@@ -7,9 +8,9 @@ use Rattle.exchange.proofs.slab.Slab.poll_next.Given as goal
 abbrev pub invariant-loop : goal.invariant-loop
 invariant-loop g l = record {
   stays : g.C.Cache.home l.cache ≡ g.C.Cache.home l.fn.cache;
-  kept : AreKept (world_of g.W.Wire.untouched g.W.Wire.happened (g.K.Clock.tells l.fn.clock)) (g.C.Cache.home l.cache) l.self.slots.items;
-  same : sum_by one_if_some l.self.slots.items ≡ sum_by one_if_some l.fn.self.slots.items;
-  polls : PollsInTurn g.C.Cache.did (world_of g.W.Wire.untouched g.W.Wire.happened (g.K.Clock.tells l.fn.clock)) (dials_of g.D.Dial.begun g.D.Dial.opened g.D.Dial.failures) l.fn.cache l.cache l.fn.dial l.dial l.fn.self.slots.items l.self.slots.items None;
-  turns : g.D.Dial.turn_failures l.dial ≡ g.D.Dial.turn_failures l.fn.dial;
+  kept : AreKept (world_of g.W.Wire.untouched g.W.Wire.happened (g.K.Clock.tells l.fn.clock)) (g.C.Cache.home l.cache) l.self.slots;
+  same : sum_by one_if_some l.self.slots ≡ sum_by one_if_some l.fn.self.slots;
+  polls : PollsInTurn g.C.Cache.did (world_of g.W.Wire.untouched g.W.Wire.happened (g.K.Clock.tells l.fn.clock)) g.D.Dial.shown l.fn.cache l.cache l.fn.dial l.dial l.fn.self.slots l.self.slots None;
+  turns : failed_turns g.D.Dial.shown l.dial ≡ failed_turns g.D.Dial.shown l.fn.dial;
   room : l.self.room ≡ l.fn.self.room;
 }

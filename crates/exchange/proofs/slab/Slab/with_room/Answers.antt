@@ -6,9 +6,4 @@ use Rattle.exchange.proofs.slab.Slab.with_room.Goals as goal
 pub invariant_of-result : goal.invariant_of-result
 invariant_of-result g c =
     let empty = c.in_ok-slots.ensures.items in
-    record {
-      counted = rw empty refl;
-      scheduled = rw empty (law_of_none c.in_ok-schedule.schedule.lists c.in_ok-schedule.ensures.none);
-      roomy = c.in_ok-slots.ensures.capacity;
-      listed = c.in_ok-schedule.ensures.room;
-    }
+    (rw empty refl, (rw empty (law_of_none c.in_ok-schedule.schedule.lists c.in_ok-schedule.ensures.unlisted), (c.in_ok-slots.ensures.capacity, (c.in_ok-schedule.ensures.reserved, tt))))

@@ -2,7 +2,7 @@ use Rattle.std.proofs.Common.{◌≡◌, ◌⊎◌, false, IsSomeAnd}
 use Rattle.exchange.specs.Answers.{IsSameJob}
 use Rattle.exchange.specs.Worlds.{world_of}
 use Rattle.exchange.specs.Owning.{IsReady, Owns}
-use Rattle.exchange.specs.Exchanging.{Continues, OpensFew, DialsItsOwn, IsFinished, IsGoing}
+use Rattle.exchange.specs.Exchanging.{Continues, OpensFew, BeginsItsOwn, IsFinished, IsGoing}
 use Rattle.exchange.specs.Stepping.{TakesSome}
 use Rattle.exchange.proofs.transfer.Transfer.poll.Given as goal
 
@@ -14,10 +14,10 @@ invariant-loop g l = record {
   same : IsSameJob l.fn.self.parts l.self.parts;
   story : Continues g.C.Cache.did (world_of g.W.Wire.untouched g.W.Wire.happened (g.K.Clock.tells l.fn.clock)) l.fn.self.parts l.self.parts l.fn.cache l.cache l.fn.self.state l.self.state;
   over : IsFinished l.fn.self.state → l.self.state ≡ l.fn.self.state;
-  counted : g.D.Dial.failures l.dial ≡ g.D.Dial.failures l.fn.dial;
-  opens : OpensFew l.fn.self.parts l.self.parts l.fn.self.state l.self.state (g.D.Dial.opened l.fn.dial) (g.D.Dial.opened l.dial);
-  begun : DialsItsOwn (g.D.Dial.begun l.fn.dial) (g.D.Dial.begun l.dial) l.fn.self.parts.want.transfer l.fn.self.state l.self.state;
-  turns : g.D.Dial.turn_failures l.dial ≡ g.D.Dial.turn_failures l.fn.dial;
+  counted : (g.D.Dial.shown l.dial).failures ≡ (g.D.Dial.shown l.fn.dial).failures;
+  opens : OpensFew l.fn.self.parts l.self.parts l.fn.self.state l.self.state (g.D.Dial.shown l.fn.dial).opened (g.D.Dial.shown l.dial).opened;
+  begun : BeginsItsOwn (g.D.Dial.shown l.fn.dial).begun (g.D.Dial.shown l.dial).begun l.fn.self.parts.want.transfer l.fn.self.state l.self.state;
+  turns : (g.D.Dial.shown l.dial).turn_failures ≡ (g.D.Dial.shown l.fn.dial).turn_failures;
   begins : (l.self.state ≡ l.fn.self.state) ⊎ IsSomeAnd l.self.state IsGoing;
   going : (l.counter ≡ 0) ⊎ IsSomeAnd l.self.state IsGoing;
   yielded : l.self.has_yielded ≡ false;

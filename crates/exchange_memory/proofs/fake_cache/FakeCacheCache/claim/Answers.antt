@@ -1,6 +1,6 @@
 use Rattle.std.proofs.Common.{rules, ◌≡◌, ◌∙◌}
-use Rattle.cache.specs.Deeds.{KeepsTicket, home_of}
-use Rattle.leasing.specs.Deeds.Deed.{keeps_waiting}
+use Rattle.cache.specs.PoolCalls.{KeepsTicket, home_of}
+use Rattle.cache_trait.specs.CacheCalls.CacheCall.{keeps_waiting}
 use Rattle.exchange_memory.specs.FakeCaches.{IsNoted}
 use Rattle.exchange_memory.proofs.StillHome.{still_waits, still_home}
 use Rattle.exchange_memory.proofs.fake_cache.FakeCacheCache.claim.Goals as goal

@@ -1,11 +1,13 @@
 -- A loop that ran at a new desk did what its end tells.
 use Rattle.std.proofs.Common.{rules, ◌≡◌, refl, sym, subst, ℕ, ◌<◌, List, [], None}
+use Rattle.exchange.specs.Dialling.{failed_turns}
 use Rattle.exchange.specs.Worlds.{world_of}
-use Rattle.leasing.specs.Deeds.{Deed}
+use Rattle.cache_trait.specs.CacheCalls.{CacheCall}
 use Rattle.desk.specs.Desks.{DeskShown}
-use Rattle.desk.specs.Deeds.{DidAtDesk}
+use Rattle.desk.specs.DeskCalls.{DidAtDesk}
 use Rattle.run_loop.specs.Going.{may_stop_at}
 use Rattle.run_loop.specs.Running.{IsRunning}
+use Rattle.run_loop.specs.Taking.{ends_of}
 use Rattle.run_loop.proofs.Going.{running_first}
 use Rattle.driver.specs.ManyJobs.{given_out}
 use Rattle.driver.proofs.ManyWork.{nothing_held}
@@ -17,14 +19,14 @@ returns g c =
     let world = world_of g.W.Wire.untouched g.W.Wire.happened (g.T.Clock.tells c.args.common.now.timer.now) in
     let may_stop = g.T.Timer.may_stop c.args.common.now.timer.now in
     let desk = c.new-desk.result in
-    let did = λ (old new : DeskShown g.row.W.Denot) (deed : Deed g.row.W.Denot). DidAtDesk {S = g.row.W.Denot} names old new deed in
+    let did = λ (old new : DeskShown g.row.W.Denot) (call : CacheCall g.row.W.Denot). DidAtDesk {S = g.row.W.Denot} names old new call in
     let jobs = c.new-jobs.result in
     let run = c.run-end in
     let job_of = g.S.JobSource.job_at jobs.source.now in
     let source : jobs.source.now ≡ c.args.common.now.source.now = search rules in
     let drew = run.new.jobs in
     let begins : given_out jobs.held jobs.seat.drawn ≡ [] = search rules in
-    let is = run.ensures.ends desk c.args.self.results (record {
+    let is = run.ensures.ends.ends desk c.args.self.results (record {
       told = [];
       taken = refl;
       running = subst (λ (drawn : List ℕ). IsRunning did world may_stop job_of desk desk drawn [] []) (sym begins) (running_first did world may_stop job_of desk);
@@ -35,8 +37,8 @@ returns g c =
       work = record {
         begun = c.args.self.results;
         ended = run.new.results;
-        failed = g.D.Dial.turn_failures c.args.self.dial;
-        failed_now = g.D.Dial.turn_failures run.new.dial;
+        failed = failed_turns g.D.Dial.shown c.args.self.dial;
+        failed_now = failed_turns g.D.Dial.shown run.new.dial;
         drawn = drew.seat.drawn;
         told = is.told;
         pass = c.into_pass.result;
@@ -50,8 +52,8 @@ returns g c =
         pass_is = search rules;
         of_cache = search rules;
         taken = is.taken;
-        running = subst (λ s. IsRunning did world (may_stop_at run.result may_stop) (g.S.JobSource.job_at s) desk run.new.cache drew.seat.drawn [] is.told) source
-            (subst (λ (l : List ℕ). IsRunning did world (may_stop_at run.result may_stop) job_of desk run.new.cache l [] is.told) drawn is.running);
+        running = subst (λ s. IsRunning did world (may_stop_at run.result may_stop) (g.S.JobSource.job_at s) desk run.new.cache drew.seat.drawn [] (ends_of is.told)) source
+            (subst (λ (l : List ℕ). IsRunning did world (may_stop_at run.result may_stop) job_of desk run.new.cache l [] (ends_of is.told)) drawn is.running);
         stopped = run.ensures.stopped;
         turns = run.ensures.turns;
       };

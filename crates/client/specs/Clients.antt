@@ -1,0 +1,7 @@
+-- What a client shows.
+use Rattle.cache.specs.Pools.{PoolShown}
+
+-- its connections, and the dial that opens them
+pub record ClientShown (W D : Type 0) : Type 0 where
+  pub pool : PoolShown W
+  pub dial : D
