@@ -2,51 +2,53 @@
 use Rattle.std.specs.Prelude.{◌≡◌, ℕ, ◌<◌, List, [], ◌∷◌, ◌++◌, Option, sum_by, Bool, true, false, nat_le, if◌then◌else◌}
 use Rattle.std.specs.List.{All}
 use Rattle.conn_key.specs.Wants.{Rises}
-use Rattle.leasing.specs.Deeds.{Deed}
+use Rattle.cache_trait.specs.CacheCalls.{CacheCall}
 use Rattle.exchange.specs.declared.job.Job.{Job}
 use Rattle.exchange.specs.declared.done.Done.{Done}
-use Rattle.exchange.specs.declared.transfer.Transfer.{Transfer}
+use Rattle.exchange.specs.Transfers.{TransferShown}
 use Rattle.exchange.specs.Worlds.{World}
 use Rattle.exchange.specs.Slabs.{transfers_in, one_if_some}
 use Rattle.run_loop.specs.declared.run_end.RunEnd.{RunEnd}
 use Rattle.run_loop.specs.declared.run_end.RunEnd.TheVariants.{Complete, Stopped, TurnFailed, BrokenOff}
 use Rattle.run_loop.specs.Running.{IsRunning}
-use Rattle.run_loop.specs.Taking.{AllTaken}
+use Rattle.run_loop.specs.Taking.{JobResult, AllTaken, TakesSome, ends_of}
+use Rattle.run_loop.specs.declared.results.Span.{Span}
 
 -- what a run goes by: what the cache did, what may be known of wires and clock, which jobs may be stopped, the job of each
 -- number, and how results are taken
 pub record Rules (C W R : Type 0) : Type 1 where
-  pub did : C → C → Deed W → Type 0
+  pub did : C → C → CacheCall W → Type 0
   pub world : World W
   pub may_stop : ℕ → Type 0
   pub job_at : ℕ → Job
-  pub took : R → R → ℕ → Done → Type 0
+  pub took : R → R → ℕ → Done → Span → Type 0
 
-abbrev pub rules_of : {C W R : Type 0} → (C → C → Deed W → Type 0) → World W → (ℕ → Type 0) → (ℕ → Job) → (R → R → ℕ → Done → Type 0) → Rules C W R
+abbrev pub rules_of : {C W R : Type 0} → (C → C → CacheCall W → Type 0) → World W → (ℕ → Type 0) → (ℕ → Job) → (R → R → ℕ → Done → Span → Type 0) → Rules C W R
 rules_of did world may_stop job_at took = record { did = did; world = world; may_stop = may_stop; job_at = job_at; took = took }
 
 -- how far a run is: its cache, the numbers that were drawn, the places of its slab, and what took its results
 pub record Point (C W R : Type 0) : Type 0 where
   pub cache : C
   pub drawn : List ℕ
-  pub slots : List (Option (Transfer W))
+  pub slots : List (Option (TransferShown W))
   pub results : R
 
-abbrev pub point : {C W R : Type 0} → C → List ℕ → List (Option (Transfer W)) → R → Point C W R
+abbrev pub point : {C W R : Type 0} → C → List ℕ → List (Option (TransferShown W)) → R → Point C W R
 point cache drawn slots results = record { cache = cache; drawn = drawn; slots = slots; results = results }
 
 -- a run that began at that cache, when nothing was drawn and no result was taken, is there now
 pub record IsRunFrom {C W R : Type 0} (rules : Rules C W R) (first : C) (begun : R) (now : Point C W R) : Type 0 where
-  pub told : List (ℕ × Done)
+  pub told : List JobResult
   pub taken : AllTaken rules.took begun now.results told
-  pub running : IsRunning rules.did rules.world rules.may_stop rules.job_at first now.cache now.drawn (transfers_in now.slots) told
+  pub running : IsRunning rules.did rules.world rules.may_stop rules.job_at first now.cache now.drawn (transfers_in now.slots) (ends_of told)
 
--- whatever was done before, the run goes on from there to there
-abbrev pub RunsOn : {C W R : Type 0} → Rules C W R → Point C W R → Point C W R → Type 0
-RunsOn {C} {R = R} rules before after = (first : C) (begun : R) → IsRunFrom rules first begun before → IsRunFrom rules first begun after
+-- from there to there a run takes results, and goes on, whatever was done before
+pub record RunsOn {C W R : Type 0} (rules : Rules C W R) (before after : Point C W R) : Type 0 where
+  pub takes : TakesSome rules.took before.results after.results
+  pub goes : (first : C) (begun : R) → IsRunFrom rules first begun before → IsRunFrom rules first begun after
 
 -- whatever was drawn before, all below that number: once it is drawn too, the run goes on
-abbrev pub RunsOnWith : {C W R : Type 0} → Rules C W R → ℕ → C → List (Option (Transfer W)) → R → List (Option (Transfer W)) → R → Type 0
+abbrev pub RunsOnWith : {C W R : Type 0} → Rules C W R → ℕ → C → List (Option (TransferShown W)) → R → List (Option (TransferShown W)) → R → Type 0
 RunsOnWith rules number cache slots results more told = (drawn : List ℕ) → All (λ n. n < number) drawn → RunsOn rules (point cache drawn slots results) (point cache (drawn ++ number ∷ []) more told)
 
 -- which jobs may be stopped at a run's end: all if a turn failed, or the run was broken off
@@ -58,9 +60,10 @@ may_stop_at _ may_stop number = may_stop number
 abbrev pub rules_at : {C W R : Type 0} → RunEnd → Rules C W R → Rules C W R
 rules_at end rules = record rules { may_stop = may_stop_at end rules.may_stop }
 
--- whatever was done before, the run ends so
-abbrev pub RunsToEnd : {C W R : Type 0} → RunEnd → Rules C W R → Point C W R → Point C W R → Type 0
-RunsToEnd {C} {R = R} end rules before after = (first : C) (begun : R) → IsRunFrom rules first begun before → IsRunFrom (rules_at end rules) first begun after
+-- from there to there a run takes results, and ends so, whatever was done before
+pub record RunsToEnd {C W R : Type 0} (end : RunEnd) (rules : Rules C W R) (before after : Point C W R) : Type 0 where
+  pub takes : TakesSome rules.took before.results after.results
+  pub ends : (first : C) (begun : R) → IsRunFrom rules first begun before → IsRunFrom (rules_at end rules) first begun after
 
 -- the count of failed turns rises if a turn failed, and only then
 abbrev pub TurnsAt : RunEnd → ℕ → ℕ → Type 0
@@ -101,6 +104,6 @@ IfStopped Stopped P = P
 IfStopped _ P = Unit {0}
 
 -- none is under way any more, or each may be stopped
-abbrev pub MayClose : {W : Type 0} → RunEnd → (ℕ → Type 0) → List (Option (Transfer W)) → Type 0
+abbrev pub MayClose : {W : Type 0} → RunEnd → (ℕ → Type 0) → List (Option (TransferShown W)) → Type 0
 MayClose Complete may_stop slots = sum_by one_if_some slots ≡ 0
 MayClose end may_stop slots = (number : ℕ) → may_stop_at end may_stop number

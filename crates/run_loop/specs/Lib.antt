@@ -1,4 +1,4 @@
-pub mod Deeds
+pub mod LoopCalls
 pub mod Endings
 pub mod Running
 pub mod Drawing

@@ -2,14 +2,14 @@
 use Rattle.std.specs.Prelude.{◌≡◌, ℕ, List, Option, Bool, true, false}
 use Rattle.exchange.specs.declared.job.Job.{Job}
 use Rattle.exchange.specs.declared.job.Prepared.{Prepared}
-use Rattle.exchange.specs.declared.transfer.Transfer.{Transfer}
+use Rattle.exchange.specs.Transfers.{TransferShown}
 use Rattle.exchange.specs.Answers.{IsPrepared}
 use Rattle.exchange.specs.Rounds.{Joins}
 use Rattle.run_loop.specs.declared.run_loop.Next.{Next}
 use Rattle.run_loop.specs.declared.run_loop.Next.TheVariants.{Never}
 
 -- a transfer of the job of that number joined
-pub record JoinsAs {W : Type 0} (job : Job) (number : ℕ) (slots more : List (Option (Transfer W))) : Type 0 where
+pub record JoinsAs {W : Type 0} (job : Job) (number : ℕ) (slots more : List (Option (TransferShown W))) : Type 0 where
   pub parts : Prepared
   pub prepared : IsPrepared job parts
   pub bears : parts.want.transfer ≡ number
@@ -17,7 +17,7 @@ pub record JoinsAs {W : Type 0} (job : Job) (number : ℕ) (slots more : List (O
   pub joins : Joins slots more parts place
 
 -- it did, or none joined
-abbrev pub JoinsIf : {W : Type 0} → Bool → Job → ℕ → List (Option (Transfer W)) → List (Option (Transfer W)) → Type 0
+abbrev pub JoinsIf : {W : Type 0} → Bool → Job → ℕ → List (Option (TransferShown W)) → List (Option (TransferShown W)) → Type 0
 JoinsIf true job number slots more = JoinsAs job number slots more
 JoinsIf false job number slots more = more ≡ slots
 

@@ -1,7 +1,10 @@
 //! When the jobs at the places of a loop began.
 
+ghost use Rattle.std.specs.Prelude.{◌≡◌, false};
+
 use crate::results::Span;
 use crate::timer::Timer;
+use exchange::{Phases, Reason};
 use std::alloc::{AllocError, Global};
 
 /// By place, the moment at which the last job began there, in microseconds.
@@ -34,20 +37,37 @@ impl Begins {
         self.moments.get(place).copied().unwrap_or(0)
     }
 
-    /// When the job at that place was under way, which has ended now.
-    pub(crate) fn span<T: Timer>(&self, place: usize, timer: &T) -> Span {
+    /// The span of the job at that place, which has ended now.
+    pub(crate) fn span<T: Timer>(
+        &self,
+        place: usize,
+        phases: Phases,
+        reason: Option<Reason>,
+        retried: bool,
+        timer: &T,
+    ) -> Span
+        ensures { result.retried ≡ retried }
+    {
         Span {
             began: self.began(place),
-            ended: timer.micros(),
+            ended: timer.micros().max(phases.last().unwrap_or(0)),
+            phases,
+            reason,
+            retried,
         }
     }
 }
 
 /// Of a job that ended as it began: now.
-pub(crate) fn no_span<T: Timer>(timer: &T) -> Span {
+pub(crate) fn no_span<T: Timer>(timer: &T) -> Span
+    ensures { result.retried ≡ false }
+{
     let now = timer.micros();
     Span {
         began: now,
         ended: now,
+        phases: Phases::default(),
+        reason: None,
+        retried: false,
     }
 }

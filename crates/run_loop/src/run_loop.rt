@@ -1,7 +1,7 @@
 //! The loop of a run over one cache: any number of jobs at once, each carried out by a transfer.
 
-ghost use Rattle.std.specs.Prelude.{◌≡◌, ◌≤◌, ◌<◌, ℕ, List, [], sum_by, IfOk};
-ghost use Rattle.exchange.specs.Dialling.{CountsTurn};
+ghost use Rattle.std.specs.Prelude.{◌≡◌, ◌≤◌, ◌<◌, ℕ, List, [], sum_by, IfOk, true};
+ghost use Rattle.exchange.specs.Dialling.{CountsTurn, failed_turns};
 ghost use Rattle.exchange.specs.Worlds.{world_of};
 ghost use Rattle.exchange.specs.Slabs.{AreKept, one_if_some};
 ghost use Rattle.run_loop.specs.Going.{rules_of, rules_at, point, RunsOn, RunsOnWith, RunsToEnd};
@@ -15,9 +15,9 @@ use crate::results::Results;
 use crate::run_end::RunEnd;
 use crate::spares::Spares;
 use crate::timer::Timer;
+use cache_trait::Cache;
 use exchange::{Dial, Done, Ended, Fault, Slab, Turned, Wire};
 use futures::task::{Context, Poll, Solo};
-use leasing::Cache;
 use std::alloc::{AllocError, Global};
 use std::sync::Wait;
 use std::time::Duration;
@@ -53,7 +53,7 @@ pub struct RunLoop<W: Wire> {
     late: LateGrants,
     // How many rounds there were since the last turn of the dial, beside the first one.
     rounds: u32,
-    ghost few: { sum_by one_if_some slab.slots.items ≤ places },
+    ghost few: { sum_by one_if_some slab.slots ≤ places },
 }
 
 // Polls what is due in a slab, in one round; each job that has ended has its result.
@@ -69,21 +69,28 @@ fn poll_round<W: Wire, C: Cache<W>, D: Dial<W>, J: Jobs, R: Results, T: Timer>(
     timer: &T,
 )
     requires kept { AreKept (world_of W.untouched W.happened (T.tells timer.now))
-        (C.home cache.old) slab.old.slots.items }
+        (C.home cache.old) slab.old.slots }
     ensures stays { C.home cache.new ≡ C.home cache.old }
     ensures kept { AreKept (world_of W.untouched W.happened (T.tells timer.now))
-        (C.home cache.new) slab.new.slots.items }
+        (C.home cache.new) slab.new.slots }
     ensures goes { RunsOn (rules_of C.did (world_of W.untouched W.happened (T.tells timer.now))
         (T.may_stop timer.now) (J.job_at _jobs.now) R.took)
-        (point cache.old (J.drawn _jobs.now) slab.old.slots.items results.old)
-        (point cache.new (J.drawn _jobs.now) slab.new.slots.items results.new) }
-    ensures fewer { sum_by one_if_some slab.new.slots.items
-        ≤ sum_by one_if_some slab.old.slots.items }
-    ensures turns { D.turn_failures dial.new ≡ D.turn_failures dial.old }
+        (point cache.old (J.drawn _jobs.now) slab.old.slots results.old)
+        (point cache.new (J.drawn _jobs.now) slab.new.slots results.new) }
+    ensures fewer { sum_by one_if_some slab.new.slots
+        ≤ sum_by one_if_some slab.old.slots }
+    ensures turns { failed_turns D.shown dial.new ≡ failed_turns D.shown dial.old }
 {
     while let Some(ended) = slab.poll_next(context, cache, dial, timer) {
-        let Ended { place, done, parts } = ended;
-        results.take(parts.transfer(), done, begins.span(place, timer));
+        let Ended {
+            place,
+            done,
+            parts,
+            phases,
+            reason,
+        } = ended;
+        let span = begins.span(place, phases, reason, parts.retried(), timer);
+        results.take(parts.transfer(), done, span);
         spares.keep(Some(parts));
     }
 }
@@ -95,7 +102,7 @@ impl<W: Wire> RunLoop<W> {
     ///
     /// There is no memory for the places.
     pub fn new(alloc: Global, places: usize, task: Solo) -> Result<RunLoop<W>, AllocError>
-        ensures { IfOk result (λ made. made.slab.slots.items ≡ []) }
+        ensures { IfOk result (λ made. made.slab.slots ≡ []) }
     {
         let spares = Spares::new(alloc, places)?;
         let begins = Begins::new(alloc, places)?;
@@ -126,7 +133,7 @@ impl<W: Wire> RunLoop<W> {
         results: &mut R,
         timer: &T,
     ) -> RunEnd
-        requires { self.slab.slots.items ≡ [] }
+        requires { self.slab.slots ≡ [] }
         ensures stays { C.home cache.new ≡ C.home cache.old }
         ensures ends { RunsToEnd result (rules_of C.did (world_of W.untouched W.happened (T.tells
             timer.now)) (T.may_stop timer.now) (J.job_at jobs.old) R.took)
@@ -136,10 +143,41 @@ impl<W: Wire> RunLoop<W> {
         ensures complete { IfComplete result (J.is_over jobs.new) }
         ensures stopped { IfStopped result ((number : ℕ) → T.may_stop timer.now number) }
         ensures incomplete { IfIncomplete result (J.holds_none jobs.new) }
-        ensures turns { TurnsAt result (D.turn_failures dial.old) (D.turn_failures dial.new) }
+        ensures turns { TurnsAt result (failed_turns D.shown dial.old)
+            (failed_turns D.shown dial.new) }
+    {
+        self.finish(rt, cache, dial, jobs, results, timer)
+    }
+
+    /// Carries on with what is under way, and with the jobs that it draws, as `run` does, and ends
+    /// the loop.
+    ///
+    /// Asked of the caller: each transfer in it stands as the wires and the clock tell.
+    pub fn finish<C: Cache<W>, D: Dial<W>, J: Jobs, R: Results, T: Timer, H: Wait>(
+        self,
+        rt: &H,
+        cache: &mut C,
+        dial: &mut D,
+        jobs: &mut J,
+        results: &mut R,
+        timer: &T,
+    ) -> RunEnd
+        requires kept { AreKept (world_of W.untouched W.happened (T.tells timer.now))
+            (C.home cache.old) self.slab.slots }
+        ensures stays { C.home cache.new ≡ C.home cache.old }
+        ensures ends { RunsToEnd result (rules_of C.did (world_of W.untouched W.happened (T.tells
+            timer.now)) (T.may_stop timer.now) (J.job_at jobs.old) R.took)
+            (point cache.old (J.drawn jobs.old) self.slab.slots results.old)
+            (point cache.new (J.drawn jobs.new) [] results.new) }
+        ensures fixed { J.kept jobs.new ≡ J.kept jobs.old }
+        ensures complete { IfComplete result (J.is_over jobs.new) }
+        ensures stopped { IfStopped result ((number : ℕ) → T.may_stop timer.now number) }
+        ensures incomplete { IfIncomplete result (J.holds_none jobs.new) }
+        ensures turns { TurnsAt result (failed_turns D.shown dial.old)
+            (failed_turns D.shown dial.new) }
     {
         let mut run = self;
-        let end = run.go_on(rt, cache, dial, jobs, results, timer);
+        let end = run.run_on(true, rt, cache, dial, jobs, results, timer);
         run.drop_early(end, cache, jobs, results, timer);
         run.close_all(end, cache, dial, jobs, results, timer);
         let _ = timer.ring(run.heard);
@@ -150,7 +188,7 @@ impl<W: Wire> RunLoop<W> {
 
     /// Ends a loop in which no job is under way.
     pub fn destroy_empty(self)
-        requires { self.slab.slots.items ≡ [] }
+        requires { self.slab.slots ≡ [] }
     {
         let RunLoop {
             slab,
@@ -166,9 +204,14 @@ impl<W: Wire> RunLoop<W> {
         slab.destroy_empty();
     }
 
-    // Carries out jobs until the run ends.
-    fn go_on<C: Cache<W>, D: Dial<W>, J: Jobs, R: Results, T: Timer, H: Wait>(
+    /// Carries on with what is under way, and with the jobs that it draws, until no job is left, or
+    /// the timer or a fault ends the run; `to_end` waits until nothing is under way either. What is
+    /// under way stays so: another call carries on with it, beside other jobs if need be.
+    ///
+    /// Asked of the caller: each transfer in it stands as the wires and the clock tell.
+    pub fn run_on<C: Cache<W>, D: Dial<W>, J: Jobs, R: Results, T: Timer, H: Wait>(
         &mut self,
+        to_end: bool,
         rt: &H,
         cache: &mut C,
         dial: &mut D,
@@ -177,20 +220,22 @@ impl<W: Wire> RunLoop<W> {
         timer: &T,
     ) -> RunEnd
         requires kept { AreKept (world_of W.untouched W.happened (T.tells timer.now))
-            (C.home cache.old) self.old.slab.slots.items }
+            (C.home cache.old) self.old.slab.slots }
         ensures stays { C.home cache.new ≡ C.home cache.old }
         ensures kept { AreKept (world_of W.untouched W.happened (T.tells timer.now))
-            (C.home cache.new) self.new.slab.slots.items }
+            (C.home cache.new) self.new.slab.slots }
         ensures goes { RunsOn (rules_of C.did (world_of W.untouched W.happened (T.tells
             timer.now)) (T.may_stop timer.now) (J.job_at jobs.old) R.took)
-            (point cache.old (J.drawn jobs.old) self.old.slab.slots.items results.old)
-            (point cache.new (J.drawn jobs.new) self.new.slab.slots.items results.new) }
+            (point cache.old (J.drawn jobs.old) self.old.slab.slots results.old)
+            (point cache.new (J.drawn jobs.new) self.new.slab.slots results.new) }
         ensures jobs { J.job_at jobs.new ≡ J.job_at jobs.old }
         ensures fixed { J.kept jobs.new ≡ J.kept jobs.old }
         ensures complete { IfComplete result (J.is_over jobs.new) }
-        ensures empty { IfComplete result (sum_by one_if_some self.new.slab.slots.items ≡ 0) }
+        ensures empty { to_end ≡ true → IfComplete result
+            (sum_by one_if_some self.new.slab.slots ≡ 0) }
         ensures stopped { IfStopped result ((number : ℕ) → T.may_stop timer.now number) }
-        ensures turns { TurnsAt result (D.turn_failures dial.old) (D.turn_failures dial.new) }
+        ensures turns { TurnsAt result (failed_turns D.shown dial.old)
+            (failed_turns D.shown dial.new) }
     {
         for _ in rt.forever() {
             if timer.is_over() {
@@ -201,7 +246,7 @@ impl<W: Wire> RunLoop<W> {
             }
             let next = self.take_round(cache, dial, jobs, results, timer);
             if let Next::Never = next {
-                if self.slab.is_empty() {
+                if self.may_end(to_end) {
                     return RunEnd::Complete;
                 }
             }
@@ -210,6 +255,13 @@ impl<W: Wire> RunLoop<W> {
             }
         }
         unreachable!()
+    }
+
+    // Whether a run that has no job left may end: if need be, once nothing is under way.
+    fn may_end(&self, to_end: bool) -> bool
+        ensures { result ≡ true → to_end ≡ true → sum_by one_if_some self.now.slab.slots ≡ 0 }
+    {
+        !to_end || self.slab.is_empty()
     }
 
     // A round: stops jobs that are to be stopped, draws jobs and begins them, and polls what is
@@ -223,18 +275,18 @@ impl<W: Wire> RunLoop<W> {
         timer: &T,
     ) -> Next
         requires kept { AreKept (world_of W.untouched W.happened (T.tells timer.now))
-            (C.home cache.old) self.old.slab.slots.items }
+            (C.home cache.old) self.old.slab.slots }
         ensures stays { C.home cache.new ≡ C.home cache.old }
         ensures kept { AreKept (world_of W.untouched W.happened (T.tells timer.now))
-            (C.home cache.new) self.new.slab.slots.items }
+            (C.home cache.new) self.new.slab.slots }
         ensures goes { RunsOn (rules_of C.did (world_of W.untouched W.happened (T.tells
             timer.now)) (T.may_stop timer.now) (J.job_at jobs.old) R.took)
-            (point cache.old (J.drawn jobs.old) self.old.slab.slots.items results.old)
-            (point cache.new (J.drawn jobs.new) self.new.slab.slots.items results.new) }
+            (point cache.old (J.drawn jobs.old) self.old.slab.slots results.old)
+            (point cache.new (J.drawn jobs.new) self.new.slab.slots results.new) }
         ensures jobs { J.job_at jobs.new ≡ J.job_at jobs.old }
         ensures fixed { J.kept jobs.new ≡ J.kept jobs.old }
         ensures over { IfNever result (J.is_over jobs.new) }
-        ensures turns { D.turn_failures dial.new ≡ D.turn_failures dial.old }
+        ensures turns { failed_turns D.shown dial.new ≡ failed_turns D.shown dial.old }
     {
         self.sweep(cache, dial, jobs, results, timer);
         let next = self.fill(cache, jobs, results, timer);
@@ -251,13 +303,13 @@ impl<W: Wire> RunLoop<W> {
         timer: &T,
     ) -> Next
         requires kept { AreKept (world_of W.untouched W.happened (T.tells timer.now))
-            (C.home cache.now) self.old.slab.slots.items }
+            (C.home cache.now) self.old.slab.slots }
         ensures kept { AreKept (world_of W.untouched W.happened (T.tells timer.now))
-            (C.home cache.now) self.new.slab.slots.items }
+            (C.home cache.now) self.new.slab.slots }
         ensures goes { RunsOn (rules_of C.did (world_of W.untouched W.happened (T.tells
             timer.now)) (T.may_stop timer.now) (J.job_at jobs.old) R.took)
-            (point cache.now (J.drawn jobs.old) self.old.slab.slots.items results.old)
-            (point cache.now (J.drawn jobs.new) self.new.slab.slots.items results.new) }
+            (point cache.now (J.drawn jobs.old) self.old.slab.slots results.old)
+            (point cache.now (J.drawn jobs.new) self.new.slab.slots results.new) }
         ensures jobs { J.job_at jobs.new ≡ J.job_at jobs.old }
         ensures fixed { J.kept jobs.new ≡ J.kept jobs.old }
         ensures over { IfNever result (J.is_over jobs.new) }
@@ -285,13 +337,13 @@ impl<W: Wire> RunLoop<W> {
         timer: &T,
     )
         requires kept { AreKept (world_of W.untouched W.happened (T.tells timer.now))
-            (C.home cache.now) self.old.slab.slots.items }
-        requires free { sum_by one_if_some self.old.slab.slots.items < self.old.places }
+            (C.home cache.now) self.old.slab.slots }
+        requires free { sum_by one_if_some self.old.slab.slots < self.old.places }
         ensures kept { AreKept (world_of W.untouched W.happened (T.tells timer.now))
-            (C.home cache.now) self.new.slab.slots.items }
+            (C.home cache.now) self.new.slab.slots }
         ensures goes { RunsOnWith (rules_of C.did (world_of W.untouched W.happened (T.tells
             timer.now)) (T.may_stop timer.now) (J.job_at jobs.now) R.took) number cache.now
-            self.old.slab.slots.items results.old self.new.slab.slots.items results.new }
+            self.old.slab.slots results.old self.new.slab.slots results.new }
         ensures places { self.new.places ≡ self.old.places }
     {
         if self.joins(number, cache, jobs, timer) {
@@ -309,12 +361,12 @@ impl<W: Wire> RunLoop<W> {
         timer: &T,
     ) -> bool
         requires kept { AreKept (world_of W.untouched W.happened (T.tells timer.now))
-            (C.home cache.now) self.old.slab.slots.items }
-        requires free { sum_by one_if_some self.old.slab.slots.items < self.old.places }
+            (C.home cache.now) self.old.slab.slots }
+        requires free { sum_by one_if_some self.old.slab.slots < self.old.places }
         ensures kept { AreKept (world_of W.untouched W.happened (T.tells timer.now))
-            (C.home cache.now) self.new.slab.slots.items }
+            (C.home cache.now) self.new.slab.slots }
         ensures joins { JoinsIf result (J.job_at jobs.now number) number
-            self.old.slab.slots.items self.new.slab.slots.items }
+            self.old.slab.slots self.new.slab.slots }
         ensures places { self.new.places ≡ self.old.places }
     {
         let parts = match jobs.prepare(number, self.spares.take()) {
@@ -348,15 +400,15 @@ impl<W: Wire> RunLoop<W> {
         timer: &T,
     )
         requires kept { AreKept (world_of W.untouched W.happened (T.tells timer.now))
-            (C.home cache.old) self.old.slab.slots.items }
+            (C.home cache.old) self.old.slab.slots }
         ensures stays { C.home cache.new ≡ C.home cache.old }
         ensures kept { AreKept (world_of W.untouched W.happened (T.tells timer.now))
-            (C.home cache.new) self.new.slab.slots.items }
+            (C.home cache.new) self.new.slab.slots }
         ensures goes { RunsOn (rules_of C.did (world_of W.untouched W.happened (T.tells
             timer.now)) (T.may_stop timer.now) (J.job_at _jobs.now) R.took)
-            (point cache.old (J.drawn _jobs.now) self.old.slab.slots.items results.old)
-            (point cache.new (J.drawn _jobs.now) self.new.slab.slots.items results.new) }
-        ensures turns { D.turn_failures dial.new ≡ D.turn_failures dial.old }
+            (point cache.old (J.drawn _jobs.now) self.old.slab.slots results.old)
+            (point cache.new (J.drawn _jobs.now) self.new.slab.slots results.new) }
+        ensures turns { failed_turns D.shown dial.new ≡ failed_turns D.shown dial.old }
     {
         let now = timer.micros();
         if now.saturating_sub(self.swept) < SWEEP_MICROS {
@@ -385,15 +437,15 @@ impl<W: Wire> RunLoop<W> {
         timer: &T,
     )
         requires kept { AreKept (world_of W.untouched W.happened (T.tells timer.now))
-            (C.home cache.old) self.old.slab.slots.items }
+            (C.home cache.old) self.old.slab.slots }
         ensures stays { C.home cache.new ≡ C.home cache.old }
         ensures kept { AreKept (world_of W.untouched W.happened (T.tells timer.now))
-            (C.home cache.new) self.new.slab.slots.items }
+            (C.home cache.new) self.new.slab.slots }
         ensures goes { RunsOn (rules_of C.did (world_of W.untouched W.happened (T.tells
             timer.now)) (T.may_stop timer.now) (J.job_at _jobs.now) R.took)
-            (point cache.old (J.drawn _jobs.now) self.old.slab.slots.items results.old)
-            (point cache.new (J.drawn _jobs.now) self.new.slab.slots.items results.new) }
-        ensures turns { D.turn_failures dial.new ≡ D.turn_failures dial.old }
+            (point cache.old (J.drawn _jobs.now) self.old.slab.slots results.old)
+            (point cache.new (J.drawn _jobs.now) self.new.slab.slots results.new) }
+        ensures turns { failed_turns D.shown dial.new ≡ failed_turns D.shown dial.old }
     {
         let Some(number) = self.slab.transfer_at(place) else {
             return;
@@ -401,10 +453,12 @@ impl<W: Wire> RunLoop<W> {
         if !timer.stops(number, self.begins.began(place)) {
             return;
         }
+        let phases = self.slab.phases_at(place);
         let Some((done, used)) = self.slab.close_at(place, cache, dial, timer) else {
             return;
         };
-        results.take(used.transfer(), done, self.begins.span(place, timer));
+        let span = self.begins.span(place, phases, None, used.retried(), timer);
+        results.take(used.transfer(), done, span);
         self.spares.keep(Some(used));
     }
 
@@ -418,15 +472,15 @@ impl<W: Wire> RunLoop<W> {
         timer: &T,
     )
         requires kept { AreKept (world_of W.untouched W.happened (T.tells timer.now))
-            (C.home cache.old) self.old.slab.slots.items }
+            (C.home cache.old) self.old.slab.slots }
         ensures stays { C.home cache.new ≡ C.home cache.old }
         ensures kept { AreKept (world_of W.untouched W.happened (T.tells timer.now))
-            (C.home cache.new) self.new.slab.slots.items }
+            (C.home cache.new) self.new.slab.slots }
         ensures goes { RunsOn (rules_of C.did (world_of W.untouched W.happened (T.tells
             timer.now)) (T.may_stop timer.now) (J.job_at _jobs.now) R.took)
-            (point cache.old (J.drawn _jobs.now) self.old.slab.slots.items results.old)
-            (point cache.new (J.drawn _jobs.now) self.new.slab.slots.items results.new) }
-        ensures turns { D.turn_failures dial.new ≡ D.turn_failures dial.old }
+            (point cache.old (J.drawn _jobs.now) self.old.slab.slots results.old)
+            (point cache.new (J.drawn _jobs.now) self.new.slab.slots results.new) }
+        ensures turns { failed_turns D.shown dial.new ≡ failed_turns D.shown dial.old }
     {
         let mut context = self.task.begin();
         poll_round(
@@ -448,7 +502,8 @@ impl<W: Wire> RunLoop<W> {
 
     // Waits, if nothing can be done at once, or eight rounds were taken since the last turn.
     fn rest<D: Dial<W>, T: Timer>(&mut self, dial: &mut D, timer: &T, next: Next) -> Turned
-        ensures turns { CountsTurn result (D.turn_failures dial.old) (D.turn_failures dial.new) }
+        ensures turns { CountsTurn result (failed_turns D.shown dial.old)
+            (failed_turns D.shown dial.new) }
         ensures slots { self.new.slab.slots ≡ self.old.slab.slots }
     {
         self.tell_spent(timer);
@@ -480,7 +535,8 @@ impl<W: Wire> RunLoop<W> {
     // Waits for what may bring a transfer on, or until the next job is due, by a turn of the dial.
     // It looks whether the bell rang once the bell can end the turn: so no ring is missed.
     fn wait<D: Dial<W>, T: Timer>(&mut self, dial: &mut D, timer: &T, next: Next) -> Turned
-        ensures turns { CountsTurn result (D.turn_failures dial.old) (D.turn_failures dial.new) }
+        ensures turns { CountsTurn result (failed_turns D.shown dial.old)
+            (failed_turns D.shown dial.new) }
         ensures slots { self.new.slab.slots ≡ self.old.slab.slots }
     {
         let most = self.most_wait(timer, next);
@@ -528,11 +584,11 @@ impl<W: Wire> RunLoop<W> {
         results: &mut R,
         _timer: &T,
     )
-        requires may { MayClose end (T.may_stop _timer.now) self.now.slab.slots.items }
+        requires may { MayClose end (T.may_stop _timer.now) self.now.slab.slots }
         ensures goes { RunsOn (rules_at end (rules_of C.did (world_of W.untouched W.happened
             (T.tells _timer.now)) (T.may_stop _timer.now) (J.job_at jobs.old) R.took))
-            (point _cache.now (J.drawn jobs.old) self.now.slab.slots.items results.old)
-            (point _cache.now (J.drawn jobs.new) self.now.slab.slots.items results.new) }
+            (point _cache.now (J.drawn jobs.old) self.now.slab.slots results.old)
+            (point _cache.now (J.drawn jobs.new) self.now.slab.slots results.new) }
         ensures jobs { J.job_at jobs.new ≡ J.job_at jobs.old }
         ensures fixed { J.kept jobs.new ≡ J.kept jobs.old }
         ensures complete { IfComplete end (jobs.new ≡ jobs.old) }
@@ -558,20 +614,23 @@ impl<W: Wire> RunLoop<W> {
         timer: &T,
     )
         requires kept { AreKept (world_of W.untouched W.happened (T.tells timer.now))
-            (C.home cache.old) self.old.slab.slots.items }
-        requires may { MayClose end (T.may_stop timer.now) self.old.slab.slots.items }
+            (C.home cache.old) self.old.slab.slots }
+        requires may { MayClose end (T.may_stop timer.now) self.old.slab.slots }
         ensures stays { C.home cache.new ≡ C.home cache.old }
         ensures goes { RunsOn (rules_at end (rules_of C.did (world_of W.untouched W.happened
             (T.tells timer.now)) (T.may_stop timer.now) (J.job_at _jobs.now) R.took))
-            (point cache.old (J.drawn _jobs.now) self.old.slab.slots.items results.old)
-            (point cache.new (J.drawn _jobs.now) self.new.slab.slots.items results.new) }
-        ensures none { self.new.slab.slots.items ≡ [] }
-        ensures turns { D.turn_failures dial.new ≡ D.turn_failures dial.old }
+            (point cache.old (J.drawn _jobs.now) self.old.slab.slots results.old)
+            (point cache.new (J.drawn _jobs.now) self.new.slab.slots results.new) }
+        ensures none { self.new.slab.slots ≡ [] }
+        ensures turns { failed_turns D.shown dial.new ≡ failed_turns D.shown dial.old }
     {
+        let mut phases = self.slab.last_phases();
         while let Some((done, used)) = self.slab.close_last(cache, dial, timer) {
             // it stood behind all places that are left
-            let span = self.begins.span(self.slab.places(), timer);
+            let place = self.slab.places();
+            let span = self.begins.span(place, phases, None, used.retried(), timer);
             results.take(used.transfer(), done, span);
+            phases = self.slab.last_phases();
         }
     }
 }

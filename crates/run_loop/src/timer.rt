@@ -12,9 +12,6 @@ pub trait Timer: Clock {
     /// The job of that number may be stopped.
     ghost may_stop: { Self → ℕ → Type 0 };
 
-    /// The microseconds since some moment that stays the same.
-    fn micros(&self) -> u64;
-
     /// Whether the job of that number, which began at that moment, is to be stopped now: it is over
     /// its limit of time, or nobody wants it any more.
     fn stops(&self, number: u64, began: u64) -> bool

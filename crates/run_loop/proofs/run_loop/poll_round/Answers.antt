@@ -1,6 +1,6 @@
 -- What has ended has its result, one after another.
 use Rattle.std.proofs.Common.{rules, subst, ℕ}
-use Rattle.exchange.specs.Worlds.{world_of, dials_of}
+use Rattle.exchange.specs.Worlds.{world_of}
 use Rattle.run_loop.specs.Going.{rules_of, point}
 use Rattle.run_loop.proofs.RunningOn.{runs_same, runs_then, runs_round, runs_round_ends}
 use Rattle.run_loop.proofs.run_loop.poll_round.Goals as goal
@@ -11,7 +11,7 @@ loop-ended-init g c =
     record {
       stays = search rules;
       kept = search rules;
-      goes = runs_same rules_ (point c.args.cache.now (g.J.Jobs.drawn c.args._jobs.now) c.args.slab.now.slots.items c.args.results.now);
+      goes = runs_same rules_ (point c.args.cache.now (g.J.Jobs.drawn c.args._jobs.now) c.args.slab.now.slots c.args.results.now);
       fewer = search rules;
       turns = search rules;
     }
@@ -19,16 +19,15 @@ loop-ended-init g c =
 pub loop-ended-preserved : goal.loop-ended-preserved
 loop-ended-preserved g c =
     let rules_ = rules_of g.C.Cache.did (world_of g.W.Wire.untouched g.W.Wire.happened (g.T.Clock.tells c.args.timer.now)) (g.T.Timer.may_stop c.args.timer.now) (g.J.Jobs.job_at c.args._jobs.now) g.R.Results.took in
-    let dials = dials_of g.D.Dial.begun g.D.Dial.opened g.D.Dial.failures in
     let drawn = g.J.Jobs.drawn c.args._jobs.now in
-    let slots = c.loop-ended.slab.slots.items in
-    let left = c.poll_next.new.self.slots.items in
-    let took = subst (λ (n : ℕ). g.R.Results.took c.loop-ended.results c.take.new.self n c.in-Some.ended.done) c.transfer.ensures c.take.ensures in
+    let slots = c.loop-ended.slab.slots in
+    let left = c.poll_next.new.self.slots in
+    let took = subst (λ (n : ℕ). g.R.Results.took c.loop-ended.results c.take.new.self n c.in-Some.ended.done c.span-span.result) c.transfer.ensures c.take.ensures in
     record {
       stays = search rules;
       kept = search rules;
-      goes = runs_then rules_ (point c.args.cache.now drawn c.args.slab.now.slots.items c.args.results.now) (point c.loop-ended.cache drawn slots c.loop-ended.results) (point c.poll_next.new.cache drawn left c.take.new.self) c.loop-ended.invariant.goes
-          (runs_round_ends rules_ dials c.loop-ended.cache c.poll_next.new.cache c.loop-ended.dial c.poll_next.new.dial drawn slots left c.loop-ended.results c.in-Some.ended c.take.new.self c.in-Some.ensures.polls took);
+      goes = runs_then rules_ (point c.args.cache.now drawn c.args.slab.now.slots c.args.results.now) (point c.loop-ended.cache drawn slots c.loop-ended.results) (point c.poll_next.new.cache drawn left c.take.new.self) c.loop-ended.invariant.goes
+          (runs_round_ends rules_ g.D.Dial.shown c.loop-ended.cache c.poll_next.new.cache c.loop-ended.dial c.poll_next.new.dial drawn slots left c.loop-ended.results c.in-Some.ended c.span-span.result c.take.new.self c.in-Some.ensures.polls took);
       fewer = search rules;
       turns = search rules;
     }
@@ -36,9 +35,8 @@ loop-ended-preserved g c =
 pub returns-clause-goes : goal.returns-clause-goes
 returns-clause-goes g c =
     let rules_ = rules_of g.C.Cache.did (world_of g.W.Wire.untouched g.W.Wire.happened (g.T.Clock.tells c.args.timer.now)) (g.T.Timer.may_stop c.args.timer.now) (g.J.Jobs.job_at c.args._jobs.now) g.R.Results.took in
-    let dials = dials_of g.D.Dial.begun g.D.Dial.opened g.D.Dial.failures in
     let drawn = g.J.Jobs.drawn c.args._jobs.now in
-    let slots = c.loop-ended.slab.slots.items in
-    let left = c.poll_next.new.self.slots.items in
-    runs_then rules_ (point c.args.cache.now drawn c.args.slab.now.slots.items c.args.results.now) (point c.loop-ended.cache drawn slots c.loop-ended.results) (point c.poll_next.new.cache drawn left c.loop-ended.results) c.loop-ended.invariant.goes
-    (runs_round rules_ dials c.loop-ended.cache c.poll_next.new.cache c.loop-ended.dial c.poll_next.new.dial drawn slots left c.loop-ended.results (rw c.in_default.is at c.poll_next.ensures.polls))
+    let slots = c.loop-ended.slab.slots in
+    let left = c.poll_next.new.self.slots in
+    runs_then rules_ (point c.args.cache.now drawn c.args.slab.now.slots c.args.results.now) (point c.loop-ended.cache drawn slots c.loop-ended.results) (point c.poll_next.new.cache drawn left c.loop-ended.results) c.loop-ended.invariant.goes
+    (runs_round rules_ g.D.Dial.shown c.loop-ended.cache c.poll_next.new.cache c.loop-ended.dial c.poll_next.new.dial drawn slots left c.loop-ended.results (rw c.in_default.is at c.poll_next.ensures.polls))

@@ -10,7 +10,7 @@ use Rattle.run_loop.proofs.run_loop.RunLoop.drop_early.Goals as goal
 
 pub returns-then-is_complete-clause-goes : goal.returns-then-is_complete-clause-goes
 returns-then-is_complete-clause-goes g c =
-    runs_same (rules_at c.args.end (rules_of g.C.Cache.did (world_of g.W.Wire.untouched g.W.Wire.happened (g.T.Clock.tells c.args._timer.now)) (g.T.Timer.may_stop c.args._timer.now) (g.J.Jobs.job_at c.args.jobs.now) g.R.Results.took)) (point c.args._cache.now (g.J.Jobs.drawn c.args.jobs.now) c.args.self.now.slab.slots.items c.args.results.now)
+    runs_same (rules_at c.args.end (rules_of g.C.Cache.did (world_of g.W.Wire.untouched g.W.Wire.happened (g.T.Clock.tells c.args._timer.now)) (g.T.Timer.may_stop c.args._timer.now) (g.J.Jobs.job_at c.args.jobs.now) g.R.Results.took)) (point c.args._cache.now (g.J.Jobs.drawn c.args.jobs.now) c.args.self.now.slab.slots c.args.results.now)
 
 pub returns-in_default-clause-goes : goal.returns-in_default-clause-goes
 returns-in_default-clause-goes g c =
@@ -18,7 +18,7 @@ returns-in_default-clause-goes g c =
     let was = g.J.Jobs.drawn c.args.jobs.now in
     let is = g.J.Jobs.drawn c.draw_early.new.self in
     let draws : is ≡ was = rw c.in_default.is at c.draw_early.ensures.draws in
-    runs_undrawn rules_ c.args._cache.now c.args.self.now.slab.slots.items c.args.results.now was is draws
+    runs_undrawn rules_ c.args._cache.now c.args.self.now.slab.slots c.args.results.now was is draws
 
 pub returns-clause-goes : goal.returns-clause-goes
 returns-clause-goes g c =
@@ -26,9 +26,9 @@ returns-clause-goes g c =
     let was = g.J.Jobs.drawn c.args.jobs.now in
     let is = g.J.Jobs.drawn c.draw_early.new.self in
     let number = c.in-Some.number in
-    let slots = c.args.self.now.slab.slots.items in
+    let slots = c.args.self.now.slab.slots in
     let draws : DrawsNumber (Some number) was is = rw c.in-Some.is at c.draw_early.ensures.draws in
     let incomplete : is_complete c.args.end ≡ false = search rules in
     let may = may_close_now (g.T.Timer.may_stop c.args._timer.now) slots c.args.end incomplete c.requires.may number in
     runs_with rules_ number c.args._cache.now slots slots c.args.results.now c.take.new.self was is
-    (begins_without rules_ number c.args._cache.now slots c.args.results.now c.take.new.self (Bad Cancelled) (may, inl refl) c.take.ensures) draws.0 draws.1
+    (begins_without rules_ number c.args._cache.now slots c.args.results.now c.take.new.self (Bad Cancelled) c.no_span.result (may, inl refl) c.take.ensures) draws.0 draws.1

@@ -1,34 +1,23 @@
--- The run goes on to its end, and what is left is closed.
-use Rattle.std.proofs.Common.{subst, List, [], Option}
-use Rattle.exchange.specs.declared.transfer.Transfer.{Transfer}
+-- A loop in which nothing is under way is run to its end.
+use Rattle.std.proofs.Common.{sym, subst, List, [], Option, IfSome}
+use Rattle.std.proofs.lemmas.List.Elements.{All-nil}
+use Rattle.exchange.specs.Transfers.{TransferShown}
 use Rattle.exchange.specs.Worlds.{world_of}
-use Rattle.run_loop.specs.Going.{rules_of, rules_at, point, RunsOn}
-use Rattle.run_loop.proofs.RunningOn.{runs_whole, may_close_from}
+use Rattle.exchange.specs.Slabs.{AreKept, IsKept}
+use Rattle.run_loop.specs.Going.{rules_of, point, RunsToEnd}
 use Rattle.run_loop.proofs.run_loop.RunLoop.run.Goals as goal
+
+pub finish-requires : goal.finish-requires
+finish-requires g c =
+    let world = world_of g.W.Wire.untouched g.W.Wire.happened (g.T.Clock.tells c.args.timer.now) in
+    let home = g.C.Cache.home c.args.cache.now in
+    record {
+      kept = subst (λ (slots : List (Option (TransferShown g.row.W.Denot))). AreKept world home slots) (sym c.requires) (All-nil (λ (slot : Option (TransferShown g.row.W.Denot)). IfSome slot (IsKept world home)));
+    }
 
 pub returns-clause-ends : goal.returns-clause-ends
 returns-clause-ends g c =
-    let did = g.C.Cache.did in
-    let took = g.R.Results.took in
-    let world = world_of g.W.Wire.untouched g.W.Wire.happened (g.T.Clock.tells c.args.timer.now) in
-    let may_stop = g.T.Timer.may_stop c.args.timer.now in
-    let job_at = g.J.Jobs.job_at in
+    let rules_ = rules_of g.C.Cache.did (world_of g.W.Wire.untouched g.W.Wire.happened (g.T.Clock.tells c.args.timer.now)) (g.T.Timer.may_stop c.args.timer.now) (g.J.Jobs.job_at c.args.jobs.now) g.R.Results.took in
     let drawn = g.J.Jobs.drawn in
-    let end = c.go_on-end.result in
-    let went = c.go_on-end.new in
-    let early = c.drop_early.new in
-    let closed = c.close_all.new in
-    let middle = point went.cache (drawn went.jobs) went.self.slab.slots.items went.results in
-    let goes = subst (λ (slots : List (Option (Transfer g.row.W.Denot))). RunsOn (rules_of did world may_stop (job_at c.args.jobs.now) took) (point c.args.cache.now (drawn c.args.jobs.now) slots c.args.results.now) middle) c.requires c.go_on-end.ensures.goes in
-    let ends = subst (λ (slots : List (Option (Transfer g.row.W.Denot))). RunsOn (rules_at end (rules_of did world may_stop (job_at early.jobs) took)) (point went.cache (drawn early.jobs) went.self.slab.slots.items early.results) (point closed.cache (drawn early.jobs) slots closed.results)) c.close_all.ensures.none c.close_all.ensures.goes in
-    runs_whole did world may_stop took end (job_at c.args.jobs.now) (job_at went.jobs) (job_at early.jobs) c.go_on-end.ensures.jobs c.drop_early.ensures.jobs
-    (point c.args.cache.now (drawn c.args.jobs.now) [] c.args.results.now) middle (point went.cache (drawn early.jobs) went.self.slab.slots.items early.results) (point closed.cache (drawn early.jobs) [] closed.results)
-    goes c.drop_early.ensures.goes ends
-
-pub drop_early-requires : goal.drop_early-requires
-drop_early-requires g c = record {
-  may = may_close_from (g.T.Timer.may_stop c.args.timer.now) c.go_on-end.new.self.slab.slots.items c.go_on-end.result c.go_on-end.ensures.empty c.go_on-end.ensures.stopped;
-}
-
-pub close_all-requires-clause-may : goal.close_all-requires-clause-may
-close_all-requires-clause-may g c = may_close_from (g.T.Timer.may_stop c.args.timer.now) c.go_on-end.new.self.slab.slots.items c.go_on-end.result c.go_on-end.ensures.empty c.go_on-end.ensures.stopped
+    let after = c.finish.new in
+    subst (λ (slots : List (Option (TransferShown g.row.W.Denot))). RunsToEnd c.finish.result rules_ (point c.args.cache.now (drawn c.args.jobs.now) slots c.args.results.now) (point after.cache (drawn after.jobs) [] after.results)) c.requires c.finish.ensures.ends

@@ -11,11 +11,11 @@ returns-clause-goes g c =
     let may_stop = g.T.Timer.may_stop c.args.timer.now in
     let job_at = g.J.Jobs.job_at in
     let drawn = g.J.Jobs.drawn in
-    let first = point c.args.cache.now (drawn c.args.jobs.now) c.args.self.now.slab.slots.items c.args.results.now in
-    let swept = point c.sweep.new.cache (drawn c.args.jobs.now) c.sweep.new.self.slab.slots.items c.sweep.new.results in
+    let first = point c.args.cache.now (drawn c.args.jobs.now) c.args.self.now.slab.slots c.args.results.now in
+    let swept = point c.sweep.new.cache (drawn c.args.jobs.now) c.sweep.new.self.slab.slots c.sweep.new.results in
     let filled = c.fill-next.new in
     let polled = c.poll_due.new in
-    let last = point polled.cache (drawn filled.jobs) polled.self.slab.slots.items polled.results in
+    let last = point polled.cache (drawn filled.jobs) polled.self.slab.slots polled.results in
     runs_then (rules_of did world may_stop (job_at c.args.jobs.now) g.R.Results.took) first swept last c.sweep.ensures.goes
     (runs_in_turn did world may_stop g.R.Results.took (job_at c.args.jobs.now) (job_at filled.jobs) c.fill-next.ensures.jobs
-    swept (point c.sweep.new.cache (drawn filled.jobs) filled.self.slab.slots.items filled.results) last c.fill-next.ensures.goes c.poll_due.ensures.goes)
+    swept (point c.sweep.new.cache (drawn filled.jobs) filled.self.slab.slots filled.results) last c.fill-next.ensures.goes c.poll_due.ensures.goes)
