@@ -1,5 +1,6 @@
+pub mod Dials
 pub mod Hosts
-pub mod Begun
+pub mod Pending
 pub mod Sockets
 pub mod Streams
 pub mod SystemAnswers

@@ -28,7 +28,7 @@ pub record IsUsed (old new : Connection) : Type 0 where
 pub record Fails (old new : Connection) : Type 0 where
   pub counted : Rises old.failures new.failures
   pub touched : new.condition ≢ Untouched
-  pub others : new ≡ record old { condition = new.condition; failures = new.failures }
+  pub others : new ≡ record old { condition = new.condition; failures = new.failures; reason = new.reason }
   pub stays_unfit : old.condition ≡ Unfit → new.condition ≡ Unfit
 
 -- another transfer is about to use it: it is looked at, and found fit or not; what is unfit stays so

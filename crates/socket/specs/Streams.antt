@@ -8,8 +8,8 @@ use Rattle.exchange.specs.Wires.Happening.{nothing, is_adopted, takes, gives, en
 use Rattle.socket.specs.declared.connection.Connection.{Connection}
 use Rattle.socket.specs.Sockets.{HappensTo}
 
--- from the one time to the other this happened: the bytes written, where they are known, grew by those that it takes and
--- no others, and those that are left to read, where they are known, shrank by those that it gives
+-- from the one time to the other this happened: the bytes written, if they are known, grew by those that it takes and
+-- no others, and those that are left to read, if they are known, shrank by those that it gives
 abbrev pub Carries : Option (List ℕ) → Option (List ℕ) → Option (List ℕ) → Option (List ℕ) → Happening → Type 0
 Carries written written' left left' nothing = Keeps written written' ⊎ Keeps left left'
 Carries written written' left left' is_adopted = Keeps written written' × Keeps left left'
@@ -23,7 +23,7 @@ Carries written written' left left' fails_to_write = Keeps written written'
 abbrev pub HappensOver : {S : Type 0} → (S → Option (List ℕ)) → (S → Option (List ℕ)) → Connection → Connection → S → S → Happening → Type 0
 HappensOver contents remaining old new before after happening = HappensTo old new happening × Carries (contents before) (contents after) (remaining before) (remaining after) happening
 
--- a write that found no room left the bytes written as they were, where they are known
+-- a write that found no room left the bytes written as they were, if they are known
 abbrev pub KeepsUnwritten : {S : Type 0} → (S → Option (List ℕ)) → S → S → Written → Type 0
 KeepsUnwritten contents before after NotWritable = Keeps (contents before) (contents after)
 KeepsUnwritten contents before after _ = Unit {0}

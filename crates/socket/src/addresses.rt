@@ -109,7 +109,7 @@ impl Addresses {
         self.hosts.is_empty()
     }
 
-    /// The addresses of that site, none where the site is not there.
+    /// The addresses of that site; none if the site is not there.
     pub(crate) fn of(&self, site: u32) -> &[SocketAddr]
         ensures { result.now ≡ addresses_at self.now.hosts.items site }
     {

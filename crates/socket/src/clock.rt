@@ -6,7 +6,8 @@ use exchange::Clock;
 use std::time::{Duration, Instant};
 use std::{io, time};
 
-/// The time since it was made; as a clock it tells whole seconds, 0 if the system tells no time.
+/// The time since it was made; as a clock it tells whole seconds and microseconds, 0 if the system
+/// tells no time.
 #[derive(Drop)]
 pub struct SystemClock<'c, C: time::Clock> {
     clock: &'c C,
@@ -58,6 +59,13 @@ impl<'c, C: time::Clock> Clock for SystemClock<'c, C> {
     fn now(&self) -> u64 {
         match self.elapsed() {
             Some(elapsed) => elapsed.as_secs(),
+            None => 0,
+        }
+    }
+
+    fn micros(&self) -> u64 {
+        match self.elapsed() {
+            Some(elapsed) => u64::try_from(elapsed.as_micros()).unwrap_or(u64::MAX),
             None => 0,
         }
     }

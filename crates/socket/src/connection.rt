@@ -16,7 +16,8 @@ ghost use Rattle.socket.specs.SystemAnswers.{
   NotesWrite,
 };
 
-use exchange::{Read, Written};
+use crate::reasons::reason_of;
+use exchange::{Read, Reason, Written};
 use libc::net::{POLLIN, POLLRDHUP, poll};
 use libc::types::pollfd;
 use std::io;
@@ -36,8 +37,8 @@ pub(crate) enum Condition {
 }
 
 /// What is known of a connection: to which site's host and to which address it was dialled, for
-/// which transfer, what has happened on it, and how often a read or a write failed, counted up to
-/// the greatest `u64`.
+/// which transfer, what has happened on it, how often a read or a write failed, counted up to the
+/// greatest `u64`, and why the last one of these failed, if the system said so.
 #[derive(Clone, Copy, Debug)]
 pub(crate) struct Connection {
     site: u32,
@@ -45,6 +46,7 @@ pub(crate) struct Connection {
     address: SocketAddr,
     condition: Condition,
     failures: u64,
+    reason: Option<Reason>,
 }
 
 impl Connection {
@@ -59,6 +61,7 @@ impl Connection {
             address,
             condition: Condition::Untouched,
             failures: 0,
+            reason: None,
         }
     }
 
@@ -81,6 +84,11 @@ impl Connection {
         self.condition != Condition::Unfit
     }
 
+    /// Why the last read or write that failed did, if the system said so.
+    pub(crate) fn reason(&self) -> Option<Reason> {
+        self.reason
+    }
+
     /// Reads from its stream into the buffer, which must have room.
     pub(crate) fn read<S: io::Read + io::Write>(
         &mut self,
@@ -93,7 +101,7 @@ impl Connection {
         ensures fault { OnReadFault result (Rises self.old.failures self.new.failures) }
     {
         if self.condition == Condition::Unfit {
-            self.fail();
+            self.fail(None);
             return Read::Fault;
         }
         let answered = stream.read(buffer);
@@ -109,7 +117,7 @@ impl Connection {
         ensures keeps { KeepsUnwritten S.contents stream.old stream.new result }
     {
         if self.condition == Condition::Unfit {
-            self.fail();
+            self.fail(None);
             return Written::Fault;
         }
         let answered = stream.write(bytes);
@@ -134,7 +142,7 @@ impl Connection {
                 if is_temporary(error.kind()) {
                     return Read::NotYet;
                 }
-                self.fail();
+                self.fail(reason_of(error.kind()));
                 Read::Fault
             }
         }
@@ -147,7 +155,7 @@ impl Connection {
     {
         match answered {
             Ok(0) => {
-                self.fail();
+                self.fail(None);
                 Written::Fault
             }
             Ok(count) => {
@@ -158,7 +166,7 @@ impl Connection {
                 if is_temporary(error.kind()) {
                     return Written::NotYet;
                 }
-                self.fail();
+                self.fail(reason_of(error.kind()));
                 Written::Fault
             }
         }
@@ -166,7 +174,7 @@ impl Connection {
 
     /// Another transfer is about to use it. If its socket was found readable, its peer said
     /// something that no request asked for, or has gone, and it is unfit for use from then on.
-    pub(crate) fn judge(&mut self, is_readable: bool)
+    pub(crate) fn check_idle(&mut self, is_readable: bool)
         ensures judged { Judges is_readable self.old self.new }
         ensures adopted { HappensTo self.old self.new is_adopted }
     {
@@ -177,11 +185,12 @@ impl Connection {
         }
     }
 
-    /// Counts a failure.
-    pub(crate) fn fail(&mut self)
+    /// Counts a failure, and keeps why, if the system said so.
+    pub(crate) fn fail(&mut self, reason: Option<Reason>)
         ensures { Fails self.old self.new }
     {
         self.failures = self.failures.saturating_add(1);
+        self.reason = reason;
         if self.condition == Condition::Untouched {
             self.condition = Condition::Used;
         }

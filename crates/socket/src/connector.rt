@@ -3,15 +3,16 @@
 ghost use Rattle.std.specs.Prelude.{◌≡◌, ◌≢◌, ℕ, List, Contains, IfOk};
 ghost use Rattle.std.specs.declared.net.socket_addr.SocketAddr.{SocketAddr};
 ghost use Rattle.exchange.specs.Dialling.{CountsBegun, CountsDial, CountsTurn, IfUp};
-ghost use Rattle.socket.specs.Begun.{IsBegun, IfNotYet, IfSocket};
+ghost use Rattle.socket.specs.Pending.{IsPending, IfNotYet, IfSocket};
 ghost use Rattle.socket.specs.Hosts.{addresses_at};
 ghost use Rattle.socket.specs.Sockets.{IsDialledTo};
 
 use crate::addresses::Addresses;
-use crate::begun::{Attempt, keep, take};
 use crate::counts::Counts;
 use crate::dialled_socket::{DialledSocket, Progress};
-use exchange::{Dialled, Turned};
+use crate::pending::{Attempt, keep, take};
+use crate::reasons::{reason_of, told_of};
+use exchange::{Dialled, Reason, Turned};
 use mio::{Events, Poll, Registry, Token};
 use std::alloc::Global;
 use std::collections::HashMap;
@@ -30,13 +31,15 @@ const MOST_EVENTS: usize = 256;
 #[derive(Drop)]
 pub(crate) struct Connector<'n, N: Net> {
     net: &'n N,
-    addresses: Addresses,
+    pub(crate) addresses: Addresses,
     poll: Poll,
     events: Events,
     // How many of these were told of.
     seen: usize,
-    pub(crate) begun: HashMap<u64, Attempt>,
+    pub(crate) pending: HashMap<u64, Attempt>,
     pub(crate) counts: Counts,
+    /// Why the last connection could not be opened, if it could not and the system said why.
+    pub(crate) reason: Option<Reason>,
 }
 
 /// How far a connection has come.
@@ -45,8 +48,8 @@ pub(crate) enum Opening {
     Open(DialledSocket),
     /// It is not open yet.
     Begun(Attempt),
-    /// No address of its host is left.
-    Failed,
+    /// No address of its host is left, for that reason if the system said why.
+    Failed(Option<Reason>),
 }
 
 impl<'n, N: Net> Connector<'n, N> {
@@ -66,8 +69,9 @@ impl<'n, N: Net> Connector<'n, N> {
             poll: Poll::new(net)?,
             events: Events::with_capacity(alloc, MOST_EVENTS)?,
             seen: 0,
-            begun: HashMap::new(alloc),
+            pending: HashMap::new(alloc),
             counts: Counts::new(),
+            reason: None,
         })
     }
 
@@ -78,28 +82,30 @@ impl<'n, N: Net> Connector<'n, N> {
         ensures up { IfUp result (λ socket. IsDialledTo
             (addresses_at self.old.addresses.hosts.items site) socket.connection site transfer) }
         ensures addresses { self.new.addresses ≡ self.old.addresses }
-        ensures waits { IfNotYet result (IsBegun self.new.begun transfer) }
-        ensures begun { CountsBegun result transfer (IsBegun self.old.begun)
-            (IsBegun self.new.begun) }
+        ensures waits { IfNotYet result (IsPending self.new.pending transfer) }
+        ensures begun { CountsBegun result transfer (IsPending self.old.pending)
+            (IsPending self.new.pending) }
         ensures counted { CountsDial result self.old.counts.failures self.new.counts.failures }
         ensures others { self.new.counts
             ≡ record self.old.counts { failures = self.new.counts.failures } }
     {
-        let opening = match take(&mut self.begun, transfer) {
+        let opening = match take(&mut self.pending, transfer) {
             Some(attempt) => self.go_on(attempt, site, transfer),
-            None => self.begin(site, transfer, 0),
+            None => self.begin(site, transfer, 0, None),
         };
+        self.reason = None;
         match opening {
             Opening::Open(socket) => Dialled::Up(socket),
             Opening::Begun(attempt) => {
-                if keep(&mut self.begun, transfer, attempt) {
+                if keep(&mut self.pending, transfer, attempt) {
                     Dialled::NotYet
                 } else {
                     self.counts.fail_dial();
                     Dialled::Fault
                 }
             }
-            Opening::Failed => {
+            Opening::Failed(reason) => {
+                self.reason = reason;
                 self.counts.fail_dial();
                 Dialled::Fault
             }
@@ -108,19 +114,20 @@ impl<'n, N: Net> Connector<'n, N> {
 
     /// Closes what was begun for that transfer.
     pub(crate) fn give_up(&mut self, transfer: u64)
-        ensures none { IsBegun self.new.begun transfer → ⊥ }
-        ensures others { (other : ℕ) → IsBegun self.new.begun other → IsBegun self.old.begun other }
+        ensures none { IsPending self.new.pending transfer → ⊥ }
+        ensures others { (other : ℕ) →
+            IsPending self.new.pending other → IsPending self.old.pending other }
         ensures kept { (other : ℕ) → other ≢ transfer →
-            IsBegun self.old.begun other → IsBegun self.new.begun other }
+            IsPending self.old.pending other → IsPending self.new.pending other }
         ensures addresses { self.new.addresses ≡ self.old.addresses }
         ensures counts { self.new.counts ≡ self.old.counts }
     {
-        let _ = take(&mut self.begun, transfer);
+        let _ = take(&mut self.pending, transfer);
     }
 
     /// Whether a connection is begun that is not open yet.
     pub(crate) fn has_begun(&self) -> bool {
-        !self.begun.is_empty()
+        !self.pending.is_empty()
     }
 
     /// What knows when sockets are ready.
@@ -135,7 +142,7 @@ impl<'n, N: Net> Connector<'n, N> {
             self.new.counts.turn_failures }
         ensures others { self.new.counts
             ≡ record self.old.counts { turn_failures = self.new.counts.turn_failures } }
-        ensures begun { self.new.begun ≡ self.old.begun }
+        ensures begun { self.new.pending ≡ self.old.pending }
         ensures addresses { self.new.addresses ≡ self.old.addresses }
     {
         self.seen = 0;
@@ -149,7 +156,7 @@ impl<'n, N: Net> Connector<'n, N> {
 
     /// The token of the next socket that the last wait found ready.
     pub(crate) fn next_ready(&mut self) -> Option<Token>
-        ensures { (self.new.begun ≡ self.old.begun) × (self.new.counts ≡ self.old.counts) }
+        ensures { (self.new.pending ≡ self.old.pending) × (self.new.counts ≡ self.old.counts) }
     {
         let token = self.events.iter().nth(self.seen)?.token();
         self.seen = self.seen.saturating_add(1);
@@ -158,7 +165,7 @@ impl<'n, N: Net> Connector<'n, N> {
 
     /// The token of the connection that is begun for that transfer, if one is.
     pub(crate) fn token_of(&self, transfer: u64) -> Option<Token> {
-        Some(self.begun.get(&transfer)?.socket.token())
+        Some(self.pending.get(&transfer)?.socket.token())
     }
 
     // Goes on with an attempt for that transfer and site. One for another is closed.
@@ -166,9 +173,9 @@ impl<'n, N: Net> Connector<'n, N> {
         ensures { IfSocket result (λ socket. IsDialledTo
             (addresses_at self.now.addresses.hosts.items site) socket.connection site transfer) }
     {
-        let begun = &attempt.socket;
-        if !begun.is_for(self.addresses.of(site), site, transfer) {
-            return self.begin(site, transfer, 0);
+        let pending = &attempt.socket;
+        if !pending.is_for(self.addresses.of(site), site, transfer) {
+            return self.begin(site, transfer, 0, None);
         }
         match attempt.socket.progress() {
             Progress::Open => {
@@ -177,42 +184,60 @@ impl<'n, N: Net> Connector<'n, N> {
                 Opening::Open(socket)
             }
             Progress::NotYet => Opening::Begun(attempt),
-            Progress::Failed => self.begin(site, transfer, attempt.next),
+            Progress::Failed(reason) => {
+                let told = told_of(attempt.reason, reason);
+                self.begin(site, transfer, attempt.next, told)
+            }
         }
     }
 
     // Begins a connection for that transfer, to the first of the site's addresses that takes one,
-    // from that place on.
-    fn begin(&self, site: u32, transfer: u64, first: usize) -> Opening
+    // from that place on. Those before it failed, for that reason.
+    fn begin(&self, site: u32, transfer: u64, first: usize, former: Option<Reason>) -> Opening
         ensures { IfSocket result (λ socket. IsDialledTo
             (addresses_at self.now.addresses.hosts.items site) socket.connection site transfer) }
     {
         let addresses = self.addresses.of(site);
+        let mut reason = former;
         for place in first..addresses.len() {
-            match self.attempt(addresses[place], site, transfer, place + 1) {
-                Opening::Failed => {}
+            match self.attempt(addresses[place], site, transfer, place + 1, reason) {
+                Opening::Failed(told) => reason = told,
                 opening => return opening,
             }
         }
-        Opening::Failed
+        Opening::Failed(reason)
     }
 
-    // Begins a connection for that transfer, to that address.
-    fn attempt(&self, address: SocketAddr, site: u32, transfer: u64, next: usize) -> Opening
+    // Begins a connection for that transfer, to that address. Others before it failed, for that
+    // reason.
+    fn attempt(
+        &self,
+        address: SocketAddr,
+        site: u32,
+        transfer: u64,
+        next: usize,
+        former: Option<Reason>,
+    ) -> Opening
         ensures { (addresses : List SocketAddr) → Contains addresses address →
             IfSocket result (λ socket. IsDialledTo addresses socket.connection site transfer) }
     {
-        let Ok(mut socket) = DialledSocket::begin(self.net, address, site, transfer) else {
-            return Opening::Failed;
+        let mut socket = match DialledSocket::begin(self.net, address, site, transfer) {
+            Ok(socket) => socket,
+            Err(error) => return Opening::Failed(told_of(former, reason_of(error.kind()))),
         };
         match socket.progress() {
             Progress::Open => Opening::Open(socket),
-            Progress::Failed => Opening::Failed,
+            Progress::Failed(reason) => Opening::Failed(told_of(former, reason)),
             Progress::NotYet => {
                 if socket.register(self.poll.registry()) {
-                    Opening::Begun(Attempt { socket, next })
+                    let reason = former;
+                    Opening::Begun(Attempt {
+                        socket,
+                        next,
+                        reason,
+                    })
                 } else {
-                    Opening::Failed
+                    Opening::Failed(former)
                 }
             }
         }

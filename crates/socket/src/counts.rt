@@ -3,7 +3,7 @@
 ghost use Rattle.std.specs.Prelude.{◌≡◌};
 ghost use Rattle.conn_key.specs.Wants.{Rises};
 ghost use Rattle.exchange.specs.Dialling.{CountsDial, IfUp, OpensOne};
-ghost use Rattle.socket.specs.Begun.{IfNotYet};
+ghost use Rattle.socket.specs.Pending.{IfNotYet};
 
 use exchange::Dialled;
 

@@ -5,6 +5,8 @@ ghost use Rattle.socket.specs.Sockets.{IsUntouched, IsDialledTo};
 
 use crate::connection::Connection;
 use crate::places::token_of;
+use crate::reasons::reason_of;
+use exchange::Reason;
 use mio::net::TcpStream;
 use mio::{Interest, Registry, Token};
 use std::io;
@@ -16,7 +18,8 @@ use std::net::{Net, SocketAddr};
 pub(crate) enum Progress {
     Open,
     NotYet,
-    Failed,
+    /// It cannot be opened, for that reason if the system said why.
+    Failed(Option<Reason>),
 }
 
 /// A socket that was begun for a transfer, to an address of the host of a site.
@@ -58,7 +61,8 @@ impl DialledSocket {
     pub(crate) fn progress(&self) -> Progress {
         match self.stream.take_error() {
             Ok(None) => {}
-            _ => return Progress::Failed,
+            Ok(Some(error)) => return Progress::Failed(reason_of(error.kind())),
+            Err(error) => return Progress::Failed(reason_of(error.kind())),
         }
         match self.stream.peer_addr() {
             Ok(_) => Progress::Open,
@@ -66,7 +70,7 @@ impl DialledSocket {
                 if error.kind() == ErrorKind::NotConnected {
                     Progress::NotYet
                 } else {
-                    Progress::Failed
+                    Progress::Failed(reason_of(error.kind()))
                 }
             }
         }

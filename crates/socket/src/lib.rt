@@ -4,14 +4,15 @@
 
 mod addresses;
 mod alarm;
-mod begun;
 mod clock;
 mod connection;
 mod connector;
 mod counts;
 mod dialled_socket;
+mod pending;
 mod places;
 mod polled;
+mod reasons;
 mod waiting;
 
 pub use addresses::{AddressFault, Addresses};

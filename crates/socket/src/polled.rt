@@ -9,7 +9,7 @@ use crate::connector::Connector;
 use crate::dialled_socket::DialledSocket;
 use crate::places::{Places, token_of};
 use bundle::Lease;
-use exchange::{Dial, Dialled, Place, Read, Ready, Turned, Wire, Written};
+use exchange::{Dial, Dialled, Place, Read, Ready, Reason, Turned, Wire, Written};
 use futures::task::Source;
 use mio::net::TcpStream;
 use mio::unix::SourceFd;
@@ -145,11 +145,15 @@ impl<S: io::Read + io::Write + AsRawFd + Drop> Wire for PolledWire<S> {
         self.arrivals = self.arrivals.after(written);
         match written {
             Written::NotYet if !self.awaits_room() => {
-                self.connection.fail();
+                self.connection.fail(None);
                 Written::Fault
             }
             _ => written,
         }
+    }
+
+    fn reason(&self) -> Option<Reason> {
+        self.connection.reason()
     }
 
     fn source(&self) -> &Source {
@@ -196,6 +200,17 @@ impl<'n, N: Net> PolledDial<'n, N> {
         PolledAlarm::new(&self.registry)
     }
 
+    /// From now on the hosts of the sites have these addresses. A connection that was begun goes on
+    /// with the next of them if its address fails.
+    pub fn set_addresses(&mut self, addresses: Addresses)
+        ensures addresses { self.new.connector.addresses ≡ addresses }
+        ensures counts { self.new.connector.counts ≡ self.old.connector.counts }
+        ensures pending { self.new.connector.pending ≡ self.old.connector.pending }
+        ensures source { self.new.source ≡ self.old.source }
+    {
+        self.connector.addresses = addresses;
+    }
+
     /// How many connections it has opened; the count stays at the greatest `u64`.
     pub fn opened(&self) -> u64
         ensures { result ≡ self.now.connector.counts.opened }
@@ -213,40 +228,28 @@ impl<'n, N: Net> PolledDial<'n, N> {
 
 impl<'n, N: Net> Dial<PolledWire> for PolledDial<'n, N> {
     ghost use Rattle.std.specs.Prelude.{◌≡◌, Contains};
-    ghost use Rattle.exchange.specs.Dialling.{IfUp, CountsDial, OpensOne, CountsBegun};
-    ghost use Rattle.socket.specs.Begun.{IsBegun, IfNotYet};
+    ghost use Rattle.exchange.specs.Dialling.{IfUp, DialsFor};
+    ghost use Rattle.socket.specs.Dials.{dial_shown};
+    ghost use Rattle.socket.specs.Pending.{IsPending, IfNotYet};
     ghost use Rattle.socket.specs.Hosts.{addresses_at};
     ghost use Rattle.socket.specs.Sockets.{IsUntouched};
 
-    ghost failures = { λ dial. dial.connector.counts.failures };
+    ghost shown = { λ dial. dial_shown dial.connector.counts dial.connector.pending
+        dial.source.id };
 
-    ghost opened = { λ dial. dial.connector.counts.opened };
-
-    ghost turn_failures = { λ dial. dial.connector.counts.turn_failures };
-
-    ghost turned = { λ old new. (new.connector.begun ≡ old.connector.begun)
+    ghost turned = { λ old new. (new.connector.pending ≡ old.connector.pending)
         × (new.connector.addresses ≡ old.connector.addresses) };
-
-    ghost begun = { λ dial transfer. IsBegun dial.connector.begun transfer };
-
-    ghost source_name = { λ dial. dial.source.id };
 
     fn dial(&mut self, lease: &Lease<PolledWire>) -> Dialled<PolledWire>
         ensures up { IfUp result (λ wire.
             IsUntouched wire.connection lease.now.site lease.now.start.want.transfer) }
         ensures to { IfUp result (λ wire. Contains (addresses_at
             self.old.connector.addresses.hosts.items lease.now.site) wire.connection.address) }
-        ensures counted { CountsDial result self.old.connector.counts.failures
-            self.new.connector.counts.failures }
-        ensures opens { OpensOne result self.old.connector.counts.opened
-            self.new.connector.counts.opened }
+        ensures dials { DialsFor result lease.now.start.want.transfer
+            (dial_shown self.old.connector.counts self.old.connector.pending self.old.source.id)
+            (dial_shown self.new.connector.counts self.new.connector.pending self.new.source.id) }
         ensures waits { IfNotYet result
-            (IsBegun self.new.connector.begun lease.now.start.want.transfer) }
-        ensures begun { CountsBegun result lease.now.start.want.transfer
-            (IsBegun self.old.connector.begun) (IsBegun self.new.connector.begun) }
-        ensures turns { self.new.connector.counts.turn_failures
-            ≡ self.old.connector.counts.turn_failures }
-        ensures source { self.new.source.id ≡ self.old.source.id }
+            (IsPending self.new.connector.pending lease.now.start.want.transfer) }
         ensures addresses { self.new.connector.addresses ≡ self.old.connector.addresses }
     {
         match self.connector.connect(lease.site(), lease.transfer()) {
@@ -266,6 +269,10 @@ impl<'n, N: Net> Dial<PolledWire> for PolledDial<'n, N> {
         }
     }
 
+    fn reason(&self) -> Option<Reason> {
+        self.connector.reason
+    }
+
     fn give_up(&mut self, lease: &Lease<PolledWire>) {
         self.connector.give_up(lease.transfer());
     }
@@ -275,7 +282,7 @@ impl<'n, N: Net> Dial<PolledWire> for PolledDial<'n, N> {
         let is_known = wire.move_to(&self.registry);
         wire.arrivals = Arrivals::LookedFor;
         wire.connection
-            .judge(!is_known || is_readable(&wire.stream));
+            .check_idle(!is_known || is_readable(&wire.stream));
     }
 
     fn turn(&mut self, most: Duration) -> Turned {

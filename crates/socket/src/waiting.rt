@@ -7,7 +7,7 @@ use crate::connection::{Connection, is_readable};
 use crate::connector::{Connector, MOST_WAIT_MILLISECONDS};
 use crate::dialled_socket::DialledSocket;
 use bundle::Lease;
-use exchange::{Dial, Dialled, Read, Turned, Wire, Written};
+use exchange::{Dial, Dialled, Read, Reason, Turned, Wire, Written};
 use futures::task::Source;
 use std::alloc::Global;
 use std::io;
@@ -65,6 +65,10 @@ impl<S: io::Read + io::Write + Drop> Wire for WaitingWire<S> {
         self.connection.write(&mut self.stream, bytes)
     }
 
+    fn reason(&self) -> Option<Reason> {
+        self.connection.reason()
+    }
+
     fn source(&self) -> &Source {
         &self.source
     }
@@ -112,40 +116,28 @@ impl<'n, N: Net> WaitingDial<'n, N> {
 
 impl<'n, N: Net> Dial<WaitingWire> for WaitingDial<'n, N> {
     ghost use Rattle.std.specs.Prelude.{◌≡◌, Contains};
-    ghost use Rattle.exchange.specs.Dialling.{IfUp, CountsDial, OpensOne, CountsBegun};
-    ghost use Rattle.socket.specs.Begun.{IsBegun, IfNotYet};
+    ghost use Rattle.exchange.specs.Dialling.{IfUp, DialsFor};
+    ghost use Rattle.socket.specs.Dials.{dial_shown};
+    ghost use Rattle.socket.specs.Pending.{IsPending, IfNotYet};
     ghost use Rattle.socket.specs.Hosts.{addresses_at};
     ghost use Rattle.socket.specs.Sockets.{IsUntouched};
 
-    ghost failures = { λ dial. dial.connector.counts.failures };
+    ghost shown = { λ dial. dial_shown dial.connector.counts dial.connector.pending
+        dial.source.id };
 
-    ghost opened = { λ dial. dial.connector.counts.opened };
-
-    ghost turn_failures = { λ dial. dial.connector.counts.turn_failures };
-
-    ghost turned = { λ old new. (new.connector.begun ≡ old.connector.begun)
+    ghost turned = { λ old new. (new.connector.pending ≡ old.connector.pending)
         × (new.connector.addresses ≡ old.connector.addresses) };
-
-    ghost begun = { λ dial transfer. IsBegun dial.connector.begun transfer };
-
-    ghost source_name = { λ dial. dial.source.id };
 
     fn dial(&mut self, lease: &Lease<WaitingWire>) -> Dialled<WaitingWire>
         ensures up { IfUp result (λ wire.
             IsUntouched wire.connection lease.now.site lease.now.start.want.transfer) }
         ensures to { IfUp result (λ wire. Contains (addresses_at
             self.old.connector.addresses.hosts.items lease.now.site) wire.connection.address) }
-        ensures counted { CountsDial result self.old.connector.counts.failures
-            self.new.connector.counts.failures }
-        ensures opens { OpensOne result self.old.connector.counts.opened
-            self.new.connector.counts.opened }
+        ensures dials { DialsFor result lease.now.start.want.transfer
+            (dial_shown self.old.connector.counts self.old.connector.pending self.old.source.id)
+            (dial_shown self.new.connector.counts self.new.connector.pending self.new.source.id) }
         ensures waits { IfNotYet result
-            (IsBegun self.new.connector.begun lease.now.start.want.transfer) }
-        ensures begun { CountsBegun result lease.now.start.want.transfer
-            (IsBegun self.old.connector.begun) (IsBegun self.new.connector.begun) }
-        ensures turns { self.new.connector.counts.turn_failures
-            ≡ self.old.connector.counts.turn_failures }
-        ensures source { self.new.source.id ≡ self.old.source.id }
+            (IsPending self.new.connector.pending lease.now.start.want.transfer) }
         ensures addresses { self.new.connector.addresses ≡ self.old.connector.addresses }
     {
         match self.connector.connect(lease.site(), lease.transfer()) {
@@ -155,12 +147,16 @@ impl<'n, N: Net> Dial<WaitingWire> for WaitingDial<'n, N> {
         }
     }
 
+    fn reason(&self) -> Option<Reason> {
+        self.connector.reason
+    }
+
     fn give_up(&mut self, lease: &Lease<WaitingWire>) {
         self.connector.give_up(lease.transfer());
     }
 
     fn adopt(&mut self, wire: &mut WaitingWire) {
-        wire.connection.judge(is_readable(&wire.stream));
+        wire.connection.check_idle(is_readable(&wire.stream));
     }
 
     fn turn(&mut self, most: Duration) -> Turned {
