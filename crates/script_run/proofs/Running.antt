@@ -13,7 +13,7 @@ use Rattle.script_text.specs.Grammar.{reading, reading_of, present, command_of, 
 use Rattle.std.specs.Str.{bytes_eq}
 use Rattle.std.specs.Prelude.{codes}
 use Rattle.script_text.specs.Lines.{lines}
-use Rattle.script_rules.specs.Meaning.{Run, start, step, with_limits, add_site, with_url, with_answer, answer_of, prune_all, upkeep_all}
+use Rattle.script_rules.specs.Meaning.{Run, start, step, with_limits, add_site, with_url, with_answer, asked_answer}
 use Rattle.script_text.specs.Site.{site_named}
 use Rattle.conn_key.specs.declared.site.Site.{Site}
 use Rattle.script_rules.specs.Transcript.{Transcript, whole_text, text_up_to, text_before, IsRun, before_others, line_step, line_step_of, Ends, EndsByFault, FailsBy}
@@ -97,9 +97,7 @@ step-of : (run : Run) (command : Command) → OfLine (step run command)
 unfolding step
 step-of run (commands.Limits limits) = limits-of run limits run.limits
 step-of run (commands.Site word) = site-of run word run.limits
-step-of run (commands.At site action) = answered-of run (λ limits hosts. answer_of limits hosts site action) run.limits
-step-of run (commands.Prune max_age max_life moment) = answered-of run (λ limits hosts. prune_all limits max_age max_life moment hosts) run.limits
-step-of run commands.Upkeep = answered-of run (λ limits hosts. upkeep_all hosts) run.limits
+step-of run (commands.Ask asked) = answered-of run (asked_answer asked) run.limits
 
 line-step-of : (run : Run) (r : Result (Option Command) FaultKind) → OfLine r → OfLine (line_step_of run r)
 line-step-of run (Err of) h = err-of of (h of refl)

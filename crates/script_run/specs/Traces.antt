@@ -5,7 +5,8 @@ use Rattle.script_text.specs.Grammar.{reading}
 use Rattle.script_text.specs.declared.command.Action.{Action}
 use Rattle.script_text.specs.declared.command.Action.TheVariants.{Limit}
 use Rattle.script_text.specs.declared.command.Command.{Command}
-use Rattle.script_text.specs.declared.command.Command.TheVariants.{At}
+use Rattle.script_text.specs.declared.command.Command.TheVariants.{Ask}
+use Rattle.script_text.specs.declared.command.HostCommand.TheVariants.{At}
 use Rattle.script_text.specs.declared.fault.FaultKind.{FaultKind}
 use Rattle.script_text.specs.declared.fault.FaultKind.TheVariants.{ScriptTooLong}
 use Rattle.script_rules.specs.Meaning.{Run, start}
@@ -18,7 +19,7 @@ is_limit (Limit limit moment) = true
 is_limit _ = false
 
 abbrev pub stands : Result (Option Command) FaultKind → Bool
-stands (Ok (Some (At site action))) = not (is_limit action)
+stands (Ok (Some (Ask (At site action)))) = not (is_limit action)
 stands _ = true
 
 abbrev pub echo_of : List ℕ → List ℕ

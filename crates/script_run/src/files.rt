@@ -2,8 +2,8 @@
 
 ghost use Rattle.std.specs.Prelude.{⊤};
 
+use crate::failure_counted::FailureCounted;
 use crate::streams::{Sink, Source};
-use crate::watched::Watched;
 use std::fs;
 use std::fs::File;
 
@@ -27,6 +27,11 @@ pub trait ScriptFiles {
         ensures opened { opens self.old self.new name.now (option_map Self.File.source result) }
         ensures counts { IfSome result (λ file. CanCount (Self.File.source file)) };
 
+    /// Whether the file of that name is a regular file, whose reads don't wait for anybody.
+    fn is_regular(&self, _name: &str) -> bool {
+        false
+    }
+
     /// Makes the file of that name, or empties it if it is there; none, if that can't be done.
     fn create(&self, name: &str) -> Option<Self::Made>
         ensures counts { IfSome result (λ file. CanCount (Self.Made.sink file)) };
@@ -46,22 +51,29 @@ impl<'a> SystemFiles<'a> {
 }
 
 impl ScriptFiles for SystemFiles<'_> {
-    type File = Watched<File>;
+    type File = FailureCounted<File>;
 
-    type Made = Watched<File>;
+    type Made = FailureCounted<File>;
 
     ghost opens = { λ _ _ _ _. ⊤ };
 
-    fn open(&mut self, name: &str) -> Option<Watched<File>> {
+    fn open(&mut self, name: &str) -> Option<FailureCounted<File>> {
         match fs::open(self.rt, name) {
-            Ok(file) => Some(Watched::new(file)),
+            Ok(file) => Some(FailureCounted::new(file)),
             Err(_) => None,
         }
     }
 
-    fn create(&self, name: &str) -> Option<Watched<File>> {
+    fn is_regular(&self, name: &str) -> bool {
+        match fs::metadata(self.rt, name) {
+            Ok(about) => about.is_file(),
+            Err(_) => false,
+        }
+    }
+
+    fn create(&self, name: &str) -> Option<FailureCounted<File>> {
         match fs::create(self.rt, name) {
-            Ok(file) => Some(Watched::new(file)),
+            Ok(file) => Some(FailureCounted::new(file)),
             Err(_) => None,
         }
     }

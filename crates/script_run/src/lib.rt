@@ -2,12 +2,13 @@
 //! transcript is written to.
 #![tactic(auto)]
 
+mod failure_counted;
 mod files;
 mod script;
 mod streams;
 mod viewer;
-mod watched;
 
+pub use failure_counted::{FailureCounted, ReadFailed, WriteFailed};
 pub use files::{ScriptFiles, SystemFiles};
 pub use script::{
     run_bytes, run_file, run_file_for, run_lines, run_script, run_script_for,
@@ -15,4 +16,3 @@ pub use script::{
 };
 pub use streams::{SCRIPT_LIMIT, Sink, Source, read_script};
 pub use viewer::{Unseen, Viewer};
-pub use watched::{ReadFailed, Watched, WriteFailed};

@@ -1,4 +1,4 @@
-//! A script, from its bytes to its transcript.
+//! Runs a script, from its bytes to its transcript.
 
 ghost use Rattle.std.specs.Prelude.{◌≡◌, ◌≤◌, ◌++◌, length, false, IfErr, IfOk};
 ghost use Rattle.script_text.specs.Lines.{lines};
@@ -15,14 +15,14 @@ use crate::files::ScriptFiles;
 use crate::streams::{Sink, Source, read_script};
 use crate::viewer::{Unseen, Viewer};
 use script_engine::{Engine, Machine, line_text};
-use script_text::{Action, Command, FaultKind, ScriptFault, first_line, read_line};
+use script_text::{Action, Command, FaultKind, HostCommand, ScriptFault, first_line, read_line};
 use std::alloc::{AllocError, Global};
 
 /// Runs the script that the reader gives, and writes its transcript: the lines of each event and
-/// reply, in order. If `is_traced` it writes its trace: each line but `limit` stands before those
+/// reply, in order. If `is_traced`, writes its trace: each line but `limit` stands before the lines
 /// that it causes. The fault says at which line the script ended, and why. What was written before
-/// a fault stays: what the lines before that line write, and where writing failed a part of its
-/// own.
+/// a fault stays: the lines of the script's lines before it, and a part of its own if writing
+/// failed.
 pub fn run_script<R: Source, W: Sink>(
     alloc: Global,
     is_traced: bool,
@@ -38,7 +38,8 @@ pub fn run_script<R: Source, W: Sink>(
 }
 
 /// Runs the script that the reader gives, as [`run_script`] does. The viewer sees its hosts before
-/// they are given up; nothing, if the script could not be read, or there was no memory to begin.
+/// their leases and tickets are given up, but nothing if the script could not be read or memory ran
+/// out before it began.
 pub fn run_script_for<R: Source, W: Sink, V: Viewer>(
     alloc: Global,
     is_traced: bool,
@@ -57,8 +58,8 @@ pub fn run_script_for<R: Source, W: Sink, V: Viewer>(
     }
 }
 
-/// Runs the script in the file of that name, as `run_script` does. Where the file can't be opened,
-/// the fault is `Read`, at no line, and nothing is written.
+/// Runs the script in the named file, as `run_script` does. If the file can't be opened, the fault
+/// is `Read`, at no line, and nothing is written.
 pub fn run_file<F: ScriptFiles, W: Sink>(
     alloc: Global,
     is_traced: bool,
@@ -73,7 +74,7 @@ pub fn run_file<F: ScriptFiles, W: Sink>(
     run_file_for(alloc, is_traced, files, name, writer, &mut Unseen)
 }
 
-/// Runs the script in the file of that name, as [`run_file`] does. The viewer sees what it sees of
+/// Runs the script in the named file, as [`run_file`] does. The viewer sees its hosts as in
 /// [`run_script_for`].
 pub fn run_file_for<F: ScriptFiles, W: Sink, V: Viewer>(
     alloc: Global,
@@ -96,8 +97,8 @@ pub fn run_file_for<F: ScriptFiles, W: Sink, V: Viewer>(
     }
 }
 
-/// Runs a script that lies in memory. Its transcript goes to the end of `out`. No fault is a read's
-/// or a write's: where `out` can't grow, the fault is `Memory`.
+/// Runs a script in memory, and appends its transcript to `out`. Reads and writes don't fail: if
+/// `out` can't grow, the fault is `Memory`.
 pub fn run_bytes(alloc: Global, script: &[u8], out: &mut Vec<u8>) -> Result<(), ScriptFault>
     ensures lines { RunsLines (in_memory out.old.items) (in_memory out.new.items)
         (output_of false script.now) result }
@@ -107,7 +108,7 @@ pub fn run_bytes(alloc: Global, script: &[u8], out: &mut Vec<u8>) -> Result<(), 
     run_script(alloc, false, &mut reader, out)
 }
 
-/// Runs the lines of a script on an engine of its own, which that viewer sees at the end.
+/// Runs the lines of a script on an engine of its own, which the viewer sees at the end.
 fn run_engine<W: Sink, V: Viewer>(
     alloc: Global,
     is_traced: bool,
@@ -130,11 +131,10 @@ fn run_engine<W: Sink, V: Viewer>(
     result
 }
 
-/// Runs the lines of a script on that machine, one after another, as [`run_script`] does on an
-/// engine of its own. The fault is at no line if the machine refuses what is due at the script's
-/// end.
+/// Runs the lines of a script on a machine, one after another, as [`run_script`] does on an engine
+/// of its own. The fault is at no line if the machine fails at the script's end.
 ///
-/// Asked of the caller: the script has at most 1,048,576 bytes.
+/// Precondition: the script has at most 1,048,576 bytes.
 pub fn run_lines<M: Machine, W: Sink>(
     alloc: Global,
     is_traced: bool,
@@ -163,7 +163,7 @@ pub fn run_lines<M: Machine, W: Sink>(
     }
 }
 
-/// Does what a line says, and writes the lines that tell of it; in a trace with itself before them.
+/// Runs a line, and writes its lines of the transcript; in a trace, behind the line itself.
 fn run_line<M: Machine, W: Sink>(
     alloc: Global,
     is_traced: bool,
@@ -181,7 +181,7 @@ fn run_line<M: Machine, W: Sink>(
     }
 }
 
-/// Does what a line says, and gives the lines that tell of it; in a trace with itself before them.
+/// Runs a line, and gives its lines of the transcript; in a trace, behind the line itself.
 fn line_output<M: Machine>(
     alloc: Global,
     is_traced: bool,
@@ -204,8 +204,8 @@ fn line_output<M: Machine>(
     }
 }
 
-/// A line with what it causes behind it. A new limit is left out: if it is taken, what it causes is
-/// the same text.
+/// A line with the lines that it causes behind it. A new limit is left out: if it is taken, the
+/// line that it causes has the same text.
 fn echoed(alloc: Global, line: &[u8], text: &[u8]) -> Result<Vec<u8>, AllocError>
     ensures { IfOk result (λ whole. whole.items ≡ echo_of line.now ++ text.now) }
 {
@@ -223,7 +223,10 @@ fn stands(line: &[u8]) -> bool
     ensures { result ≡ stands (reading line.now) }
 {
     match read_line(line) {
-        Ok(Some(Command::At { action, .. })) => !matches!(action, Action::Limit { .. }),
+        Ok(Some(Command::Ask(HostCommand::At { action, .. }))) => !matches!(
+            action,
+            Action::Limit { .. }
+        ),
         _ => true,
     }
 }

@@ -6,7 +6,7 @@ ghost use Rattle.std.specs.Io.{ReadsAtMost};
 ghost use Rattle.script_run.specs.Streams.{CanCount, CountsFailure, Puts, ReadsScript, in_memory};
 ghost use Rattle.script_run.specs.Watching.{watched};
 
-use crate::watched::{ReadFailed, Watched};
+use crate::failure_counted::{FailureCounted, ReadFailed};
 use script_text::FaultKind;
 use std::alloc::Global;
 use std::io::{Read, Write};
@@ -71,7 +71,7 @@ impl Sink for Vec<u8> {
     }
 }
 
-impl<R: Read> Source for Watched<R> {
+impl<R: Read> Source for FailureCounted<R> {
     ghost source = { λ w. watched R.remaining w };
 
     fn read_some(&mut self, buf: &mut [u8]) -> Result<usize, ReadFailed> {
@@ -79,7 +79,7 @@ impl<R: Read> Source for Watched<R> {
     }
 }
 
-impl<W: Write> Sink for Watched<W> {
+impl<W: Write> Sink for FailureCounted<W> {
     ghost sink = { λ w. watched W.contents w };
 
     fn put(&mut self, bytes: &[u8]) -> Result<(), FaultKind> {

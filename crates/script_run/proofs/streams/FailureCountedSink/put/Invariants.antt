@@ -1,6 +1,6 @@
 use Rattle.std.proofs.Common.{◌≡◌, length}
 use Rattle.script_run.proofs.Streaming.{PutSoFar}
-use Rattle.script_run.proofs.streams.WatchedSink.put.Given as goal
+use Rattle.script_run.proofs.streams.FailureCountedSink.put.Given as goal
 
 abbrev pub invariant-loop-rest : goal.invariant-loop-rest
 invariant-loop-rest g l =

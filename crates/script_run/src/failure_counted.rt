@@ -21,12 +21,12 @@ pub struct WriteFailed;
 /// A reader or writer of the system's, with how many of its reads or writes failed. Contracts see
 /// the two.
 #[derive(Drop)]
-pub struct Watched<S> {
+pub struct FailureCounted<S> {
     stream: S,
     failures: u64,
 }
 
-impl<S> Model for Watched<S> {
+impl<S> Model for FailureCounted<S> {
     ghost use Rattle.script_run.specs.Watching.{Watching};
 
     ghost Value = { Watching S };
@@ -34,19 +34,19 @@ impl<S> Model for Watched<S> {
     ghost view = { λ w. record { stream = w.stream; failures = w.failures } };
 }
 
-impl<S> Watched<S> {
+impl<S> FailureCounted<S> {
     /// That stream, of which nothing failed yet.
-    pub fn new(stream: S) -> Watched<S>
+    pub fn new(stream: S) -> FailureCounted<S>
         ensures { result ≡ record { stream = stream; failures = 0 } }
     {
-        Watched {
+        FailureCounted {
             stream,
             failures: 0,
         }
     }
 }
 
-impl<R: Read> Watched<R> {
+impl<R: Read> FailureCounted<R> {
     /// Reads some bytes into the front of `buf`, and tells how many.
     pub fn read(&mut self, buf: &mut [u8]) -> Result<usize, ReadFailed>
         requires { CanCount (watched R.remaining self.old) }
@@ -66,7 +66,7 @@ impl<R: Read> Watched<R> {
     }
 }
 
-impl<W: Write> Watched<W> {
+impl<W: Write> FailureCounted<W> {
     /// Writes some of the bytes, and tells how many. There is one to write: to write none of none
     /// is no failure.
     pub fn write(&mut self, bytes: &[u8]) -> Result<usize, WriteFailed>

@@ -1,6 +1,6 @@
 use Rattle.std.proofs.Common.{◌∙◌}
 use Rattle.script_run.proofs.Streaming.{put-more}
-use Rattle.script_run.proofs.streams.WatchedSink.put.Goals as goal
+use Rattle.script_run.proofs.streams.FailureCountedSink.put.Goals as goal
 
 pub loop-rest-preserved : goal.loop-rest-preserved
 loop-rest-preserved g c =
