@@ -9,13 +9,13 @@ use Rattle.clap.specs.declared.error.Error.{Error}
 use Rattle.clap.specs.declared.error.kind.ErrorKind.{ErrorKind}
 use Rattle.clap.specs.declared.error.kind.ErrorKind.TheVariants as kinds
 use Rattle.conn_key.specs.Wants.{Rises}
-use Rattle.cli.specs.declared.command_line.request.Manner.{Manner}
-use Rattle.cli.specs.declared.command_line.request.Manner.TheVariants as manners
+use Rattle.cli.specs.declared.command_line.request.ErrorClass.{ErrorClass}
+use Rattle.cli.specs.declared.command_line.request.ErrorClass.TheVariants as manners
 use Rattle.cli.specs.declared.command_line.request.Request.{Request}
 use Rattle.cli.specs.declared.command_line.request.Request.TheVariants as requests
 use Rattle.cli.specs.declared.command_line.Words.{Words}
 use Rattle.cli.specs.declared.command_line.Words.TheVariants.{NoMemory}
-use Rattle.cli.specs.CommandLine.{AnswersError, AnswersGet, AnswersLoad, Asks, HasManner, PlansGet, Said, audit, file_said, get, load, manner_of, nothing, request_file, said_in, script, word_faults}
+use Rattle.cli.specs.CommandLine.{AnswersError, AnswersGet, AnswersLoad, Asks, HasClass, PlansGet, Said, audit, file_said, get, load, class_of, nothing, request_file, said_in, script, word_faults}
 use Rattle.cli.specs.GetPlan.{plan_file}
 use Rattle.cli.specs.Inputs.{asked_file}
 use Rattle.cli.specs.declared.get.plan.GetPlan.{GetPlan}
@@ -23,11 +23,12 @@ use Rattle.cli.specs.declared.get.plan.GetPlan.TheVariants.{InTurn, Crawl}
 use Rattle.cli.specs.ScriptWords.{script_said_in}
 use Rattle.cli.specs.AuditWords.{audit_said_in}
 use Rattle.cli.specs.GetWords.{GetSaid, get_said_in}
-use Rattle.cli.specs.LoadWords.{IsLoadRefused, IsWhyNot, LoadSaid, load_said_in}
+use Rattle.cli.specs.LoadPlan.{IsLoadRefused}
+use Rattle.cli.specs.LoadWords.{IsWhyNot, LoadSaid, load_said_in}
 
 -- an error that is no want of memory is one of the faults
-among : (faults : Kinds) (kind : ErrorKind) (manner : Manner) → (kind ≡ kinds.OutOfMemory) ⊎ IsAmong kind faults → manner_of kind ≡ manner → (manners.Memory ≡ manner → ⊥) → HasManner faults manner
-among faults kind manner (inl lacks) is other = absurd (other (sym (ap manner_of lacks) ∙ is))
+among : (faults : Kinds) (kind : ErrorKind) (manner : ErrorClass) → (kind ≡ kinds.OutOfMemory) ⊎ IsAmong kind faults → class_of kind ≡ manner → (manners.Memory ≡ manner → ⊥) → HasClass faults manner
+among faults kind manner (inl lacks) is other = absurd (other (sym (ap class_of lacks) ∙ is))
 among faults kind manner (inr here) is other = (kind, here, is)
 
 -- a rise stays one where the count was no less before, and where it stays as it is after
@@ -35,14 +36,14 @@ rises-from : (before mid after : ℕ) → before ≤ mid → Rises mid after →
 rises-from before mid after kept (inl more) = inl (omega arith)
 rises-from before mid after kept (inr greatest) = inr greatest
 
-lacks-memory : (faults : Kinds) (kind : ErrorKind) (before mid after : ℕ) → (kind ≡ kinds.OutOfMemory) ⊎ IsAmong kind faults → (kind ≡ kinds.OutOfMemory → Rises before mid) → manner_of kind ≡ manners.Memory → after ≡ mid
-    → HasManner faults manners.Memory ⊎ Rises before after
+lacks-memory : (faults : Kinds) (kind : ErrorKind) (before mid after : ℕ) → (kind ≡ kinds.OutOfMemory) ⊎ IsAmong kind faults → (kind ≡ kinds.OutOfMemory → Rises before mid) → class_of kind ≡ manners.Memory → after ≡ mid
+    → HasClass faults manners.Memory ⊎ Rises before after
 lacks-memory faults kind before mid after (inl lacks) wants is same = inr (subst (λ n. Rises before n) (sym same) (wants lacks))
 lacks-memory faults kind before mid after (inr here) wants is same = inl (kind, here, is)
 
 -- what an error makes the words ask for is what they may ask for
 pub asks : (faults : Kinds) (said : Said) (kind : ErrorKind) (before mid after : ℕ) (request : Request) → (kind ≡ kinds.OutOfMemory) ⊎ IsAmong kind faults
-    → (kind ≡ kinds.OutOfMemory → Rises before mid) → before ≤ mid → AnswersError (manner_of kind) mid after request → Asks faults said before after request
+    → (kind ≡ kinds.OutOfMemory → Rises before mid) → before ≤ mid → AnswersError (class_of kind) mid after request → Asks faults said before after request
 asks faults said kind before mid after (requests.Script asked) fails wants kept answers = absurd answers
 asks faults said kind before mid after (requests.Get plan) fails wants kept answers = absurd answers
 asks faults said kind before mid after (requests.Load plan) fails wants kept answers = absurd answers
@@ -76,17 +77,17 @@ asks-load faults words before mid after requests.NoMemory none kept answers = in
 
 -- what an error of the numbers makes the words after load ask for
 pub answers-load : (words : LoadSaid) (error : Error) (before mid after : ℕ) (request : Request) → IsWhyNot (IsLoadRefused words) error → (kind_of error ≡ kinds.OutOfMemory → Rises before mid) → before ≤ mid
-    → AnswersError (manner_of (kind_of error)) mid after request → AnswersLoad words before after request
+    → AnswersError (class_of (kind_of error)) mid after request → AnswersLoad words before after request
 answers-load words error before mid after (requests.Script input) why wants kept answers = absurd answers
 answers-load words error before mid after (requests.Get plan) why wants kept answers = absurd answers
 answers-load words error before mid after (requests.Load plan) why wants kept answers = absurd answers
 answers-load words error before mid after (requests.Audit asked) why wants kept answers = absurd answers
-answers-load words error before mid after (requests.Tell text) (inl lacks) wants kept answers = let no : manners.Memory ≡ manners.Asked = sym (ap manner_of lacks) ∙ answers in cc
-answers-load words error before mid after (requests.Tell text) (inr (is, refused)) wants kept answers = let no : manners.Mistake ≡ manners.Asked = sym (ap manner_of is) ∙ answers in cc
-answers-load words error before mid after (requests.Refuse text) (inl lacks) wants kept answers = let no : manners.Memory ≡ manners.Mistake = sym (ap manner_of lacks) ∙ answers in cc
+answers-load words error before mid after (requests.Tell text) (inl lacks) wants kept answers = let no : manners.Memory ≡ manners.Asked = sym (ap class_of lacks) ∙ answers in cc
+answers-load words error before mid after (requests.Tell text) (inr (is, refused)) wants kept answers = let no : manners.Mistake ≡ manners.Asked = sym (ap class_of is) ∙ answers in cc
+answers-load words error before mid after (requests.Refuse text) (inl lacks) wants kept answers = let no : manners.Memory ≡ manners.Mistake = sym (ap class_of lacks) ∙ answers in cc
 answers-load words error before mid after (requests.Refuse text) (inr (is, refused)) wants kept answers = refused
 answers-load words error before mid after requests.NoMemory (inl lacks) wants kept (inl (is, same)) = subst (λ n. Rises before n) (sym same) (wants lacks)
-answers-load words error before mid after requests.NoMemory (inr (kind_is, refused)) wants kept (inl (is, same)) = let no : manners.Mistake ≡ manners.Memory = sym (ap manner_of kind_is) ∙ is in cc
+answers-load words error before mid after requests.NoMemory (inr (kind_is, refused)) wants kept (inl (is, same)) = let no : manners.Mistake ≡ manners.Memory = sym (ap class_of kind_is) ∙ is in cc
 answers-load words error before mid after requests.NoMemory why wants kept (inr rises) = rises-from before mid after kept rises
 
 -- a plan of words that say no file reads none
@@ -109,8 +110,8 @@ asks-no-file faults said before after (requests.Refuse text) asks none = refl
 asks-no-file faults said before after requests.NoMemory asks none = refl
 
 -- words that could not be had for want of memory
-pub lack-memory : (words : Words) → words ≡ NoMemory → HasManner (word_faults words) manners.Memory
-lack-memory words is = subst (λ w. HasManner (word_faults w) manners.Memory) (sym is) (kinds.OutOfMemory, inl refl, refl)
+pub lack-memory : (words : Words) → words ≡ NoMemory → HasClass (word_faults words) manners.Memory
+lack-memory words is = subst (λ w. HasClass (word_faults w) manners.Memory) (sym is) (kinds.OutOfMemory, inl refl, refl)
 
 -- neither of two
 pub or-false : {a b c : Bool} → a ≡ (b || c) → b ≡ false → c ≡ false → a ≡ false

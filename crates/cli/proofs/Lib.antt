@@ -1,6 +1,7 @@
 pub mod CommandLines
 pub mod Fetches
 pub mod Plans
+pub mod Names
 pub mod Crawls
 pub mod GetRows
 pub mod LoadRows
@@ -8,3 +9,5 @@ pub mod LoadPlans
 pub mod FlagRows
 pub mod LoadTraces
 pub mod LoadRefusals
+pub mod Percentages
+pub mod UrlJobs

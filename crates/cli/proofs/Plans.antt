@@ -1,28 +1,23 @@
 -- What is planned so far.
-use Rattle.std.proofs.Common.{◌≡◌, ℕ, ◌+◌, ◌<◌, ◌≤◌, List, [], ◌∷◌, ◌++◌, length, get_or, take, map, refl, ap, sym, ◌∙◌, subst, arith, Option, None, is_some, string_bytes}
-use Rattle.std.specs.Prelude.{String, if◌then◌else◌}
+use Rattle.std.proofs.Common.{◌≡◌, ℕ, ◌+◌, ◌<◌, ◌≤◌, List, [], ◌∷◌, ◌++◌, length, get_or, take, map, refl, ap, sym, ◌∙◌, subst, arith, is_some, string_bytes}
+use Rattle.std.specs.Prelude.{Bool, true, false, String, if◌then◌else◌}
 use Rattle.std.specs.Global.{Global}
-use Rattle.std.specs.Global.{Vec}
-use Rattle.std.specs.declared.net.socket_addr.SocketAddr.{SocketAddr}
 use Rattle.std.proofs.lemmas.List.{length-append, length-map, get_or-map, map_more}
 use Rattle.clap.specs.Words.{Text}
 use Rattle.persistence.specs.declared.method.Method.{Method}
 use Rattle.conn_key.specs.Site.{site_of}
 use Rattle.conn_key.specs.Sites.{index_of, with_site}
 use Rattle.conn_key.specs.declared.site.Site.{Site}
-use Rattle.conn_key.specs.declared.target.Target.{Target}
-use Rattle.socket.specs.Hosts.{AddsHost, Names}
-use Rattle.cli.specs.GetPlan.{AddsJob, AddsSite, AreJobs, HaveAddresses, IsJobOf, IsWhyOfUrl, IsWhyOfUrls, sites_with, want_said, with_site_of}
+use Rattle.cli.specs.GetPlan.{AddsJob, AreJobs, IsJobOf, IsWhyOfUrl, IsWhyOfUrls, sites_with, want_said, with_site_of}
 use Rattle.cli.specs.GetWords.{IsBadUrl}
 use Rattle.cli.specs.declared.get.plan.GetRefusal.{GetRefusal}
 use Rattle.cli.specs.declared.get.plan.GetRefusal.TheVariants.{Memory, Wrong}
 use Rattle.cli.specs.declared.get.plan.UrlJob.{UrlJob}
 
 -- the jobs of these URLs are planned, and these are their sites
-pub record PlannedSoFar (method : Method) (max_age : ℕ) (urls : List Text) (jobs : List UrlJob) (sites : List Site) (lists : List (Vec SocketAddr)) : Type 0 where
+pub record PlannedSoFar (method : Method) (max_age : ℕ) (urls : List Text) (jobs : List UrlJob) (sites : List Site) : Type 0 where
   pub are_jobs : AreJobs method max_age [] 1 urls jobs
   pub sites_are : sites ≡ sites_with [] jobs
-  pub addresses : HaveAddresses sites lists
   pub few : length sites ≤ length jobs
   pub one_each : length jobs ≡ length urls
 
@@ -40,39 +35,26 @@ sites-more : (sites : List Site) (jobs : List UrlJob) (given : UrlJob) → sites
 sites-more sites [] given = refl
 sites-more sites (j ∷ jobs) given = sites-more (with_site_of sites j) jobs given
 
-pub none-planned : (method : Method) (max_age : ℕ) → PlannedSoFar method max_age [] [] [] []
-none-planned method max_age = record { are_jobs = tt; sites_are = refl; addresses = tt; few = omega arith; one_each = refl }
+-- at most one site more
+few-more : (is_there : Bool) (sites : List Site) (site : Site) → length (if is_there then sites else sites ++ site ∷ []) ≤ length sites + 1
+few-more true sites site = omega arith
+few-more false sites site = omega (arith, length-append sites (site ∷ []))
 
-pub planned-more : (method : Method) (max_age : ℕ) (urls : List Text) (jobs : List UrlJob) (old new : List Site) (before after : List (Vec SocketAddr)) (url : Text) (given : UrlJob)
-    → PlannedSoFar method max_age urls jobs old before → AddsJob method (want_said (length jobs + 1) max_age) old new after url given
-    → PlannedSoFar method max_age (urls ++ url ∷ []) (jobs ++ given ∷ []) new after
-planned-more method max_age urls jobs old new before after url given so_far added =
+pub none-planned : (method : Method) (max_age : ℕ) → PlannedSoFar method max_age [] [] []
+none-planned method max_age = record { are_jobs = tt; sites_are = refl; few = omega arith; one_each = refl }
+
+pub planned-more : (method : Method) (max_age : ℕ) (urls : List Text) (jobs : List UrlJob) (old new : List Site) (url : Text) (given : UrlJob)
+    → PlannedSoFar method max_age urls jobs old → AddsJob method (want_said (length jobs + 1) max_age) old new url given
+    → PlannedSoFar method max_age (urls ++ url ∷ []) (jobs ++ given ∷ []) new
+planned-more method max_age urls jobs old new url given so_far added =
+    let site = site_of given.job.target in
     record {
       are_jobs = jobs-more method max_age [] 1 urls jobs url given so_far.are_jobs
           (subst (λ (sites : List Site). IsJobOf method (want_said (1 + length jobs) max_age) sites url given) so_far.sites_are
           (subst (λ n. IsJobOf method (want_said n max_age) old url given) (omega arith) added.is_job));
-      sites_are = added.adds.sites ∙ ap (λ (sites : List Site). with_site_of sites given) so_far.sites_are ∙ sym (sites-more [] jobs given);
-      addresses = added.adds.addresses;
-      few = omega (arith, added.adds.few, so_far.few, length-append jobs (given ∷ []));
+      sites_are = added.adds ∙ ap (λ (sites : List Site). with_site_of sites given) so_far.sites_are ∙ sym (sites-more [] jobs given);
+      few = omega (arith, ap (λ (sites : List Site). length sites) added.adds, few-more (is_some (index_of old site)) old site, so_far.few, length-append jobs (given ∷ []));
       one_each = omega (arith, so_far.one_each, length-append jobs (given ∷ []), length-append urls (url ∷ []));
-    }
-
--- one more site, with its addresses
-addresses-more : (sites : List Site) (lists : List (Vec SocketAddr)) (site : Site) (next : Vec SocketAddr) → HaveAddresses sites lists → Names site.0 site.1 next.items
-    → HaveAddresses (sites ++ site ∷ []) (lists ++ next ∷ [])
-addresses-more [] [] site next have one = (one, tt)
-addresses-more [] (l ∷ lists) site next have one = absurd have
-addresses-more (s ∷ sites) [] site next have one = absurd have
-addresses-more (s ∷ sites) (l ∷ lists) site next have one = (have.0, addresses-more sites lists site next have.1 one)
-
-pub adds-site : (old new : List Site) (before after : List (Vec SocketAddr)) (target : Target) → HaveAddresses old before → index_of old (site_of target) ≡ None
-    → new ≡ with_site old (site_of target) → AddsHost before after (Names (string_bytes target.host) target.port) → AddsSite old new after target
-adds-site old new before after target have none is added =
-    let grown : new ≡ old ++ site_of target ∷ [] = is ∙ ap (λ (o : Option ℕ). if is_some o then old else old ++ site_of target ∷ []) none in
-    record {
-      sites = is;
-      addresses = rw (grown, added.added) (addresses-more old before (site_of target) added.next have added.has);
-      few = omega (arith, ap (λ (sites : List Site). length sites) grown, length-append old (site_of target ∷ []));
     }
 
 -- a bad URL is why, if memory did not run out

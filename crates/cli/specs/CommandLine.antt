@@ -15,8 +15,8 @@ use Rattle.cli.specs.declared.command_line.Words.{Words}
 use Rattle.cli.specs.declared.command_line.Words.TheVariants.{Given, NotText, NoMemory}
 use Rattle.cli.specs.declared.get.plan.GetPlan.{GetPlan}
 use Rattle.cli.specs.declared.loading.plan.LoadPlan.{LoadPlan}
-use Rattle.cli.specs.declared.command_line.request.Manner.{Manner}
-use Rattle.cli.specs.declared.command_line.request.Manner.TheVariants as manners
+use Rattle.cli.specs.declared.command_line.request.ErrorClass.{ErrorClass}
+use Rattle.cli.specs.declared.command_line.request.ErrorClass.TheVariants as manners
 use Rattle.cli.specs.declared.command_line.request.Request.{Request}
 use Rattle.cli.specs.declared.command_line.request.Request.TheVariants as requests
 use Rattle.script_run.specs.Streams.{Stream}
@@ -26,8 +26,9 @@ use Rattle.cli.specs.GetPlan.{IsPlanOf, plan_file}
 use Rattle.cli.specs.GetWords.{GetSaid, IsRefused, crawl_file, get_said_by, get_said_in}
 use Rattle.cli.specs.CrawlWords.{no_crawl}
 use Rattle.cli.specs.Loading.{WritesText}
-use Rattle.cli.specs.LoadWords.{IsLoadPlanOf, IsLoadRefused, LoadSaid, load_said_by, load_said_in}
-use Rattle.cli.specs.MoreWords.{no_more}
+use Rattle.cli.specs.LoadPlan.{IsLoadPlanOf, IsLoadRefused}
+use Rattle.cli.specs.LoadWords.{LoadSaid, load_said_by, load_said_in}
+use Rattle.cli.specs.MeasuredWords.{not_measured}
 use Rattle.cli.specs.Inputs.{name_of}
 use Rattle.cli.specs.ScriptWords.{ScriptSaid, script_said_by, script_said_in}
 use Rattle.cli.specs.AuditWords.{AuditSaid, audit_said_by, audit_said_in}
@@ -148,14 +149,14 @@ said_by (subcommands.Load words) = load (load_said_by words)
 said_by (subcommands.Audit words) = audit (audit_said_by words)
 
 -- what an error of the words is: want of memory, a request for help or the version, or a mistake
-abbrev pub manner_of : ErrorKind → Manner
-manner_of kinds.OutOfMemory = manners.Memory
-manner_of kinds.DisplayHelp = manners.Asked
-manner_of kinds.DisplayVersion = manners.Asked
-manner_of _ = manners.Mistake
+abbrev pub class_of : ErrorKind → ErrorClass
+class_of kinds.OutOfMemory = manners.Memory
+class_of kinds.DisplayHelp = manners.Asked
+class_of kinds.DisplayVersion = manners.Asked
+class_of _ = manners.Mistake
 
 -- what an error makes the words ask for, where so many wants of memory were counted before its text was made and after
-abbrev pub AnswersError : Manner → ℕ → ℕ → Request → Type 0
+abbrev pub AnswersError : ErrorClass → ℕ → ℕ → Request → Type 0
 AnswersError manner before after (requests.Script words) = ⊥
 AnswersError manner before after (requests.Get plan) = ⊥
 AnswersError manner before after (requests.Load plan) = ⊥
@@ -165,8 +166,8 @@ AnswersError manner before after (requests.Refuse text) = manner ≡ manners.Mis
 AnswersError manner before after requests.NoMemory = ((manner ≡ manners.Memory) × (after ≡ before)) ⊎ Rises before after
 
 -- one of the faults is of that manner
-abbrev pub HasManner : Kinds → Manner → Type 0
-HasManner faults manner = (kind : ErrorKind) × IsAmong kind faults × (manner_of kind ≡ manner)
+abbrev pub HasClass : Kinds → ErrorClass → Type 0
+HasClass faults manner = (kind : ErrorKind) × IsAmong kind faults × (class_of kind ≡ manner)
 
 -- what the words after get make the words ask for
 abbrev pub AnswersGet : GetSaid → ℕ → ℕ → Request → Type 0
@@ -205,9 +206,9 @@ Asks faults said before after (requests.Script words) = (faults ≡ []) × (said
 Asks faults said before after (requests.Get plan) = (faults ≡ []) × PlansGet said plan
 Asks faults said before after (requests.Load plan) = (faults ≡ []) × SaysLoad said plan
 Asks faults said before after (requests.Audit words) = (faults ≡ []) × (said ≡ audit (audit_said_by words))
-Asks faults said before after (requests.Tell text) = HasManner faults manners.Asked
-Asks faults said before after (requests.Refuse text) = HasManner faults manners.Mistake ⊎ ((faults ≡ []) × RefusesSaid said)
-Asks faults said before after requests.NoMemory = HasManner faults manners.Memory ⊎ Rises before after
+Asks faults said before after (requests.Tell text) = HasClass faults manners.Asked
+Asks faults said before after (requests.Refuse text) = HasClass faults manners.Mistake ⊎ ((faults ≡ []) × RefusesSaid said)
+Asks faults said before after requests.NoMemory = HasClass faults manners.Memory ⊎ Rises before after
 
 -- the file that a request asks for; none is standard input, or neither a script nor a trace
 abbrev pub request_file : Request → Option Text
@@ -365,14 +366,14 @@ a_load = codes "load" ∷ codes "--jobs" ∷ codes "3" ∷ codes "--connects=07"
 
 abbrev pub TakesNumbers : Type 0
 TakesNumbers = (faults_after a_load ≡ [])
-    × (small_said a_load ≡ load (record { sites = None; jobs = Some (codes "3"); workers = None; host_limit = None; total = None; connects = Some (codes "07"); trace = Some (codes "a"); more = no_more }))
+    × (small_said a_load ≡ load (record { sites = None; jobs = Some (codes "3"); workers = None; host_limit = None; total = None; connects = Some (codes "07"); trace = Some (codes "a"); measured = not_measured }))
 
 abbrev pub a_long_load : List (List ℕ)
 a_long_load = codes "load" ∷ codes "--url" ∷ codes "a" ∷ codes "--seconds=1" ∷ codes "--json" ∷ codes "--url=b" ∷ codes "--fail-above" ∷ codes "1.5" ∷ []
 
-abbrev pub TakesMore : Type 0
-TakesMore = (faults_after a_long_load ≡ [])
-    × (small_said a_long_load ≡ load (record { sites = None; jobs = None; workers = None; host_limit = None; total = None; connects = None; trace = None; more = record no_more { urls = codes "a" ∷ codes "b" ∷ []; seconds = Some (codes "1"); fail_above = Some (codes "1.5"); json = true } }))
+abbrev pub TakesMeasured : Type 0
+TakesMeasured = (faults_after a_long_load ≡ [])
+    × (small_said a_long_load ≡ load (record { sites = None; jobs = None; workers = None; host_limit = None; total = None; connects = None; trace = None; measured = record not_measured { urls = codes "a" ∷ codes "b" ∷ []; seconds = Some (codes "1"); fail_above = Some (codes "1.5"); json = true } }))
 
 abbrev pub RefusesNumberTwice : Type 0
 RefusesNumberTwice = faults_after (codes "load" ∷ codes "--total=1" ∷ codes "--total=1" ∷ []) ≡ kinds.ArgumentConflict ∷ []

@@ -7,7 +7,7 @@ use Rattle.client.specs.declared.fetched.Fetched.{Fetched}
 use Rattle.exchange.specs.declared.job.Job.{Job}
 use Rattle.script_text.specs.declared.fault.FaultKind.{FaultKind}
 use Rattle.script_text.specs.declared.fault.FaultKind.TheVariants.{Memory, Write}
-use Rattle.socket.specs.declared.addresses.Addresses.{Addresses}
+use Rattle.conn_key.specs.declared.site.Site.{Site}
 use Rattle.cli.specs.GetLines.{has_failed, line_of}
 use Rattle.script_run.specs.Streams.{Stream, PutsFront, SameFailures, OneMoreFailed}
 use Rattle.cli.specs.declared.get.fetching.NetworkFault.{NetworkFault}
@@ -74,10 +74,10 @@ abbrev pub fetched_status : Result ℕ FaultKind → ℕ
 fetched_status (Ok failed) = if failed == 0 then 0 else 4
 fetched_status (Err kind) = 4
 
--- what opening a network for these addresses, and so many seconds a transfer, may give, and leaves of it: a fetcher, or why
+-- what opening a network for these sites, and so many seconds a transfer, may give, and leaves of it: a fetcher, or why
 -- there is none
 abbrev pub Connecting : Type 0 → Type 0 → Type 1
-Connecting N F = N → N → Addresses → ℕ → Result F NetworkFault → Type 0
+Connecting N F = N → N → List Site → ℕ → Result F NetworkFault → Type 0
 
 -- what closing a fetcher leaves of its network
 abbrev pub Closing : Type 0 → Type 0 → Type 1
@@ -96,11 +96,11 @@ abbrev pub RunsOpened : {N F : Type 0} → Carrying F → Closing N F → N → 
 RunsOpened Carries Closes mid left jobs (Ok first) old new status = RunsFetcher Carries Closes mid left first jobs old new status
 RunsOpened Carries Closes mid left jobs (Err fault) old new status = (left ≡ mid) × (new ≡ old) × (status ≡ 4)
 
--- the jobs of a plan are carried out by one fetcher, of the network that is opened for its addresses
+-- the jobs of a plan are carried out by one fetcher, of the network that is opened for exactly its sites
 pub record RunsPlan {N F : Type 0} (Opens : Connecting N F) (Carries : Carrying F) (Closes : Closing N F) (network left : N) (plan : TurnPlan) (old new : Stream) (status : ℕ) : Type 0 where
   pub mid : N
   pub opened : Result F NetworkFault
-  pub opens : Opens network mid plan.addresses plan.timeout opened
+  pub opens : Opens network mid plan.sites plan.timeout opened
   pub runs : RunsOpened Carries Closes mid left plan.jobs.items opened old new status
 
 -- standard input is read only if it is the plan's file

@@ -1,8 +1,6 @@
 -- The transfers that the words after `get` ask for.
 use Rattle.std.specs.Prelude.{◌≡◌, ◌≤◌, ◌<◌, ◌+◌, ℕ, Bool, true, false, map, List, [], ◌∷◌, length, string_bytes, Option, None, Some, if◌then◌else◌, Result, Ok, Err}
-use Rattle.std.specs.Global.{Vec}
 use Rattle.std.specs.List.{Any}
-use Rattle.std.specs.declared.net.socket_addr.SocketAddr.{SocketAddr}
 use Rattle.clap.specs.Words.{Text}
 use Rattle.persistence.specs.declared.method.Method.{Method}
 use Rattle.persistence.specs.declared.method.Method.TheVariants.{Get, Head}
@@ -10,9 +8,7 @@ use Rattle.conn_key.specs.Site.{site_of}
 use Rattle.conn_key.specs.Sites.{index_or_next, with_site}
 use Rattle.conn_key.specs.Target.{GivesTarget}
 use Rattle.conn_key.specs.declared.site.Site.{Site}
-use Rattle.conn_key.specs.declared.target.Target.{Target}
 use Rattle.conn_log.specs.declared.entry.Want.{Want}
-use Rattle.socket.specs.Hosts.{Names}
 use Rattle.std.specs.Option.{option_map}
 use Rattle.cli.specs.GetWords.{GetSaid, IsBadUrl, IsPrintable, IsRefused, max_age_said, timeout_said}
 use Rattle.cli.specs.CrawlWords.{asks_crawl, flags_said, is_empty_list, max_life_said, parallel_range}
@@ -59,14 +55,8 @@ abbrev pub sites_with : List Site → List UrlJob → List Site
 sites_with sites [] = sites
 sites_with sites (given ∷ rest) = sites_with (with_site_of sites given) rest
 
--- each site has the addresses that its host names
-abbrev pub HaveAddresses : List Site → List (Vec SocketAddr) → Type 0
-HaveAddresses [] [] = Unit {0}
-HaveAddresses (site ∷ sites) (list ∷ lists) = Names site.0 site.1 list.items × HaveAddresses sites lists
-HaveAddresses _ _ = ⊥
-
--- the jobs of the URLs, numbered from 1, with the addresses of their sites, and the seconds after which each is cancelled:
--- no word of a crawl is used
+-- the jobs of the URLs, numbered from 1, with their sites, and the seconds after which each is cancelled: no word of a
+-- crawl is used
 pub record IsTurnPlanOf (said : GetSaid) (plan : TurnPlan) : Type 0 where
   pub plain : asks_crawl said.crawl ≡ false
   pub some : 0 < length said.urls
@@ -75,7 +65,7 @@ pub record IsTurnPlanOf (said : GetSaid) (plan : TurnPlan) : Type 0 where
   pub seconds_said : timeout_said said.timeout ≡ Some plan.timeout
   pub few : length said.urls ≤ 1024
   pub jobs : AreJobs (method_said said.head) max_age [] 1 said.urls plan.jobs.items
-  pub addresses : HaveAddresses (sites_with [] plan.jobs.items) plan.addresses.hosts.items
+  pub sites : plan.sites ≡ sites_with [] plan.jobs.items
 
 -- a crawl fetches by the numbers and flags that the words say
 pub record AreOptionsOf (said : GetSaid) (options : CrawlOptions) : Type 0 where
@@ -126,21 +116,15 @@ abbrev pub IsWhyOfUrls : List Text → GetRefusal → Type 0
 IsWhyOfUrls urls Memory = Unit {0}
 IsWhyOfUrls urls (Wrong text) = Any IsBadUrl urls
 
--- the sites with that one, which has the addresses that its host names
-pub record AddsSite (old new : List Site) (lists : List (Vec SocketAddr)) (target : Target) : Type 0 where
-  pub sites : new ≡ with_site old (site_of target)
-  pub addresses : HaveAddresses new lists
-  pub few : length new ≤ length old + 1
-
--- a job is added to these sites
-pub record AddsJob (method : Method) (want : Want) (old new : List Site) (lists : List (Vec SocketAddr)) (url : Text) (given : UrlJob) : Type 0 where
+-- a job is added, and its site to these sites
+pub record AddsJob (method : Method) (want : Want) (old new : List Site) (url : Text) (given : UrlJob) : Type 0 where
   pub is_job : IsJobOf method want old url given
-  pub adds : AddsSite old new lists given.job.target
+  pub adds : new ≡ with_site_of old given
 
--- the jobs of these URLs, numbered from 1, with the addresses of their sites
-pub record Plans (method : Method) (max_age : ℕ) (urls : List Text) (jobs : List UrlJob) (lists : List (Vec SocketAddr)) : Type 0 where
+-- the jobs of these URLs, numbered from 1, with their sites
+pub record Plans (method : Method) (max_age : ℕ) (urls : List Text) (jobs : List UrlJob) (sites : List Site) : Type 0 where
   pub are_jobs : AreJobs method max_age [] 1 urls jobs
-  pub addresses : HaveAddresses (sites_with [] jobs) lists
+  pub sites_are : sites ≡ sites_with [] jobs
 
 -- if memory did not run out, an address of a host is not of its form
 abbrev pub IsWhyOfHosts : List Text → GetRefusal → Type 0

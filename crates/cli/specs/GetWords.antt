@@ -5,12 +5,10 @@ use Rattle.std.specs.List.{Any, list_any}
 use Rattle.std.specs.Option.{option_and_then, option_map}
 use Rattle.clap.specs.Words.{Row, Text}
 use Rattle.clap.specs.Walk.{all_of, first_of}
-use Rattle.conn_key.specs.Target.{GivesTarget, Refuses}
+use Rattle.conn_key.specs.Target.{Refuses}
 use Rattle.conn_key.specs.declared.target.KeyError.{KeyError}
 use Rattle.conn_key.specs.declared.target.KeyError.TheVariants.{Memory}
-use Rattle.conn_key.specs.declared.target.Target.{Target}
 use Rattle.script_text.specs.Words.{number}
-use Rattle.socket.specs.Hosts.{HasNoAddress}
 use Rattle.cli.specs.Inputs.{asked_file, is_set}
 use Rattle.cli.specs.CrawlWords.{CrawlSaid, IsCrawlRefused, crawl_said_by, crawl_said_in}
 use Rattle.cli.specs.Printable.{is_unprintable}
@@ -60,11 +58,9 @@ timeout_said (Some text) = option_and_then if_hour (number (2 ^ 64) text)
 abbrev pub IsPrintable : Text → Type 0
 IsPrintable text = list_any is_unprintable (chars text) ≡ false
 
--- the text is no URL that leads to a target; or the host of its target is neither localhost nor an address; or it has a
--- control character
+-- the text is no URL that leads to a target; or it has a control character
 abbrev pub IsBadUrl : Text → Type 0
-IsBadUrl url = ((error : KeyError) × Refuses url error × (error ≢ Memory))
-    ⊎ (((target : Target) × GivesTarget url target × HasNoAddress (string_bytes target.host)) ⊎ (list_any is_unprintable (chars url) ≡ true))
+IsBadUrl url = ((error : KeyError) × Refuses url error × (error ≢ Memory)) ⊎ (list_any is_unprintable (chars url) ≡ true)
 
 -- there is neither a URL nor a file of them
 abbrev pub NamesNone : GetSaid → Type 0

@@ -5,6 +5,7 @@ pub mod Auditing
 pub mod Printable
 pub mod CrawlWords
 pub mod GetWords
+pub mod HostNames
 pub mod GetPlan
 pub mod GetLines
 pub mod Fetching
@@ -16,4 +17,6 @@ pub mod Loading
 pub mod CommandLine
 pub mod SystemLoads
 pub mod LoadTraces
-pub mod MoreWords
+pub mod MeasuredWords
+pub mod MeasuredPlan
+pub mod LoadPlan

@@ -22,6 +22,26 @@ limit_range = record { least = 0; greatest = 65535 }
 abbrev pub connects_range : NumberRange
 connects_range = record { least = 1; greatest = 65535 }
 
+-- requests under way at once
+abbrev pub connections_range : NumberRange
+connections_range = record { least = 1; greatest = 1024 }
+
+-- seconds in which requests are sent, up to a day
+abbrev pub seconds_range : NumberRange
+seconds_range = record { least = 1; greatest = 86400 }
+
+-- seconds before them, up to an hour
+abbrev pub warmup_range : NumberRange
+warmup_range = record { least = 0; greatest = 3600 }
+
+-- requests due in a second
+abbrev pub rate_range : NumberRange
+rate_range = record { least = 1; greatest = 1000000 }
+
+-- seconds after which a request is cancelled, up to an hour
+abbrev pub timeout_range : NumberRange
+timeout_range = record { least = 1; greatest = 3600 }
+
 -- as many connections are kept as CURLMOPT_MAXCONNECTS of libcurl has it by default: four for each transfer, but no more
 -- than may be
 abbrev pub connects_for : ℕ → ℕ

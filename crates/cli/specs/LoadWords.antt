@@ -1,5 +1,5 @@
--- What the words after `load` say, and when they are refused.
-use Rattle.std.specs.Prelude.{◌≡◌, ◌⊎◌, ◌^◌, ◌&&◌, not, is_some, true, ℕ, nat_le, codes, List, string_bytes, Option, None, Some, if◌then◌else◌}
+-- What the words after `load` say, and when their numbers are refused.
+use Rattle.std.specs.Prelude.{◌≡◌, ◌⊎◌, ◌^◌, ◌&&◌, not, is_some, ℕ, nat_le, codes, List, string_bytes, Option, None, Some, if◌then◌else◌}
 use Rattle.std.specs.Option.{option_and_then, option_map}
 use Rattle.clap.specs.Words.{Row, Text, kind_of}
 use Rattle.clap.specs.Walk.{first_of}
@@ -7,13 +7,12 @@ use Rattle.clap.specs.declared.error.Error.{Error}
 use Rattle.clap.specs.declared.error.kind.ErrorKind.TheVariants.{OutOfMemory, ValueValidation}
 use Rattle.script_text.specs.Words.{number}
 use Rattle.cli.specs.LoadRanges.{connects_for, connects_range, jobs_range, limit_range, many_jobs_range, sites_range, workers_range}
-use Rattle.cli.specs.MoreWords.{MoreSaid, asks_more, is_long, more_said_by, more_said_in}
+use Rattle.cli.specs.MeasuredWords.{MeasuredSaid, asks_measured, is_long, measured_said_by, measured_said_in}
 use Rattle.cli.specs.declared.loading.options.LoadOptions.{LoadOptions}
-use Rattle.cli.specs.declared.loading.plan.LoadPlan.{LoadPlan}
 use Rattle.cli.specs.declared.loading.range.NumberRange.{NumberRange}
 use Rattle.cli.specs.declared.loading.words.LoadWords.{LoadWords}
 
--- the six numbers, as they were given, the file that the trace is to be written to, and the words for URLs, time and telling
+-- the six numbers, as they were given, the file that the trace is to be written to, and the words of a measured load
 pub record LoadSaid : Type 0 where
   pub sites : Option Text
   pub jobs : Option Text
@@ -22,7 +21,7 @@ pub record LoadSaid : Type 0 where
   pub total : Option Text
   pub connects : Option Text
   pub trace : Option Text
-  pub more : MoreSaid
+  pub measured : MeasuredSaid
 
 -- what the rows of the subcommand say
 abbrev pub load_said_in : List Row → LoadSaid
@@ -34,7 +33,7 @@ load_said_in rows = record {
   total = first_of (codes "total") rows;
   connects = first_of (codes "connects") rows;
   trace = first_of (codes "trace") rows;
-  more = more_said_in rows;
+  measured = measured_said_in rows;
 }
 
 abbrev pub load_said_by : LoadWords → LoadSaid
@@ -46,7 +45,7 @@ load_said_by words = record {
   total = option_map string_bytes words.total;
   connects = option_map string_bytes words.connects;
   trace = option_map string_bytes words.trace;
-  more = more_said_by words.more;
+  measured = measured_said_by words.measured;
 }
 
 -- the number of a range that a text is: one or more decimal digits, leading zeros too
@@ -67,43 +66,29 @@ IsOutside range None = ⊥
 IsOutside range (Some text) = number_in range text ≡ None
 
 -- the range of the number of jobs: longer with URLs or seconds
-abbrev pub jobs_range_for : MoreSaid → NumberRange
-jobs_range_for more = if is_long more then many_jobs_range else jobs_range
+abbrev pub jobs_range_for : MeasuredSaid → NumberRange
+jobs_range_for measured = if is_long measured then many_jobs_range else jobs_range
 
 -- how many connections are kept, where no number is given
 abbrev pub kept_for : LoadSaid → ℕ → ℕ
-kept_for said jobs = if asks_more said.more && not (is_some said.jobs) then 65535 else connects_for jobs
+kept_for said jobs = if asks_measured said.measured && not (is_some said.jobs) then 65535 else connects_for jobs
 
 -- the numbers that the words give; and where they give none, 2 sites, 20 jobs, 4 workers, no limits, and as many kept as
 -- are right for the jobs
 pub record IsLoadOf (said : LoadSaid) (options : LoadOptions) : Type 0 where
   pub sites_said : number_said sites_range 2 said.sites ≡ Some options.sites
-  pub jobs_said : number_said (jobs_range_for said.more) 20 said.jobs ≡ Some options.jobs
+  pub jobs_said : number_said (jobs_range_for said.measured) 20 said.jobs ≡ Some options.jobs
   pub workers_said : number_said workers_range 4 said.workers ≡ Some options.workers
   pub host_limit_said : number_said limit_range 0 said.host_limit ≡ Some options.host_limit
   pub total_said : number_said limit_range 0 said.total ≡ Some options.total
   pub connects_said : number_said connects_range (kept_for said options.jobs) said.connects ≡ Some options.connects
 
--- a load with these numbers, whose trace is written to that file, and which is asked for more if words for that are given
-pub record IsLoadPlanOf (said : LoadSaid) (plan : LoadPlan) : Type 0 where
-  pub options_said : IsLoadOf said plan.options
-  pub trace_said : option_map string_bytes plan.trace ≡ said.trace
-  pub more_said : is_some plan.more ≡ asks_more said.more
-
 -- one of the six is out of its range, or no number
 abbrev pub IsNumberRefused : LoadSaid → Type 0
 IsNumberRefused said =
-    ((IsOutside sites_range said.sites ⊎ IsOutside (jobs_range_for said.more) said.jobs) ⊎ (IsOutside workers_range said.workers ⊎ IsOutside limit_range said.host_limit))
+    ((IsOutside sites_range said.sites ⊎ IsOutside (jobs_range_for said.measured) said.jobs) ⊎ (IsOutside workers_range said.workers ⊎ IsOutside limit_range said.host_limit))
     ⊎ (IsOutside limit_range said.total ⊎ IsOutside connects_range said.connects)
-
--- that is so, or words for URLs, time and telling are given
-abbrev pub IsLoadRefused : LoadSaid → Type 0
-IsLoadRefused said = IsNumberRefused said ⊎ (asks_more said.more ≡ true)
 
 -- memory ran out; or a value is not valid, since that holds
 abbrev pub IsWhyNot : Type 0 → Error → Type 0
 IsWhyNot Refused error = (kind_of error ≡ OutOfMemory) ⊎ ((kind_of error ≡ ValueValidation) × Refused)
-
--- the same, whatever holds
-abbrev pub IsValueError : Error → Type 0
-IsValueError error = IsWhyNot (Unit {0}) error

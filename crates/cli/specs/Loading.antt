@@ -6,18 +6,20 @@ use Rattle.script_run.specs.Streams.{Stream, Puts}
 use Rattle.cli.specs.declared.loading.plan.LoadPlan.{LoadPlan}
 use Rattle.cli.specs.declared.loading.outcome.LoadOutcome.{LoadOutcome}
 use Rattle.cli.specs.declared.loading.fault.LoadFault.{LoadFault}
-use Rattle.cli.specs.declared.loading.fault.LoadFault.TheVariants.{Memory, BadWorkers, Poll, Doubled, Missing, Spawn, Listen, Gather, Write}
+use Rattle.cli.specs.declared.loading.fault.LoadFault.TheVariants.{Load, Listen, Write}
+use Rattle.driver.specs.declared.fault.DriverFault.TheVariants.{Memory, BadWorkers, Poll, Doubled, Missing, Spawn}
+use Rattle.load_run.specs.declared.error.LoadError.TheVariants.{Run, Gather}
 
 -- what is told of each fault, after `run: `
 abbrev pub load_fault_text : LoadFault → Text
-load_fault_text Memory = codes "out of memory"
-load_fault_text BadWorkers = codes "bad workers"
-load_fault_text Poll = codes "poll failed"
-load_fault_text Doubled = codes "job collected twice"
-load_fault_text Missing = codes "job missing"
-load_fault_text Spawn = codes "cannot start thread"
+load_fault_text (Load (Run Memory)) = codes "out of memory"
+load_fault_text (Load (Run BadWorkers)) = codes "bad workers"
+load_fault_text (Load (Run Poll)) = codes "poll failed"
+load_fault_text (Load (Run Doubled)) = codes "job collected twice"
+load_fault_text (Load (Run Missing)) = codes "job missing"
+load_fault_text (Load (Run Spawn)) = codes "cannot start thread"
+load_fault_text (Load Gather) = codes "cannot gather"
 load_fault_text Listen = codes "cannot listen"
-load_fault_text Gather = codes "cannot gather"
 load_fault_text Write = codes "cannot write"
 
 -- a load of that plan comes to this, or has this fault

@@ -8,8 +8,8 @@ use Rattle.exchange.specs.Worlds.{World, world_of}
 use Rattle.socket.specs.Sockets.{IsUntouched}
 use Rattle.socket.specs.Streams.{HappensOver}
 use Rattle.socket.specs.declared.waiting.WaitingWire.{WaitingWire}
-use Rattle.load.specs.Loading.{IsLoaded}
-use Rattle.load.specs.declared.loading.Loaded.{Loaded}
+use Rattle.load_run.specs.Loading.{IsLoaded}
+use Rattle.load_run.specs.declared.loading.Loaded.{Loaded}
 use Rattle.cache_report.specs.Report.{report_text}
 use Rattle.cli.specs.LoadJobs.{AreLoadJobs}
 use Rattle.cli.specs.declared.loading.options.LoadOptions.{LoadOptions}

@@ -1,4 +1,4 @@
-//! Fetches URLs, and tells how each transfer ended.
+//! Fetches URLs, and writes how each transfer ended.
 
 ghost use Rattle.std.specs.Prelude.{◌≡◌, None};
 ghost use Rattle.cli.specs.Fetching.{Fetches, PutsLine, RunsGet, RunsPlan, fetched_status};
@@ -9,6 +9,7 @@ ghost use Rattle.script_run.specs.Streams.{CanCount};
 pub(crate) mod crawl;
 pub(crate) mod fetching;
 pub(crate) mod line;
+pub(crate) mod looking_up;
 pub(crate) mod plan;
 pub(crate) mod planning;
 pub(crate) mod subcommand;
@@ -18,7 +19,7 @@ pub(crate) mod words;
 use client::Fetched;
 use crawl::run_crawl;
 use exchange::Done;
-use fetching::{Fetcher, Network};
+use fetching::{Fetcher, Network, NetworkFault};
 use line::line_text;
 use plan::{GetPlan, TurnPlan, UrlJob};
 use script_run::{ScriptFiles, Sink, Source};
@@ -26,10 +27,10 @@ use script_text::FaultKind;
 use std::alloc::Global;
 use std::io::Write;
 
-/// All was fetched and told.
+/// Each URL has a good response and its line.
 const DONE: u8 = 0;
 
-/// Something was not.
+/// A URL has no good response, or no line.
 const FAILED: u8 = 4;
 
 /// Carries out a plan: fetches its URLs one after another, or as a crawl, whose file is one of
@@ -56,9 +57,9 @@ pub fn run_plan<N: Network, F: ScriptFiles, R: Source, W: Sink, E: Write>(
     }
 }
 
-/// Carries out a plan: fetches its URLs one after another, writes a line on `output` as each
-/// transfer ends, and closes what fetched them. Answers the status: 0 if all had good responses
-/// and were told, else 4. What goes wrong is told on `errors`.
+/// Carries out a plan: opens the network for its sites, fetches its URLs one after another, writes
+/// a line on `output` as each transfer ends, and closes the fetcher. Answers the status: 0 if all
+/// had good responses and were told, else 4. What goes wrong is told on `errors`.
 fn run_in_turn<N: Network, W: Sink, E: Write>(
     alloc: Global,
     plan: TurnPlan,
@@ -72,20 +73,25 @@ fn run_in_turn<N: Network, W: Sink, E: Write>(
 {
     let TurnPlan {
         jobs,
-        addresses,
+        sites,
         timeout,
     } = plan;
-    match network.open(alloc, addresses, timeout) {
+    match network.open(alloc, &sites, timeout) {
         Ok(mut fetcher) => {
             let result = fetch_all(alloc, &mut fetcher, jobs.as_slice(), output);
             network.close(fetcher);
             status_told(errors, jobs.len(), result)
         }
-        Err(fault) => {
-            let _ = writeln!(errors, "run: {fault}");
-            FAILED
-        }
+        Err(fault) => failed(errors, fault),
     }
+}
+
+/// The status of a program that has no network. Tells why.
+fn failed<E: Write>(errors: &mut E, fault: NetworkFault) -> u8
+    ensures { result ≡ 4 }
+{
+    let _ = writeln!(errors, "run: {fault}");
+    FAILED
 }
 
 /// Carries out the jobs and writes their lines. Answers how many failed.
@@ -147,7 +153,7 @@ fn put_line<W: Sink>(
     }
 }
 
-/// The status of a program that fetched so many URLs; what went wrong is told.
+/// The status of a program that fetched `count` URLs. Tells what went wrong.
 fn status_told<E: Write>(errors: &mut E, count: usize, fetched: Result<usize, FaultKind>) -> u8
     ensures { result ≡ fetched_status fetched }
 {

@@ -6,13 +6,7 @@ ghost use Rattle.script_run.specs.Streams.{CanCount};
 
 pub(crate) mod fault;
 pub(crate) mod interrupt;
-pub(crate) mod more_numbers;
-pub(crate) mod more_plan;
-pub(crate) mod more_planning;
-pub(crate) mod more_report;
-pub(crate) mod more_sites;
-pub(crate) mod more_system;
-pub(crate) mod more_words;
+pub(crate) mod measured;
 pub(crate) mod numbers;
 pub(crate) mod options;
 pub(crate) mod outcome;
@@ -22,11 +16,10 @@ pub(crate) mod progress;
 pub(crate) mod range;
 pub(crate) mod subcommand;
 pub(crate) mod system;
-pub(crate) mod targets;
 pub(crate) mod tracing;
 pub(crate) mod words;
 
-use fault::LoadFault;
+use fault::{LoadFault, OUT_OF_MEMORY};
 use outcome::LoadOutcome;
 use plan::LoadPlan;
 use script_run::Sink;
@@ -34,12 +27,11 @@ use script_text::FaultKind;
 use std::alloc::Global;
 use std::io::Write;
 
-/// There is no report, or it was not written whole.
+/// The status if there is no report, or it was not written whole.
 const FAILED: u8 = 4;
 
-/// Carries out the load of that plan by `load`, and writes what comes of it on `output`. Answers
-/// the status: that of the load if its report was written whole, else 4. What it notes, or what
-/// goes wrong, is told on `errors`.
+/// Carries out the plan by `load`, writes its report on `output`, and its note or its fault on
+/// `errors`. Gives the status: the load's if the report was written whole, else 4.
 pub fn run_load<L: FnOnce(Global, LoadPlan) -> Result<LoadOutcome, LoadFault>, W: Sink, E: Write>(
     alloc: Global,
     plan: LoadPlan,
@@ -57,7 +49,7 @@ pub fn run_load<L: FnOnce(Global, LoadPlan) -> Result<LoadOutcome, LoadFault>, W
             let _ = errors.write_all(outcome.note.as_bytes());
             match output.put(outcome.report.as_bytes()) {
                 Ok(()) => outcome.status,
-                Err(FaultKind::Memory) => failed(errors, LoadFault::Memory),
+                Err(FaultKind::Memory) => failed(errors, OUT_OF_MEMORY),
                 Err(_) => failed(errors, LoadFault::Write),
             }
         }
@@ -65,7 +57,7 @@ pub fn run_load<L: FnOnce(Global, LoadPlan) -> Result<LoadOutcome, LoadFault>, W
     }
 }
 
-/// The status of a load that has that fault, which is told.
+/// Tells the fault, and gives the status.
 fn failed<E: Write>(errors: &mut E, fault: LoadFault) -> u8
     ensures { result ≡ 4 }
 {

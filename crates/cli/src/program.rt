@@ -9,7 +9,7 @@ ghost use Rattle.script_run.specs.Streams.{CanCount};
 
 use crate::auditing::answer_audit;
 use crate::command_line::Words;
-use crate::command_line::memory::WordsMemory;
+use crate::command_line::memory::ArgsAlloc;
 use crate::command_line::request::{Request, asked_by};
 use crate::get::fetching::Network;
 use crate::get::run_plan;
@@ -52,7 +52,7 @@ const HOW_TO_END: &str = "Write a script, and end it with Ctrl-D on an empty lin
 /// nothing else. `errors` gets what goes wrong, and first how to end a script from `input` if that
 /// `is_typed` on a terminal.
 pub fn run_program<
-    M: WordsMemory,
+    M: ArgsAlloc,
     F: ScriptFiles,
     N: Network,
     L: FnOnce(Global, LoadPlan) -> Result<LoadOutcome, LoadFault> + Drop,

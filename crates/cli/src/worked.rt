@@ -6,9 +6,11 @@ ghost use Rattle.cli.specs.CommandLine.{TellsHelpOnWord, TellsVersionOnVersion};
 ghost use Rattle.cli.specs.CommandLine.{RefusesAnotherWord};
 ghost use Rattle.cli.specs.CommandLine.{TakesFile, TakesStandardInput, TakesDash};
 ghost use Rattle.cli.specs.CommandLine.{TakesUrls, TakesCrawl, RefusesTwice};
-ghost use Rattle.cli.specs.CommandLine.{TakesNumbers, WantsNumber, RefusesNumberTwice, TakesMore};
+ghost use Rattle.cli.specs.CommandLine.{TakesNumbers, WantsNumber, RefusesNumberTwice};
+ghost use Rattle.cli.specs.CommandLine.{TakesMeasured};
 ghost use Rattle.cli.specs.CommandLine.{TakesTrace, RefusesFlagTwice, TakesTraceFlag, TakesPicture};
 ghost use Rattle.cli.specs.GetLines.{TellsResponses, TellsFaults};
+ghost use Rattle.cli.specs.MeasuredPlan.{ReadsPercentages, RefusesPercentages};
 
 /// What is wrong with small command lines, by computation: with `script` alone, or a file after it,
 /// nothing; no word at all, and a word after the file, are refused; `--help`, `help` and
@@ -33,7 +35,7 @@ pub fn worked_command_lines()
     ensures numbers { TakesNumbers }
     ensures no_number { WantsNumber }
     ensures number_twice { RefusesNumberTwice }
-    ensures more { TakesMore }
+    ensures measured { TakesMeasured }
 {}
 
 /// The words of `audit`, by computation: it takes its flags before and after the file, and refuses
@@ -45,6 +47,14 @@ pub fn worked_audit_lines()
     ensures twice { RefusesFlagTwice }
     ensures script { TakesTraceFlag }
     ensures picture { TakesPicture }
+{}
+
+/// What percentages say, by computation: `0.5` is 50 hundredths, and `100.01` is refused, as is a
+/// third decimal, or a dot without digits on both sides.
+#[tactic(auto, unfolding(script_text::specs::Words::number))]
+pub fn worked_percentages()
+    ensures read { ReadsPercentages }
+    ensures refused { RefusesPercentages }
 {}
 
 /// The lines of transfers that ended so, by computation.

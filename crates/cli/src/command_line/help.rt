@@ -137,8 +137,10 @@ back 2 0 keep at 4  returned 0.1 by 2 at 4";
 /// What `get` writes, and how it ends.
 pub const LINES: &str = "\
 Later URLs of a host and port reuse its connection. A URL begins with http://
-and has no control characters. For each URL, in order, a line is written as its
-transfer ends; with --parallel above 1, in the order in which transfers end:
+and has no control characters. The system looks up the name of a host once,
+unless it is localhost, an address, or given by --resolve. For each URL, in
+order, a line is written as its transfer ends; with --parallel above 1, in the
+order in which transfers end:
 
 STATUS LENGTH reused|new [retried] URL
                     The response's status, and the bytes of its body; whether
@@ -159,7 +161,8 @@ dialled_us, first_byte_us, whole_us; what is not known is null.
 
 FAULT               Why
 Memory              Memory ran out
-Dial                The connection could not be opened
+Dial                The connection could not be opened, or the system does not
+                    know the host
 Read                A read failed
 Write               A write failed
 BadResponse         What came is no HTTP/1.0 or HTTP/1.1 response, or has no

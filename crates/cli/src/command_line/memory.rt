@@ -3,7 +3,8 @@
 ghost use Rattle.std.specs.Prelude.{◌≡◌, ◌≤◌, IfOk, IfErr, map, string_bytes};
 ghost use Rattle.cli.specs.GetPlan.{IsPlanOf, IsWhy};
 ghost use Rattle.cli.specs.GetWords.{get_said_by};
-ghost use Rattle.cli.specs.LoadWords.{IsLoadPlanOf, IsLoadRefused, IsWhyNot, load_said_by};
+ghost use Rattle.cli.specs.LoadPlan.{IsLoadPlanOf, IsLoadRefused};
+ghost use Rattle.cli.specs.LoadWords.{IsWhyNot, load_said_by};
 ghost use Rattle.clap.specs.Words.{FailsBy, kind_of};
 ghost use Rattle.conn_key.specs.Wants.{Rises};
 ghost use Rattle.cli.specs.CommandLine.{faults_of, said_after, said_by};
@@ -12,8 +13,8 @@ use crate::command_line::mistake::text_of;
 use crate::command_line::{Subcommand, not_text, parse};
 use crate::get::plan::{GetPlan, GetRefusal, plan_of};
 use crate::get::words::GetWords;
-use crate::loading::more_planning::load_plan;
 use crate::loading::plan::LoadPlan;
+use crate::loading::planning::load_plan;
 use crate::loading::words::LoadWords;
 use clap::Error;
 use clap::error::ErrorKind;
@@ -21,7 +22,7 @@ use std::alloc::{AllocError, Global};
 
 /// What the words are read in. It counts the wants of memory that it answered, so that a contract
 /// can say that memory was short only where one came.
-pub trait WordsMemory {
+pub trait ArgsAlloc {
     ghost use Rattle.std.specs.Prelude.{ℕ};
 
     /// How many wants of memory it answered; at the greatest u64 the count stays.
@@ -68,21 +69,21 @@ pub trait WordsMemory {
 
 /// The program's memory, with a count of the wants that it answered.
 #[derive(Drop)]
-pub struct CountedWordsMemory {
+pub struct CountedArgsAlloc {
     alloc: Global,
     wants: u64,
 }
 
-impl CountedWordsMemory {
+impl CountedArgsAlloc {
     /// Memory that answered no want yet.
-    pub fn new(alloc: Global) -> CountedWordsMemory
+    pub fn new(alloc: Global) -> CountedArgsAlloc
         ensures { result.wants ≡ 0 }
     {
-        CountedWordsMemory { alloc, wants: 0 }
+        CountedArgsAlloc { alloc, wants: 0 }
     }
 }
 
-impl WordsMemory for CountedWordsMemory {
+impl ArgsAlloc for CountedArgsAlloc {
     ghost wants = { λ memory. memory.wants };
 
     fn parse(&mut self, words: &[String]) -> Result<Subcommand, Error> {

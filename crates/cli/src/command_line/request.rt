@@ -2,13 +2,13 @@
 
 ghost use Rattle.std.specs.Prelude.{◌≡◌};
 ghost use Rattle.clap.specs.Words.{kind_of};
-ghost use Rattle.cli.specs.CommandLine.{AnswersError, AnswersGet, AnswersLoad, Asks, manner_of};
+ghost use Rattle.cli.specs.CommandLine.{AnswersError, AnswersGet, AnswersLoad, Asks, class_of};
 ghost use Rattle.cli.specs.CommandLine.{said, word_faults};
 ghost use Rattle.cli.specs.GetWords.{get_said_by};
 ghost use Rattle.cli.specs.LoadWords.{load_said_by};
 
 use crate::auditing::words::AuditWords;
-use crate::command_line::memory::WordsMemory;
+use crate::command_line::memory::ArgsAlloc;
 use crate::command_line::{Subcommand, Words};
 use crate::get::plan::{GetPlan, GetRefusal};
 use crate::get::words::GetWords;
@@ -39,7 +39,7 @@ pub enum Request {
 
 /// What an error of the words is.
 #[derive(Clone, Copy)]
-pub enum Manner {
+pub enum ErrorClass {
     /// Memory ran out.
     Memory,
     /// Help or the version was asked for.
@@ -50,7 +50,7 @@ pub enum Manner {
 
 /// What the words ask for. `NoMemory` comes only where the words could not be had for want of
 /// memory, or the memory counted a want.
-pub fn asked_by<M: WordsMemory>(memory: &mut M, words: Words) -> Request
+pub fn asked_by<M: ArgsAlloc>(memory: &mut M, words: Words) -> Request
     ensures { Asks (word_faults words) (said words) (M.wants memory.old)
         (M.wants memory.new) result }
 {
@@ -71,7 +71,7 @@ pub fn asked_by<M: WordsMemory>(memory: &mut M, words: Words) -> Request
 }
 
 /// What the words after `get` ask for.
-fn planned<M: WordsMemory>(memory: &mut M, words: &GetWords) -> Request
+fn planned<M: ArgsAlloc>(memory: &mut M, words: &GetWords) -> Request
     ensures { AnswersGet (get_said_by words.now) (M.wants memory.old) (M.wants memory.new)
         result }
 {
@@ -83,7 +83,7 @@ fn planned<M: WordsMemory>(memory: &mut M, words: &GetWords) -> Request
 }
 
 /// What the words after `load` ask for.
-fn numbered<M: WordsMemory>(memory: &mut M, words: LoadWords) -> Request
+fn numbered<M: ArgsAlloc>(memory: &mut M, words: LoadWords) -> Request
     ensures { AnswersLoad (load_said_by words) (M.wants memory.old) (M.wants memory.new)
         result }
 {
@@ -94,17 +94,17 @@ fn numbered<M: WordsMemory>(memory: &mut M, words: LoadWords) -> Request
 }
 
 /// What is asked for where reading the words gave that error.
-fn refused<M: WordsMemory>(memory: &mut M, error: Error) -> Request
-    ensures { AnswersError (manner_of (kind_of error)) (M.wants memory.old)
+fn refused<M: ArgsAlloc>(memory: &mut M, error: Error) -> Request
+    ensures { AnswersError (class_of (kind_of error)) (M.wants memory.old)
         (M.wants memory.new) result }
 {
-    match manner_of(error.kind()) {
-        Manner::Memory => Request::NoMemory,
-        Manner::Asked => match memory.text(&error) {
+    match class_of(error.kind()) {
+        ErrorClass::Memory => Request::NoMemory,
+        ErrorClass::Asked => match memory.text(&error) {
             Ok(text) => Request::Tell(text),
             Err(_) => Request::NoMemory,
         },
-        Manner::Mistake => match memory.text(&error) {
+        ErrorClass::Mistake => match memory.text(&error) {
             Ok(text) => Request::Refuse(text),
             Err(_) => Request::NoMemory,
         },
@@ -112,13 +112,13 @@ fn refused<M: WordsMemory>(memory: &mut M, error: Error) -> Request
 }
 
 /// What an error of that kind is.
-fn manner_of(kind: ErrorKind) -> Manner
-    ensures { result ≡ manner_of kind }
+fn class_of(kind: ErrorKind) -> ErrorClass
+    ensures { result ≡ class_of kind }
 {
     match kind {
-        ErrorKind::OutOfMemory => Manner::Memory,
-        ErrorKind::DisplayHelp => Manner::Asked,
-        ErrorKind::DisplayVersion => Manner::Asked,
-        _ => Manner::Mistake,
+        ErrorKind::OutOfMemory => ErrorClass::Memory,
+        ErrorKind::DisplayHelp => ErrorClass::Asked,
+        ErrorKind::DisplayVersion => ErrorClass::Asked,
+        _ => ErrorClass::Mistake,
     }
 }

@@ -1,10 +1,10 @@
-//! Addresses that the words give for hosts.
+//! The addresses of hosts: those that the words give, and those that the system knows.
 
 use crate::command_line::values::number_of;
 use std::alloc::{AllocError, Global};
-use std::net::{IpAddr, Ipv4Addr, Ipv6Addr, SocketAddr};
+use std::net::{IpAddr, Ipv4Addr, Ipv6Addr, SocketAddr, ToSocketAddrs};
 
-/// The address that is dialled for a host and port.
+/// An address that `--resolve` gives for a host and port.
 #[derive(Drop)]
 pub struct Resolved {
     /// The host as a URL names it.
@@ -19,7 +19,7 @@ impl Resolved {
     }
 }
 
-/// The address that is given for a host and port, if one is: the first of them.
+/// The first address that is given for a host and port, if one is.
 pub(crate) fn resolved_of(resolved: &[Resolved], host: &str, port: u16) -> Option<SocketAddr> {
     for given in resolved {
         if given.is_of(host, port) {
@@ -29,7 +29,29 @@ pub(crate) fn resolved_of(resolved: &[Resolved], host: &str, port: u16) -> Optio
     None
 }
 
-/// What a value of `--resolve` gives; `None` if it is not `HOST:PORT:ADDRESS`.
+/// Waits for the addresses that the system knows of a host, each with that port, in the order in
+/// which the system gives them. There are none if the system does not know the host.
+///
+/// # Errors
+///
+/// There is no memory for them.
+pub(crate) fn system_addresses(
+    system: &HostRuntime,
+    alloc: Global,
+    host: &str,
+    port: u16,
+) -> Result<Vec<SocketAddr>, AllocError> {
+    let mut addresses = Vec::new(alloc);
+    let Ok(found) = (host, port).to_socket_addrs(system) else {
+        return Ok(addresses);
+    };
+    for address in found {
+        addresses.push(address)?;
+    }
+    Ok(addresses)
+}
+
+/// Reads a value of `--resolve`; `None` if it is not `HOST:PORT:ADDRESS`.
 ///
 /// # Errors
 ///
@@ -42,7 +64,7 @@ pub(crate) fn resolved_by(alloc: Global, text: &str) -> Result<Option<Resolved>,
     Ok(Some(Resolved { host, address }))
 }
 
-// The host and the address of `HOST:PORT:ADDRESS`, if the text is of this form.
+// The host and the address that `HOST:PORT:ADDRESS` gives; `None` if the text has another form.
 fn parts_of(text: &str) -> Option<(&str, SocketAddr)> {
     let (host, rest) = host_of(text)?;
     let (port, address) = rest.split_once(":")?;
@@ -53,7 +75,7 @@ fn parts_of(text: &str) -> Option<(&str, SocketAddr)> {
     Some((host, SocketAddr::new(ip_of(address)?, port)))
 }
 
-// The host before a colon, in brackets or without one in it, and what follows the colon.
+// The host before the first colon, or in brackets, and the text after its colon.
 fn host_of(text: &str) -> Option<(&str, &str)> {
     if !text.starts_with("[") {
         return text.split_once(":");
@@ -63,7 +85,7 @@ fn host_of(text: &str) -> Option<(&str, &str)> {
     Some((host, rest))
 }
 
-// The address that a text writes; one of IPv6 in brackets or without.
+// The address that a text writes; an IPv6 address may be in brackets.
 fn ip_of(text: &str) -> Option<IpAddr> {
     if let Ok(ip) = Ipv4Addr::parse_ascii(text.as_bytes()) {
         return Some(IpAddr::V4(ip));

@@ -1,32 +1,19 @@
-//! The values that options are given among the words.
+//! The values of options on the command line.
 
 ghost use Rattle.std.specs.Prelude.{◌≡◌, ◌^◌, IfOk, option_map, string_bytes};
-ghost use Rattle.std.specs.List.{list_all};
-ghost use Rattle.std.specs.Char.{is_ascii_digit};
 ghost use Rattle.script_text.specs.Words.{number};
 ghost use Rattle.cli.specs.Inputs.{is_set};
 
 use std::alloc::{AllocError, Global};
 
-/// The number that a text of decimal digits alone is, if it fits.
-#[tactic(auto, unfolding(script_text::specs::Words::number))]
+/// The number that a text of decimal digits alone is, if it fits: as a script has its numbers.
 pub fn number_of(text: &str) -> Option<u64>
     ensures { result ≡ number (2 ^ 64) text.now }
 {
-    if text.is_empty() || !is_digits(text) {
-        return None;
-    }
-    text.parse::<u64>().ok()
+    script_text::number_of(text.as_bytes())
 }
 
-/// Whether each byte is a decimal digit.
-fn is_digits(text: &str) -> bool
-    ensures { result ≡ list_all is_ascii_digit text.now }
-{
-    text.as_bytes().iter().all(|byte| byte.is_ascii_digit())
-}
-
-/// Whether a flag's value says that it is used.
+/// Whether a flag's value says that the flag is given.
 pub(crate) fn is_set(value: Option<&str>) -> bool
     ensures { result ≡ is_set (option_map (λ text. text.now) value.entry) }
 {
@@ -36,7 +23,7 @@ pub(crate) fn is_set(value: Option<&str>) -> bool
     }
 }
 
-/// A copy of a text, if there is one.
+/// Copies a text, if there is one.
 pub(crate) fn owned(alloc: Global, text: Option<&str>) -> Result<Option<String>, AllocError>
     ensures { IfOk result (λ copy.
         option_map string_bytes copy ≡ option_map (λ text. text.now) text.entry) }

@@ -1,8 +1,8 @@
-//! Fetches any number of URLs, many at once, and tells how each transfer ended.
+//! Fetches any number of URLs, many at once, and writes how each transfer ended.
 
 ghost use Rattle.std.specs.Prelude.{◌≡◌, None, OnOk};
 ghost use Rattle.script_run.specs.Streams.{CanCount};
-ghost use Rattle.cli.specs.Crawling.{TellsWindow, line_fault};
+ghost use Rattle.cli.specs.Crawling.{TellsWindow, line_fault, url_in};
 ghost use Rattle.cli.specs.Fetching.{RunsCrawl};
 ghost use Rattle.cli.specs.GetPlan.{plan_file};
 ghost use Rattle.cli.specs.declared.get.plan.GetPlan.TheVariants.{Crawl};
@@ -22,6 +22,7 @@ pub(crate) mod window;
 
 use crate::command_line::printable::Escaped;
 use crate::get::fetching::{Network, NetworkFault};
+use crate::get::looking_up::Resolver;
 use crawler::Crawler;
 use exchange::Job;
 use json_line::{JsonLine, Outcome};
@@ -29,22 +30,23 @@ use plan::{CrawlFlags, CrawlPlan};
 use script_run::{ScriptFiles, Sink, Source};
 use script_text::FaultKind;
 use std::alloc::{AllocError, Global};
+use std::collections::HashMap;
 use std::io::Write;
 use std::sync::atomic::AtomicBool;
 use telling::{Tally, Telling};
 use thiserror::Error;
-use window::{BadUrl, Then, UrlSource, Window};
+use window::{BadUrl, GivenUrl, Then, UrlFile, UrlSource, Window};
 
-/// All was fetched and told.
+/// Each URL has a good response and its line.
 const DONE: u8 = 0;
 
 /// A line of the file is a bad URL.
 const BAD_URL: u8 = 2;
 
-/// Something was not fetched, or not told.
+/// A URL has no good response, or no line.
 const FAILED: u8 = 4;
 
-/// Why a crawl ends before all URLs were told.
+/// Why a crawl ends before each URL has its line.
 #[derive(Debug, Drop, Error)]
 enum CrawlFault {
     /// A read or a write failed, or there is no memory.
@@ -52,7 +54,7 @@ enum CrawlFault {
     Stream(FaultKind),
     #[error("{0}")]
     Network(NetworkFault),
-    /// At that line there is a bad URL.
+    /// The line of this number is a bad URL.
     #[error("bad URL")]
     BadUrl(u64),
 }
@@ -77,13 +79,16 @@ pub(crate) fn run_crawl<N: Network, F: ScriptFiles, R: Source, W: Sink, E: Write
 {
     let Some(name) = &plan.file else {
         let mut nothing: &[u8] = &[];
-        return run_over(alloc, plan, network, &mut nothing, output, errors);
+        let kind = UrlFile::None;
+        return run_over(alloc, plan, kind, network, &mut nothing, output, errors);
     };
     if name.as_str() == "-" {
-        return run_over(alloc, plan, network, input, output, errors);
+        let kind = UrlFile::Waiting;
+        return run_over(alloc, plan, kind, network, input, output, errors);
     }
+    let kind = kind_of(files, name.as_str());
     match files.open(name.as_str()) {
-        Some(mut file) => run_over(alloc, plan, network, &mut file, output, errors),
+        Some(mut file) => run_over(alloc, plan, kind, network, &mut file, output, errors),
         None => {
             let _ = writeln!(errors, "run: cannot read");
             FAILED
@@ -91,10 +96,20 @@ pub(crate) fn run_crawl<N: Network, F: ScriptFiles, R: Source, W: Sink, E: Write
     }
 }
 
-// Carries out a plan whose file is that input.
+// What the file of that name is.
+fn kind_of<F: ScriptFiles>(files: &F, name: &str) -> UrlFile {
+    if files.is_regular(name) {
+        UrlFile::Regular
+    } else {
+        UrlFile::Waiting
+    }
+}
+
+// Carries out a plan whose file is `input`.
 fn run_over<N: Network, R: Source, W: Sink, E: Write>(
     alloc: Global,
     plan: CrawlPlan,
+    kind: UrlFile,
     network: &mut N,
     input: &mut R,
     output: &mut W,
@@ -106,23 +121,24 @@ fn run_over<N: Network, R: Source, W: Sink, E: Write>(
     let CrawlPlan {
         options,
         urls,
-        file,
+        file: _,
         hosts,
     } = plan;
-    let mut tally = Tally { told: 0, failed: 0 };
     let has_ended = AtomicBool::new(false);
     let mut telling = Telling {
         alloc,
         flags: options.flags,
-        urls: Vec::new(alloc),
+        urls: HashMap::new(alloc),
+        ended: Vec::new(alloc),
+        unknown: Vec::new(alloc),
         output,
         tally: Tally { told: 0, failed: 0 },
         fault: None,
         has_ended: &has_ended,
     };
-    let ended = match UrlSource::new(alloc, options, urls, file.is_some(), hosts) {
+    let ended = match UrlSource::new(alloc, options, urls, kind, hosts) {
         Ok(mut source) => match network.open_crawler(alloc, options) {
-            Ok(mut crawler) => crawl_all(&mut source, &mut crawler, input, &mut telling),
+            Ok(crawler) => crawl(&mut source, network, crawler, input, &mut telling),
             Err(fault) => Err(CrawlFault::Network(fault)),
         },
         Err(_) => Err(CrawlFault::Stream(FaultKind::Memory)),
@@ -130,28 +146,59 @@ fn run_over<N: Network, R: Source, W: Sink, E: Write>(
     status_told(errors, telling.tally, ended)
 }
 
-// Carries out the jobs of a source, window by window.
-fn crawl_all<C: Crawler, R: Source, W: Sink>(
+// Carries out the jobs of a source with a crawler, which is finished then. The fault of a line that
+// could not be written goes first.
+fn crawl<N: Resolver, C: Crawler, R: Source, W: Sink>(
     source: &mut UrlSource,
+    resolver: &N,
+    crawler: C,
+    input: &mut R,
+    telling: &mut Telling<'_, '_, W>,
+) -> Result<(), CrawlFault>
+    requires input { CanCount (R.source input.old) }
+    requires whole { telling.old.fault ≡ None }
+    requires stands { C.stands crawler }
+{
+    let mut crawler = crawler;
+    let ended = crawl_all(source, resolver, &mut crawler, input, telling);
+    let finished = finish(crawler, telling);
+    match (telling.fault(), ended) {
+        (Some(kind), _) => Err(CrawlFault::Stream(kind)),
+        (None, Err(fault)) => Err(fault),
+        (None, Ok(())) => finished,
+    }
+}
+
+// Begins the jobs of a source, window by window, and carries them out beside each other.
+fn crawl_all<N: Resolver, C: Crawler, R: Source, W: Sink>(
+    source: &mut UrlSource,
+    resolver: &N,
     crawler: &mut C,
     input: &mut R,
     telling: &mut Telling<'_, '_, W>,
 ) -> Result<(), CrawlFault>
     requires input { CanCount (R.source input.old) }
     requires whole { telling.old.fault ≡ None }
+    requires stands { C.stands crawler.old }
+    ensures stands { C.stands crawler.new }
 {
     for _ in 0..u64::MAX {
-        let Window { jobs, urls, then } = match source.window(input, crawler) {
+        let window = match source.window(input, crawler, telling.is_idle()) {
             Ok(window) => window,
             Err(kind) => return Err(CrawlFault::Stream(kind)),
         };
-        if let Err(fault) = set_hosts(source, crawler) {
-            return Err(CrawlFault::Network(fault));
+        let is_to_end = window.is_to_end();
+        let Window { jobs, urls, then } = window;
+        if set_hosts(source, resolver, crawler).is_err() {
+            return Err(CrawlFault::Stream(FaultKind::Memory));
         }
-        telling.urls = urls;
-        fetch_window(jobs.as_slice(), crawler, telling)?;
+        if begin(source, telling, urls).is_err() {
+            return Err(CrawlFault::Stream(FaultKind::Memory));
+        }
+        fetch_window(jobs.as_slice(), is_to_end, crawler, telling)?;
+        settle(source, telling);
         match then {
-            Then::More => {}
+            Then::More | Then::Unread => {}
             Then::Full => crawler.prune(),
             Then::Bad(bad) => tell_bad(telling, bad)?,
             Then::Over => return Ok(()),
@@ -160,24 +207,83 @@ fn crawl_all<C: Crawler, R: Source, W: Sink>(
     Ok(())
 }
 
-// Carries out the jobs of a window, whose URLs stand in what writes their lines.
+// Tells a crawler the addresses of the hosts, if they have changed. Looks up the names of hosts
+// that are new.
+fn set_hosts<N: Resolver, C: Crawler>(
+    source: &mut UrlSource,
+    resolver: &N,
+    crawler: &mut C,
+) -> Result<(), AllocError>
+    requires { C.stands crawler.old }
+    ensures { C.stands crawler.new }
+{
+    if let Some(addresses) = source.hosts().new_addresses(resolver)? {
+        crawler.set_addresses(addresses);
+    }
+    Ok(())
+}
+
+// Hands on the URLs of a window, whose jobs begin.
+fn begin<W: Sink>(
+    source: &mut UrlSource,
+    telling: &mut Telling<'_, '_, W>,
+    urls: Vec<(u64, GivenUrl)>,
+) -> Result<(), AllocError>
+    ensures { telling.new.fault ≡ telling.old.fault }
+{
+    let unknown = source.hosts().unknown(telling.alloc)?;
+    telling.begin(urls, unknown)
+}
+
+// Carries out the jobs of a window, whose URLs `telling` has, beside those that are under way;
+// `is_to_end` waits for all of them.
 fn fetch_window<C: Crawler, W: Sink>(
     jobs: &[Job],
+    is_to_end: bool,
     crawler: &mut C,
     telling: &mut Telling<'_, '_, W>,
 ) -> Result<(), CrawlFault>
     requires whole { telling.old.fault ≡ None }
-    ensures tells { TellsWindow telling.old.flags telling.old.urls.items (C.crawled crawler.old
+    requires stands { C.stands crawler.old }
+    ensures stands { C.stands crawler.new }
+    ensures tells { TellsWindow telling.old.flags (url_in telling.old.urls) (C.crawled crawler.old
         crawler.new jobs.now) (W.sink telling.old.output.now) (W.sink telling.new.output.now)
         telling.new.fault }
     ensures whole_on { OnOk result (telling.new.fault ≡ None) }
 {
     let has_ended = telling.has_ended;
-    let ended = crawler.crawl(jobs, telling, has_ended);
+    let ended = crawler.crawl(jobs, is_to_end, telling, has_ended);
     ended_by(telling.fault(), ended)
 }
 
-// How a window ends whose lines were written, or not for that fault.
+// Forgets the URLs of the transfers that have ended: only the places of the others are in use.
+fn settle<W: Sink>(source: &mut UrlSource, telling: &mut Telling<'_, '_, W>)
+    ensures { telling.new.fault ≡ telling.old.fault }
+{
+    telling.forget_ended();
+    let hosts = source.hosts();
+    hosts.settle();
+    for given in telling.urls.values() {
+        hosts.await_at(given.site);
+    }
+}
+
+// Carries out what is under way, whose URLs `telling` has.
+fn finish<C: Crawler, W: Sink>(
+    crawler: C,
+    telling: &mut Telling<'_, '_, W>,
+) -> Result<(), CrawlFault>
+    requires { C.stands crawler }
+    ensures { telling.old.fault ≡ None → TellsWindow telling.old.flags (url_in telling.old.urls)
+        (C.finished crawler) (W.sink telling.old.output.now) (W.sink telling.new.output.now)
+        telling.new.fault }
+{
+    let has_ended = telling.has_ended;
+    let ended = crawler.finish(telling, has_ended);
+    ended_by(telling.fault(), ended)
+}
+
+// How a crawl goes on. The fault of a line that could not be written goes first.
 fn ended_by(fault: Option<FaultKind>, ended: Result<(), NetworkFault>) -> Result<(), CrawlFault>
     ensures { line_fault result ≡ fault }
 {
@@ -188,18 +294,7 @@ fn ended_by(fault: Option<FaultKind>, ended: Result<(), NetworkFault>) -> Result
     }
 }
 
-// Tells a crawler the addresses of the hosts, if they have changed.
-fn set_hosts<C: Crawler>(source: &mut UrlSource, crawler: &mut C) -> Result<(), NetworkFault> {
-    let hosts = source.hosts();
-    hosts.settle();
-    match hosts.new_addresses() {
-        Ok(Some(addresses)) => crawler.set_addresses(addresses),
-        Ok(None) => Ok(()),
-        Err(_) => Err(NetworkFault::Memory),
-    }
-}
-
-// Writes the line of a bad URL, if it is to be passed over.
+// Writes the line of a bad URL, with `--skip-bad`.
 fn tell_bad<W: Sink>(telling: &mut Telling<'_, '_, W>, bad: BadUrl) -> Result<(), CrawlFault>
     requires whole { telling.old.fault ≡ None }
     ensures whole_on { OnOk result (telling.new.fault ≡ None) }
@@ -230,7 +325,7 @@ fn bad_line(alloc: Global, flags: CrawlFlags, url: &str) -> Result<String, Alloc
     format!(in alloc; "{line}\n")
 }
 
-// The status of a crawl with that tally; what went wrong is told.
+// The status of a crawl with this tally. Tells what went wrong.
 fn status_told<E: Write>(errors: &mut E, tally: Tally, ended: Result<(), CrawlFault>) -> u8 {
     let Tally { told, failed } = tally;
     match ended {

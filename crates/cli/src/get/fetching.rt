@@ -2,85 +2,87 @@
 
 use crate::get::crawl::crawler::Crawler;
 use crate::get::crawl::plan::CrawlOptions;
+use crate::get::looking_up::Resolver;
 use client::Fetched;
+use conn_key::Sites;
 use exchange::Job;
-use socket::Addresses;
 use std::alloc::Global;
 use thiserror::Error;
 
-/// What sends one request after another, over connections that it keeps until it is closed.
+/// Sends one request after another, over connections that it keeps until it is closed.
 pub trait Fetcher {
     ghost use Rattle.client.specs.declared.fetched.Fetched.{Fetched};
     ghost use Rattle.exchange.specs.declared.job.Job.{Job};
 
-    /// From the one time to the other it carried out that job, and this came of it.
+    /// From the first state to the second it carried out this job, with this result.
     ghost fetched: { Self → Self → Job → Fetched → Type 0 };
 
-    /// Carries out a job, and answers how its transfer ended, and whether its request was tried
-    /// once more.
+    /// Carries out a job. Answers how its transfer ended, and whether its request was retried.
     fn fetch(&mut self, job: &Job) -> Fetched
         ensures { fetched self.old self.new job.now result };
 }
 
-/// Why a network can't be opened.
+/// Why a network cannot be opened.
 #[derive(Clone, Copy, Debug, PartialEq, Eq, Error)]
 pub enum NetworkFault {
     /// There is no memory for it.
     #[error("out of memory")]
     Memory,
-    /// The system gives no means to wait for connections.
+    /// The system gives no poller.
     #[error("poll failed")]
     Poll,
-    /// The process, or the system, may have no more descriptors open.
+    /// The process or the system has no descriptor left.
     #[error("too few descriptors")]
     Descriptors,
 }
 
-/// What connections are opened on.
-pub trait Network {
-    ghost use Rattle.std.specs.Prelude.{ℕ, Result};
-    ghost use Rattle.socket.specs.declared.addresses.Addresses.{Addresses};
+/// A network, on which connections are opened. It looks up the names of hosts.
+pub trait Network: Resolver {
+    ghost use Rattle.std.specs.Prelude.{ℕ, List, Result, IfOk};
+    ghost use Rattle.conn_key.specs.declared.site.Site.{Site};
     ghost use Rattle.cli.specs.declared.get.fetching.NetworkFault.{NetworkFault};
 
-    /// What carries out jobs on it. It has to be closed.
+    /// Carries out jobs one after another. It must be closed.
     type Fetcher: Fetcher;
 
-    /// What carries out the jobs of a crawl on it. It closes its connections as it is dropped.
-    type Crawler: Crawler + Drop;
+    /// Carries out the jobs of a crawl. It must be finished.
+    type Crawler: Crawler;
 
-    /// Whether opening the network for those addresses, and so many seconds, gives that fetcher or
+    /// Whether opening the network for those sites, and so many seconds, gives that fetcher or
     /// fault, and leaves the network so.
-    ghost opens: { Self → Self → Addresses → ℕ → Result Self.Fetcher NetworkFault → Type 0 };
+    ghost opens: { Self → Self → List Site → ℕ → Result Self.Fetcher NetworkFault → Type 0 };
 
     /// Whether closing that fetcher leaves the network so.
     ghost closes: { Self → Self → Self.Fetcher → Type 0 };
 
-    /// A fetcher for the hosts of these addresses, which cancels a transfer after so many seconds.
+    /// Opens a fetcher for these sites, whose names it looks up once each. It cancels a transfer
+    /// after `timeout` seconds.
     ///
     /// # Errors
     ///
-    /// `Memory` if memory ran out, `Descriptors` if no more may be open, `Poll` if the system can't
-    /// wait for connections otherwise.
+    /// `Memory` if memory ran out, `Descriptors` if none is left, `Poll` if the system gives no
+    /// poller for another reason.
     fn open(
         &mut self,
         alloc: Global,
-        addresses: Addresses,
+        sites: &Sites,
         timeout: u32,
     ) -> Result<Self::Fetcher, NetworkFault>
-        ensures { opens self.old self.new addresses timeout result };
+        ensures { opens self.old self.new sites.now timeout result };
 
-    /// Closes a fetcher with the connections that it keeps.
+    /// Closes a fetcher and the connections that it keeps.
     fn close(&mut self, fetcher: Self::Fetcher)
         ensures { closes self.old self.new fetcher };
 
-    /// What carries out the jobs of a crawl by these options.
+    /// Opens a crawler with these options.
     ///
     /// # Errors
     ///
-    /// As opening a fetcher.
+    /// Those of [`Network::open`].
     fn open_crawler(
         &mut self,
         alloc: Global,
         options: CrawlOptions,
-    ) -> Result<Self::Crawler, NetworkFault>;
+    ) -> Result<Self::Crawler, NetworkFault>
+        ensures { IfOk result Self.Crawler.stands };
 }

@@ -1,4 +1,4 @@
-//! What the words after `get` ask for.
+//! Makes a plan of the words after `get`.
 
 ghost use Rattle.std.specs.Prelude.{◌≡◌, ◌<◌, false, length, option_map, string_bytes};
 ghost use Rattle.std.specs.Prelude.{IfOk, IfErr};
@@ -11,21 +11,20 @@ use crate::command_line::values::number_of;
 use crate::get::crawl::plan::{CrawlPlan, crawl_plan_of};
 use crate::get::planning::plan_jobs;
 use crate::get::words::GetWords;
+use bundle::MOST_HOSTS;
+use conn_key::Sites;
 use exchange::Job;
 use persistence::Method;
-use socket::Addresses;
+use script_text::DEFAULT_MAX_AGE;
 use std::alloc::{AllocError, Global};
 
-/// The most seconds that a connection is idle for reuse, where none are given.
-const MAX_AGE: u64 = 118;
-
-/// The seconds after which a transfer is cancelled, where none are given.
+/// The seconds after which a transfer is cancelled, by default.
 const TIMEOUT: u32 = 30;
 
-/// The most seconds after which a transfer is cancelled.
+/// The longest timeout of a transfer, in seconds.
 const LONGEST_TIMEOUT: u64 = 3_600;
 
-/// What is said of words that name no URL and no file.
+/// The message for words that name neither a URL nor a file.
 const NO_URL: &str = "\
 curlpool: the following required arguments were not provided:
   <URL>...
@@ -35,8 +34,8 @@ Usage: curlpool get <URL>...
 For more information, try '--help'.
 ";
 
-/// The most URLs of a get that is no crawl.
-const MOST_URLS: usize = 1_024;
+/// The most URLs of a `get` that is no crawl: each may name another host.
+const MOST_URLS: usize = MOST_HOSTS as usize;
 
 /// A URL as it was given, and the job that fetches it.
 #[derive(Drop)]
@@ -45,12 +44,12 @@ pub struct UrlJob {
     pub job: Job,
 }
 
-/// What `get` is to do.
+/// The plan of a `get`.
 #[derive(Drop)]
 pub enum GetPlan {
-    /// To fetch URLs one after another.
+    /// Fetches URLs one after another.
     InTurn(TurnPlan),
-    /// To fetch any number of URLs, many at once.
+    /// Fetches any number of URLs, many at once.
     Crawl(CrawlPlan),
 }
 
@@ -59,18 +58,18 @@ pub enum GetPlan {
 pub struct TurnPlan {
     /// The URLs with their jobs, in order.
     pub jobs: Vec<UrlJob>,
-    /// The addresses of the jobs' sites.
-    pub addresses: Addresses,
-    /// The seconds after which a transfer is cancelled.
+    /// The jobs' sites.
+    pub sites: Sites,
+    /// The time limit of a transfer, in seconds.
     pub timeout: u32,
 }
 
-/// Why the words after `get` ask for nothing that can be done.
+/// Why the words after `get` give no plan.
 #[derive(Drop)]
 pub enum GetRefusal {
     /// Memory ran out.
     Memory,
-    /// They are wrong: this says how.
+    /// The words are wrong. The text is the message for the user.
     Wrong(String),
 }
 
@@ -85,13 +84,13 @@ impl From<AllocError> for GetRefusal {
     }
 }
 
-/// What the words after `get` ask for.
+/// Makes the plan of the words after `get`.
 ///
 /// # Errors
 ///
-/// `Wrong` if a number is out of its range, there is neither a URL nor a file, the URLs of a get
-/// that is no crawl are more than 1,024, or one of the URLs has a control character, or gives no
-/// target or no address, and is not to be passed over. `Memory` if memory ran out.
+/// `Wrong` if a number is out of its range, if there is neither a URL nor a file, if a `get` that
+/// is no crawl has more than 1,024 URLs, or if a URL that may not be skipped has a control
+/// character or no target. `Memory` if memory ran out.
 pub fn plan_of(alloc: Global, words: &GetWords) -> Result<GetPlan, GetRefusal>
     ensures plan { IfOk result (IsPlanOf (get_said_by words.now)) }
     ensures refused { IfErr result (IsWhy (get_said_by words.now)) }
@@ -112,7 +111,7 @@ pub fn plan_of(alloc: Global, words: &GetWords) -> Result<GetPlan, GetRefusal>
     }
 }
 
-/// The URLs that the words say to fetch one after another.
+/// Makes the plan of URLs that are fetched one after another.
 fn turn_plan_of(alloc: Global, words: &GetWords) -> Result<TurnPlan, GetRefusal>
     requires some { 0 < length words.now.urls.items }
     requires plain { asks_crawl (crawl_said_by words.now.crawl) ≡ false }
@@ -125,10 +124,10 @@ fn turn_plan_of(alloc: Global, words: &GetWords) -> Result<TurnPlan, GetRefusal>
     if urls.len() > MOST_URLS {
         return Err(wrong(String::from_str(alloc, "curlpool: more than 1024 URLs\n")));
     }
-    let (jobs, addresses) = plan_jobs(alloc, urls, method_of(words.head), max_age)?;
+    let (jobs, sites) = plan_jobs(alloc, urls, method_of(words.head), max_age)?;
     Ok(TurnPlan {
         jobs,
-        addresses,
+        sites,
         timeout,
     })
 }
@@ -140,12 +139,12 @@ pub(crate) fn method_of(head: bool) -> Method
     if head { Method::Head } else { Method::Get }
 }
 
-/// The most seconds idle for reuse, where they were given so.
+/// The maximum idle age that was given, or the default.
 pub(crate) fn max_age_of(alloc: Global, given: &Option<String>) -> Result<u64, GetRefusal>
     ensures { SaysNumber (max_age_said (option_map string_bytes given.now)) result }
 {
     let Some(text) = given else {
-        return Ok(MAX_AGE);
+        return Ok(DEFAULT_MAX_AGE);
     };
     let text = text.as_str();
     let shown = Escaped(text);
@@ -157,7 +156,7 @@ pub(crate) fn max_age_of(alloc: Global, given: &Option<String>) -> Result<u64, G
     }
 }
 
-/// The seconds after which a transfer is cancelled, where they were given so.
+/// The timeout that was given, or the default, in seconds.
 pub(crate) fn timeout_of(alloc: Global, given: &Option<String>) -> Result<u32, GetRefusal>
     ensures { SaysNumber (timeout_said (option_map string_bytes given.now)) result }
 {
@@ -174,7 +173,7 @@ pub(crate) fn timeout_of(alloc: Global, given: &Option<String>) -> Result<u32, G
     }
 }
 
-/// A refusal that says this, if there is memory for it.
+/// The refusal with this message, or `Memory` if it could not be made.
 pub(crate) fn wrong(text: Result<String, AllocError>) -> GetRefusal {
     match text {
         Ok(text) => GetRefusal::Wrong(text),

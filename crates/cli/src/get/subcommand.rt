@@ -12,12 +12,12 @@ use crate::loading::subcommand::with_value;
 use clap::{Arg, ArgAction, Command};
 use std::alloc::{AllocError, Global};
 
-/// What the value of an option is called that is a number, or a number of seconds.
+/// What help calls the value of an option that is a number, or a number of seconds.
 const NUMBER: &str = "NUMBER";
 
 const SECONDS: &str = "SECONDS";
 
-/// What `--help` says of the options and URLs.
+/// The texts of help for the options and URLs.
 const HEAD_HELP: &str = "Sends HEAD in place of GET";
 
 const MAX_AGE_HELP: &str = "Most seconds idle for reuse; 118 if left out";
@@ -45,7 +45,7 @@ const FAIL_HELP: &str = "Counts a status of 400 and above as failed";
 
 const JSON_HELP: &str = "Writes a JSON object for each URL in place of its line";
 
-const URL_HELP: &str = "An http URL of localhost or an address; at most 1024";
+const URL_HELP: &str = "An http URL; at most 1024, but for a crawl";
 
 /// The subcommand `get`: its options, and URLs.
 ///

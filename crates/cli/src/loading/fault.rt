@@ -1,47 +1,46 @@
-//! How loads fail.
+//! Why loads fail.
 
 ghost use Rattle.std.specs.Prelude.{◌≡◌};
 ghost use Rattle.cli.specs.Loading.{load_fault_text};
 
+use driver::DriverFault;
+use load_run::LoadError;
 use std::{error, fmt};
 
 /// Why a load has no report.
 #[derive(Clone, Copy, Debug, PartialEq, Eq)]
 pub enum LoadFault {
-    /// Memory ran out.
-    Memory,
-    /// There are no workers, or too many.
-    BadWorkers,
-    /// The system gives no means to wait for connections, or waiting failed.
-    Poll,
-    /// Two results came of one job.
-    Doubled,
-    /// No result came of a job.
-    Missing,
-    /// A thread could not be started.
-    Spawn,
+    /// The load has no account.
+    Load(LoadError),
     /// The server could not listen.
     Listen,
-    /// What the threads did could not be gathered.
-    Gather,
     /// The report could not be written.
     Write,
 }
 
+/// Memory ran out.
+pub(crate) const OUT_OF_MEMORY: LoadFault = LoadFault::Load(LoadError::Run(DriverFault::Memory));
+
+/// The system has no means to wait for connections, or waiting failed.
+pub(crate) const POLL_FAILED: LoadFault = LoadFault::Load(LoadError::Run(DriverFault::Poll));
+
+/// A thread could not be started.
+pub(crate) const NO_THREAD: LoadFault = LoadFault::Load(LoadError::Run(DriverFault::Spawn));
+
 impl LoadFault {
-    /// What is told of it.
+    /// The message for the user.
     pub fn text(self) -> &'static str
         ensures { result.now ≡ load_fault_text self }
     {
         match self {
-            LoadFault::Memory => "out of memory",
-            LoadFault::BadWorkers => "bad workers",
-            LoadFault::Poll => "poll failed",
-            LoadFault::Doubled => "job collected twice",
-            LoadFault::Missing => "job missing",
-            LoadFault::Spawn => "cannot start thread",
+            LoadFault::Load(LoadError::Run(DriverFault::Memory)) => "out of memory",
+            LoadFault::Load(LoadError::Run(DriverFault::BadWorkers)) => "bad workers",
+            LoadFault::Load(LoadError::Run(DriverFault::Poll)) => "poll failed",
+            LoadFault::Load(LoadError::Run(DriverFault::Doubled)) => "job collected twice",
+            LoadFault::Load(LoadError::Run(DriverFault::Missing)) => "job missing",
+            LoadFault::Load(LoadError::Run(DriverFault::Spawn)) => "cannot start thread",
+            LoadFault::Load(LoadError::Gather) => "cannot gather",
             LoadFault::Listen => "cannot listen",
-            LoadFault::Gather => "cannot gather",
             LoadFault::Write => "cannot write",
         }
     }

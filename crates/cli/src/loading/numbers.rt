@@ -59,9 +59,9 @@ const MOST_CONNECTS: u32 = 65_535;
 
 /// The numbers that the words after `load` give: each is one or more decimal digits. Where one is
 /// not given it is 2 sites, 20 jobs, 4 workers, no limits, and four connections kept for each job,
-/// or 65,535 if that is less, or if words of [`MoreWords`] are given without a number of jobs.
+/// or 65,535 if that is less, or if words of [`MeasuredWords`] are given without a number of jobs.
 ///
-/// [`MoreWords`]: crate::loading::more_words::MoreWords
+/// [`MeasuredWords`]: crate::loading::measured::words::MeasuredWords
 ///
 /// # Errors
 ///
@@ -90,11 +90,11 @@ pub fn load_options(alloc: Global, words: &LoadWords) -> Result<LoadOptions, Err
 
 // The range of the number of jobs.
 fn jobs_range(words: &LoadWords) -> NumberRange
-    ensures range { result ≡ jobs_range_for (load_said_by words.now).more }
+    ensures range { result ≡ jobs_range_for (load_said_by words.now).measured }
     ensures twenty { IsIn result 20 }
     ensures within { (jobs : ℕ) → IsIn result jobs → IsIn many_jobs_range jobs }
 {
-    if words.more.urls.is_empty() && words.more.seconds.is_none() {
+    if words.measured.urls.is_empty() && words.measured.seconds.is_none() {
         JOBS
     } else {
         MANY_JOBS
@@ -107,7 +107,7 @@ fn kept_for(words: &LoadWords, jobs: u32) -> u32
     ensures kept { result ≡ kept_for (load_said_by words.now) jobs }
     ensures within { IsIn connects_range result }
 {
-    if words.more.are_used() && words.jobs.is_none() {
+    if words.measured.are_used() && words.jobs.is_none() {
         MOST_CONNECTS
     } else {
         jobs.saturating_mul(CONNECTS_OF_A_JOB).min(MOST_CONNECTS)

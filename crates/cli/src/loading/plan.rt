@@ -1,6 +1,6 @@
 //! A load that is asked for.
 
-use crate::loading::more_plan::MorePlan;
+use crate::loading::measured::plan::MeasuredPlan;
 use crate::loading::options::LoadOptions;
 
 /// A load that is asked for.
@@ -10,6 +10,6 @@ pub struct LoadPlan {
     pub options: LoadOptions,
     /// The file that its trace is written to, if one is.
     pub trace: Option<String>,
-    /// What it is asked for by its words for URLs, time and telling, if one of them is given.
-    pub more: Option<MorePlan>,
+    /// What it is asked for by the words of a measured load, if one of them is given.
+    pub measured: Option<MeasuredPlan>,
 }

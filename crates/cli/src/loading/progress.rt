@@ -1,7 +1,7 @@
 //! The progress of a load, on standard error, and Ctrl-C.
 
 use crate::loading::interrupt::is_interrupted;
-use load::{Seen, Watch};
+use load_run::{Seen, Watch};
 use std::io::{IsTerminal, Write};
 use std::sync::atomic::{AtomicBool, AtomicU64, Ordering};
 

@@ -35,7 +35,7 @@ const PICTURE_HELP: &str = "Draws the load into a file, as SVG";
 /// What the value of an option is called that is a number of seconds.
 const SECONDS: &str = "SECONDS";
 
-/// What `--help` says of the options for URLs, time and telling.
+/// What `--help` says of the options of a measured load.
 const URL_HELP: &str = "Requests this http URL, in turn with up to 7 others, of another server";
 
 const RESOLVE_HELP: &str = "Connects to this address for HOST:PORT; may be repeated";

@@ -3,8 +3,8 @@
 ghost use Rattle.std.specs.Prelude.{◌≡◌, ◌≤◌, length, string_bytes, None, IfOk, IfSome};
 ghost use Rattle.cli.specs.SystemLoads.{CarriesOutLoad, ReportsLoad};
 
-use crate::loading::fault::LoadFault;
-use crate::loading::more_system::load_more;
+use crate::loading::fault::{LoadFault, NO_THREAD, OUT_OF_MEMORY, POLL_FAILED};
+use crate::loading::measured::system::load_measured;
 use crate::loading::options::LoadOptions;
 use crate::loading::outcome::LoadOutcome;
 use crate::loading::plan::LoadPlan;
@@ -12,11 +12,10 @@ use crate::loading::planning::load_jobs;
 use crate::loading::tracing::write_trace;
 use cache_report::report;
 use conn_log::Entry;
-use driver::DriverFault;
 use exchange::Job;
-use load::{LoadError, Loaded, load};
+use load_run::{Loaded, load};
 use loopback_server::Server;
-use script_run::Watched;
+use script_run::FailureCounted;
 use std::alloc::{AllocError, AllocGlobal, Global};
 use std::fs::{self, File};
 use std::io::{Error, ErrorKind};
@@ -27,31 +26,31 @@ use std::sync::atomic::{AtomicBool, Ordering};
 use std::thread;
 use std::thread::{Builder, Threads, scope_env};
 
-/// Carries out the load of that plan by threads and sockets of the system: what is written and told
-/// of it. The requests go to its URLs, or to a server of its own, which has one port of 127.0.0.1
-/// for each site. Nobody knows beforehand how they end; the report says how they did. If the plan
-/// names a file, it is made before, and gets the trace of the logs after the requests.
+/// Carries out a load over the system's threads and sockets, and gives its outcome. The requests go
+/// to the plan's URLs, or to a server of the load's own, which listens at one port of 127.0.0.1 for
+/// each site. The report says how the requests ended. If the plan names a file for the trace, the
+/// file is made before the requests, and the trace of the logs is written after them.
 ///
-/// `threads` starts the threads: it is the same system, lent once more by who may start some.
+/// `threads` and `system` are one runtime; `threads` is the one that may start threads.
 ///
 /// # Errors
 ///
-/// Why there is no report; `Write` if the trace's file could not be made or written.
+/// The reason why there is no report; `Write` if the trace's file could not be made or written.
 pub fn load_on_system<T: Threads + Wait + RandomSource + AllocGlobal + Sync>(
     threads: &T,
     system: &HostRuntime,
     alloc: Global,
     plan: LoadPlan,
 ) -> Result<LoadOutcome, LoadFault>
-    ensures { IfOk result (λ outcome. plan.more ≡ None
+    ensures { IfOk result (λ outcome. plan.measured ≡ None
         → ReportsLoad plan.options (string_bytes outcome.report)) }
 {
     let LoadPlan {
         options,
         trace,
-        more,
+        measured,
     } = plan;
-    match more {
+    match measured {
         None => {
             let traced = named_file(system, &trace)?;
             let report = report_once(threads, system, alloc, options, traced)?;
@@ -61,18 +60,18 @@ pub fn load_on_system<T: Threads + Wait + RandomSource + AllocGlobal + Sync>(
                 status: 0,
             })
         }
-        Some(more) => load_more(threads, system, alloc, options, more, &trace),
+        Some(measured) => load_measured(threads, system, alloc, options, measured, &trace),
     }
 }
 
-// Carries out so many jobs, one at a time in each thread, over a server of the load's own, and
-// answers their report.
+// Carries out the jobs, one at a time on each thread, over a server of the load's own, and gives
+// their report.
 fn report_once<T: Threads + Wait + RandomSource + AllocGlobal + Sync>(
     threads: &T,
     system: &HostRuntime,
     alloc: Global,
     options: LoadOptions,
-    traced: Option<Watched<File>>,
+    traced: Option<FailureCounted<File>>,
 ) -> Result<String, LoadFault>
     requires counts { IfSome traced (λ file. file.failures ≡ 0) }
     ensures { IfOk result (λ report. ReportsLoad options (string_bytes report)) }
@@ -82,27 +81,27 @@ fn report_once<T: Threads + Wait + RandomSource + AllocGlobal + Sync>(
         Err(error) => return Err(fault_of(&error, LoadFault::Listen)),
     };
     let Ok(sites) = sites_at(alloc, server.ports()) else {
-        return Err(LoadFault::Memory);
+        return Err(OUT_OF_MEMORY);
     };
     let Ok(jobs) = load_jobs(alloc, options.jobs, server.ports()) else {
-        return Err(LoadFault::Memory);
+        return Err(OUT_OF_MEMORY);
     };
     let Ok(ports) = ports_of(alloc, server.ports()) else {
-        return Err(LoadFault::Memory);
+        return Err(OUT_OF_MEMORY);
     };
     let loaded = load_beside(threads, system, alloc, server, &sites, &jobs, options)?;
     write_to(alloc, options, &ports, &loaded.logs, traced)?;
     match report(alloc, &loaded.gathered, &loaded.results) {
         Ok(text) => Ok(text),
-        Err(_refusal) => Err(LoadFault::Memory),
+        Err(_refusal) => Err(OUT_OF_MEMORY),
     }
 }
 
-/// The address of each site, which listens at that port of 127.0.0.1.
+/// Gives the address of each site: a port of 127.0.0.1.
 ///
 /// # Errors
 ///
-/// There is no memory for them.
+/// Memory ran out.
 pub fn sites_at(alloc: Global, ports: &[u16]) -> Result<Vec<SocketAddr>, AllocError>
     ensures { IfOk result (λ sites. length sites.items ≡ length ports.now) }
 {
@@ -114,29 +113,29 @@ pub fn sites_at(alloc: Global, ports: &[u16]) -> Result<Vec<SocketAddr>, AllocEr
     Ok(sites)
 }
 
-/// The file of that name, made anew, if one is named.
+/// Makes the named file, if one is named, or truncates it.
 pub(crate) fn named_file(
     system: &HostRuntime,
     name: &Option<String>,
-) -> Result<Option<Watched<File>>, LoadFault>
+) -> Result<Option<FailureCounted<File>>, LoadFault>
     ensures { IfOk result (λ made. IfSome made (λ file. file.failures ≡ 0)) }
 {
     let Some(name) = name else {
         return Ok(None);
     };
     match fs::create(system, name.as_str()) {
-        Ok(file) => Ok(Some(Watched::new(file))),
+        Ok(file) => Ok(Some(FailureCounted::new(file))),
         Err(error) => Err(fault_of(&error, LoadFault::Write)),
     }
 }
 
-// Writes the trace to that file, if it is to be written.
+// Writes the trace, if it has a file.
 pub(crate) fn write_to(
     alloc: Global,
     options: LoadOptions,
     ports: &[u16],
     logs: &[Vec<Entry>],
-    traced: Option<Watched<File>>,
+    traced: Option<FailureCounted<File>>,
 ) -> Result<(), LoadFault>
     requires few { length logs.now ≤ 1024 }
     requires counts { IfSome traced (λ file. file.failures ≡ 0) }
@@ -150,14 +149,14 @@ pub(crate) fn write_to(
     }
 }
 
-// A copy of the ports.
+// Copies the ports.
 pub(crate) fn ports_of(alloc: Global, given: &[u16]) -> Result<Vec<u16>, AllocError> {
     let mut ports = Vec::new(alloc);
     ports.extend_from_slice(given)?;
     Ok(ports)
 }
 
-// Carries out the jobs, while the server serves on a thread of its own; it ends after them.
+// Carries out the jobs while the server serves on its own thread, which ends after them.
 fn load_beside<R: Threads + Wait + RandomSource + AllocGlobal + Sync>(
     rt: &R,
     system: &HostRuntime,
@@ -180,13 +179,13 @@ fn load_beside<R: Threads + Wait + RandomSource + AllocGlobal + Sync>(
         {
             let serving = match Builder::new().spawn_scoped(scope, || server.serve(rt, &ended)) {
                 Ok(serving) => serving,
-                Err(error) => return Err(fault_of(&error, LoadFault::Spawn)),
+                Err(error) => return Err(fault_of(&error, NO_THREAD)),
             };
             let loaded = load_under(rt, system, alloc, sites, jobs, options);
             ended.store(true, Ordering::SeqCst);
             match serving.join(rt) {
                 Ok(_requests) => loaded,
-                Err(error) => Err(fault_of(&error, LoadFault::Poll)),
+                Err(error) => Err(fault_of(&error, POLL_FAILED)),
             }
         },
     )
@@ -207,27 +206,14 @@ fn load_under<R: Threads + Wait + RandomSource + AllocGlobal + Sync>(
     let limits = options.limits();
     match load(rt, system, alloc, limits, sites, jobs, options.workers) {
         Ok(loaded) => Ok(loaded),
-        Err(LoadError::Gather) => Err(LoadFault::Gather),
-        Err(LoadError::Run(fault)) => Err(run_fault(fault)),
+        Err(error) => Err(LoadFault::Load(error)),
     }
 }
 
-// What is told of a run's fault.
-pub(crate) fn run_fault(fault: DriverFault) -> LoadFault {
-    match fault {
-        DriverFault::Memory => LoadFault::Memory,
-        DriverFault::BadWorkers => LoadFault::BadWorkers,
-        DriverFault::Poll => LoadFault::Poll,
-        DriverFault::Doubled => LoadFault::Doubled,
-        DriverFault::Missing => LoadFault::Missing,
-        DriverFault::Spawn => LoadFault::Spawn,
-    }
-}
-
-// The fault where the system gives that error: want of memory, or else that other one.
+// `OUT_OF_MEMORY` if the system's error is an allocation failure, else `otherwise`.
 pub(crate) fn fault_of(error: &Error, otherwise: LoadFault) -> LoadFault {
     if error.kind() == ErrorKind::OutOfMemory {
-        LoadFault::Memory
+        OUT_OF_MEMORY
     } else {
         otherwise
     }

@@ -5,7 +5,7 @@ ghost use Rattle.script_run.specs.Streams.{CanCount};
 ghost use Rattle.cli.specs.LoadTraces.{WritesTrace, fault_of, limits_said};
 ghost use Rattle.log_trace.specs.Lines.{trace_text};
 
-use crate::loading::fault::LoadFault;
+use crate::loading::fault::{LoadFault, OUT_OF_MEMORY};
 use crate::loading::options::LoadOptions;
 use conn_log::Entry;
 use log_trace::trace_of;
@@ -13,12 +13,11 @@ use script_run::Sink;
 use script_text::{FaultKind, Limits};
 use std::alloc::Global;
 
-/// Writes the trace of a load with these numbers, over sites that listen at these ports, whose
-/// hosts have these logs.
+/// Writes the trace of a load: its limits, the ports of its sites, and the logs of their hosts.
 ///
 /// # Errors
 ///
-/// There is no memory for it, or it could not be written.
+/// Memory ran out, or the trace could not be written.
 pub fn write_trace<W: Sink>(
     alloc: Global,
     options: LoadOptions,
@@ -37,7 +36,7 @@ pub fn write_trace<W: Sink>(
         kept: options.connects,
     };
     let Ok(trace) = trace_of(alloc, limits, ports, logs) else {
-        return Err(LoadFault::Memory);
+        return Err(OUT_OF_MEMORY);
     };
     match output.put(trace.as_bytes()) {
         Ok(()) => Ok(()),
@@ -45,12 +44,12 @@ pub fn write_trace<W: Sink>(
     }
 }
 
-/// The fault of a load whose trace was not put for that reason.
+/// The load's fault if its trace could not be written.
 fn fault_of(kind: FaultKind) -> LoadFault
     ensures { result ≡ fault_of kind }
 {
     match kind {
-        FaultKind::Memory => LoadFault::Memory,
+        FaultKind::Memory => OUT_OF_MEMORY,
         _ => LoadFault::Write,
     }
 }

@@ -5,7 +5,7 @@ ghost use Rattle.clap.specs.Words.{found_of, rows_of};
 ghost use Rattle.cli.specs.LoadWords.{load_said_by, load_said_in};
 
 use crate::command_line::values::owned;
-use crate::loading::more_words::{MoreWords, more_words_of};
+use crate::loading::measured::words::{MeasuredWords, measured_words_of};
 use clap::ArgMatches;
 use std::alloc::{AllocError, Global};
 
@@ -26,8 +26,8 @@ pub struct LoadWords {
     pub connects: Option<String>,
     /// The file that the trace is written to.
     pub trace: Option<String>,
-    /// What they say of URLs, time and telling.
-    pub more: MoreWords,
+    /// What they say of a measured load.
+    pub measured: MeasuredWords,
 }
 
 /// What the matches of `load` say.
@@ -46,7 +46,7 @@ pub fn load_words_of<'a>(alloc: Global, given: &ArgMatches<'a>) -> Result<LoadWo
     let total = owned(alloc, given.get_str("total"))?;
     let connects = owned(alloc, given.get_str("connects"))?;
     let trace = owned(alloc, given.get_str("trace"))?;
-    let more = more_words_of(alloc, given)?;
+    let measured = measured_words_of(alloc, given)?;
     Ok(LoadWords {
         sites,
         jobs,
@@ -55,6 +55,6 @@ pub fn load_words_of<'a>(alloc: Global, given: &ArgMatches<'a>) -> Result<LoadWo
         total,
         connects,
         trace,
-        more,
+        measured,
     })
 }

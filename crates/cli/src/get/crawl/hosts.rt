@@ -1,24 +1,20 @@
-//! Which hosts of a crawl have which places of its pool.
+//! Gives the hosts of a crawl places in its pool, and finds the addresses of these hosts.
 
 ghost use Rattle.std.specs.Prelude.{◌&&◌, not, unwrap_or, slice_get, false};
 
-use crate::command_line::resolving::Resolved;
-use crate::get::crawl::urls::add_addresses;
+use crate::command_line::resolving::{Resolved, resolved_of};
+use crate::get::looking_up::{HostNames, Resolver};
+use bundle::MOST_HOSTS;
 use conn_key::Target;
 use site_table::{PlaceError, Places, SiteTable};
-use socket::{AddressFault, Addresses};
+use socket::Addresses;
 use std::alloc::{AllocError, Global};
-
-/// How many hosts have places at once.
-pub(crate) const MOST_HOSTS: u32 = 1_024;
 
 /// Why a host has no place.
 #[derive(Clone, Copy, Debug, PartialEq, Eq)]
 pub(crate) enum HostFault {
     Memory,
-    /// It has no address.
-    OtherName,
-    /// Each place is in use.
+    /// All places are in use.
     Full,
 }
 
@@ -33,21 +29,25 @@ impl From<AllocError> for HostFault {
     }
 }
 
-/// Which hosts have which places, and which of these are of hosts whose jobs are to be carried out.
+/// The places of hosts in a pool, and which of these hosts have jobs that wait or are under way.
 #[derive(Drop)]
 pub(crate) struct Hosts {
     alloc: Global,
     table: SiteTable,
     /// A target of each host, by place.
     targets: Vec<Target>,
+    /// The addresses that `--resolve` gives.
     given: Vec<Resolved>,
-    /// By place, whether a job there waits to be carried out.
+    names: HostNames,
+    /// By place, whether the system does not know its host.
+    unknown: Vec<bool>,
+    /// By place, whether a job waits or is under way there.
     awaited: Vec<bool>,
-    /// Whether a host has another place than those whose addresses were told.
+    /// Whether a place was given to a host since the addresses were told.
     is_changed: bool,
 }
 
-/// The places of a pool that are unused, and where no job waits to be carried out.
+/// The unused places of a pool at which no job waits or is under way.
 #[derive(Drop)]
 struct Unawaited<'a, P: Places> {
     pool: &'a P,
@@ -65,24 +65,25 @@ impl<P: Places> Places for Unawaited<'_, P> {
 }
 
 impl Hosts {
-    /// No host has a place yet. These addresses were given for hosts.
+    /// No host has a place yet, and `--resolve` gives these addresses.
     pub(crate) fn new(alloc: Global, given: Vec<Resolved>) -> Hosts {
         Hosts {
             alloc,
             table: SiteTable::new(alloc, MOST_HOSTS),
             targets: Vec::new(alloc),
             given,
+            names: HostNames::new(alloc),
+            unknown: Vec::new(alloc),
             awaited: Vec::new(alloc),
             is_changed: true,
         }
     }
 
-    /// The place of the target's host, at which a job waits from now on to be carried out.
+    /// Gives the place of the target's host, and notes that a job waits there.
     ///
     /// # Errors
     ///
-    /// `OtherName` if the host has no address, `Full` if it has no place and each is in use,
-    /// `Memory` if memory ran out.
+    /// `Full` if the host has no place and each is in use, `Memory` if memory ran out.
     pub(crate) fn place<P: Places>(&mut self, target: &Target, pool: &P) -> Result<u32, HostFault> {
         let (host, port) = (target.host.as_str(), target.port);
         let key = format!(in self.alloc; "{host}:{port}")?;
@@ -90,13 +91,11 @@ impl Hosts {
             Some(place) => place,
             None => self.give_place(key.as_str(), target, pool)?,
         };
-        if let Some(awaited) = self.awaited.get_mut(place as usize) {
-            *awaited = true;
-        }
+        self.await_at(place);
         Ok(place)
     }
 
-    // Gives the target's host a place, which it has not.
+    // Gives a place to the target's host, which has none.
     fn give_place<P: Places>(
         &mut self,
         key: &str,
@@ -104,12 +103,6 @@ impl Hosts {
         pool: &P,
     ) -> Result<u32, HostFault> {
         let kept = copy_of(self.alloc, target)?;
-        let mut addresses = Addresses::new(self.alloc);
-        match add_addresses(self.alloc, &mut addresses, target, self.given.as_slice()) {
-            Ok(()) => {}
-            Err(AddressFault::Memory) => return Err(HostFault::Memory),
-            Err(AddressFault::OtherName) => return Err(HostFault::OtherName),
-        }
         self.targets.reserve(1)?;
         self.awaited.reserve(1)?;
         let unused = Unawaited {
@@ -134,34 +127,65 @@ impl Hosts {
         Ok(place)
     }
 
-    /// All jobs were carried out: none waits.
+    /// Notes that a job waits or is under way at that place.
+    pub(crate) fn await_at(&mut self, place: u32) {
+        if let Some(awaited) = self.awaited.get_mut(place as usize) {
+            *awaited = true;
+        }
+    }
+
+    /// Notes that no job waits, and none is under way.
     pub(crate) fn settle(&mut self) {
         for awaited in self.awaited.iter_mut() {
             *awaited = false;
         }
     }
 
-    /// The addresses of the hosts, by place, if a host was given a place since they were told.
+    /// The addresses of the hosts, by place, if a host was given a place since they were told. A
+    /// host's address is the one that `--resolve` gives. Without one, a name that was not looked up
+    /// before is looked up now.
     ///
     /// # Errors
     ///
     /// There is no memory for them.
-    pub(crate) fn new_addresses(&mut self) -> Result<Option<Addresses>, AllocError> {
+    pub(crate) fn new_addresses<R: Resolver>(
+        &mut self,
+        resolver: &R,
+    ) -> Result<Option<Addresses>, AllocError> {
         if !self.is_changed {
             return Ok(None);
         }
         let mut addresses = Addresses::new(self.alloc);
+        let mut unknown = Vec::new(self.alloc);
         for target in self.targets.iter() {
-            if add_addresses(self.alloc, &mut addresses, target, self.given.as_slice()).is_err() {
-                return Err(AllocError);
-            }
+            let given = resolved_of(self.given.as_slice(), target.host.as_str(), target.port);
+            let is_known = match given {
+                Some(address) => {
+                    addresses.add_resolved(vec![in self.alloc; address; 1]?)?;
+                    true
+                }
+                None => self.names.add_to(&mut addresses, target, resolver)?,
+            };
+            unknown.push(!is_known)?;
         }
+        self.unknown = unknown;
         self.is_changed = false;
         Ok(Some(addresses))
     }
+
+    /// By place, whether the system does not know its host.
+    ///
+    /// # Errors
+    ///
+    /// There is no memory for it.
+    pub(crate) fn unknown(&self, alloc: Global) -> Result<Vec<bool>, AllocError> {
+        let mut unknown = Vec::new(alloc);
+        unknown.extend_from_slice(self.unknown.as_slice())?;
+        Ok(unknown)
+    }
 }
 
-// A target of the same host and port.
+// Copies a target's host and port.
 fn copy_of(alloc: Global, target: &Target) -> Result<Target, AllocError> {
     let host = String::from_str(alloc, target.host.as_str())?;
     let port = target.port;

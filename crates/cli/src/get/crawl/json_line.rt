@@ -1,19 +1,25 @@
 //! The line that tells in JSON how a transfer of a crawl ended.
 
 use crate::get::line::FaultName;
-use exchange::{Answer, Done};
+use exchange::{Answer, Done, Fault};
+use run_loop::Span;
 use std::fmt;
 
-/// What came of a URL.
+/// The outcome of a URL.
 #[derive(Clone, Copy, Debug)]
 pub(crate) enum Outcome {
-    /// Its transfer ended so, after so many microseconds.
-    Ended { done: Done, whole: u64 },
+    /// Its transfer ended so.
+    Ended {
+        done: Done,
+        span: Span,
+        /// Whether the system does not know its host.
+        is_unknown: bool,
+    },
     /// It is bad.
     BadUrl,
 }
 
-/// A URL as it was given, and what came of it. What doesn't apply, or isn't known, is null.
+/// A URL as it was given, and its outcome. A member that does not apply is null.
 #[derive(Drop)]
 pub(crate) struct JsonLine<'a> {
     pub(crate) url: &'a str,
@@ -25,30 +31,27 @@ impl fmt::Display for JsonLine<'_> {
         let url = JsonText(self.url);
         write!(f, "{{\"url\": {url}, ")?;
         match self.outcome {
-            Outcome::Ended { done, whole } => {
-                write_end(f, done)?;
-                write!(f, "\"reason\": null, \"waited_us\": null, ")?;
-                write!(f, "\"dialled_us\": null, \"first_byte_us\": null, ")?;
-                write!(f, "\"whole_us\": {whole}}}")
+            Outcome::Ended {
+                done,
+                span,
+                is_unknown,
+            } => {
+                match done {
+                    Done::Good(answer) => write_answer(f, answer)?,
+                    Done::Bad(fault) => write_fault(f, fault, span.retried)?,
+                }
+                write_reason(f, done, span, is_unknown)?;
+                write_moments(f, span)
             }
             Outcome::BadUrl => {
-                write_fault(f, "BadUrl")?;
-                write!(f, "\"reason\": null, \"waited_us\": null, ")?;
-                write!(f, "\"dialled_us\": null, \"first_byte_us\": null, ")?;
-                write!(f, "\"whole_us\": null}}")
+                write!(f, "\"status\": null, \"length\": null, \"reused\": null, ")?;
+                write!(
+                    f,
+                    "\"retried\": null, \"fault\": \"BadUrl\", \"reason\": null, "
+                )?;
+                write!(f, "\"waited_us\": null, \"dialled_us\": null, ")?;
+                write!(f, "\"first_byte_us\": null, \"whole_us\": null}}")
             }
-        }
-    }
-}
-
-// Writes how a transfer ended.
-fn write_end<W: fmt::Write>(f: &mut fmt::Formatter<W>, done: Done) -> fmt::Result {
-    match done {
-        Done::Good(answer) => write_answer(f, answer),
-        Done::Bad(fault) => {
-            let name = FaultName(fault);
-            write_nulls(f)?;
-            write!(f, "\"fault\": \"{name}\", ")
         }
     }
 }
@@ -62,16 +65,55 @@ fn write_answer<W: fmt::Write>(f: &mut fmt::Formatter<W>, answer: Answer) -> fmt
     write!(f, "\"fault\": null, ")
 }
 
-// Writes that there is no response, and why.
-fn write_fault<W: fmt::Write>(f: &mut fmt::Formatter<W>, name: &str) -> fmt::Result {
-    write_nulls(f)?;
-    write!(f, "\"fault\": \"{name}\", ")
+// Writes that there is no response, and whether the request was tried once more.
+fn write_fault<W: fmt::Write>(
+    f: &mut fmt::Formatter<W>,
+    fault: Fault,
+    retried: bool,
+) -> fmt::Result {
+    let name = FaultName(fault);
+    write!(f, "\"status\": null, \"length\": null, \"reused\": null, ")?;
+    write!(f, "\"retried\": {retried}, \"fault\": \"{name}\", ")
 }
 
-// Writes that there is no response.
-fn write_nulls<W: fmt::Write>(f: &mut fmt::Formatter<W>) -> fmt::Result {
-    write!(f, "\"status\": null, \"length\": null, ")?;
-    write!(f, "\"reused\": null, \"retried\": null, ")
+// Writes why the connection failed, if the system said so.
+fn write_reason<W: fmt::Write>(
+    f: &mut fmt::Formatter<W>,
+    done: Done,
+    span: Span,
+    is_unknown: bool,
+) -> fmt::Result {
+    match (done, span.reason) {
+        (Done::Bad(Fault::Dial), _) if is_unknown => write!(f, "\"reason\": \"unknown host\", "),
+        (Done::Bad(_), Some(reason)) => write!(f, "\"reason\": \"{reason}\", "),
+        _ => write!(f, "\"reason\": null, "),
+    }
+}
+
+// Writes the moments of the transfer, from its beginning on.
+fn write_moments<W: fmt::Write>(f: &mut fmt::Formatter<W>, span: Span) -> fmt::Result {
+    let (began, phases) = (span.began, span.phases);
+    write_moment(f, "waited_us", phases.leased, began)?;
+    write_moment(f, "dialled_us", phases.open, began)?;
+    write_moment(f, "first_byte_us", phases.first_byte, began)?;
+    let whole = span.ended.saturating_sub(began);
+    write!(f, "\"whole_us\": {whole}}}")
+}
+
+// Writes how long after the transfer's beginning a moment was, if there was one.
+fn write_moment<W: fmt::Write>(
+    f: &mut fmt::Formatter<W>,
+    name: &str,
+    moment: Option<u64>,
+    began: u64,
+) -> fmt::Result {
+    match moment {
+        Some(moment) => {
+            let after = moment.saturating_sub(began);
+            write!(f, "\"{name}\": {after}, ")
+        }
+        None => write!(f, "\"{name}\": null, "),
+    }
 }
 
 /// A text in quotation marks (RFC 8259, section 7).

@@ -69,7 +69,7 @@ pub struct CrawlPlan {
     pub urls: Vec<String>,
     /// The file with more of them; `-` is standard input.
     pub file: Option<String>,
-    /// The addresses of hosts that need not be looked up.
+    /// The addresses that `--resolve` gives; their hosts are not looked up.
     pub hosts: Vec<Resolved>,
 }
 
@@ -87,7 +87,7 @@ pub fn crawl_plan_of(alloc: Global, words: &GetWords) -> Result<CrawlPlan, GetRe
     let options = options_of(alloc, words)?;
     let hosts = resolved_hosts(alloc, words.crawl.resolve.as_slice())?;
     if !options.flags.skip_bad {
-        check_urls(alloc, words.urls.as_slice(), hosts.as_slice())?;
+        check_urls(alloc, words.urls.as_slice())?;
     }
     let urls = copies(alloc, words.urls.as_slice())?;
     let file = owned(alloc, words.crawl.file.as_deref())?;

@@ -19,34 +19,24 @@ pub(crate) struct CrawlTimer<'a, C: time::Clock> {
     pub(crate) has_ended: &'a AtomicBool,
 }
 
-impl<C: time::Clock> CrawlTimer<'_, C> {
-    // The microseconds since the clock began; none if the system tells no time.
-    fn elapsed(&self) -> Option<u64> {
-        let elapsed = self.clock.elapsed()?;
-        Some(u64::try_from(elapsed.as_micros()).unwrap_or(u64::MAX))
-    }
-}
-
 impl<C: time::Clock> Clock for CrawlTimer<'_, C> {
     ghost tells = { λ clock moment. ⊤ };
 
     fn now(&self) -> u64 {
         self.clock.now()
     }
+
+    fn micros(&self) -> u64 {
+        self.clock.micros()
+    }
 }
 
 impl<C: time::Clock> Timer for CrawlTimer<'_, C> {
     ghost may_stop = { λ clock number. ⊤ };
 
-    fn micros(&self) -> u64 {
-        self.elapsed().unwrap_or(0)
-    }
-
     fn stops(&self, _number: u64, began: u64) -> bool {
-        match self.elapsed() {
-            Some(now) => now.saturating_sub(began) >= self.limit,
-            None => true,
-        }
+        let is_known = self.clock.elapsed().is_some();
+        !is_known || self.micros().saturating_sub(began) >= self.limit
     }
 
     fn is_over(&self) -> bool {

@@ -1,4 +1,4 @@
-//! The jobs of a crawl that are carried out next.
+//! The jobs of a crawl that are begun next.
 
 ghost use Rattle.std.specs.Prelude.{OnOk};
 ghost use Rattle.script_run.specs.Streams.{CanCount};
@@ -16,20 +16,38 @@ use script_text::FaultKind;
 use site_table::Places;
 use std::alloc::{AllocError, Global};
 
-/// The most lines that are read before their jobs are carried out.
+/// The most lines that are read before their jobs are begun.
 const MOST_LINES: usize = 4_096;
 
-/// Jobs that are carried out next, and what comes after them.
+/// A URL as it was given, and the place of its host.
+#[derive(Drop)]
+pub(crate) struct GivenUrl {
+    pub(crate) url: String,
+    pub(crate) site: u32,
+}
+
+/// The file of a crawl's URLs.
+#[derive(Clone, Copy, Debug, PartialEq, Eq)]
+pub(crate) enum UrlFile {
+    /// There is none.
+    None,
+    /// Its reads don't wait.
+    Regular,
+    /// A read may wait for whoever writes it, as of a pipe.
+    Waiting,
+}
+
+/// The jobs that are begun next, and the reason why no more stand with them.
 #[derive(Drop)]
 pub(crate) struct Window {
-    /// The number of each is its place here.
+    /// Their numbers are consecutive.
     pub(crate) jobs: Vec<Job>,
-    /// Their URLs, as they were given.
-    pub(crate) urls: Vec<String>,
+    /// The URL of each, with its number.
+    pub(crate) urls: Vec<(u64, GivenUrl)>,
     pub(crate) then: Then,
 }
 
-/// What comes after the jobs of a window.
+/// The end of a window: what comes after its jobs.
 #[derive(Drop)]
 pub(crate) enum Then {
     /// More of them.
@@ -38,6 +56,8 @@ pub(crate) enum Then {
     Bad(BadUrl),
     /// A host for which a place has to be made.
     Full,
+    /// Lines that are not read yet.
+    Unread,
     /// Nothing.
     Over,
 }
@@ -49,7 +69,7 @@ pub(crate) struct BadUrl {
     pub(crate) line: Option<u64>,
 }
 
-/// What is next: a job, or the end of a window.
+/// The next job, or the end of a window.
 enum Next {
     Job(UrlJob),
     Passed,
@@ -57,23 +77,37 @@ enum Next {
     End(Then),
 }
 
-/// What gives the jobs of a crawl.
+/// The URLs of a crawl, made into jobs window by window.
 #[derive(Drop)]
 pub(crate) struct UrlSource {
     alloc: Global,
     options: CrawlOptions,
     // The URLs among the words, of which the last is next.
     urls: Vec<String>,
-    has_file: bool,
+    file: UrlFile,
+    // The number of the next job.
+    number: u64,
     lines: UrlLines,
     hosts: Hosts,
     // A line whose host has no place yet.
     held: Option<String>,
 }
 
+impl Window {
+    /// Whether the transfers that are under way have to end before the next window: before a read
+    /// that may wait, or if a place has to be made and no job of this window may free one.
+    pub(crate) fn is_to_end(&self) -> bool {
+        match self.then {
+            Then::Unread => true,
+            Then::Full => self.jobs.is_empty(),
+            Then::More | Then::Bad(_) | Then::Over => false,
+        }
+    }
+}
+
 impl UrlSource {
-    /// What gives the jobs of a crawl by these options: URLs, and then those of a file, if there is
-    /// one.
+    /// The jobs of these URLs, and then of those of a file, if there is one, with these options.
+    /// `given` are the addresses that `--resolve` gives.
     ///
     /// # Errors
     ///
@@ -82,7 +116,7 @@ impl UrlSource {
         alloc: Global,
         options: CrawlOptions,
         urls: Vec<String>,
-        has_file: bool,
+        file: UrlFile,
         given: Vec<Resolved>,
     ) -> Result<UrlSource, AllocError> {
         let mut urls = urls;
@@ -91,7 +125,8 @@ impl UrlSource {
             alloc,
             options,
             urls,
-            has_file,
+            file,
+            number: 0,
             lines: UrlLines::new(alloc)?,
             hosts: Hosts::new(alloc, given),
             held: None,
@@ -103,7 +138,8 @@ impl UrlSource {
         &mut self.hosts
     }
 
-    /// The jobs that are carried out next. Reads on only if there is no job yet.
+    /// The jobs that are begun next. A read that may wait is done only if there is no job yet and
+    /// no transfer is under way, as `is_idle` says.
     ///
     /// # Errors
     ///
@@ -112,6 +148,7 @@ impl UrlSource {
         &mut self,
         input: &mut R,
         pool: &P,
+        is_idle: bool,
     ) -> Result<Window, FaultKind>
         requires counts { CanCount (R.source input.old) }
         ensures counts_on { OnOk result (CanCount (R.source input.new)) }
@@ -119,21 +156,23 @@ impl UrlSource {
         let mut jobs = Vec::new(self.alloc);
         let mut urls = Vec::new(self.alloc);
         for _ in 0..MOST_LINES {
-            match self.next(jobs.len() as u64, pool)? {
+            match self.next(pool)? {
                 Next::Job(UrlJob { url, job }) => {
+                    let site = job.site;
+                    let given = (job.want.transfer, GivenUrl { url, site });
                     let is_kept = jobs.push(job).is_ok();
-                    if !is_kept || urls.push(url).is_err() {
+                    if !is_kept || urls.push(given).is_err() {
                         return Err(FaultKind::Memory);
                     }
                 }
                 Next::Passed => {}
                 Next::End(then) => return Ok(Window { jobs, urls, then }),
                 Next::Unread => {
-                    if jobs.is_empty() {
-                        self.lines.read_on(input)?;
-                    } else {
-                        break;
+                    if !self.may_read(is_idle && jobs.is_empty()) {
+                        let then = Then::Unread;
+                        return Ok(Window { jobs, urls, then });
                     }
+                    self.lines.read_on(input)?;
                 }
             }
         }
@@ -144,19 +183,24 @@ impl UrlSource {
         })
     }
 
-    // What is next, with that number.
-    fn next<P: Places>(&mut self, number: u64, pool: &P) -> Result<Next, FaultKind> {
+    // Whether the file may be read on, if nothing is under way or only if its reads don't wait.
+    fn may_read(&self, is_idle: bool) -> bool {
+        is_idle || self.file == UrlFile::Regular
+    }
+
+    // The next job, or the end of the window.
+    fn next<P: Places>(&mut self, pool: &P) -> Result<Next, FaultKind> {
         if let Some(url) = self.held.take() {
-            return self.job(url, number, pool);
+            return self.job(url, pool);
         }
         if let Some(url) = self.urls.pop() {
-            return self.job(url, number, pool);
+            return self.job(url, pool);
         }
-        if !self.has_file {
+        if self.file == UrlFile::None {
             return Ok(Next::End(Then::Over));
         }
         match self.lines.next(self.alloc) {
-            Ok(Line::Url(url)) => self.job(url, number, pool),
+            Ok(Line::Url(url)) => self.job(url, pool),
             Ok(Line::Bad(url)) => Ok(self.bad(url)),
             Ok(Line::Passed) => Ok(Next::Passed),
             Ok(Line::Unread) => Ok(Next::Unread),
@@ -165,8 +209,8 @@ impl UrlSource {
         }
     }
 
-    // The job of a URL, with that number.
-    fn job<P: Places>(&mut self, url: String, number: u64, pool: &P) -> Result<Next, FaultKind> {
+    // The job of a URL, with the next number.
+    fn job<P: Places>(&mut self, url: String, pool: &P) -> Result<Next, FaultKind> {
         let target = match target_of(self.alloc, url.as_str()) {
             Ok(target) => target,
             Err(GetRefusal::Memory) => return Err(FaultKind::Memory),
@@ -175,12 +219,13 @@ impl UrlSource {
         let site = match self.hosts.place(&target, pool) {
             Ok(site) => site,
             Err(HostFault::Memory) => return Err(FaultKind::Memory),
-            Err(HostFault::OtherName) => return Ok(self.bad(url)),
             Err(HostFault::Full) => {
                 self.held = Some(url);
                 return Ok(Next::End(Then::Full));
             }
         };
+        let number = self.number;
+        self.number = number.saturating_add(1);
         let job = Job {
             site,
             want: self.want(number),
@@ -197,7 +242,7 @@ impl UrlSource {
         Next::End(Then::Bad(BadUrl { url, line }))
     }
 
-    // What the transfer with that number wants.
+    // The request to the pool for the transfer with that number.
     fn want(&self, transfer: u64) -> Want {
         Want {
             transfer,

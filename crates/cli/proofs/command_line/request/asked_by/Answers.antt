@@ -6,7 +6,7 @@ use Rattle.cli.proofs.command_line.request.asked_by.Goals as goal
 
 pub returns-in-Given : goal.returns-in-Given
 returns-in-Given g c =
-    let wants = g.M.WordsMemory.wants in
+    let wants = g.M.ArgsAlloc.wants in
     let same = ap word_faults c.in-Given.is ∙ sym (ap (λ items. faults_of (map string_bytes items)) c.as_slice.ensures.value) in
     subst (λ (faults : Kinds). Asks faults (said c.args.words) (wants c.args.memory.now) (wants c.refused.new.memory) c.refused.result) (sym same)
     (asks (faults_of (map string_bytes c.as_slice.result.now)) (said c.args.words) (kind_of c.in-Err.error) (wants c.args.memory.now) (wants c.parse.new.self) (wants c.refused.new.memory) c.refused.result

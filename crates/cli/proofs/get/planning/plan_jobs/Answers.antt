@@ -15,11 +15,10 @@ loop-url-preserved c =
     let k = c.loop-url.url-index in
     let url = c.url-item.result in
     let jobs = c.loop-url.jobs.items in
-    let lists = c.url_job.new.addresses.hosts.items in
     let want_is : c.want_of-want.result ≡ want_said (length jobs + 1) c.args.max_age = c.want_of-want.ensures ∙ ap (λ n. want_said (n + 1) c.args.max_age) (c.len.ensures ∙ c.loop-url.jobs.ok.0) in
-    let added : AddsJob c.args.method (want_said (length jobs + 1) c.args.max_age) c.loop-url.sites c.url_job.new.sites lists (string_bytes url) c.in-Ok-url_job.job =
-    subst (λ (text : List ℕ). AddsJob c.args.method (want_said (length jobs + 1) c.args.max_age) c.loop-url.sites c.url_job.new.sites lists text c.in-Ok-url_job.job) c.as_str.ensures.value
-    (subst (λ (want : Want). AddsJob c.args.method want c.loop-url.sites c.url_job.new.sites lists c.as_str.result.now c.in-Ok-url_job.job) want_is c.in-Ok-url_job.ensures.ok) in
+    let added : AddsJob c.args.method (want_said (length jobs + 1) c.args.max_age) c.loop-url.sites c.url_job.new.sites (string_bytes url) c.in-Ok-url_job.job =
+    subst (λ (text : List ℕ). AddsJob c.args.method (want_said (length jobs + 1) c.args.max_age) c.loop-url.sites c.url_job.new.sites text c.in-Ok-url_job.job) c.as_str.ensures.value
+    (subst (λ (want : Want). AddsJob c.args.method want c.loop-url.sites c.url_job.new.sites c.as_str.result.now c.in-Ok-url_job.job) want_is c.in-Ok-url_job.ensures.ok) in
     rw (texts-more urls k url c.loop-url-test.true c.url-item.is, c.in-Ok-push.ensures.items)
-    (planned-more c.args.method c.args.max_age (map string_bytes (take k urls)) jobs c.loop-url.sites c.url_job.new.sites c.loop-url.addresses.hosts.items lists
+    (planned-more c.args.method c.args.max_age (map string_bytes (take k urls)) jobs c.loop-url.sites c.url_job.new.sites
     (string_bytes url) c.in-Ok-url_job.job c.loop-url.invariant added)

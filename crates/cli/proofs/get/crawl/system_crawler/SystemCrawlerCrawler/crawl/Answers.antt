@@ -1,9 +1,9 @@
--- A run over a pool takes the results of a window.
-use Rattle.cli.proofs.Crawls.{begun_run, has_taken}
+-- A part of a run over a pool takes results, and leaves what is under way as it should stand.
+use Rattle.cli.proofs.Crawls.{kept_as}
 use Rattle.cli.proofs.get.crawl.system_crawler.SystemCrawlerCrawler.crawl.Goals as goal
 
-pub returns-in-Ok-TurnFailed : goal.returns-in-Ok-TurnFailed
-returns-in-Ok-TurnFailed g c = has_taken _ _ _ _ _ _ _ c.fetch_many-end.ensures.ends c.in-Ok-TurnFailed.is (begun_run _ _ _ _ c.in-Some.ensures.none)
+pub returns-clause-takes : goal.returns-clause-takes
+returns-clause-takes g c = let takes = c.run_on-end.ensures.goes.takes in (takes.0, tt, takes.1)
 
-pub returns-in-Ok-Complete : goal.returns-in-Ok-Complete
-returns-in-Ok-Complete g c = has_taken _ _ _ _ _ _ _ c.fetch_many-end.ensures.ends c.in-Ok-Complete.is (begun_run _ _ _ _ c.in-Some.ensures.none)
+pub returns-clause-stands : goal.returns-clause-stands
+returns-clause-stands g c = kept_as _ _ _ _ c.cut_logs.ensures c.run_on-end.ensures.kept

@@ -1,0 +1,236 @@
+//! The report of a load of many jobs at once.
+
+ghost use Rattle.std.specs.Prelude.{◌≡◌, IfSome};
+
+use crate::loading::fault::{LoadFault, OUT_OF_MEMORY};
+use crate::loading::measured::plan::{MeasuredNumbers, MeasuredPlan};
+use crate::loading::measured::sites::LoadSites;
+use crate::loading::options::LoadOptions;
+use crate::loading::outcome::LoadOutcome;
+use cache_report::report_of;
+use load_figures::{
+    Connections, HostRun, LoadReport, LoadRun, OptionValue, SaidOption, Summary, fails_above,
+    json_text,
+};
+use load_picture::picture_of;
+use load_run::LoadedMany;
+use script_run::{FailureCounted, Sink};
+use script_text::FaultKind;
+use std::alloc::{AllocError, Global};
+use std::fmt::Write;
+use std::fs::File;
+
+/// The program's version.
+const VERSION: &str = "0.2.0";
+
+/// The status if more jobs failed than may fail.
+const FAILED_ABOVE: u8 = 5;
+
+/// Makes a load's outcome: its report, its note and its status.
+///
+/// # Errors
+///
+/// Memory ran out.
+pub(crate) fn outcome_of(
+    alloc: Global,
+    measured: &MeasuredPlan,
+    report: &LoadReport,
+    loaded: &LoadedMany,
+) -> Result<LoadOutcome, LoadFault> {
+    match try_outcome(alloc, measured, report, loaded) {
+        Ok(outcome) => Ok(outcome),
+        Err(_) => Err(OUT_OF_MEMORY),
+    }
+}
+
+/// Makes the report of a load's figures.
+///
+/// # Errors
+///
+/// Memory ran out.
+pub(crate) fn report_of_load(
+    alloc: Global,
+    options: LoadOptions,
+    measured: &MeasuredPlan,
+    sites: &LoadSites<'_>,
+    loaded: &LoadedMany,
+) -> Result<LoadReport, LoadFault> {
+    let Ok(run) = run_of(alloc, options, measured, sites, loaded) else {
+        return Err(OUT_OF_MEMORY);
+    };
+    match LoadReport::new(alloc, run, &loaded.figures) {
+        Ok(report) => Ok(report),
+        Err(_) => Err(OUT_OF_MEMORY),
+    }
+}
+
+/// Draws the load's picture into the file, if there is one.
+///
+/// # Errors
+///
+/// Memory ran out, or the picture could not be written.
+pub(crate) fn write_picture(
+    alloc: Global,
+    report: &LoadReport,
+    pictured: Option<FailureCounted<File>>,
+) -> Result<(), LoadFault>
+    requires counts { IfSome pictured (λ file. file.failures ≡ 0) }
+{
+    let Some(file) = pictured else {
+        return Ok(());
+    };
+    let mut file = file;
+    let Ok(picture) = picture_of(alloc, report) else {
+        return Err(OUT_OF_MEMORY);
+    };
+    match file.put(picture.as_bytes()) {
+        Ok(()) => Ok(()),
+        Err(FaultKind::Memory) => Err(OUT_OF_MEMORY),
+        Err(_) => Err(LoadFault::Write),
+    }
+}
+
+// Makes a load's outcome.
+fn try_outcome(
+    alloc: Global,
+    measured: &MeasuredPlan,
+    report: &LoadReport,
+    loaded: &LoadedMany,
+) -> Result<LoadOutcome, AllocError> {
+    let text = if measured.flags.json {
+        json_text(alloc, report)?
+    } else {
+        lines_of(alloc, loaded)?
+    };
+    let note = if measured.flags.quiet {
+        String::new(alloc)
+    } else {
+        let summary = Summary(report);
+        format!(in alloc; "{summary}")?
+    };
+    let status = match measured.numbers.fail_above {
+        Some(hundredths) if fails_above(report, hundredths) => FAILED_ABOVE,
+        _ => 0,
+    };
+    Ok(LoadOutcome {
+        report: text,
+        note,
+        status,
+    })
+}
+
+// Makes the report: a line for each host, and a line for all jobs.
+fn lines_of(alloc: Global, loaded: &LoadedMany) -> Result<String, AllocError> {
+    let Ok(mut text) = report_of(alloc, &loaded.gathered.hosts, &[]) else {
+        return Err(AllocError);
+    };
+    let hosts = text.as_str().rfind("jobs").unwrap_or(0);
+    text.truncate(hosts);
+    let all = loaded.figures.all();
+    text.push_str("jobs")?;
+    for number in &[all.done(), all.failed, all.reused, all.retried, all.bytes] {
+        write!(text, "{number:>8}")?;
+    }
+    text.push('\n')?;
+    Ok(text)
+}
+
+// Collects the facts of a load that are not figures.
+fn run_of(
+    alloc: Global,
+    options: LoadOptions,
+    measured: &MeasuredPlan,
+    sites: &LoadSites<'_>,
+    loaded: &LoadedMany,
+) -> Result<LoadRun, AllocError> {
+    let mut urls = Vec::new(alloc);
+    for url in &measured.urls {
+        urls.push(String::from_str(alloc, url.as_str())?)?;
+    }
+    let mut hosts = Vec::new(alloc);
+    for (site, count) in loaded.gathered.hosts.iter().enumerate() {
+        let host = sites.name(alloc, site)?;
+        let connections = Connections {
+            opened: count.opened,
+            reused: count.reused,
+            closed: count.closed,
+            waited: count.waited,
+            open: count.alive,
+        };
+        hosts.push(HostRun { host, connections })?;
+    }
+    Ok(LoadRun {
+        version: VERSION,
+        urls,
+        options: said_options(alloc, options, measured)?,
+        elapsed_us: loaded.elapsed,
+        missed: loaded.missed,
+        waited_us: loaded.waited,
+        hosts,
+    })
+}
+
+// Lists the options in force.
+fn said_options(
+    alloc: Global,
+    options: LoadOptions,
+    measured: &MeasuredPlan,
+) -> Result<Vec<SaidOption>, AllocError> {
+    let mut said = Vec::new(alloc);
+    let MeasuredNumbers {
+        connections,
+        seconds,
+        warmup,
+        rate,
+        timeout,
+        fail_above,
+    } = measured.numbers;
+    let jobs = if seconds.is_none() {
+        Some(options.jobs)
+    } else {
+        None
+    };
+    let numbers = [
+        ("connections", Some(connections.unwrap_or(options.workers))),
+        ("connects", Some(options.connects)),
+        ("host-limit", Some(options.host_limit)),
+        ("jobs", jobs),
+        ("rate", rate),
+        ("seconds", seconds),
+        ("timeout", timeout),
+        ("total", Some(options.total)),
+        ("warmup", Some(warmup)),
+        ("workers", Some(options.workers)),
+    ];
+    for (name, number) in &numbers {
+        if let Some(number) = *number {
+            add(&mut said, *name, OptionValue::Number(number as u64))?;
+        }
+    }
+    if let Some(hundredths) = fail_above {
+        let (whole, part) = (hundredths / 100, hundredths % 100);
+        let text = format!(in alloc; "{whole}.{part:02}")?;
+        add(&mut said, "fail-above", OptionValue::Text(text))?;
+    }
+    let flags = [
+        ("fail", measured.flags.fail),
+        ("forbid-reuse", measured.flags.forbid_reuse),
+        ("head", measured.flags.head),
+    ];
+    for (name, is_set) in &flags {
+        if *is_set {
+            add(&mut said, *name, OptionValue::Flag)?;
+        }
+    }
+    Ok(said)
+}
+
+// Adds an option.
+fn add(
+    said: &mut Vec<SaidOption>,
+    name: &'static str,
+    value: OptionValue,
+) -> Result<(), AllocError> {
+    said.push(SaidOption { name, value })?;
+    Ok(())
+}

@@ -1,0 +1,160 @@
+//! The addresses of the sites that a load requests.
+
+use crate::command_line::resolving::{Resolved, resolved_of, system_addresses};
+use conn_key::Target;
+use exchange::Job;
+use socket::{AddressFault, Addresses};
+use std::alloc::{AllocError, Global};
+use std::net::SocketAddr;
+
+/// What a site's addresses are.
+#[derive(Drop)]
+enum Place {
+    /// Those that its host stands for.
+    Own,
+    /// These.
+    Known(Vec<SocketAddr>),
+}
+
+/// A site, and what its addresses are.
+#[derive(Drop)]
+struct LoadSite<'a> {
+    target: &'a Target,
+    place: Place,
+}
+
+/// The sites of a load, in their order.
+#[derive(Drop)]
+pub(crate) struct LoadSites<'a> {
+    sites: Vec<LoadSite<'a>>,
+}
+
+/// Why the sites of a load have no addresses.
+#[derive(Drop)]
+pub(crate) enum SiteFault<'a> {
+    Memory,
+    /// The system does not know this host.
+    Unknown(&'a str),
+}
+
+impl<'a> LoadSites<'a> {
+    /// The sites of these jobs: their addresses are those given for them, or those that their hosts
+    /// stand for, or else those that the system knows.
+    ///
+    /// # Errors
+    ///
+    /// `Unknown` if the system knows no address of a host, `Memory` if memory ran out.
+    pub(crate) fn of(
+        system: &HostRuntime,
+        alloc: Global,
+        jobs: &'a [Job],
+        resolved: &[Resolved],
+    ) -> Result<LoadSites<'a>, SiteFault<'a>> {
+        let mut sites: Vec<LoadSite<'a>> = Vec::new(alloc);
+        for job in jobs {
+            if (job.site as usize) < sites.len() {
+                continue;
+            }
+            let target = &job.target;
+            let place = place_of(system, alloc, target, resolved)?;
+            if sites.push(LoadSite { target, place }).is_err() {
+                return Err(SiteFault::Memory);
+            }
+        }
+        Ok(LoadSites { sites })
+    }
+
+    /// How many there are.
+    pub(crate) fn len(&self) -> u32 {
+        u32::try_from(self.sites.len()).unwrap_or(u32::MAX)
+    }
+
+    /// The name of that one, as `127.0.0.1:8080`.
+    ///
+    /// # Errors
+    ///
+    /// There is no memory for it.
+    pub(crate) fn name(&self, alloc: Global, site: usize) -> Result<String, AllocError> {
+        match self.sites.get(site) {
+            Some(known) => {
+                let host = known.target.host.as_str();
+                let port = known.target.port;
+                format!(in alloc; "{host}:{port}")
+            }
+            None => Ok(String::new(alloc)),
+        }
+    }
+
+    /// Their addresses, for each of so many threads.
+    ///
+    /// # Errors
+    ///
+    /// There is no memory for them.
+    pub(crate) fn addresses(
+        &self,
+        alloc: Global,
+        workers: u32,
+    ) -> Result<Vec<Addresses>, AllocError> {
+        let mut all = Vec::new(alloc);
+        for _ in 0..workers {
+            let own = self.addresses_once(alloc)?;
+            all.push(own)?;
+        }
+        Ok(all)
+    }
+
+    // Their addresses, once.
+    fn addresses_once(&self, alloc: Global) -> Result<Addresses, AllocError> {
+        let mut addresses = Addresses::new(alloc);
+        for site in &self.sites {
+            match &site.place {
+                Place::Own => {
+                    if addresses.add(site.target).is_err() {
+                        return Err(AllocError);
+                    }
+                }
+                Place::Known(list) => {
+                    let mut copy = Vec::new(alloc);
+                    copy.extend_from_slice(list.as_slice())?;
+                    addresses.add_resolved(copy)?;
+                }
+            }
+        }
+        Ok(addresses)
+    }
+}
+
+// What the addresses of a target's host are.
+fn place_of<'a>(
+    system: &HostRuntime,
+    alloc: Global,
+    target: &'a Target,
+    resolved: &[Resolved],
+) -> Result<Place, SiteFault<'a>> {
+    let host = target.host.as_str();
+    if let Some(address) = resolved_of(resolved, host, target.port) {
+        return match vec![in alloc; address; 1] {
+            Ok(one) => Ok(Place::Known(one)),
+            Err(_) => Err(SiteFault::Memory),
+        };
+    }
+    match Addresses::new(alloc).add(target) {
+        Ok(()) => Ok(Place::Own),
+        Err(AddressFault::Memory) => Err(SiteFault::Memory),
+        Err(AddressFault::OtherName) => looked_up(system, alloc, host, target.port),
+    }
+}
+
+// The addresses of a host that the system knows.
+fn looked_up<'a>(
+    system: &HostRuntime,
+    alloc: Global,
+    host: &'a str,
+    port: u16,
+) -> Result<Place, SiteFault<'a>> {
+    match system_addresses(system, alloc, host, port) {
+        Ok(addresses) if addresses.is_empty() => Err(SiteFault::Unknown(host)),
+        Ok(addresses) => Ok(Place::Known(addresses)),
+        Err(_) => Err(SiteFault::Memory),
+    }
+}

@@ -1,0 +1,186 @@
+//! Loads of many jobs at once over the system's threads and sockets.
+
+use crate::loading::fault::{LoadFault, NO_THREAD, OUT_OF_MEMORY, POLL_FAILED};
+use crate::loading::measured::plan::MeasuredPlan;
+use crate::loading::measured::report::{outcome_of, report_of_load, write_picture};
+use crate::loading::measured::sites::{LoadSites, SiteFault};
+use crate::loading::measured::targets::job_of;
+use crate::loading::options::LoadOptions;
+use crate::loading::outcome::LoadOutcome;
+use crate::loading::progress::ProgressLine;
+use crate::loading::system::{fault_of, named_file, ports_of, write_to};
+use bundle::MOST_HOSTS;
+use conn_key::Target;
+use exchange::Job;
+use load_run::{LoadError, LoadTimes, LoadedMany, ManyPlan, Rate, load_many};
+use loopback_server::Server;
+use std::alloc::{AllocError, AllocGlobal, Global};
+use std::random::RandomSource;
+use std::sync::Wait;
+use std::sync::atomic::{AtomicBool, Ordering};
+use std::thread;
+use std::thread::{Builder, Threads, scope_env};
+
+/// The status of a load without a report.
+const FAILED: u8 = 4;
+
+/// The status of a load that Ctrl-C ended.
+const INTERRUPTED: u8 = 130;
+
+/// Carries out a load of many jobs at once. Without URLs, its requests go to a server of its own,
+/// which listens at one port of 127.0.0.1 for each site. Writes the trace if `trace` names a file.
+///
+/// # Errors
+///
+/// The reason why there is no report.
+pub(crate) fn load_measured<R: Threads + Wait + RandomSource + AllocGlobal + Sync>(
+    rt: &R,
+    system: &HostRuntime,
+    alloc: Global,
+    options: LoadOptions,
+    measured: MeasuredPlan,
+    trace: &Option<String>,
+) -> Result<LoadOutcome, LoadFault> {
+    if !measured.urls.is_empty() {
+        return load_sites(rt, system, alloc, options, &measured, trace, &[]);
+    }
+    let server = match Server::listen(system, alloc, options.sites) {
+        Ok(server) => server,
+        Err(error) => return Err(fault_of(&error, LoadFault::Listen)),
+    };
+    let Ok(ports) = ports_of(alloc, server.ports()) else {
+        return Err(OUT_OF_MEMORY);
+    };
+    let mut measured = measured;
+    if add_own(alloc, &mut measured, &ports).is_err() {
+        return Err(OUT_OF_MEMORY);
+    }
+    let ended = AtomicBool::new(false);
+    thread::scope(scope_env(), rt, |scope| -> Result<LoadOutcome, LoadFault> {
+        let serving = match Builder::new().spawn_scoped(scope, || server.serve(rt, &ended)) {
+            Ok(serving) => serving,
+            Err(error) => return Err(fault_of(&error, NO_THREAD)),
+        };
+        let outcome = load_sites(rt, system, alloc, options, &measured, trace, &ports);
+        ended.store(true, Ordering::SeqCst);
+        match serving.join(rt) {
+            Ok(_requests) => outcome,
+            Err(error) => Err(fault_of(&error, POLL_FAILED)),
+        }
+    })
+}
+
+// Adds a URL for each port of the load's own server.
+fn add_own(alloc: Global, measured: &mut MeasuredPlan, ports: &[u16]) -> Result<(), AllocError> {
+    for (site, port) in ports.iter().enumerate() {
+        let port = *port;
+        let site = u32::try_from(site).unwrap_or(u32::MAX);
+        let target = Target {
+            host: String::from_str(alloc, "127.0.0.1")?,
+            port,
+            path: String::from_str(alloc, "/")?,
+        };
+        let url = format!(in alloc; "http://127.0.0.1:{port}/")?;
+        measured.urls.push(url)?;
+        measured.jobs.push(job_of(site, target, measured.flags))?;
+    }
+    Ok(())
+}
+
+// Carries out a load of these jobs.
+fn load_sites<R: Threads + Wait + RandomSource + AllocGlobal + Sync>(
+    rt: &R,
+    system: &HostRuntime,
+    alloc: Global,
+    options: LoadOptions,
+    measured: &MeasuredPlan,
+    trace: &Option<String>,
+    ports: &[u16],
+) -> Result<LoadOutcome, LoadFault> {
+    let traced = named_file(system, trace)?;
+    let pictured = named_file(system, &measured.picture)?;
+    let sites = match LoadSites::of(system, alloc, &measured.jobs, &measured.resolved) {
+        Ok(sites) => sites,
+        Err(SiteFault::Memory) => return Err(OUT_OF_MEMORY),
+        Err(SiteFault::Unknown(host)) => return unknown(alloc, host),
+    };
+    let progress = ProgressLine::new(system, !measured.flags.quiet && !measured.flags.no_progress);
+    let keeps_logs = traced.is_some();
+    let loaded = loaded_many(
+        rt, system, alloc, options, measured, &sites, keeps_logs, &progress,
+    );
+    progress.erase();
+    let loaded = loaded?;
+    // There is a log for each site.
+    if loaded.logs.len() > MOST_HOSTS as usize {
+        return Err(LoadFault::Load(LoadError::Gather));
+    }
+    write_to(alloc, options, ports, &loaded.logs, traced)?;
+    let report = report_of_load(alloc, options, measured, &sites, &loaded)?;
+    write_picture(alloc, &report, pictured)?;
+    let outcome = outcome_of(alloc, measured, &report, &loaded)?;
+    if progress.is_interrupted() {
+        return Ok(LoadOutcome {
+            status: INTERRUPTED,
+            ..outcome
+        });
+    }
+    Ok(outcome)
+}
+
+// The outcome if the system does not know a host.
+fn unknown(alloc: Global, host: &str) -> Result<LoadOutcome, LoadFault> {
+    let Ok(note) = format!(in alloc; "run: unknown host {host}\n") else {
+        return Err(OUT_OF_MEMORY);
+    };
+    Ok(LoadOutcome {
+        report: String::new(alloc),
+        note,
+        status: FAILED,
+    })
+}
+
+// Carries out the jobs on the load's threads.
+fn loaded_many<R: Threads + Wait + RandomSource + AllocGlobal + Sync>(
+    rt: &R,
+    system: &HostRuntime,
+    alloc: Global,
+    options: LoadOptions,
+    measured: &MeasuredPlan,
+    sites: &LoadSites<'_>,
+    keeps_logs: bool,
+    progress: &ProgressLine<'_>,
+) -> Result<LoadedMany, LoadFault> {
+    let numbers = measured.numbers;
+    let Ok(addresses) = sites.addresses(alloc, options.workers) else {
+        return Err(OUT_OF_MEMORY);
+    };
+    let plan = ManyPlan {
+        limits: options.limits(),
+        hosts: sites.len(),
+        addresses,
+        urls: &measured.jobs,
+        jobs: match numbers.seconds {
+            Some(_) => None,
+            None => Some(options.jobs as u64),
+        },
+        connections: numbers.connections.unwrap_or(options.workers),
+        times: LoadTimes {
+            seconds: numbers.seconds,
+            warmup: numbers.warmup,
+            rate: rate_of(numbers.rate),
+            timeout: numbers.timeout,
+        },
+        fails_statuses: measured.flags.fail,
+        keeps_logs,
+    };
+    match load_many(rt, system, alloc, plan, progress) {
+        Ok(loaded) => Ok(loaded),
+        Err(error) => Err(LoadFault::Load(error)),
+    }
+}
+
+// The rate of `number` requests a second, if it is given.
+fn rate_of(number: Option<u32>) -> Option<Rate> {
+    Rate::new(number?)
+}
