@@ -2,7 +2,7 @@
 
 use crate::running::{ROW, Row, Text, check_all, check_stopped};
 use audit_run::{AuditStop, Telling, Verdict, audit_stream};
-use script_run::Watched;
+use script_run::FailureCounted;
 use std::alloc::{AllocError, Global};
 use std::fmt::Write;
 use std::io::Read;
@@ -257,7 +257,7 @@ fn verdict_on(
     size: usize,
     fails: bool,
 ) -> (Result<Verdict, AuditStop>, Vec<u8>) {
-    let mut reader = Watched::new(Pieces {
+    let mut reader = FailureCounted::new(Pieces {
         bytes: trace,
         size,
         fails,

@@ -2,12 +2,13 @@
 
 use crate::running::{ROW, Row, Text, check, check_stopped};
 use cli::NetworkFault;
+use std::sync::atomic::Ordering;
 
 /// Two URLs, of which the second ends first.
 const TURNED: &str = "200 3 new http://127.0.0.1/bb\n200 2 reused http://127.0.0.1/a\n";
 
 /// Words, what standard input gives, and the lines of the transfers.
-static LINES: [(&str, &str, &str); 12] = [
+static LINES: [(&str, &str, &str); 13] = [
     // lines come in the order in which transfers end
     (
         "get --parallel 2 http://127.0.0.1/a http://127.0.0.1/bb",
@@ -63,7 +64,18 @@ static LINES: [(&str, &str, &str); 12] = [
         "",
         "{\"url\": \"http://127.0.0.1/a\\\"\\\\b\", \"status\": 200, \"length\": 7, \
          \"reused\": false, \"retried\": false, \"fault\": null, \"reason\": null, \
-         \"waited_us\": null, \"dialled_us\": null, \"first_byte_us\": null, \"whole_us\": 4}\n",
+         \"waited_us\": 1, \"dialled_us\": 2, \"first_byte_us\": 3, \"whole_us\": 4}\n",
+    ),
+    // a reused connection was open as it was leased
+    (
+        "get --json --file - http://127.0.0.1/a",
+        "http://127.0.0.1/again\n",
+        "{\"url\": \"http://127.0.0.1/a\", \"status\": 200, \"length\": 2, \
+         \"reused\": false, \"retried\": false, \"fault\": null, \"reason\": null, \
+         \"waited_us\": 1, \"dialled_us\": 2, \"first_byte_us\": 3, \"whole_us\": 4}\n\
+         {\"url\": \"http://127.0.0.1/again\", \"status\": 200, \"length\": 6, \
+         \"reused\": true, \"retried\": true, \"fault\": null, \"reason\": null, \
+         \"waited_us\": 1, \"dialled_us\": 1, \"first_byte_us\": 3, \"whole_us\": 4}\n",
     ),
 ];
 
@@ -85,7 +97,7 @@ fn a_crawl_tells_of_responses(rt: HostRuntime) {
 }
 
 /// Words, what standard input gives, the lines, what is told of them, and the status.
-static FAULTS: [(&str, &str, &str, &str, u8); 8] = [
+static FAULTS: [(&str, &str, &str, &str, u8); 13] = [
     (
         "get --parallel 2 http://127.0.0.1/dial http://127.0.0.1/bb",
         "",
@@ -95,10 +107,10 @@ static FAULTS: [(&str, &str, &str, &str, u8); 8] = [
     ),
     // a bad URL among the words has its line in its turn
     (
-        "get --skip-bad http://127.0.0.1/a ftp://x http://127.0.0.1/bb http://c.test/",
+        "get --skip-bad http://127.0.0.1/a ftp://x http://127.0.0.1/bb http://c.test:x/",
         "",
         "200 2 new http://127.0.0.1/a\nBadUrl ftp://x\n200 3 reused http://127.0.0.1/bb\n\
-         BadUrl http://c.test/\n",
+         BadUrl http://c.test:x/\n",
         "run: 2 of 4 failed\n",
         4,
     ),
@@ -118,7 +130,30 @@ static FAULTS: [(&str, &str, &str, &str, u8); 8] = [
         "run: 1 of 1 failed\n",
         4,
     ),
-    // without the flag it ends the crawl
+    // what hangs does not hold up the next window
+    (
+        "get --skip-bad http://127.0.0.1/late ftp://x http://127.0.0.1/a",
+        "",
+        "BadUrl ftp://x\n200 2 reused http://127.0.0.1/a\n200 5 new http://127.0.0.1/late\n",
+        "run: 1 of 3 failed\n",
+        4,
+    ),
+    // but for a read that may wait
+    (
+        "get --file - http://127.0.0.1/late",
+        "http://127.0.0.1/a\n",
+        "200 5 new http://127.0.0.1/late\n200 2 reused http://127.0.0.1/a\n",
+        "",
+        0,
+    ),
+    // without the flag a bad URL ends the crawl, once all before it have ended
+    (
+        "get --file -",
+        "http://127.0.0.1/late\nno URL\n",
+        "200 5 new http://127.0.0.1/late\n",
+        "line 2: bad URL\n",
+        2,
+    ),
     (
         "get --file -",
         "http://127.0.0.1/a\n\nno URL\nhttp://127.0.0.1/bb\n",
@@ -137,9 +172,28 @@ static FAULTS: [(&str, &str, &str, &str, u8); 8] = [
         "get --json --parallel 1 http://127.0.0.1/cut",
         "",
         "{\"url\": \"http://127.0.0.1/cut\", \"status\": null, \"length\": null, \
-         \"reused\": null, \"retried\": null, \"fault\": \"Cut\", \"reason\": null, \
-         \"waited_us\": null, \"dialled_us\": null, \"first_byte_us\": null, \"whole_us\": 4}\n",
+         \"reused\": null, \"retried\": false, \"fault\": \"Cut\", \"reason\": null, \
+         \"waited_us\": 1, \"dialled_us\": 2, \"first_byte_us\": null, \"whole_us\": 4}\n",
         "run: 1 of 1 failed\n",
+        4,
+    ),
+    // the reason of an unknown host is told in JSON
+    (
+        "get --json http://gone.test/a",
+        "",
+        "{\"url\": \"http://gone.test/a\", \"status\": null, \"length\": null, \
+         \"reused\": null, \"retried\": false, \"fault\": \"Dial\", \
+         \"reason\": \"unknown host\", \"waited_us\": 1, \"dialled_us\": null, \
+         \"first_byte_us\": null, \"whole_us\": 4}\n",
+        "run: 1 of 1 failed\n",
+        4,
+    ),
+    // a fault's line tells whether the request was tried once more
+    (
+        "get --parallel 1 http://127.0.0.1/again/dial http://127.0.0.1/again/reset",
+        "",
+        "Dial retried http://127.0.0.1/again/dial\nRead retried http://127.0.0.1/again/reset\n",
+        "run: 2 of 2 failed\n",
         4,
     ),
     // a status of 400 and above fails with the flag alone
@@ -151,6 +205,62 @@ static FAULTS: [(&str, &str, &str, &str, u8); 8] = [
         4,
     ),
 ];
+
+/// Words, and the JSON line of a URL whose connection failed.
+static REASONS: [(&str, &str); 6] = [
+    (
+        "get --json http://a.test/dial",
+        "{\"url\": \"http://a.test/dial\", \"status\": null, \"length\": null, \
+         \"reused\": null, \"retried\": false, \"fault\": \"Dial\", \"reason\": null, \
+         \"waited_us\": 1, \"dialled_us\": null, \"first_byte_us\": null, \"whole_us\": 4}\n",
+    ),
+    (
+        "get --json http://a.test/dial/refused",
+        "{\"url\": \"http://a.test/dial/refused\", \"status\": null, \"length\": null, \
+         \"reused\": null, \"retried\": false, \"fault\": \"Dial\", \"reason\": \"refused\", \
+         \"waited_us\": 1, \"dialled_us\": null, \"first_byte_us\": null, \"whole_us\": 4}\n",
+    ),
+    (
+        "get --json http://a.test/dial/unreachable",
+        "{\"url\": \"http://a.test/dial/unreachable\", \"status\": null, \"length\": null, \
+         \"reused\": null, \"retried\": false, \"fault\": \"Dial\", \"reason\": \"unreachable\", \
+         \"waited_us\": 1, \"dialled_us\": null, \"first_byte_us\": null, \"whole_us\": 4}\n",
+    ),
+    (
+        "get --json http://a.test/dial/late",
+        "{\"url\": \"http://a.test/dial/late\", \"status\": null, \"length\": null, \
+         \"reused\": null, \"retried\": false, \"fault\": \"Dial\", \"reason\": \"timed out\", \
+         \"waited_us\": 1, \"dialled_us\": null, \"first_byte_us\": null, \"whole_us\": 4}\n",
+    ),
+    (
+        "get --json http://a.test/again/reset",
+        "{\"url\": \"http://a.test/again/reset\", \"status\": null, \"length\": null, \
+         \"reused\": null, \"retried\": true, \"fault\": \"Read\", \"reason\": \"reset\", \
+         \"waited_us\": 1, \"dialled_us\": 2, \"first_byte_us\": null, \"whole_us\": 4}\n",
+    ),
+    (
+        "get --json http://a.test/again/cancelled",
+        "{\"url\": \"http://a.test/again/cancelled\", \"status\": null, \"length\": null, \
+         \"reused\": null, \"retried\": true, \"fault\": \"Cancelled\", \"reason\": null, \
+         \"waited_us\": 1, \"dialled_us\": 2, \"first_byte_us\": null, \"whole_us\": 4}\n",
+    ),
+];
+
+#[test]
+fn a_json_line_tells_why_a_connection_failed(rt: HostRuntime) {
+    for told in &REASONS {
+        let (words, line) = *told;
+        let row = Row {
+            name: words,
+            words,
+            output: Text::Whole(line),
+            errors: Text::Whole("run: 1 of 1 failed\n"),
+            status: 4,
+            ..ROW
+        };
+        let _ = check(&rt, &row);
+    }
+}
 
 #[test]
 fn a_crawl_tells_of_faults(rt: HostRuntime) {
@@ -168,8 +278,27 @@ fn a_crawl_tells_of_faults(rt: HostRuntime) {
     }
 }
 
+// A bad URL ends a window, so names come again in a later one.
+#[test]
+fn a_crawl_looks_a_name_up_once(rt: HostRuntime) {
+    let row = Row {
+        name: "two names in three windows",
+        words: "get --skip-bad --file - http://a.test/a",
+        script: "http://gone.test/b\nno URL\nhttp://a.test:81/c\nno URL\nhttp://gone.test/d\n",
+        output: Text::Whole(
+            "200 2 new http://a.test/a\nDial http://gone.test/b\nBadUrl no URL\n\
+             200 2 new http://a.test:81/c\nBadUrl no URL\nDial http://gone.test/d\n",
+        ),
+        errors: Text::Whole("run: 4 of 6 failed\n"),
+        status: 4,
+        ..ROW
+    };
+    let (network, _) = check(&rt, &row);
+    assert_eq!(rt; network.lookups.load(Ordering::SeqCst), 2);
+}
+
 /// Words that are refused, and how the message begins.
-static REFUSED: [(&str, &str); 14] = [
+static REFUSED: [(&str, &str); 13] = [
     (
         "get --parallel 4",
         "curlpool: the following required arguments were not provided:\n  <URL>...\n\nUsage: ",
@@ -209,10 +338,6 @@ static REFUSED: [(&str, &str); 14] = [
     (
         "get --resolve a.test:80:b.test http://a.test/",
         "curlpool: --resolve a.test:80:b.test: not HOST:PORT:ADDRESS\n",
-    ),
-    (
-        "get --resolve a.test:81:127.0.0.1 http://a.test/",
-        "curlpool: http://a.test/: its host is neither localhost nor an address\n",
     ),
     (
         "get --file - --file - http://localhost/",

@@ -5,24 +5,72 @@ ghost use Rattle.cli.specs.Crawling.{TakesAll};
 
 use crate::networks::FakeFetcher;
 use cli::{Crawler, NetworkFault};
-use exchange::Job;
+use exchange::{Done, Fault, Job, Phases, Reason};
 use run_loop::{Results, Span};
 use site_table::Places;
 use socket::Addresses;
+use std::alloc::Global;
 use std::sync::atomic::{AtomicBool, Ordering};
+
+/// The paths of transfers whose connections fail, and the reason of each.
+static REASONS: [(&str, Reason); 4] = [
+    ("/dial/refused", Reason::Refused),
+    ("/dial/unreachable", Reason::Unreachable),
+    ("/dial/late", Reason::TimedOut),
+    ("/again/reset", Reason::Reset),
+];
+
+// Why the connection of a job fails, if it does.
+fn reason_of(job: &Job) -> Option<Reason> {
+    for (path, reason) in &REASONS {
+        if *path == job.target.path.as_str() {
+            return Some(*reason);
+        }
+    }
+    None
+}
+
+// The moments of a transfer that began at 3, and ended so at 7.
+fn phases_of(done: Done) -> Phases {
+    let leased = Some(4);
+    let (open, first_byte) = match done {
+        Done::Good(answer) if answer.reused => (leased, Some(6)),
+        Done::Good(_) => (Some(5), Some(6)),
+        Done::Bad(Fault::Dial) => (None, None),
+        Done::Bad(_) => (Some(5), None),
+    };
+    Phases {
+        leased,
+        open,
+        first_byte,
+    }
+}
+
+/// The path of a transfer that ends only once all have to.
+const LATE: &str = "/late";
+
+/// How a transfer ended.
+#[derive(Clone, Copy)]
+struct Ending {
+    number: u64,
+    done: Done,
+    span: Span,
+}
 
 /// The transfer of every second place ends after its neighbour's, if two may be under way at once.
 #[derive(Drop)]
 pub struct FakeCrawler {
     parallel: u32,
     fetcher: FakeFetcher,
+    late: Vec<Ending>,
 }
 
 impl FakeCrawler {
-    pub fn new(parallel: u32) -> FakeCrawler {
+    pub fn new(alloc: Global, parallel: u32) -> FakeCrawler {
         FakeCrawler {
             parallel,
             fetcher: FakeFetcher::new(),
+            late: Vec::new(alloc),
         }
     }
 
@@ -53,9 +101,38 @@ impl FakeCrawler {
         if has_ended.load(Ordering::SeqCst) {
             return;
         }
-        let done = self.fetcher.answer(job).done;
-        let span = Span { began: 3, ended: 7 };
-        results.take(place as u64, done, span);
+        let ending = self.ending_of(job);
+        if job.target.path.as_str() == LATE && self.late.push(ending).is_ok() {
+            return;
+        }
+        results.take(ending.number, ending.done, ending.span);
+    }
+
+    // How the transfer of a job ends.
+    fn ending_of(&mut self, job: &Job) -> Ending {
+        let fetched = self.fetcher.answer(job);
+        let done = fetched.done;
+        Ending {
+            number: job.want.transfer,
+            done,
+            span: Span {
+                began: 3,
+                ended: 7,
+                phases: phases_of(done),
+                reason: reason_of(job),
+                retried: fetched.retried,
+            },
+        }
+    }
+
+    // Ends the transfers that are late.
+    fn end_late<R: Results>(&mut self, results: &mut R)
+        ensures { TakesAll (λ told. ⊤) R.took results.old results.new }
+    {
+        for ending in self.late.iter() {
+            results.take(ending.number, ending.done, ending.span);
+        }
+        self.late.clear();
     }
 }
 
@@ -68,17 +145,20 @@ impl Places for FakeCrawler {
 }
 
 impl Crawler for FakeCrawler {
+    ghost stands = { λ crawler. ⊤ };
+
     ghost crawled = { λ old new jobs told. ⊤ };
 
-    fn set_addresses(&mut self, _addresses: Addresses) -> Result<(), NetworkFault> {
-        Ok(())
-    }
+    ghost finished = { λ crawler told. ⊤ };
+
+    fn set_addresses(&mut self, _addresses: Addresses) {}
 
     fn prune(&mut self) {}
 
     fn crawl<R: Results>(
         &mut self,
         jobs: &[Job],
+        to_end: bool,
         results: &mut R,
         has_ended: &AtomicBool,
     ) -> Result<(), NetworkFault> {
@@ -86,6 +166,19 @@ impl Crawler for FakeCrawler {
             let turned = self.turned(place, jobs.len());
             self.fetch(jobs, turned, results, has_ended);
         }
+        if to_end {
+            self.end_late(results);
+        }
+        Ok(())
+    }
+
+    fn finish<R: Results>(
+        self,
+        results: &mut R,
+        _has_ended: &AtomicBool,
+    ) -> Result<(), NetworkFault> {
+        let mut crawler = self;
+        crawler.end_late(results);
         Ok(())
     }
 }

@@ -5,8 +5,9 @@ use crate::networks::FakeNetwork;
 use crate::running::{ROW, Row, Text, check, check_stopped, check_words, run, words_of};
 use crate::streams::Expecting;
 use cli::{NetworkFault, Words};
-use script_run::Watched;
+use script_run::FailureCounted;
 use std::alloc::{AllocError, Global};
+use std::sync::atomic::Ordering;
 
 // The words of a get of so many URLs.
 fn many_urls(alloc: Global, count: u32) -> Result<Words, AllocError> {
@@ -158,8 +159,80 @@ fn sites_and_seconds_are_handed_on(rt: HostRuntime) {
     );
 }
 
+/// Words, the lines of their transfers, what is told of failed ones, and how many names are looked
+/// up.
+static NAMES: [(&str, &str, &str, u32); 7] = [
+    (
+        "get http://localhost/a http://127.0.0.1/b http://[::1]/c",
+        "200 2 new http://localhost/a\n200 2 new http://127.0.0.1/b\n200 2 new http://[::1]/c\n",
+        "",
+        0,
+    ),
+    // a name is looked up once, whatever the port
+    (
+        "get http://a.test/a http://A.test:81/b http://a.test:80/c",
+        "200 2 new http://a.test/a\n\
+            200 2 new http://A.test:81/b\n\
+            200 2 reused http://a.test:80/c\n",
+        "",
+        1,
+    ),
+    (
+        "get http://localhost.:80/ http://a.localhost/",
+        "200 1 new http://localhost.:80/\n200 1 new http://a.localhost/\n",
+        "",
+        2,
+    ),
+    // an unknown host fails its own URLs alone
+    (
+        "get http://gone.test/a http://a.test/b http://gone.test:81/c http://localhost/d",
+        "Dial http://gone.test/a\n200 2 new http://a.test/b\nDial http://gone.test:81/c\n\
+        200 2 new http://localhost/d\n",
+        "run: 2 of 4 failed\n",
+        2,
+    ),
+    // a crawl does as well
+    (
+        "get --parallel 1 http://gone.test/a http://a.test/b http://gone.test:81/c",
+        "Dial http://gone.test/a\n200 2 new http://a.test/b\nDial http://gone.test:81/c\n",
+        "run: 2 of 3 failed\n",
+        2,
+    ),
+    // a host with a given address is not looked up
+    (
+        "get --resolve a.test:81:127.0.0.1 http://localhost/ http://a.test:81/a",
+        "200 1 new http://localhost/\n200 2 new http://a.test:81/a\n",
+        "",
+        0,
+    ),
+    // unless the port is another one
+    (
+        "get --resolve a.test:81:127.0.0.1 http://a.test/a",
+        "200 2 new http://a.test/a\n",
+        "",
+        1,
+    ),
+];
+
+#[test]
+fn names_are_looked_up_once(rt: HostRuntime) {
+    for asked in &NAMES {
+        let (words, lines, told, lookups) = *asked;
+        let row = Row {
+            name: words,
+            words,
+            output: Text::Whole(lines),
+            errors: Text::Whole(told),
+            status: if told.is_empty() { 0 } else { 4 },
+            ..ROW
+        };
+        let (network, _) = check(&rt, &row);
+        assert_eq!(rt; network.lookups.load(Ordering::SeqCst), lookups, "{words}");
+    }
+}
+
 /// Words that are refused, and how the message begins.
-static REFUSED: [(&str, &str); 26] = [
+static REFUSED: [(&str, &str); 23] = [
     ("get", "curlpool: "),
     ("get --head", "curlpool: "),
     ("get --head --head http://localhost/", "curlpool: "),
@@ -192,18 +265,6 @@ static REFUSED: [(&str, &str); 26] = [
     (
         "get https://localhost/",
         "curlpool: https://localhost/: not an http URL; a URL begins with http://\n",
-    ),
-    (
-        "get http://example.com/",
-        "curlpool: http://example.com/: its host is neither localhost nor an address\n",
-    ),
-    (
-        "get http://127.0.0.1/ http://localhost.:80/",
-        "curlpool: http://localhost.:80/: its host is neither localhost nor an address\n",
-    ),
-    (
-        "get http://a.localhost/",
-        "curlpool: http://a.localhost/: its host is neither",
     ),
     (
         "get http://127.0.0.256/",
@@ -321,7 +382,7 @@ fn want_of_memory_leaves_a_front_of_the_lines(rt: HostRuntime) {
     let mut writer = Expecting::new(lines, false);
     let mut network = FakeNetwork::new(None);
     let mut loader = FakeLoader::new(Ok(""));
-    let mut output = Watched::new(&mut writer);
+    let mut output = FailureCounted::new(&mut writer);
     let (status, _) = run(
         rt.alloc(),
         words,

@@ -4,6 +4,8 @@ use crate::loads::FakeLoader;
 use crate::networks::FakeNetwork;
 use crate::running::{ROW, Row, Text, check, check_stopped, run, words_of};
 use cli::{LoadFault, load_jobs};
+use driver::DriverFault;
+use load_run::LoadError;
 use persistence::Method;
 use std::str::from_utf8;
 
@@ -213,14 +215,32 @@ fn usage_stands_below_a_refusal(rt: HostRuntime) {
 
 /// The faults of a load, and what is told of each.
 static FAULTS: [(LoadFault, &str); 9] = [
-    (LoadFault::Memory, "run: out of memory\n"),
-    (LoadFault::BadWorkers, "run: bad workers\n"),
-    (LoadFault::Poll, "run: poll failed\n"),
-    (LoadFault::Doubled, "run: job collected twice\n"),
-    (LoadFault::Missing, "run: job missing\n"),
-    (LoadFault::Spawn, "run: cannot start thread\n"),
+    (
+        LoadFault::Load(LoadError::Run(DriverFault::Memory)),
+        "run: out of memory\n",
+    ),
+    (
+        LoadFault::Load(LoadError::Run(DriverFault::BadWorkers)),
+        "run: bad workers\n",
+    ),
+    (
+        LoadFault::Load(LoadError::Run(DriverFault::Poll)),
+        "run: poll failed\n",
+    ),
+    (
+        LoadFault::Load(LoadError::Run(DriverFault::Doubled)),
+        "run: job collected twice\n",
+    ),
+    (
+        LoadFault::Load(LoadError::Run(DriverFault::Missing)),
+        "run: job missing\n",
+    ),
+    (
+        LoadFault::Load(LoadError::Run(DriverFault::Spawn)),
+        "run: cannot start thread\n",
+    ),
     (LoadFault::Listen, "run: cannot listen\n"),
-    (LoadFault::Gather, "run: cannot gather\n"),
+    (LoadFault::Load(LoadError::Gather), "run: cannot gather\n"),
     (LoadFault::Write, "run: cannot write\n"),
 ];
 
@@ -315,7 +335,7 @@ fn jobs_go_round_the_sites(rt: HostRuntime) {
 
 /// What a load is asked for beside its six numbers, but for its addresses.
 #[derive(Clone, Copy, Debug, PartialEq, Eq)]
-struct More {
+struct Measured {
     /// How many URLs there are, and the site of the last.
     urls: (usize, u32),
     connections: Option<u32>,
@@ -329,7 +349,7 @@ struct More {
 }
 
 /// Words that ask for nothing beside JSON.
-const JSON: More = More {
+const JSON: Measured = Measured {
     urls: (0, 0),
     connections: None,
     seconds: None,
@@ -340,15 +360,15 @@ const JSON: More = More {
     flags: [false, false, false, true, false, false],
 };
 
-/// Words for URLs, time and telling, the jobs and connections kept, and what else is asked for.
-static MORE: [(&str, (u32, u32), More); 17] = [
+/// Words of measured loads, the jobs and connections kept, and what else is asked for.
+static MEASURED: [(&str, (u32, u32), Measured); 17] = [
     ("load --json", (20, 65_535), JSON),
     ("load --json --jobs 3", (3, 12), JSON),
     ("load --json --connects 5", (20, 5), JSON),
     (
         "load --json --url http://a/ --url http://A:80/b --jobs 4294967295",
         (4_294_967_295, 65_535),
-        More {
+        Measured {
             urls: (2, 0),
             timeout: Some(30),
             ..JSON
@@ -357,7 +377,7 @@ static MORE: [(&str, (u32, u32), More); 17] = [
     (
         "load --json --url http://a/ --url http://a:81/ --url http://b/",
         (20, 65_535),
-        More {
+        Measured {
             urls: (3, 2),
             timeout: Some(30),
             ..JSON
@@ -366,7 +386,7 @@ static MORE: [(&str, (u32, u32), More); 17] = [
     (
         "load --json --url http://a/ --timeout 1",
         (20, 65_535),
-        More {
+        Measured {
             urls: (1, 0),
             timeout: Some(1),
             ..JSON
@@ -375,7 +395,7 @@ static MORE: [(&str, (u32, u32), More); 17] = [
     (
         "load --json --timeout=3600",
         (20, 65_535),
-        More {
+        Measured {
             timeout: Some(3_600),
             ..JSON
         },
@@ -383,7 +403,7 @@ static MORE: [(&str, (u32, u32), More); 17] = [
     (
         "load --json --connections 1024",
         (20, 65_535),
-        More {
+        Measured {
             connections: Some(1_024),
             ..JSON
         },
@@ -391,7 +411,7 @@ static MORE: [(&str, (u32, u32), More); 17] = [
     (
         "load --json --seconds 86400",
         (20, 65_535),
-        More {
+        Measured {
             seconds: Some(86_400),
             ..JSON
         },
@@ -399,7 +419,7 @@ static MORE: [(&str, (u32, u32), More); 17] = [
     (
         "load --json --warmup 0 --rate 1",
         (20, 65_535),
-        More {
+        Measured {
             rate: Some(1),
             ..JSON
         },
@@ -407,7 +427,7 @@ static MORE: [(&str, (u32, u32), More); 17] = [
     (
         "load --json --warmup 3600 --rate 1000000",
         (20, 65_535),
-        More {
+        Measured {
             warmup: 3_600,
             rate: Some(1_000_000),
             ..JSON
@@ -416,7 +436,7 @@ static MORE: [(&str, (u32, u32), More); 17] = [
     (
         "load --json --fail-above 0",
         (20, 65_535),
-        More {
+        Measured {
             fail_above: Some(0),
             ..JSON
         },
@@ -424,7 +444,7 @@ static MORE: [(&str, (u32, u32), More); 17] = [
     (
         "load --json --fail-above 0.5",
         (20, 65_535),
-        More {
+        Measured {
             fail_above: Some(50),
             ..JSON
         },
@@ -432,7 +452,7 @@ static MORE: [(&str, (u32, u32), More); 17] = [
     (
         "load --json --fail-above 12.34",
         (20, 65_535),
-        More {
+        Measured {
             fail_above: Some(1_234),
             ..JSON
         },
@@ -440,7 +460,7 @@ static MORE: [(&str, (u32, u32), More); 17] = [
     (
         "load --json --fail-above 100.00",
         (20, 65_535),
-        More {
+        Measured {
             fail_above: Some(10_000),
             ..JSON
         },
@@ -448,7 +468,7 @@ static MORE: [(&str, (u32, u32), More); 17] = [
     (
         "load --head --fail --quiet",
         (20, 65_535),
-        More {
+        Measured {
             flags: [true, false, true, false, true, false],
             ..JSON
         },
@@ -456,7 +476,7 @@ static MORE: [(&str, (u32, u32), More); 17] = [
     (
         "load --forbid-reuse --no-progress --resolve [::1]:80:[::1]",
         (20, 65_535),
-        More {
+        Measured {
             flags: [false, true, false, false, false, true],
             ..JSON
         },
@@ -464,8 +484,8 @@ static MORE: [(&str, (u32, u32), More); 17] = [
 ];
 
 #[test]
-fn words_give_more(rt: HostRuntime) {
-    for (words, (jobs, connects), asked) in &MORE {
+fn words_of_measured_loads(rt: HostRuntime) {
+    for (words, (jobs, connects), asked) in &MEASURED {
         let row = Row {
             name: words,
             words,
@@ -475,10 +495,13 @@ fn words_give_more(rt: HostRuntime) {
         let (_, loader) = check(&rt, &row);
         let [_, given, _, _, _, kept] = loader.numbers;
         assert_eq!(rt; (given, kept), (*jobs, *connects), "{words}");
-        let more = loader.more.as_ref().expect(&rt, "more");
-        let (numbers, flags) = (more.numbers, more.flags);
-        let told = More {
-            urls: (more.urls.len(), more.jobs.last().map_or(0, |job| job.site)),
+        let measured = loader.measured.as_ref().expect(&rt, "measured");
+        let (numbers, flags) = (measured.numbers, measured.flags);
+        let told = Measured {
+            urls: (
+                measured.urls.len(),
+                measured.jobs.last().map_or(0, |job| job.site),
+            ),
             connections: numbers.connections,
             seconds: numbers.seconds,
             warmup: numbers.warmup,
@@ -525,8 +548,8 @@ fn addresses_are_given(rt: HostRuntime) {
             &mut output,
         );
         assert_eq!(rt; status, 0, "{value}");
-        let more = loader.more.as_ref().expect(&rt, "more");
-        let resolved = more.resolved.first().expect(&rt, "an address");
+        let measured = loader.measured.as_ref().expect(&rt, "measured");
+        let resolved = measured.resolved.first().expect(&rt, "an address");
         assert_eq!(rt; resolved.host.as_str(), *host, "{value}");
         let told = resolved.address;
         let told = format!(in rt.alloc(); "{told}").expect(&rt, "memory");
@@ -534,8 +557,8 @@ fn addresses_are_given(rt: HostRuntime) {
     }
 }
 
-/// Words for URLs, time and telling that are refused, and the line that tells why.
-static MORE_REFUSED: [(&str, &str); 31] = [
+/// Words of measured loads that are refused, and the line that tells why.
+static MEASURED_REFUSED: [(&str, &str); 31] = [
     (
         "load --url http://a --sites 1",
         "the argument '--url <URL>' cannot be used with '--sites <NUMBER>'",
@@ -666,8 +689,8 @@ static MORE_REFUSED: [(&str, &str); 31] = [
 ];
 
 #[test]
-fn more_words_are_refused(rt: HostRuntime) {
-    for (words, told) in &MORE_REFUSED {
+fn measured_words_are_refused(rt: HostRuntime) {
+    for (words, told) in &MEASURED_REFUSED {
         let given = words_of(rt.alloc(), words).expect(&rt, "memory");
         let mut network = FakeNetwork::new(None);
         let mut loader = FakeLoader::new(Ok("all\n"));

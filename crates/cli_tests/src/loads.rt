@@ -1,6 +1,8 @@
 //! What carries out no load: it keeps the plan, and answers what it is told to.
 
-use cli::{LoadFault, LoadOutcome, LoadPlan, MorePlan};
+use cli::{LoadFault, LoadOutcome, LoadPlan, MeasuredPlan};
+use driver::DriverFault;
+use load_run::LoadError;
 use std::alloc::Global;
 
 /// Which report or fault it answers, how often it was asked, and with which numbers and file last.
@@ -10,7 +12,7 @@ pub struct FakeLoader<'a> {
     pub asked: u32,
     pub numbers: [u32; 6],
     pub trace: Option<String>,
-    pub more: Option<MorePlan>,
+    pub measured: Option<MeasuredPlan>,
 }
 
 impl<'a> FakeLoader<'a> {
@@ -20,7 +22,7 @@ impl<'a> FakeLoader<'a> {
             asked: 0,
             numbers: [0; 6],
             trace: None,
-            more: None,
+            measured: None,
         }
     }
 
@@ -29,10 +31,10 @@ impl<'a> FakeLoader<'a> {
         let LoadPlan {
             options,
             trace,
-            more,
+            measured,
         } = plan;
         self.trace = trace;
-        self.more = more;
+        self.measured = measured;
         self.asked = self.asked.saturating_add(1);
         self.numbers = [
             options.sites,
@@ -44,7 +46,7 @@ impl<'a> FakeLoader<'a> {
         ];
         let report = self.answer?;
         let Ok(report) = String::from_str(alloc, report) else {
-            return Err(LoadFault::Memory);
+            return Err(LoadFault::Load(LoadError::Run(DriverFault::Memory)));
         };
         Ok(LoadOutcome {
             report,

@@ -1,19 +1,21 @@
-//! A network that is no network: how a transfer ends stands in its path.
+//! A network without sockets: the path of a URL says how its transfer ends.
 
 ghost use Rattle.std.specs.Prelude.{◌≡◌, ⊤};
 
 use crate::crawlers::FakeCrawler;
 use budget::Refusal;
-use cli::{CrawlOptions, Fetcher, Network, NetworkFault};
+use cli::{CrawlOptions, Fetcher, Network, NetworkFault, Resolver, site_addresses};
 use client::Fetched;
+use conn_key::Sites;
 use exchange::{Answer, Done, Fault, Job};
 use persistence::{Facts, Framing, Method, Version};
-use socket::Addresses;
-use std::alloc::Global;
+use std::alloc::{AllocError, Global};
+use std::net::{IpAddr, Ipv4Addr, Ipv6Addr, SocketAddr};
+use std::sync::atomic::{AtomicU32, Ordering};
 
 /// The paths of transfers that fail, each with its fault, and whether its request was tried once
 /// more.
-static FAULTS: [(&str, Fault, bool); 11] = [
+static FAULTS: [(&str, Fault, bool); 15] = [
     ("/memory", Fault::Memory, false),
     ("/dial", Fault::Dial, false),
     ("/read", Fault::Read, false),
@@ -22,10 +24,17 @@ static FAULTS: [(&str, Fault, bool); 11] = [
     ("/cut", Fault::Cut, false),
     ("/refused", Fault::Refused(Refusal::Exhausted), false),
     ("/cancelled", Fault::Cancelled, false),
+    ("/dial/refused", Fault::Dial, false),
+    ("/dial/unreachable", Fault::Dial, false),
+    ("/dial/late", Fault::Dial, false),
+    ("/again/reset", Fault::Read, true),
     ("/again/dial", Fault::Dial, true),
     ("/again/refused", Fault::Refused(Refusal::Memory), true),
     ("/again/cancelled", Fault::Cancelled, true),
 ];
+
+/// The host that no resolver knows.
+pub const UNKNOWN: &str = "gone.test";
 
 /// The facts of each response, of which no line tells.
 const FACTS: Facts = Facts {
@@ -40,7 +49,7 @@ const FACTS: Facts = Facts {
     surplus: false,
 };
 
-/// What a network was opened with, and what its jobs wanted.
+/// Counts what it is asked, and remembers what it was opened with.
 #[derive(Drop)]
 pub struct FakeNetwork {
     fault: Option<NetworkFault>,
@@ -53,6 +62,8 @@ pub struct FakeNetwork {
     /// How often a fetcher was closed, and what the last one had fetched.
     pub closings: u32,
     pub fetches: u32,
+    /// How many names it was asked for.
+    pub lookups: AtomicU32,
 }
 
 impl FakeNetwork {
@@ -65,8 +76,28 @@ impl FakeNetwork {
             parallel: 0,
             closings: 0,
             fetches: 0,
+            lookups: AtomicU32::new(0),
         }
     }
+}
+
+impl Resolver for FakeNetwork {
+    fn look_up(&self, alloc: Global, host: &str) -> Result<Vec<SocketAddr>, AllocError> {
+        self.lookups.fetch_add(1, Ordering::SeqCst);
+        found_for(alloc, host)
+    }
+}
+
+/// The addresses of a name: ::1 and then 127.0.0.1, unless it is unknown.
+pub fn found_for(alloc: Global, host: &str) -> Result<Vec<SocketAddr>, AllocError> {
+    let mut found = Vec::new(alloc);
+    if host != UNKNOWN {
+        let first = IpAddr::V6(Ipv6Addr::new(0, 0, 0, 0, 0, 0, 0, 1));
+        found.push(SocketAddr::new(first, 0))?;
+        let second = IpAddr::V4(Ipv4Addr::new(127, 0, 0, 1));
+        found.push(SocketAddr::new(second, 0))?;
+    }
+    Ok(found)
 }
 
 impl Network for FakeNetwork {
@@ -80,10 +111,13 @@ impl Network for FakeNetwork {
 
     fn open(
         &mut self,
-        _alloc: Global,
-        addresses: Addresses,
+        alloc: Global,
+        sites: &Sites,
         timeout: u32,
     ) -> Result<FakeFetcher, NetworkFault> {
+        let Ok(addresses) = site_addresses(alloc, sites, self) else {
+            return Err(NetworkFault::Memory);
+        };
         self.openings = self.openings.saturating_add(1);
         self.sites = addresses.len();
         self.timeout = timeout;
@@ -100,7 +134,7 @@ impl Network for FakeNetwork {
 
     fn open_crawler(
         &mut self,
-        _alloc: Global,
+        alloc: Global,
         options: CrawlOptions,
     ) -> Result<FakeCrawler, NetworkFault> {
         self.openings = self.openings.saturating_add(1);
@@ -108,7 +142,7 @@ impl Network for FakeNetwork {
         self.parallel = options.parallel;
         match self.fault {
             Some(fault) => Err(fault),
-            None => Ok(FakeCrawler::new(options.parallel)),
+            None => Ok(FakeCrawler::new(alloc, options.parallel)),
         }
     }
 }
@@ -148,6 +182,12 @@ impl FakeFetcher {
                     retried: row.2,
                 };
             }
+        }
+        if job.target.host.as_str() == UNKNOWN {
+            return Fetched {
+                done: Done::Bad(Fault::Dial),
+                retried: false,
+            };
         }
         let site = job.site as usize;
         let reused = site < 64 && self.open[site] && job.want.max_age != 0;

@@ -7,8 +7,8 @@ use crate::audits::BROKEN;
 use crate::loads::FakeLoader;
 use crate::networks::FakeNetwork;
 use crate::streams::{Expecting, REUSE};
-use cli::{CountedWordsMemory, LoadFault, NetworkFault, Words, run_program};
-use script_run::{ScriptFiles, Sink, Watched};
+use cli::{CountedArgsAlloc, LoadFault, NetworkFault, Words, run_program};
+use script_run::{FailureCounted, ScriptFiles, Sink};
 use std::alloc::{AllocError, AllocGlobal, Global};
 use std::io::{self, Write};
 use std::process::Abort;
@@ -63,7 +63,7 @@ struct ThreeFiles;
 impl ScriptFiles for ThreeFiles {
     type File = &'static [u8];
 
-    type Made = Watched<FakeFile>;
+    type Made = FailureCounted<FakeFile>;
 
     ghost opens = { λ _ _ _ _. ⊤ };
 
@@ -76,10 +76,10 @@ impl ScriptFiles for ThreeFiles {
         }
     }
 
-    fn create(&self, name: &str) -> Option<Watched<FakeFile>> {
+    fn create(&self, name: &str) -> Option<FailureCounted<FakeFile>> {
         match name {
-            "picture" => Some(Watched::new(FakeFile { is_full: false })),
-            "full" => Some(Watched::new(FakeFile { is_full: true })),
+            "picture" => Some(FailureCounted::new(FakeFile { is_full: false })),
+            "full" => Some(FailureCounted::new(FakeFile { is_full: true })),
             _ => None,
         }
     }
@@ -130,7 +130,7 @@ pub fn run<W: Sink>(
 ) -> (u8, Vec<u8>)
     requires { CanCount (W.sink output.old) }
 {
-    let mut memory = CountedWordsMemory::new(alloc);
+    let mut memory = CountedArgsAlloc::new(alloc);
     let mut files = ThreeFiles;
     let mut input = script.as_bytes();
     let mut errors = Vec::new(alloc);
@@ -201,7 +201,7 @@ pub fn check_stopped<R: Abort + AllocGlobal>(
     let mut writer = Expecting::new(written, takes_none);
     let mut network = FakeNetwork::new(row.network);
     let mut loader = FakeLoader::new(row.load);
-    let mut output = Watched::new(&mut writer);
+    let mut output = FailureCounted::new(&mut writer);
     let (status, errors) = run(
         rt.alloc(),
         words,

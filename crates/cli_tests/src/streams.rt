@@ -1,6 +1,6 @@
 //! What readers and writers leave that fail, and want of memory.
 
-use script_run::{Watched, run_script};
+use script_run::{FailureCounted, run_script};
 use script_text::{FaultKind, ScriptFault};
 use std::alloc::Global;
 use std::io;
@@ -43,7 +43,7 @@ impl Read for Failing {
 
 #[test]
 fn a_reader_that_fails_in_the_middle(rt: HostRuntime) {
-    let mut reader = Watched::new(Failing {
+    let mut reader = FailureCounted::new(Failing {
         bytes: b"limits 4 0 4\nlook 0\n",
     });
     let mut out = Vec::new(rt.alloc());
@@ -91,7 +91,7 @@ impl Write for Expecting {
 // Runs a script onto that writer.
 fn run_onto(alloc: Global, script: &str, writer: &mut Expecting) -> Result<(), ScriptFault> {
     let mut reader = script.as_bytes();
-    run_script(alloc, false, &mut reader, &mut Watched::new(writer))
+    run_script(alloc, false, &mut reader, &mut FailureCounted::new(writer))
 }
 
 #[test]
