@@ -29,7 +29,7 @@ fn reports_of_drawn_loads_add_up(rt: HostRuntime) {
         let plan = LoadPlan {
             options,
             trace: None,
-            more: None,
+            measured: None,
         };
         let report = match load_on_system(&rt, &rt, rt.alloc(), plan) {
             Ok(outcome) => outcome.report,

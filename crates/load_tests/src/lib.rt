@@ -9,9 +9,9 @@ mod grid;
 #[cfg(test)]
 mod many;
 #[cfg(test)]
-mod memory;
+mod measured_words;
 #[cfg(test)]
-mod more_words;
+mod memory;
 #[cfg(test)]
 mod rows;
 #[cfg(test)]

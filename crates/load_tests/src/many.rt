@@ -4,7 +4,7 @@ use budget::Limits;
 use conn_key::Target;
 use conn_log::Want;
 use exchange::Job;
-use load::{LoadTimes, LoadedMany, ManyPlan, Rate, Unwatched, load_many};
+use load_run::{LoadTimes, LoadedMany, ManyPlan, Rate, Unwatched, load_many};
 use loopback_server::Server;
 use persistence::Method;
 use socket::Addresses;

@@ -1,6 +1,6 @@
 //! The program, with its streams in memory.
 
-use cli::{CountedWordsMemory, SystemNetwork, Words, load_on_system, run_program};
+use cli::{CountedArgsAlloc, SystemNetwork, Words, load_on_system, run_program};
 use script_run::SystemFiles;
 use std::alloc::{AllocError, AllocGlobal, Global};
 use std::random::RandomSource;
@@ -42,7 +42,7 @@ pub(crate) fn run_words<T: Threads + Wait + RandomSource + AllocGlobal + Sync>(
     text: &str,
 ) -> Result<Ran, AllocError> {
     let given = words(rt.alloc(), text)?;
-    let mut memory = CountedWordsMemory::new(rt.alloc());
+    let mut memory = CountedArgsAlloc::new(rt.alloc());
     let mut files = SystemFiles::new(rt);
     let mut network = SystemNetwork::new(rt, threads);
     let mut input = b"".as_slice();

@@ -4,7 +4,7 @@ ghost use Rattle.std.specs.Prelude.{◌≤◌, length};
 
 use cli::{LoadOptions, load_jobs, sites_at};
 use exchange::{Done, Job};
-use load::{Loaded, load};
+use load_run::{Loaded, load};
 use loopback_server::Server;
 use std::alloc::AllocGlobal;
 use std::net::SocketAddr;

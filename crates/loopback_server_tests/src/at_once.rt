@@ -85,7 +85,7 @@ const JOBS: usize = 6;
 impl Results for Counts {
     ghost use Rattle.std.specs.Prelude.{⊤};
 
-    ghost took = { λ old new number done. ⊤ };
+    ghost took = { λ old new number done span. ⊤ };
 
     fn take(&mut self, number: u64, done: Done, _span: Span) {
         let Done::Good(answer) = done else {
@@ -113,14 +113,14 @@ impl Clock for Still {
     fn now(&self) -> u64 {
         7
     }
-}
-
-impl Timer for Still {
-    ghost may_stop = { λ still number. ⊥ };
 
     fn micros(&self) -> u64 {
         0
     }
+}
+
+impl Timer for Still {
+    ghost may_stop = { λ still number. ⊥ };
 
     fn stops(&self, _number: u64, _began: u64) -> bool {
         false

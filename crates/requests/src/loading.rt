@@ -1,4 +1,4 @@
-//! The command `load`: threads request paths over one shared cache.
+//! The command `load`: threads send requests over one shared cache.
 
 mod task;
 
@@ -7,11 +7,12 @@ use crate::loading::task::{Task, task_of};
 use crate::statuses::{BAD_WORDS, status_of};
 use crate::tally::Tally;
 use budget::Limits;
+use bundle::MOST_HOSTS;
 use cache_report::totals;
 use cli::{load_jobs, sites_at};
 use client::Fetched;
 use exchange::Done;
-use load::{Loaded, load};
+use load_run::{Loaded, load};
 use shared_cache::HostCount;
 use std::alloc::AllocGlobal;
 use std::io::Write;
@@ -19,13 +20,10 @@ use std::random::RandomSource;
 use std::sync::Wait;
 use std::thread::Threads;
 
-/// The most sites that there may be; there is one at least.
-const MOST_SITES: usize = 1_024;
-
-/// The most connections that are kept while they are idle.
+/// The most idle connections that are kept.
 const KEPT: u32 = 65_535;
 
-/// Does what the words ask for, and prints what came of it: the status.
+/// Carries out the command, prints its results, and gives the status.
 pub(crate) fn load_sites<R: Threads + Wait + RandomSource + AllocGlobal + Sync>(
     threads: &R,
     rt: &HostRuntime,
@@ -40,7 +38,7 @@ pub(crate) fn load_sites<R: Threads + Wait + RandomSource + AllocGlobal + Sync>(
     status_of(print_loaded(rt, &loaded, task.has_lines))
 }
 
-// Carries out the jobs of the task. None if it can't.
+// Carries out the jobs of the task. `None` if they could not begin.
 fn loaded_by<R: Threads + Wait + RandomSource + AllocGlobal + Sync>(
     threads: &R,
     rt: &HostRuntime,
@@ -49,14 +47,14 @@ fn loaded_by<R: Threads + Wait + RandomSource + AllocGlobal + Sync>(
     let alloc = rt.alloc();
     let limits = Limits::new(0, task.total, KEPT).ok()?;
     let sites = sites_at(alloc, &task.ports).ok()?;
-    if sites.is_empty() || sites.len() > MOST_SITES {
+    if sites.is_empty() || sites.len() > MOST_HOSTS as usize {
         return None;
     }
     let jobs = load_jobs(alloc, task.jobs, &task.ports).ok()?;
     load(threads, rt, alloc, limits, &sites, &jobs, task.workers).ok()
 }
 
-// Prints what came of the jobs, each of which has a line if that is asked for. None if it can't.
+// Prints the results, with a line for each job if `has_lines`. `None` if printing failed.
 fn print_loaded(rt: &HostRuntime, loaded: &Loaded, has_lines: bool) -> Option<bool> {
     if has_lines {
         print_lines(rt, &loaded.results)?;
@@ -68,8 +66,8 @@ fn print_loaded(rt: &HostRuntime, loaded: &Loaded, has_lines: bool) -> Option<bo
     print_tally(rt, &tally, totals(&loaded.gathered.hosts))
 }
 
-// Prints a line for each job, with its path. The result of a run does not tell whether a request
-// without a good answer was tried once more.
+// Prints a line for each job, with its path. A run does not tell whether a request without a good
+// answer was retried.
 fn print_lines(rt: &HostRuntime, results: &[Done]) -> Option<()> {
     for (number, done) in results.iter().enumerate() {
         let path = format!(in rt.alloc(); "/{number}").ok()?;
@@ -86,7 +84,7 @@ fn print_lines(rt: &HostRuntime, results: &[Done]) -> Option<()> {
     Some(())
 }
 
-// Prints what came of all jobs, and of the connections of all hosts. None if it can't.
+// Prints the sums over all jobs and all hosts. `None` if printing failed.
 fn print_tally(rt: &HostRuntime, tally: &Tally, hosts: HostCount) -> Option<bool> {
     let Tally {
         good,

@@ -1,4 +1,4 @@
-//! The command `many`: threads request paths over one shared cache, each many at once.
+//! The command `many`: threads send requests over one shared cache, each many at once.
 
 ghost use Rattle.std.specs.Prelude.{◌≡◌};
 
@@ -12,6 +12,7 @@ use crate::many::tools::{alarms_of, tools_of};
 use crate::statuses::{BAD_WORDS, status_of};
 use crate::tally::Tally;
 use budget::Limits;
+use bundle::MOST_HOSTS;
 use cli::load_jobs;
 use driver::{Finished, ListedJobs, ManyReport, NotBegun, run_many};
 use exchange::Job;
@@ -25,13 +26,10 @@ use std::random::RandomSource;
 use std::sync::Wait;
 use std::thread::Threads;
 
-/// The most sites that there may be; there is one at least.
-const MOST_SITES: usize = 1_024;
-
-/// The most connections that are kept while they are idle.
+/// The most idle connections that are kept.
 const KEPT: u32 = 65_535;
 
-/// Does what the words ask for, and prints what came of it: the status.
+/// Carries out the command, prints its results, and gives the status.
 pub(crate) fn load_many<R: Threads + Wait + RandomSource + AllocGlobal + Sync>(
     threads: &R,
     rt: &HostRuntime,
@@ -43,7 +41,7 @@ pub(crate) fn load_many<R: Threads + Wait + RandomSource + AllocGlobal + Sync>(
     }
 }
 
-// Does the task, and prints what came of it; whether it is complete. None if it can't.
+// Carries out the task and prints its results: whether all went well. `None` if it failed.
 fn done<R: Threads + Wait + RandomSource + AllocGlobal + Sync>(
     threads: &R,
     rt: &HostRuntime,
@@ -51,7 +49,7 @@ fn done<R: Threads + Wait + RandomSource + AllocGlobal + Sync>(
 ) -> Option<bool> {
     let alloc = rt.alloc();
     let limits = Limits::new(0, task.total, KEPT).ok()?;
-    if task.ports.is_empty() || task.ports.len() > MOST_SITES {
+    if task.ports.is_empty() || task.ports.len() > MOST_HOSTS as usize {
         return None;
     }
     let hosts = task.ports.len() as u32;
@@ -73,8 +71,8 @@ fn done<R: Threads + Wait + RandomSource + AllocGlobal + Sync>(
     Some(end.is_complete() && failed == 0)
 }
 
-// Carries the jobs out over a cache of that plan: how the run ended, and what came of the jobs.
-// None if it did not begin.
+// Carries out the jobs over a cache: how the run ended, and the sums over its jobs. `None` if it
+// did not begin.
 fn carried<N: Names + Send + Sync, R: Threads + Wait + RandomSource + AllocGlobal + Sync>(
     threads: &R,
     rt: &HostRuntime,
@@ -118,7 +116,7 @@ fn carried<N: Names + Send + Sync, R: Threads + Wait + RandomSource + AllocGloba
     }
 }
 
-// What came of all jobs; the passes are given up.
+// The sums over all jobs. Gives up the passes.
 fn tally_of(workers: Vec<Finished<PolledDial<'_, HostRuntime>, Tally>>) -> Tally {
     let mut workers = workers;
     let mut tally = Tally::new();

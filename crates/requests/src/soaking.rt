@@ -1,12 +1,13 @@
 //! The command `soak`: load that lasts. Threads, each with one desk and one pass for its whole
 //! life, make requests over one shared cache whose logs they cut.
 
-mod carrier;
 mod counts;
 mod course;
 mod crew;
+mod requester;
 mod requesting;
 mod task;
+mod time_limit;
 mod worker;
 
 use crate::soaking::counts::Counts;

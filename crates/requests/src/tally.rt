@@ -56,7 +56,7 @@ impl Tally {
 }
 
 impl Results for Tally {
-    ghost took = { λ old new number done. ⊤ };
+    ghost took = { λ old new number done span. ⊤ };
 
     fn take(&mut self, _number: u64, done: Done, _span: Span) {
         self.add(&done);

@@ -36,17 +36,14 @@ impl<'n> Clock for RunClock<'n> {
     fn now(&self) -> u64 {
         self.clock.now()
     }
+
+    fn micros(&self) -> u64 {
+        self.clock.micros()
+    }
 }
 
 impl<'n> Timer for RunClock<'n> {
     ghost may_stop = { λ clock number. ⊥ };
-
-    fn micros(&self) -> u64 {
-        match self.clock.elapsed() {
-            Some(elapsed) => u64::try_from(elapsed.as_micros()).unwrap_or(u64::MAX),
-            None => 0,
-        }
-    }
 
     fn stops(&self, _number: u64, _began: u64) -> bool {
         false

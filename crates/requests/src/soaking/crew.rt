@@ -5,8 +5,8 @@ ghost use Rattle.std.specs.List.{All};
 ghost use Rattle.shared_cache.specs.Passes.{IsPassOf};
 
 use crate::addresses::addresses_of;
-use crate::soaking::carrier::Carrier;
 use crate::soaking::course::Course;
+use crate::soaking::requester::Requester;
 use crate::soaking::worker::Worker;
 use budget::Pass;
 use bundle::Did;
@@ -17,8 +17,9 @@ use std::sync::Wait;
 use std::thread;
 use std::thread::Threads;
 
-/// Has so many threads make requests over a cache of that plan, and gathers it. None for want of
-/// memory, of pollers or of random numbers, and where the cache can't be gathered.
+/// Makes requests in that number of threads over a cache of that plan, and gathers the cache.
+/// Answers `None` if an allocation fails, if the system gives no poller or no random number, or if
+/// the cache can't be gathered.
 pub(crate) fn soaked<N: Names + Send + Sync, R: Threads + Wait + Sync>(
     rt: &R,
     course: &Course<'_>,
@@ -43,7 +44,7 @@ pub(crate) fn soaked<N: Names + Send + Sync, R: Threads + Wait + Sync>(
     }
 }
 
-// Has so many threads make requests: their passes.
+// Makes requests in that number of threads, and answers their passes.
 fn worked<N: Names + Send + Sync, R: Threads + Wait + Sync>(
     rt: &R,
     alloc: Global,
@@ -58,7 +59,7 @@ fn worked<N: Names + Send + Sync, R: Threads + Wait + Sync>(
     passes_of(alloc, workers)
 }
 
-// So many threads.
+// Makes the workers of that number of threads.
 fn hired<'n, N: Names, R: Wait>(
     rt: &R,
     alloc: Global,
@@ -74,7 +75,7 @@ fn hired<'n, N: Names, R: Wait>(
     Some(workers)
 }
 
-// The thread of that index.
+// Makes the worker of the thread of that index.
 fn worker_of<'n, N: Names, R: Wait>(
     rt: &R,
     alloc: Global,
@@ -83,12 +84,12 @@ fn worker_of<'n, N: Names, R: Wait>(
     index: u32,
 ) -> Option<Worker<'n, N>> {
     let addresses = addresses_of(alloc, course.ports)?;
-    let carrier = Carrier::new(course.system, addresses)?;
+    let requester = Requester::new(course.system, addresses)?;
     let pass = cache.pass(rt, alloc).ok()?;
-    Some(Worker::new(u64::from(index), pass, carrier))
+    Some(Worker::new(u64::from(index), pass, requester))
 }
 
-// Each makes requests in a thread of its own.
+// Lets each worker make requests in a thread of its own.
 fn work_at_once<N: Names + Send + Sync, R: Threads + Wait + Sync>(
     rt: &R,
     cache: &SharedCache<WaitingWire, N>,
@@ -104,7 +105,7 @@ fn work_at_once<N: Names + Send + Sync, R: Threads + Wait + Sync>(
     );
 }
 
-// Ends all: their passes.
+// Ends all workers, and answers their passes.
 fn passes_of<N: Names>(alloc: Global, workers: Vec<Worker<'_, N>>) -> Option<Vec<Pass<Did>>>
     ensures { IfSome result (λ passes. All (IsPassOf N.names) passes.items) }
 {
@@ -118,7 +119,7 @@ fn passes_of<N: Names>(alloc: Global, workers: Vec<Worker<'_, N>>) -> Option<Vec
     Some(passes)
 }
 
-// Ends one: its pass is with the others, where it has it.
+// Ends a worker, and adds its pass to the others, if the worker has it.
 fn add_pass<N: Names>(passes: &mut Vec<Pass<Did>>, worker: Worker<'_, N>)
     requires room { vec_len passes.old < vec_capacity passes.old }
     requires passes { All (IsPassOf N.names) passes.old.items }

@@ -1,8 +1,8 @@
-//! One request after the other, and the cuts of logs.
+//! Requests one after another, and cuts of logs.
 
-use crate::soaking::carrier::{Carrier, bytes_of};
 use crate::soaking::course::Course;
-use leasing::Cache;
+use crate::soaking::requester::{Requester, bytes_of};
+use cache_trait::Cache;
 use shared_cache::{Names, SharedCache};
 use socket::WaitingWire;
 use std::sync::Wait;
@@ -10,13 +10,13 @@ use std::sync::Wait;
 /// How many numbers of requests each thread has.
 const NUMBERS: u64 = 0x1_0000_0000;
 
-/// A thread cuts a log after its first request, and then after each so many more.
+/// A thread cuts a log after its first request, and again after each further number of requests.
 const REQUESTS_FOR_A_CUT: u64 = 10;
 
-/// Makes one request after the other, one at least, until the course is over: the thread of that
-/// index, over what is lent of the cache.
+/// Makes requests one after another, at least one, until the course is over, for the thread of that
+/// index. Its requests use `lent`, its handle to the cache.
 pub(crate) fn request_all<N: Names, C: Cache<WaitingWire>, R: Wait>(
-    carrier: &mut Carrier<'_>,
+    requester: &mut Requester<'_>,
     rt: &R,
     cache: &SharedCache<WaitingWire, N>,
     course: &Course<'_>,
@@ -26,7 +26,7 @@ pub(crate) fn request_all<N: Names, C: Cache<WaitingWire>, R: Wait>(
     let mut told = 0;
     for turn in 0..NUMBERS {
         let number = index.saturating_mul(NUMBERS).saturating_add(turn);
-        let done = carrier.carry_out(rt, course, lent, number);
+        let done = requester.request(course, lent, number);
         course.counts.note(done, bytes_of(number));
         if turn % REQUESTS_FOR_A_CUT == 0 {
             let (site, _port) = course.host(turn / REQUESTS_FOR_A_CUT);
@@ -42,7 +42,7 @@ pub(crate) fn request_all<N: Names, C: Cache<WaitingWire>, R: Wait>(
     }
 }
 
-// Cuts the log of that host, and lets what was cut off go.
+// Cuts the log of that host, and drops the entries that were cut off.
 fn cut<N: Names, R: Wait>(
     rt: &R,
     cache: &SharedCache<WaitingWire, N>,

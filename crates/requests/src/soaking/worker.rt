@@ -1,10 +1,10 @@
-//! What each thread does: it has one desk and one pass for its whole life.
+//! A thread's worker, which has one desk and one pass for its whole life.
 
 ghost use Rattle.std.specs.Prelude.{IfSome};
 ghost use Rattle.shared_cache.specs.Passes.{IsPassOf};
 
-use crate::soaking::carrier::Carrier;
 use crate::soaking::course::Course;
+use crate::soaking::requester::Requester;
 use crate::soaking::requesting::request_all;
 use budget::Pass;
 use bundle::Did;
@@ -15,12 +15,12 @@ use std::marker::{Model, PhantomData};
 use std::mem;
 use std::sync::Wait;
 
-/// A thread: its index, the pass with which it calls the cache that `N` names, unless its desk has
-/// it, and what carries out its requests.
+/// A thread's worker: the thread's index, the pass with which it calls the cache that `N` names,
+/// unless its desk has the pass, and the requester.
 pub(crate) struct Worker<'n, N: Names> {
     index: u64,
     pass: Option<Pass<Did>>,
-    carrier: Carrier<'n>,
+    requester: Requester<'n>,
     of: PhantomData<N>,
 }
 
@@ -45,26 +45,26 @@ impl<'n, N: Names> Drop for Worker<'n, N> {
 }
 
 impl<'n, N: Names> Worker<'n, N> {
-    /// One with that pass, which has done nothing.
-    pub(crate) fn new(index: u64, pass: Pass<Did>, carrier: Carrier<'n>) -> Self
+    /// Makes a worker with that pass, which has done nothing.
+    pub(crate) fn new(index: u64, pass: Pass<Did>, requester: Requester<'n>) -> Self
         requires { IsPassOf N.names pass }
     {
         Worker {
             index,
             pass: Some(pass),
-            carrier,
+            requester,
             of: PhantomData,
         }
     }
 
-    /// Ends it: its pass.
+    /// Ends the worker, and answers its pass.
     pub(crate) fn leave(self) -> Option<Pass<Did>>
         ensures { IfSome result (IsPassOf N.names) }
     {
         let Worker {
             index: _,
             pass,
-            carrier: _,
+            requester: _,
             of: _,
         } = self;
         pass
@@ -81,7 +81,14 @@ impl<'n, N: Names> Worker<'n, N> {
             return;
         };
         let mut desk = Desk::new(cache, rt, pass);
-        request_all(&mut self.carrier, rt, cache, course, self.index, &mut desk);
+        request_all(
+            &mut self.requester,
+            rt,
+            cache,
+            course,
+            self.index,
+            &mut desk,
+        );
         if let Some(other) = mem::replace(&mut self.pass, Some(desk.into_pass())) {
             other.discard();
         }

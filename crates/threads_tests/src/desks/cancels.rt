@@ -2,7 +2,7 @@
 //! may have the connection that it waits for.
 
 ghost use Rattle.std.specs.Prelude.{◌≡◌};
-ghost use Rattle.leasing.specs.Homes.{IsMadeBy};
+ghost use Rattle.cache_trait.specs.Homes.{IsMadeBy};
 
 use crate::desks::connections::{
     NOW, OK, OPENED, RETURNED, check_log, dial_of, gathered, last_at_first, wire_of,
@@ -10,12 +10,12 @@ use crate::desks::connections::{
 use crate::desks::driving::{give_up, prepared};
 use crate::making::{WANT, cache_of, pass_of, plan_of, want_of};
 use bundle::{Acquired, Did, Lease};
+use cache_trait::Cache;
 use conn_log::{Cause, Entry, Event, Want};
 use desk::Desk;
 use exchange::{Exchange, Stage};
 use exchange_memory::{FixedClock, Halt, MemoryDial, MemoryWire};
 use futures::task::{Doorbell, Solo};
-use leasing::Cache;
 use shared_cache::{Names, Plan};
 use std::alloc::AllocGlobal;
 use std::marker::Brand;

@@ -1,17 +1,17 @@
 //! How an exchange over a desk is prepared and polled, and a connection given up.
 
-ghost use Rattle.leasing.specs.Homes.{IsMadeBy};
+ghost use Rattle.cache_trait.specs.Homes.{IsMadeBy};
 ghost use Rattle.exchange.specs.Answers.{IsUnused};
 
 use crate::desks::connections::NOW;
 use crate::making::WANT;
 use bundle::Lease;
+use cache_trait::Cache;
 use conn_key::{CountedMemory, read_target};
 use desk::Desk;
 use exchange::{Done, Exchange, Job, Prepared};
 use exchange_memory::{FixedClock, MemoryDial, MemoryWire};
 use futures::task::{Doorbell, Solo};
-use leasing::Cache;
 use persistence::Method;
 use shared_cache::Names;
 use std::alloc::AllocGlobal;

@@ -48,7 +48,7 @@ impl Tally {
 impl Results for Tally {
     ghost use Rattle.std.specs.Prelude.{⊤};
 
-    ghost took = { λ old new number done. ⊤ };
+    ghost took = { λ old new number done span. ⊤ };
 
     fn take(&mut self, _number: u64, done: Done, _span: Span) {
         match done {
@@ -75,16 +75,16 @@ impl Clock for Standing {
     fn now(&self) -> u64 {
         7
     }
+
+    fn micros(&self) -> u64 {
+        0
+    }
 }
 
 impl Timer for Standing {
     ghost use Rattle.std.specs.Prelude.{⊤};
 
     ghost may_stop = { λ standing job. ⊤ };
-
-    fn micros(&self) -> u64 {
-        0
-    }
 
     fn stops(&self, _number: u64, _began: u64) -> bool {
         false

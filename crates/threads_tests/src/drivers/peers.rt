@@ -156,17 +156,12 @@ impl PeerDial {
 }
 
 impl Dial<PeerWire> for PeerDial {
-    ghost failures = { λ dial. 0 };
+    ghost use Rattle.std.specs.Prelude.{⊤};
+    ghost use Rattle.exchange.specs.Dialling.{shows_counts};
 
-    ghost opened = { λ dial. dial.opened };
-
-    ghost turn_failures = { λ dial. dial.turn_failures };
+    ghost shown = { λ dial. shows_counts 0 dial.opened dial.turn_failures dial.source.id };
 
     ghost turned = { λ old new. ⊤ };
-
-    ghost begun = { λ dial transfer. ⊥ };
-
-    ghost source_name = { λ dial. dial.source.id };
 
     fn dial(&mut self, _lease: &Lease<PeerWire>) -> Dialled<PeerWire> {
         self.opened = self.opened.saturating_add(1);

@@ -1,4 +1,4 @@
-//! Loads by their words for URLs, time and telling, over the load's own server.
+//! Measured loads, by their words, over the load's own server.
 
 use crate::running::run_words;
 use std::str::from_utf8;

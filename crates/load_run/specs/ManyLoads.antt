@@ -1,0 +1,113 @@
+-- What a load with many jobs at once leaves.
+use Rattle.std.specs.Prelude.{◌≡◌, ℕ, ◌-◌, ◌<◌, List, [], length, map, min, reverse, Option, Some, None, true, ⊤}
+use Rattle.std.specs.List.{All}
+use Rattle.std.specs.Global.{Vec}
+use Rattle.conn_log.specs.declared.entry.Entry.{Entry}
+use Rattle.bundle.specs.Passes.{Accounts}
+use Rattle.exchange.specs.declared.job.Job.{Job}
+use Rattle.exchange.specs.Worlds.{World}
+use Rattle.shared_cache.specs.Names.{CacheNames, IsPlanFor}
+use Rattle.shared_cache.specs.Gathering.{IsGathered}
+use Rattle.run_loop.specs.declared.run_end.RunEnd.{RunEnd}
+use Rattle.driver.specs.declared.fault.DriverFault.TheVariants.{BadWorkers}
+use Rattle.driver.specs.declared.many.worker.Finished.{Finished}
+use Rattle.driver.specs.Faults.{IsWorkerFault}
+use Rattle.driver.specs.ManyWork.{IsManyRun, are_bad_tools}
+use Rattle.load_run.specs.declared.error.LoadError.{LoadError}
+use Rattle.load_run.specs.declared.error.LoadError.TheVariants.{Run, Gather}
+use Rattle.load_run.specs.declared.many.counted_results.CountedResults.{CountedResults}
+use Rattle.load_run.specs.declared.many.loading.LoadedMany.{LoadedMany}
+use Rattle.load_run.specs.declared.many.plan.ManyPlan.{ManyPlan}
+use Rattle.load_figures.specs.Figures.{no_figures}
+use Rattle.load_run.specs.declared.many.account.Collected.{Collected}
+use Rattle.load_run.specs.declared.many.counted_results.Counting.{Counting}
+use Rattle.load_run.specs.Counting.{AddsAll, IsUncounted, Takes, missed_of, warm_of, with_unbegun}
+use Rattle.load_run.specs.Logs.{AreLogsOf}
+use Rattle.load_run.specs.UrlJobs.{in_turn}
+
+-- so many threads work: one for each of the addresses, and no more than there are places
+abbrev pub workers_of : ManyPlan → ℕ
+workers_of plan = min plan.connections (length plan.addresses.items)
+
+-- so many jobs there are; without a number so many as can be drawn
+abbrev pub jobs_of : Option ℕ → ℕ
+jobs_of None = 9223372036854775807
+jobs_of (Some jobs) = jobs
+
+-- by what the results are counted
+abbrev pub counting_of : ManyPlan → Counting
+counting_of plan = record { urls = plan.urls; times = plan.times; fails_statuses = plan.fails_statuses }
+
+-- what comes back of a thread: what has counted its results, and its pass
+abbrev pub results_of : CountedResults × ℕ × Accounts → CountedResults
+results_of back = back.0
+
+abbrev pub pass_of : CountedResults × ℕ × Accounts → Accounts
+pass_of back = back.2
+
+-- nothing was collected yet, for so many hosts
+pub record IsNone (hosts : ℕ) (collected : Collected) : Type 0 where
+  pub figures : collected.figures ≡ no_figures hosts
+  pub unbegun : collected.unbegun ≡ 0
+  pub passes : collected.passes.items ≡ []
+
+-- what one thread leaves: what has counted its results, and its pass
+abbrev pub results_in : {D : Type 0} → Finished D CountedResults → CountedResults
+results_in own = own.results
+
+abbrev pub pass_in : {D : Type 0} → Finished D CountedResults → Accounts
+pass_in own = own.pass
+
+-- what all threads leave was collected, the last one first
+pub record Collects {D : Type 0} (old new : Collected) (workers : List (Finished D CountedResults)) : Type 0 where
+  pub figures : AddsAll old.figures (reverse (map (results_in {D = D}) workers)) new.figures
+  pub unbegun : new.unbegun ≡ with_unbegun old.unbegun (reverse (map (results_in {D = D}) workers))
+  pub passes : new.passes.items ≡ reverse (map (pass_in {D = D}) workers)
+
+-- So many jobs were carried out by so many threads, in a run over the cache of those names which may stop each. These are
+-- its passes, what all threads have counted, and how many jobs were stopped as they were to begin.
+pub record HasCarriedOut {W : Type 0} (world : World W) (names : CacheNames) (job_at : ℕ → Job) (jobs workers hosts : ℕ) (counting : Counting) (collected : Collected) (drawn : ℕ) : Type 0 where
+  pub begun : List (CountedResults × ℕ)
+  pub back : List (CountedResults × ℕ × Accounts)
+  pub end : RunEnd
+  pub ran : IsManyRun world (λ number. ⊤) names job_at Takes jobs begun back end drawn
+  pub threads : length begun ≡ workers
+  pub uncounted : All (λ (own : CountedResults × ℕ). IsUncounted hosts counting own.0) begun
+  pub figures_are : AddsAll (no_figures hosts) (reverse (map results_of back)) collected.figures
+  pub unbegun_is : collected.unbegun ≡ with_unbegun 0 (reverse (map results_of back))
+  pub passes_are : collected.passes.items ≡ reverse (map pass_of back)
+
+-- so the jobs of the plan's URLs were, of which there is one at least, in turn
+pub record HasRun {W : Type 0} (world : World W) (names : CacheNames) (plan : ManyPlan) (collected : Collected) (drawn : ℕ) : Type 0 where
+  pub otherwise : Job
+  pub some : 0 < length plan.urls.now
+  pub carried_out : HasCarriedOut world names (in_turn plan.urls.now otherwise) (jobs_of plan.jobs) (workers_of plan) plan.hosts (counting_of plan) collected drawn
+
+-- The jobs are those of such a run, and so are the figures. The logs are cut from those of the cache, and the account is its
+-- own at its end, with the passes of the run. By when the run ended, so long it took, and so many jobs were missed.
+pub record IsLoadedManyBy {W : Type 0} (world : World W) (names : CacheNames) (plan : ManyPlan) (loaded : LoadedMany) : Type 0 where
+  pub collected : Collected
+  pub ran : HasRun world names plan collected loaded.drawn
+  pub figures_are : loaded.figures ≡ collected.figures
+  pub ended : ℕ
+  pub elapsed_is : loaded.elapsed ≡ ended - warm_of plan.times
+  pub missed_is : loaded.missed ≡ missed_of plan.times (jobs_of plan.jobs) ended (loaded.drawn - collected.unbegun)
+  pub logs_are : AreLogsOf W names loaded.logs.items
+  pub gathered_is : IsGathered names collected.passes.items loaded.gathered
+
+-- and that cache was made under the plan's limits, for so many hosts
+pub record IsLoadedMany {W : Type 0} (world : World W) (plan : ManyPlan) (loaded : LoadedMany) : Type 0 where
+  pub names : CacheNames
+  pub planned : IsPlanFor plan.limits plan.hosts names
+  pub by_them : IsLoadedManyBy world names plan loaded
+
+-- why a run with so many tools and places did not begin or has no account: bad tools, only where they are; else memory or a
+-- poller
+abbrev pub IsManyRefusedFor : ℕ → ℕ → LoadError → Type 0
+IsManyRefusedFor tools places (Run BadWorkers) = are_bad_tools tools places ≡ true
+IsManyRefusedFor tools places (Run fault) = IsWorkerFault fault
+IsManyRefusedFor tools places Gather = Unit {0}
+
+-- the logs of the hosts of a cache whose connections are those of that world
+abbrev pub AreLogsIn : {W : Type 0} → World W → CacheNames → List (Vec Entry) → Type 0
+AreLogsIn {W} world names logs = AreLogsOf W names logs

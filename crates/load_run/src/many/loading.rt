@@ -1,0 +1,353 @@
+//! A load with many jobs at once: its cache, its run, and what it leaves.
+
+ghost use Rattle.std.specs.Prelude.{◌≡◌, ◌-◌, ◌≤◌, ℕ, [], length, false, ⊤};
+ghost use Rattle.std.specs.Prelude.{vec_len, vec_capacity, IfErr, IfOk, OnOk};
+ghost use Rattle.std.specs.List.{All};
+ghost use Rattle.exchange.specs.Worlds.{world_of};
+ghost use Rattle.shared_cache.specs.Gathering.{IsGathered};
+ghost use Rattle.shared_cache.specs.Passes.{IsPassOf};
+ghost use Rattle.driver.specs.Faults.{are_bad_workers};
+ghost use Rattle.driver.specs.ManyWork.{HavePasses, are_bad_tools};
+ghost use Rattle.load_run.specs.Loading.{IsLoadRefusedFor};
+ghost use Rattle.load_run.specs.ManyLoads.{AreLogsIn, Collects, HasCarriedOut, HasRun};
+ghost use Rattle.load_run.specs.ManyLoads.{IsLoadedMany, IsLoadedManyBy, IsManyRefusedFor, IsNone};
+ghost use Rattle.load_run.specs.ManyLoads.{jobs_of, workers_of};
+ghost use Rattle.load_run.specs.Counting.{IsUncounted, missed_of, warm_of};
+ghost use Rattle.load_run.specs.UrlJobs.{in_turn};
+
+use crate::error::LoadError;
+use crate::loading::{cut_logs, error_of};
+use crate::many::account::Collected;
+use crate::many::counted_results::{CountedResults, Counting};
+use crate::many::load_timer::LoadTimer;
+use crate::many::plan::{LoadTimes, ManyPlan};
+use crate::many::tools::{alarms_of, progress_for, tools_for};
+use crate::many::url_jobs::UrlJobs;
+use crate::many::wait_sum::WaitSum;
+use crate::many::watch::Watch;
+use budget::Refusal;
+use conn_log::Entry;
+use driver::{DriverFault, ManyReport, NotBegun, Tools, run_many};
+use exchange::{Clock, Wire};
+use load_figures::Figures;
+use shared_cache::{Gathered, Names, Plan, SharedCache, discard_all};
+use socket::{PolledDial, PolledWire, SystemClock};
+use std::alloc::{AllocGlobal, Global};
+use std::marker::Brand;
+use std::random::RandomSource;
+use std::sync::Wait;
+use std::sync::atomic::AtomicU64;
+use std::thread::Threads;
+
+/// How many jobs a load has at most: so many can be drawn.
+const MOST_JOBS: u64 = 0x7fff_ffff_ffff_ffff;
+
+/// What a load with many jobs at once leaves.
+#[derive(Drop)]
+pub struct LoadedMany {
+    /// What was counted of the jobs that ended after the warm-up.
+    pub figures: Figures,
+    /// The microseconds from the end of the warm-up to the end of the load.
+    pub elapsed: u64,
+    /// How many jobs were drawn: the first ones.
+    pub drawn: u64,
+    /// How many jobs were due before the load ended, and never begun; 0 without a rate.
+    pub missed: u64,
+    /// How long all transfers waited for connections, in microseconds, as they were counted every
+    /// ten milliseconds.
+    pub waited: u64,
+    /// What was left of the logs of the hosts, oldest entries first; all if they were kept.
+    pub logs: Vec<Vec<Entry>>,
+    /// The account of the cache. The connections that it left open close with it.
+    pub gathered: Gathered<PolledWire>,
+}
+
+/// How a run ended, before its cache is gathered.
+struct Ran {
+    collected: Collected,
+    /// When it ended, in microseconds after its start.
+    ended: u64,
+    /// How long all transfers waited, in microseconds.
+    waited: u64,
+    drawn: u64,
+}
+
+/// Carries out a load by threads that share one cache of polled sockets, each with an even share of
+/// the places for jobs. Ends once all jobs are done or its seconds are up, or if who watches it
+/// ends it; then what is under way is cancelled. The logs are cut meanwhile, so that memory does
+/// not grow with the number of jobs; the account is of all that happened all the same. With fewer
+/// places than addresses as many threads work as there are places.
+///
+/// # Errors
+///
+/// As [`run_many`] does not begin: [`DriverFault::BadWorkers`] if there are no addresses, more than
+/// 64, or no places, and [`DriverFault::Memory`]; also [`DriverFault::Memory`] if there are no URLs
+/// or more than 1,024 hosts, or memory runs out before or after the run; and [`DriverFault::Poll`]
+/// if the system gives no poller, or a turn of one failed. [`LoadError::Gather`] is not expected,
+/// though no clause rules it out.
+pub fn load_many<R: Threads + Wait + RandomSource + AllocGlobal + Sync, V: Watch + Sync>(
+    rt: &R,
+    system: &HostRuntime,
+    alloc: Global,
+    plan: ManyPlan<'_>,
+    watch: &V,
+) -> Result<LoadedMany, LoadError>
+    ensures ok { IfOk result (IsLoadedMany (world_of ⟦<PolledWire as Wire>⟧.untouched
+        ⟦<PolledWire as Wire>⟧.happened (λ moment. ⊤)) plan.entry) }
+    ensures workers { OnOk result (are_bad_workers (workers_of plan.entry) ≡ false) }
+    ensures refused { IfErr result (IsLoadRefusedFor (workers_of plan.entry)) }
+{
+    let planned: Result<Plan<PolledWire>, Refusal> = Plan::new(alloc, plan.limits, plan.hosts);
+    match planned {
+        Ok(hosts) => load_by::<Brand, R, V>(rt, system, alloc, hosts, plan, watch),
+        Err(_refusal) => Err(LoadError::Run(DriverFault::Memory)),
+    }
+}
+
+// The same, over the cache of those names.
+fn load_by<
+    N: Names + Send + Sync,
+    R: Threads + Wait + RandomSource + AllocGlobal + Sync,
+    V: Watch + Sync,
+>(
+    rt: &R,
+    system: &HostRuntime,
+    alloc: Global,
+    hosts: Plan<PolledWire>,
+    plan: ManyPlan<'_>,
+    watch: &V,
+) -> Result<LoadedMany, LoadError>
+    requires { hosts ≡ N.names }
+    ensures ok { IfOk result (IsLoadedManyBy (world_of ⟦<PolledWire as Wire>⟧.untouched
+        ⟦<PolledWire as Wire>⟧.happened (λ moment. ⊤)) N.names plan.entry) }
+    ensures workers { OnOk result (are_bad_workers (workers_of plan.entry) ≡ false) }
+    ensures refused { IfErr result (IsLoadRefusedFor (workers_of plan.entry)) }
+{
+    let made: Result<SharedCache<PolledWire, N>, (Plan<PolledWire>, Refusal)> = SharedCache::new(
+        alloc, hosts,
+    );
+    let Ok(cache) = made else {
+        return Err(LoadError::Run(DriverFault::Memory));
+    };
+    let times = plan.times;
+    let jobs = plan.jobs.unwrap_or(MOST_JOBS);
+    let ran = run_over(rt, system, alloc, &cache, jobs, plan, watch)?;
+    account_of(rt, alloc, cache, ran, times, jobs)
+}
+
+// Carries out so many jobs over that cache.
+fn run_over<
+    N: Names + Send + Sync,
+    R: Threads + Wait + RandomSource + AllocGlobal + Sync,
+    V: Watch + Sync,
+>(
+    rt: &R,
+    system: &HostRuntime,
+    alloc: Global,
+    cache: &SharedCache<PolledWire, N>,
+    jobs: u64,
+    plan: ManyPlan<'_>,
+    watch: &V,
+) -> Result<Ran, LoadError>
+    requires { jobs ≡ jobs_of plan.jobs }
+    ensures ok { IfOk result (λ ran. HasRun (world_of ⟦<PolledWire as Wire>⟧.untouched
+        ⟦<PolledWire as Wire>⟧.happened (λ moment. ⊤)) N.names plan.entry ran.collected
+        ran.drawn) }
+    ensures of_cache { IfOk result (λ ran. All (IsPassOf N.names) ran.collected.passes.items) }
+    ensures workers { OnOk result (are_bad_workers (workers_of plan.entry) ≡ false) }
+    ensures refused { IfErr result (IsLoadRefusedFor (workers_of plan.entry)) }
+{
+    let counting = Counting {
+        urls: plan.urls,
+        times: plan.times,
+        fails_statuses: plan.fails_statuses,
+    };
+    let Some(source) = UrlJobs::new(alloc, plan.urls, plan.times.rate) else {
+        return Err(LoadError::Run(DriverFault::Memory));
+    };
+    let places = plan.connections as usize;
+    let mut addresses = plan.addresses;
+    addresses.truncate(places);
+    let Ok(progress) = progress_for(alloc, addresses.len()) else {
+        return Err(LoadError::Run(DriverFault::Memory));
+    };
+    let collected = Collected::new(alloc, plan.hosts, addresses.len())?;
+    let tools = match tools_for(system, alloc, addresses, plan.hosts, counting, &progress) {
+        Ok(tools) => tools,
+        Err(error) => {
+            collected.discard();
+            return Err(error);
+        }
+    };
+    let timer = LoadTimer {
+        rt,
+        clock: SystemClock::or_still(system),
+        cache,
+        times: plan.times,
+        watch,
+        progress: &progress,
+        keeps_logs: plan.keeps_logs,
+        cut: AtomicU64::new(0),
+        waits: WaitSum::new(),
+    };
+    carry_out(
+        rt, alloc, cache, &source, jobs, places, tools, collected, &timer,
+    )
+}
+
+// Carries out so many jobs in so many places with these tools.
+fn carry_out<
+    N: Names + Send + Sync,
+    R: Threads + Wait + RandomSource + AllocGlobal + Sync,
+    V: Watch + Sync,
+>(
+    rt: &R,
+    alloc: Global,
+    cache: &SharedCache<PolledWire, N>,
+    source: &UrlJobs<'_>,
+    jobs: u64,
+    places: usize,
+    tools: Vec<Tools<PolledDial<'_, HostRuntime>, CountedResults<'_>>>,
+    collected: Collected,
+    timer: &LoadTimer<'_, N, R, V>,
+) -> Result<Ran, LoadError>
+    requires none { collected.passes.items ≡ [] }
+    requires room { vec_len tools ≤ vec_capacity collected.passes }
+    ensures ok { (hosts : ℕ) (counting : _) → IsNone hosts collected
+        → All (λ own. IsUncounted hosts counting own.results) tools.entry.items
+        → IfOk result (λ ran. HasCarriedOut (world_of ⟦<PolledWire as Wire>⟧.untouched
+        ⟦<PolledWire as Wire>⟧.happened (λ moment. ⊤)) N.names (in_turn source.now.urls.now
+        source.now.first.now) jobs (length tools.entry.items) hosts counting ran.collected
+        ran.drawn) }
+    ensures of_cache { IfOk result (λ ran. All (IsPassOf N.names) ran.collected.passes.items) }
+    ensures workers { OnOk result (are_bad_tools (vec_len tools.entry) places ≡ false) }
+    ensures refused { IfErr result (IsManyRefusedFor (vec_len tools.entry) places) }
+{
+    let alarms = match alarms_of(alloc, &tools) {
+        Ok(alarms) => alarms,
+        Err(error) => {
+            collected.discard();
+            return Err(error);
+        }
+    };
+    match run_many(
+        rt, alloc, cache, source, jobs, places, tools, &alarms, timer,
+    ) {
+        Ok(report) => collected.ran::<N>(report, timer.micros(), timer.waits.micros()),
+        Err(
+            NotBegun {
+                fault,
+                tools: _,
+                passes,
+            },
+        ) => {
+            discard_all(passes);
+            collected.discard();
+            Err(LoadError::Run(fault))
+        }
+    }
+}
+
+impl Collected {
+    // What a run leaves that has ended then, if no turn failed.
+    fn ran<N: Names>(
+        self,
+        report: ManyReport<PolledDial<'_, HostRuntime>, CountedResults<'_>>,
+        ended: u64,
+        waited: u64,
+    ) -> Result<Ran, LoadError>
+        requires none { self.passes.items ≡ [] }
+        requires room { vec_len report.workers ≤ vec_capacity self.passes }
+        requires of_cache { HavePasses N.names report.workers.items }
+        ensures collects { IfOk result (λ ran.
+            Collects self ran.collected report.entry.workers.items) }
+        ensures of_cache { IfOk result (λ ran.
+            All (IsPassOf N.names) ran.collected.passes.items) }
+        ensures drawn { IfOk result (λ ran. ran.drawn ≡ report.entry.drawn) }
+        ensures refused { IfErr result (λ error. error ≡ LoadError.Run DriverFault.Poll) }
+    {
+        let ManyReport {
+            end,
+            drawn,
+            workers,
+        } = report;
+        let collected = self.take::<N>(workers);
+        if end.is_fault() {
+            collected.discard();
+            return Err(LoadError::Run(DriverFault::Poll));
+        }
+        Ok(Ran {
+            collected,
+            ended,
+            waited,
+            drawn,
+        })
+    }
+}
+
+// How many jobs of so many were due before a load ended, and never begun.
+fn missed(times: LoadTimes, jobs: u64, ended: u64, begun: u64) -> u64
+    ensures { result ≡ missed_of times jobs ended begun }
+{
+    let Some(rate) = times.rate else {
+        return 0;
+    };
+    let end = times.end().unwrap_or(ended).min(ended);
+    rate.due_before(jobs, end).saturating_sub(begun)
+}
+
+// What a run of so many jobs leaves, with the account of its cache, whose logs are cut before.
+fn account_of<N: Names, R: Wait>(
+    rt: &R,
+    alloc: Global,
+    cache: SharedCache<PolledWire, N>,
+    ran: Ran,
+    times: LoadTimes,
+    jobs: u64,
+) -> Result<LoadedMany, LoadError>
+    requires { All (IsPassOf N.names) ran.collected.passes.items }
+    ensures drawn { IfOk result (λ loaded. loaded.drawn ≡ ran.drawn) }
+    ensures figures { IfOk result (λ loaded. loaded.figures ≡ ran.collected.figures) }
+    ensures elapsed { IfOk result (λ loaded. loaded.elapsed ≡ ran.ended - warm_of times) }
+    ensures missed { IfOk result (λ loaded. loaded.missed
+        ≡ missed_of times jobs ran.ended (ran.drawn - ran.collected.unbegun)) }
+    ensures logs { IfOk result (λ loaded. AreLogsIn (world_of ⟦<PolledWire as Wire>⟧.untouched
+        ⟦<PolledWire as Wire>⟧.happened (λ moment. ⊤)) N.names loaded.logs.items) }
+    ensures gathered { IfOk result (λ loaded.
+        IsGathered N.names ran.collected.passes.items loaded.gathered) }
+    ensures refused { (workers : ℕ) → IfErr result (IsLoadRefusedFor workers) }
+{
+    let Ran {
+        collected,
+        ended,
+        waited,
+        drawn,
+    } = ran;
+    let Collected {
+        figures,
+        unbegun,
+        passes,
+    } = collected;
+    let logs = match cut_logs(rt, alloc, &cache) {
+        Ok(logs) => logs,
+        Err(refusal) => {
+            discard_all(passes);
+            return Err(error_of(refusal));
+        }
+    };
+    match cache.gather(alloc, passes) {
+        Ok(gathered) => Ok(LoadedMany {
+            figures,
+            elapsed: ended.saturating_sub(times.warm()),
+            drawn,
+            waited,
+            missed: missed(times, jobs, ended, drawn.saturating_sub(unbegun)),
+            logs,
+            gathered,
+        }),
+        Err((_cache, passes, refusal)) => {
+            discard_all(passes);
+            Err(error_of(refusal))
+        }
+    }
+}
