@@ -13,19 +13,19 @@ use crate::finding::{Broken, Finding};
 use crate::hosts::{Outcome, TracedHosts};
 use budget::{GREATEST_LIMIT, Limits};
 use conn_key::{CountedMemory, Sites, SitesFault};
-use script_text::{Action, Command, FaultKind, SiteWord, first_word};
+use script_text::{Action, Command, FaultKind, HostCommand, SiteWord, first_word};
 use std::alloc::{AllocError, Global};
 use std::marker::Model;
 use std::mem;
 use trace_text::{Line, Traced, TracedEvent, read_line};
 
-/// An audit of a trace: it reads line by line, and keeps the violations that it found.
+/// An audit of a trace: reads it line by line, and keeps the violations that it found.
 #[derive(Drop)]
 pub struct Audit {
     alloc: Global,
     limits: Option<Limits>,
     sites: Sites,
-    /// None before the first line that asks or says.
+    /// None before the first line after the sites.
     hosts: Option<TracedHosts>,
     /// Whether lines are in order within each host alone.
     is_by_host: bool,
@@ -84,14 +84,14 @@ fn is_bad_limit(event: &TracedEvent) -> bool {
     }
 }
 
-/// Whether an event tells that a transfer waits.
+/// Whether an event says that a transfer waits.
 fn is_wait(event: &TracedEvent) -> bool
     ensures { result ≡ is_wait event.now }
 {
     matches!(*event, TracedEvent::Waited { .. })
 }
 
-/// Reads an event at hosts that were made.
+/// Reads an event at its host.
 fn read_in(
     hosts: &mut Option<TracedHosts>,
     traced: &Traced,
@@ -163,7 +163,7 @@ impl Audit {
         self.line
     }
 
-    /// How many lines told of events.
+    /// How many lines were events.
     pub fn events(&self) -> u64
         ensures { result ≡ self.now.counts.events }
     {
@@ -248,12 +248,12 @@ impl Audit {
         match command {
             Command::Limits(limits) => self.set_limits(limits.host, limits.total, limits.kept),
             Command::Site(word) => self.add_site(&word),
-            Command::At { site, action } => {
+            Command::Ask(HostCommand::At { site, action }) => {
                 self.begin(false)?;
                 self.rest_before(Some(site))?;
                 self.ask(site, action)
             }
-            Command::Prune { .. } | Command::Upkeep => {
+            Command::Ask(HostCommand::Prune { .. } | HostCommand::Upkeep) => {
                 self.begin(false)?;
                 self.rest_before(None)
             }
@@ -322,7 +322,7 @@ impl Audit {
         Ok(())
     }
 
-    /// Reads a line that says: it is taken if it breaks no rule.
+    /// Reads an event, and takes it if it breaks no rule.
     fn read_event(&mut self, traced: &Traced, line: &[u8]) -> Result<(), AuditFault>
         requires there { IsSome self.old.hosts }
         ensures { OnOk result (ReadsEvent traced.now self.old self.new) }
@@ -374,7 +374,7 @@ impl Audit {
         }
     }
 
-    /// Tells what is broken at rest, at the last event that was taken.
+    /// Tells the violations of a pool at rest, at the last event that was taken.
     fn tell_at_rest(&mut self, found: &[Broken]) -> Result<(), AuditFault>
         ensures { KeepsLogs self.old self.new }
     {
@@ -400,7 +400,7 @@ impl Audit {
         self.tell_at_rest(found.as_slice())
     }
 
-    /// Judges the pool before a line that asks, of a site or of none.
+    /// Judges the pool before a command, of one site or of all.
     fn rest_before(&mut self, site: Option<u32>) -> Result<(), AuditFault>
         ensures { KeepsLogs self.old self.new }
     {
@@ -417,7 +417,7 @@ impl Audit {
         self.tell_at_rest(found.as_slice())
     }
 
-    /// Keeps what a line that asks hands in.
+    /// Notes the want or the ending that a command hands in.
     fn ask(&mut self, site: u32, action: Action) -> Result<(), AuditFault>
         ensures { KeepsLogs self.old self.new }
     {

@@ -1,14 +1,14 @@
 //! A pool used as a cache of which nothing more is known.
 
 ghost use Rattle.std.specs.Prelude.{◌≡◌, is_some};
-ghost use Rattle.leasing.specs.Homes.{IsMadeBy};
+ghost use Rattle.cache_trait.specs.Homes.{IsMadeBy};
 
 use crate::desk::{KEEP, check_log_of, closed, opened, returned, want_of};
 use budget::Limits;
 use bundle::{Acquired, Claimed, Lease, Ticket};
 use cache::Pool;
+use cache_trait::Cache;
 use conn_log::{Cause, Entry, Event};
-use leasing::Cache;
 use std::process::Abort;
 use std::test::Fail;
 

@@ -2,7 +2,8 @@
 //! `uses_often` and of `opens_often`, in the order of the tables (docs/measurements.md).
 
 ghost use Rattle.std.specs.Prelude.{◌≡◌, IsSome};
-ghost use Rattle.cache.specs.Pools.{IsTicketHere};
+ghost use Rattle.cache_trait.specs.Homes.{IsMadeBy};
+ghost use Rattle.cache.specs.PoolCalls.{home_of};
 
 use crate::desk::{KEEP, want_of};
 use budget::{GREATEST_LIMIT, Limits, Refusal};
@@ -46,7 +47,7 @@ fn with_stream(lease: Lease<()>) -> Lease<()>
 /// each acquire.
 #[inline(always)]
 fn leave(pool: &mut Pool<()>, ticket: Ticket, now: u64)
-    requires { IsTicketHere pool.old ticket }
+    requires { IsMadeBy (home_of pool.old) ticket.site ticket.tables }
 {
     if let Err(stray) = pool.withdraw(ticket, now) {
         stray.scrap();

@@ -1,11 +1,10 @@
 //! What tests of a pool share: a pool with the leases and tickets of its transfers, and entries as
 //! transcripts have them.
 
-ghost use Rattle.std.specs.Prelude.{◌≡◌, IsSome};
+ghost use Rattle.std.specs.Prelude.{◌≡◌, IsSome, IfOk};
 ghost use Rattle.std.specs.List.{All};
-ghost use Rattle.bundle.specs.Replies.{IfClaimed, IfStill};
-ghost use Rattle.cache.specs.Pools.{IsMadeHere, IsTicketHere, IfAcquired, GivesLease, GivesTicket};
-ghost use Rattle.cache.specs.Pools.{StaysHosts, StaysPool};
+ghost use Rattle.cache_trait.specs.Homes.{IsMadeBy, Gives, Claims};
+ghost use Rattle.cache.specs.PoolCalls.{home_of};
 
 use budget::{Limits, Refusal};
 use bundle::{Acquired, Claimed, Lease, Stray, Ticket};
@@ -85,15 +84,19 @@ pub(crate) struct Desk {
 
 impl Model for Desk {
     ghost use Rattle.std.specs.List.{All};
-    ghost use Rattle.cache.specs.Pools.{PoolShown, IsMadeHere, IsTicketHere};
+    ghost use Rattle.cache_trait.specs.Homes.{IsMadeBy};
+    ghost use Rattle.cache.specs.Pools.{PoolShown};
+    ghost use Rattle.cache.specs.PoolCalls.{home_of};
 
     ghost Value = { PoolShown (Unit {0}) };
 
     ghost view = { λ desk. desk.pool };
 
     ghost invariant = { λ desk. record {
-      leases : All (IsMadeHere desk.pool) desk.leases.items;
-      tickets : All (IsTicketHere desk.pool) desk.tickets.items;
+      leases : All (λ lease. IsMadeBy (home_of desk.pool) lease.site lease.tables)
+          desk.leases.items;
+      tickets : All (λ ticket. IsMadeBy (home_of desk.pool) ticket.site ticket.tables)
+          desk.tickets.items;
     } };
 }
 
@@ -183,7 +186,7 @@ impl Desk {
             leases,
             tickets,
         } = self;
-        abandon_all(&mut pool, leases, &tickets, now);
+        abandon_all(&mut pool, leases, now);
         withdraw_all(rt, &mut pool, tickets, now);
         pool
     }
@@ -198,28 +201,27 @@ impl Desk {
     }
 
     pub fn withdraw(&mut self, rt: &impl Abort, ticket: Ticket, now: u64)
-        requires here { IsTicketHere self.old ticket }
+        requires here { IsMadeBy (home_of self.old) ticket.site ticket.tables }
     {
         withdraw(rt, &mut self.pool, ticket, now);
     }
 
     fn acquire(&mut self, want: Want, site: u32, now: u64) -> Result<Acquired<()>, Refusal>
-        ensures lease { IfAcquired result (λ got. GivesLease got (IsMadeHere self.new)) }
-        ensures ticket { IfAcquired result (λ got. GivesTicket got (IsTicketHere self.new)) }
+        ensures given { IfOk result (Gives (home_of self.new) site want) }
     {
         self.pool.acquire(site, want, now)
     }
 
     fn redeem(&mut self, ticket: Ticket) -> Result<Claimed<()>, Stray<Ticket>>
-        requires here { IsTicketHere self.old ticket }
-        ensures lease { IfClaimed result (IsMadeHere self.new) }
-        ensures still { IfStill result (IsTicketHere self.new) }
+        requires here { IsMadeBy (home_of self.old) ticket.site ticket.tables }
+        ensures claimed { IfOk result (Claims (home_of self.new) ticket) }
+        ensures stays { home_of self.new ≡ home_of self.old }
     {
         self.pool.claim(ticket)
     }
 
     fn keep(&mut self, rt: &impl Abort, lease: Lease<()>)
-        requires here { IsMadeHere self.old lease }
+        requires here { IsMadeBy (home_of self.old) lease.site lease.tables }
     {
         if let Err(failed) = self.leases.push(lease) {
             self.pool.abandon(failed.value, 0);
@@ -228,7 +230,7 @@ impl Desk {
     }
 
     fn keep_ticket(&mut self, rt: &impl Abort, ticket: Ticket)
-        requires here { IsTicketHere self.old ticket }
+        requires here { IsMadeBy (home_of self.old) ticket.site ticket.tables }
     {
         if let Err(failed) = self.tickets.push(ticket) {
             self.withdraw(rt, failed.value, 0);
@@ -237,7 +239,7 @@ impl Desk {
     }
 
     fn take(&mut self, rt: &impl Abort, transfer: u64) -> Lease<()>
-        ensures here { IsMadeHere self.new result }
+        ensures here { IsMadeBy (home_of self.new) result.site result.tables }
     {
         let place = place_of_lease(&self.leases, transfer);
         assert!(rt; place < self.leases.len());
@@ -245,7 +247,7 @@ impl Desk {
     }
 
     fn take_ticket(&mut self, rt: &impl Abort, transfer: u64) -> Ticket
-        ensures here { IsTicketHere self.new result }
+        ensures here { IsMadeBy (home_of self.new) result.site result.tables }
     {
         let place = place_of_ticket(&self.tickets, transfer);
         assert!(rt; place < self.tickets.len());
@@ -253,11 +255,11 @@ impl Desk {
     }
 }
 
-// Abandons the leases; the tickets stay the pool's.
-fn abandon_all(pool: &mut Pool<()>, leases: Vec<Lease<()>>, tickets: &[Ticket], now: u64)
-    requires here { All (IsMadeHere pool.old) leases.items }
-    requires tickets { All (IsTicketHere pool.old) tickets.now }
-    ensures tickets { All (IsTicketHere pool.new) tickets.now }
+// Abandons the leases.
+fn abandon_all(pool: &mut Pool<()>, leases: Vec<Lease<()>>, now: u64)
+    requires here { let home = home_of pool.old in
+        All (λ lease. IsMadeBy home lease.site lease.tables) leases.items }
+    ensures stays { home_of pool.new ≡ home_of pool.old }
 {
     let mut leases = leases;
     while let Some(lease) = leases.pop() {
@@ -267,7 +269,8 @@ fn abandon_all(pool: &mut Pool<()>, leases: Vec<Lease<()>>, tickets: &[Ticket], 
 }
 
 fn withdraw_all(rt: &impl Abort, pool: &mut Pool<()>, tickets: Vec<Ticket>, now: u64)
-    requires here { All (IsTicketHere pool.old) tickets.items }
+    requires here { let home = home_of pool.old in
+        All (λ ticket. IsMadeBy home ticket.site ticket.tables) tickets.items }
 {
     let mut tickets = tickets;
     while let Some(ticket) = tickets.pop() {
@@ -278,9 +281,8 @@ fn withdraw_all(rt: &impl Abort, pool: &mut Pool<()>, tickets: Vec<Ticket>, now:
 
 // Withdraws a ticket that has to be known.
 fn withdraw(rt: &impl Abort, pool: &mut Pool<()>, ticket: Ticket, now: u64)
-    requires here { IsTicketHere pool.old ticket }
-    ensures hosts { StaysHosts pool.old pool.new }
-    ensures stays { StaysPool pool.old pool.new }
+    requires here { IsMadeBy (home_of pool.old) ticket.site ticket.tables }
+    ensures stays { home_of pool.new ≡ home_of pool.old }
 {
     if let Err(stray) = pool.withdraw(ticket, now) {
         stray.scrap();

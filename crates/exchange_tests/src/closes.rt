@@ -1,7 +1,7 @@
 //! Transfers of a slab that are closed where they stand: who goes on, and in which order.
 
 ghost use Rattle.std.specs.Prelude.{◌≡◌};
-ghost use Rattle.cache.specs.Deeds.{home_of};
+ghost use Rattle.cache.specs.PoolCalls.{home_of};
 ghost use Rattle.exchange.specs.Slabs.{AreKept};
 ghost use Rattle.exchange.specs.Worlds.{world_of};
 ghost use Rattle.exchange_memory.specs.Memory.{IsUntouched, HappenedTo};
@@ -89,9 +89,9 @@ fn join<R: Abort + AllocGlobal>(
     transfer: u64,
 ) -> Option<usize>
     requires kept { AreKept (world_of (λ wire site transfer. IsUntouched wire) HappenedTo
-        (λ moment. moment ≡ 7)) (home_of pool.now) slab.old.slots.items }
+        (λ moment. moment ≡ 7)) (home_of pool.now) slab.old.slots }
     ensures kept { AreKept (world_of (λ wire site transfer. IsUntouched wire) HappenedTo
-        (λ moment. moment ≡ 7)) (home_of pool.now) slab.new.slots.items }
+        (λ moment. moment ≡ 7)) (home_of pool.now) slab.new.slots }
 {
     let parts = prepared_at(rt, 0, Method::Get, "http://example.com/", want_of(transfer));
     slab.join(parts, pool, &CLOCK).ok()
@@ -123,9 +123,9 @@ fn poll_due<R: Abort>(
     text: &mut String,
 )
     requires kept { AreKept (world_of (λ wire site transfer. IsUntouched wire) HappenedTo
-        (λ moment. moment ≡ 7)) (home_of pool.old) slab.old.slots.items }
+        (λ moment. moment ≡ 7)) (home_of pool.old) slab.old.slots }
     ensures kept { AreKept (world_of (λ wire site transfer. IsUntouched wire) HappenedTo
-        (λ moment. moment ≡ 7)) (home_of pool.new) slab.new.slots.items }
+        (λ moment. moment ≡ 7)) (home_of pool.new) slab.new.slots }
 {
     let mut cx = task.begin();
     for _ in 0..MOST_POLLS {
@@ -152,9 +152,9 @@ fn poll_before<R: Abort>(
     text: &mut String,
 )
     requires kept { AreKept (world_of (λ wire site transfer. IsUntouched wire) HappenedTo
-        (λ moment. moment ≡ 7)) (home_of pool.old) slab.old.slots.items }
+        (λ moment. moment ≡ 7)) (home_of pool.old) slab.old.slots }
     ensures kept { AreKept (world_of (λ wire site transfer. IsUntouched wire) HappenedTo
-        (λ moment. moment ≡ 7)) (home_of pool.new) slab.new.slots.items }
+        (λ moment. moment ≡ 7)) (home_of pool.new) slab.new.slots }
 {
     if !row.is_polled {
         return;
@@ -172,9 +172,9 @@ fn poll_all<R: Abort>(
     text: &mut String,
 )
     requires kept { AreKept (world_of (λ wire site transfer. IsUntouched wire) HappenedTo
-        (λ moment. moment ≡ 7)) (home_of pool.old) slab.old.slots.items }
+        (λ moment. moment ≡ 7)) (home_of pool.old) slab.old.slots }
     ensures kept { AreKept (world_of (λ wire site transfer. IsUntouched wire) HappenedTo
-        (λ moment. moment ≡ 7)) (home_of pool.new) slab.new.slots.items }
+        (λ moment. moment ≡ 7)) (home_of pool.new) slab.new.slots }
 {
     for _ in 0..MOST_POLLS {
         if slab.is_empty() {
@@ -188,9 +188,9 @@ fn poll_all<R: Abort>(
 // Takes a turn of the dial.
 fn take_turn(slab: &mut Slab<MemoryWire>, _pool: &Pool<MemoryWire>, dial: &mut MemoryDial)
     requires kept { AreKept (world_of (λ wire site transfer. IsUntouched wire) HappenedTo
-        (λ moment. moment ≡ 7)) (home_of _pool.now) slab.old.slots.items }
+        (λ moment. moment ≡ 7)) (home_of _pool.now) slab.old.slots }
     ensures kept { AreKept (world_of (λ wire site transfer. IsUntouched wire) HappenedTo
-        (λ moment. moment ≡ 7)) (home_of _pool.now) slab.new.slots.items }
+        (λ moment. moment ≡ 7)) (home_of _pool.now) slab.new.slots }
 {
     let _ = slab.turn(dial, Duration::ZERO);
 }
@@ -198,9 +198,9 @@ fn take_turn(slab: &mut Slab<MemoryWire>, _pool: &Pool<MemoryWire>, dial: &mut M
 // All transfers of the beginning join, each behind the one before.
 fn join_all<R: Abort + AllocGlobal>(rt: &R, slab: &mut Slab<MemoryWire>, pool: &Pool<MemoryWire>)
     requires kept { AreKept (world_of (λ wire site transfer. IsUntouched wire) HappenedTo
-        (λ moment. moment ≡ 7)) (home_of pool.now) slab.old.slots.items }
+        (λ moment. moment ≡ 7)) (home_of pool.now) slab.old.slots }
     ensures kept { AreKept (world_of (λ wire site transfer. IsUntouched wire) HappenedTo
-        (λ moment. moment ≡ 7)) (home_of pool.now) slab.new.slots.items }
+        (λ moment. moment ≡ 7)) (home_of pool.now) slab.new.slots }
 {
     for transfer in 0..TRANSFERS {
         let joined = join(rt, slab, pool, transfer);
@@ -217,9 +217,9 @@ fn close_at<R: Abort + AllocGlobal>(
     row: &Row,
 )
     requires kept { AreKept (world_of (λ wire site transfer. IsUntouched wire) HappenedTo
-        (λ moment. moment ≡ 7)) (home_of pool.old) slab.old.slots.items }
+        (λ moment. moment ≡ 7)) (home_of pool.old) slab.old.slots }
     ensures kept { AreKept (world_of (λ wire site transfer. IsUntouched wire) HappenedTo
-        (λ moment. moment ≡ 7)) (home_of pool.new) slab.new.slots.items }
+        (λ moment. moment ≡ 7)) (home_of pool.new) slab.new.slots }
 {
     let _ = slab.take_spent();
     let closed = slab.close_at(row.place, pool, dial, &CLOCK);

@@ -178,17 +178,12 @@ impl DrawnDial {
 }
 
 impl Dial<DrawnWire> for DrawnDial {
-    ghost failures = { λ dial. dial.failures };
+    ghost use Rattle.std.specs.Prelude.{⊤};
+    ghost use Rattle.exchange.specs.Dialling.{shows_counts};
 
-    ghost opened = { λ dial. dial.opened };
-
-    ghost turn_failures = { λ dial. 0 };
+    ghost shown = { λ dial. shows_counts dial.failures dial.opened 0 dial.source.id };
 
     ghost turned = { λ old new. ⊤ };
-
-    ghost begun = { λ dial transfer. ⊥ };
-
-    ghost source_name = { λ dial. dial.source.id };
 
     fn dial(&mut self, _lease: &Lease<DrawnWire>) -> Dialled<DrawnWire> {
         match drawn_halt(&mut self.random) {

@@ -1,11 +1,11 @@
 //! An exchange that an executor drives, and transfers that are polled in turn over one pool.
 
 use crate::driving::{
-    GOOD, KEEP, NOW, OK, check_pool, dial_of, leased, opened, poll_once, pool_of, prepared,
-    prepared_at, returned, waited, want_of, wire_of,
+    GOOD, KEEP, NOW, OK, check_pool, dial_of, dial_of_two_answers, leased, opened, poll_once,
+    pool_of, prepared, prepared_at, returned, waited, want_of, wire_of,
 };
 use exchange::{Answer, Done, Exchange, Polled, Stage, Transfer};
-use exchange_memory::{FixedClock, Halt};
+use exchange_memory::FixedClock;
 use futures::executor::block_on;
 use futures::task::{Doorbell, Solo};
 use persistence::Method;
@@ -35,12 +35,7 @@ fn an_executor_drives_an_exchange(rt: HostRuntime) -> Result<(), Fail> {
 
 #[test]
 fn two_transfers_take_turns_at_a_connection(rt: HostRuntime) {
-    let responses = b"HTTP/1.1 200 OK\r\nContent-Length: 2\r\n\r\nok\
-        HTTP/1.1 200 OK\r\nContent-Length: 2\r\n\r\nok";
-    let mut wire = wire_of(&rt, responses);
-    wire.set_most_read(OK.len());
-    wire.halt_read(1, Halt::NotYet);
-    let mut dial = dial_of(&rt, wire);
+    let mut dial = dial_of_two_answers(&rt);
     let mut pool = pool_of(&rt, 1);
     let solo = Solo::new(&rt, Doorbell::spinning()).expect(&rt, "a task");
     let other = prepared_at(&rt, 0, Method::Get, "http://example.com/b", want_of(2));

@@ -1,20 +1,20 @@
 //! What tests of exchanges share: what they prepare, and how they poll.
 
 ghost use Rattle.std.specs.Prelude.{IsSome, None, ◌≡◌, ◌<◌, length};
-ghost use Rattle.leasing.specs.Homes.{IsMadeBy};
-ghost use Rattle.cache.specs.Deeds.{home_of};
+ghost use Rattle.cache_trait.specs.Homes.{IsMadeBy};
+ghost use Rattle.cache.specs.PoolCalls.{home_of};
 ghost use Rattle.exchange.specs.Answers.{IsUnused};
 ghost use Rattle.exchange.specs.Owning.{Owns, IsReady};
 
 use budget::Limits;
 use bundle::{Acquired, Lease};
 use cache::Pool;
+use cache_trait::Cache;
 use conn_key::{CountedMemory, read_target};
 use conn_log::{Cause, Entry, Event, Want};
 use exchange::{Answer, Done, Exchange, Job, Prepared, Stage, Transfer};
-use exchange_memory::{FakeCache, FixedClock, MemoryDial, MemoryWire};
+use exchange_memory::{FakeCache, FixedClock, Halt, MemoryDial, MemoryWire};
 use futures::task::{Doorbell, Solo};
-use leasing::Cache;
 use persistence::{Facts, Framing, Method, Version};
 use std::alloc::AllocGlobal;
 use std::process::Abort;
@@ -121,6 +121,17 @@ pub(crate) fn dial_of<R: Abort + AllocGlobal>(rt: &R, wire: MemoryWire) -> Memor
     let mut dial = MemoryDial::new(rt.alloc());
     dial.add(wire).expect(rt, "memory");
     dial
+}
+
+/// A dial that will give one wire, whose peer answers twice. Its first read finds nothing yet, and
+/// no read finds more than one response.
+pub(crate) fn dial_of_two_answers<R: Abort + AllocGlobal>(rt: &R) -> MemoryDial {
+    let responses = b"HTTP/1.1 200 OK\r\nContent-Length: 2\r\n\r\nok\
+        HTTP/1.1 200 OK\r\nContent-Length: 2\r\n\r\nok";
+    let mut wire = wire_of(rt, responses);
+    wire.set_most_read(OK.len());
+    wire.halt_read(1, Halt::NotYet);
+    dial_of(rt, wire)
 }
 
 /// A pool of one host, which may have so many connections.

@@ -22,6 +22,8 @@ mod loops;
 #[cfg(test)]
 mod memory;
 #[cfg(test)]
+mod phases;
+#[cfg(test)]
 mod places;
 #[cfg(test)]
 mod requests;
@@ -29,5 +31,7 @@ mod requests;
 mod retries;
 #[cfg(test)]
 mod rows;
+#[cfg(test)]
+mod runners;
 #[cfg(test)]
 mod thousand;

@@ -94,15 +94,26 @@ impl Jobs for Listed {
 struct Report {
     text: String,
     lines: u64,
+    /// Whether no moment of a job is before an earlier one.
+    is_ordered: bool,
+}
+
+// Whether the moments of a job stand in their order.
+fn is_ordered(span: Span) -> bool {
+    let leased = span.phases.leased.unwrap_or(span.began);
+    let open = span.phases.open.unwrap_or(leased);
+    let first_byte = span.phases.first_byte.unwrap_or(open);
+    span.began <= leased && leased <= open && open <= first_byte && first_byte <= span.ended
 }
 
 impl Results for Report {
     ghost use Rattle.std.specs.Prelude.{⊤};
 
-    ghost took = { λ old new number done. ⊤ };
+    ghost took = { λ old new number done span. ⊤ };
 
-    fn take(&mut self, number: u64, done: Done, _span: Span) {
+    fn take(&mut self, number: u64, done: Done, span: Span) {
         self.lines = self.lines.saturating_add(1);
+        self.is_ordered &= is_ordered(span);
         let _ = match done {
             Done::Good(answer) => {
                 let use_of = if answer.reused { "reused" } else { "new" };
@@ -132,16 +143,16 @@ impl Clock for Looks {
     fn now(&self) -> u64 {
         7
     }
+
+    fn micros(&self) -> u64 {
+        0
+    }
 }
 
 impl Timer for Looks {
     ghost use Rattle.std.specs.Prelude.{⊤};
 
     ghost may_stop = { λ looks job. ⊤ };
-
-    fn micros(&self) -> u64 {
-        0
-    }
 
     fn stops(&self, _number: u64, _began: u64) -> bool {
         false
@@ -172,16 +183,16 @@ impl Clock for Limited {
     fn now(&self) -> u64 {
         7
     }
+
+    fn micros(&self) -> u64 {
+        self.micros.fetch_add(5_000, Ordering::SeqCst)
+    }
 }
 
 impl Timer for Limited {
     ghost use Rattle.std.specs.Prelude.{◌≡◌};
 
     ghost may_stop = { λ limited job. job ≡ limited.number };
-
-    fn micros(&self) -> u64 {
-        self.micros.fetch_add(5_000, Ordering::SeqCst)
-    }
 
     fn stops(&self, number: u64, began: u64) -> bool {
         if number != self.number {
@@ -253,6 +264,7 @@ fn run_by<R: Abort + AllocGlobal + RandomSource + Wait, T: Timer>(
     let mut report = Report {
         text: String::new(rt.alloc()),
         lines: 0,
+        is_ordered: true,
     };
     let places = RunLoop::new(rt.alloc(), 2, task).expect(rt, "memory");
     let end = places.run(rt, &mut pool, dial, &mut jobs, &mut report, timer);
@@ -365,5 +377,6 @@ fn a_job_over_its_limit_is_cancelled(rt: HostRuntime) {
         let (end, report) = run_by(&rt, 4, &timer, &mut dial);
         assert_eq!(rt; end, RunEnd::Complete);
         assert_eq!(rt; report.text.as_str(), *lines);
+        assert!(rt; report.is_ordered, "{number}");
     }
 }

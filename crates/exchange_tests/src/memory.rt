@@ -2,7 +2,7 @@
 //! from one on.
 
 ghost use Rattle.std.specs.Prelude.{IfSome, ◌≡◌};
-ghost use Rattle.cache.specs.Deeds.{home_of};
+ghost use Rattle.cache.specs.PoolCalls.{home_of};
 ghost use Rattle.exchange.specs.Answers.{IsUnused};
 ghost use Rattle.exchange.specs.Slabs.{AreKept};
 ghost use Rattle.exchange.specs.Worlds.{world_of as known_of};
@@ -12,12 +12,12 @@ use crate::driving::KEEP;
 use budget::{Limits, Refusal};
 use bundle::Acquired;
 use cache::Pool;
+use cache_trait::Cache;
 use conn_key::{CountedMemory, read_target};
 use conn_log::Want;
-use exchange::{Answer, Done, Exchange, Fault, Job, Prepared, Slab};
+use exchange::{Answer, Done, Exchange, Fault, Job, JobControl, JobRunner, Prepared, Slab};
 use exchange_memory::{FakeCache, FixedClock, Halt, MemoryDial, MemoryWire};
 use futures::task::{Doorbell, Solo};
-use leasing::Cache;
 use persistence::Method;
 use std::alloc::{AllocGlobal, Global};
 use std::process::Abort;
@@ -210,9 +210,9 @@ fn joins<R: Abort>(
 ) -> bool
     requires unused { IsUnused parts }
     requires kept { AreKept (known_of (λ wire site transfer. IsUntouched wire) HappenedTo
-        (λ moment. moment ≡ 7)) (home_of pool.now) slab.old.slots.items }
+        (λ moment. moment ≡ 7)) (home_of pool.now) slab.old.slots }
     ensures kept { AreKept (known_of (λ wire site transfer. IsUntouched wire) HappenedTo
-        (λ moment. moment ≡ 7)) (home_of pool.now) slab.new.slots.items }
+        (λ moment. moment ≡ 7)) (home_of pool.now) slab.new.slots }
 {
     let count = slab.len();
     match slab.join(parts, pool, &FixedClock { now: 7 }) {
@@ -251,4 +251,50 @@ fn want_of_memory_leaves_the_room_of_a_slab(rt: HostRuntime) {
     assert!(rt; joins(&rt, &mut slab, &pool, second));
     let _ = joins(&rt, &mut slab, &pool, third);
     slab.close(&mut pool, &mut dial, &FixedClock { now: 7 });
+}
+
+/// A job that no other one stops.
+#[derive(Drop)]
+struct NoStop;
+
+impl JobControl for NoStop {
+    type Reason = ();
+
+    ghost use Rattle.std.specs.Prelude.{⊤};
+
+    ghost stops_for = { λ control reason. ⊤ };
+
+    fn wait_for_grant(&self, _rings: u64) {}
+
+    fn stop_at_last(&self) {}
+}
+
+/// A runner runs a second job, whose request needs more room, whichever allocation fails at the
+/// first: each job runs to its end, or is not begun.
+#[test]
+fn want_of_memory_ends_no_runner(rt: HostRuntime) {
+    let Some(world) = world_of(&rt, pool_at(rt.alloc()), NEVER) else {
+        return;
+    };
+    let (_parts, mut dial, task, mut pool) = world;
+    let Some(short) = job_of(rt.alloc(), "http://example.com/") else {
+        return;
+    };
+    let Some(long) = job_of(rt.alloc(), LONG) else {
+        return;
+    };
+    let mut runner = JobRunner::new(rt.alloc(), task);
+    let clock = FixedClock { now: 7 };
+    let jobs = [short, long];
+    for job in &jobs {
+        let Ok(ran) = runner.run(job, &mut pool, &mut dial, &clock, &NoStop) else {
+            continue;
+        };
+        match ran.done {
+            Done::Good(answer) => assert_eq!(rt; (answer.status, answer.body_len), (200, 2)),
+            Done::Bad(fault) => {
+                assert!(rt; fault == Fault::Refused(Refusal::Memory) || fault == Fault::Dial)
+            }
+        }
+    }
 }

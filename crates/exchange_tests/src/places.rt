@@ -1,7 +1,7 @@
 //! Which places of a slab its rounds poll, by what its dial tells after each turn.
 
 ghost use Rattle.std.specs.Prelude.{◌≡◌};
-ghost use Rattle.cache.specs.Deeds.{home_of};
+ghost use Rattle.cache.specs.PoolCalls.{home_of};
 ghost use Rattle.exchange.specs.Slabs.{AreKept};
 ghost use Rattle.exchange.specs.Worlds.{world_of};
 ghost use Rattle.exchange_memory.specs.Memory.{IsUntouched, HappenedTo};
@@ -121,9 +121,9 @@ fn join<R: Abort + AllocGlobal>(
     transfer: u64,
 )
     requires kept { AreKept (world_of (λ wire site transfer. IsUntouched wire) HappenedTo
-        (λ moment. moment ≡ 7)) (home_of pool.now) slab.old.slots.items }
+        (λ moment. moment ≡ 7)) (home_of pool.now) slab.old.slots }
     ensures kept { AreKept (world_of (λ wire site transfer. IsUntouched wire) HappenedTo
-        (λ moment. moment ≡ 7)) (home_of pool.now) slab.new.slots.items }
+        (λ moment. moment ≡ 7)) (home_of pool.now) slab.new.slots }
 {
     let fresh = transfer > TRANSFERS;
     let want = Want {
@@ -145,9 +145,9 @@ fn poll_due<R: Abort + AllocGlobal>(
     joins: u64,
 ) -> u64
     requires kept { AreKept (world_of (λ wire site transfer. IsUntouched wire) HappenedTo
-        (λ moment. moment ≡ 7)) (home_of pool.old) slab.old.slots.items }
+        (λ moment. moment ≡ 7)) (home_of pool.old) slab.old.slots }
     ensures kept { AreKept (world_of (λ wire site transfer. IsUntouched wire) HappenedTo
-        (λ moment. moment ≡ 7)) (home_of pool.new) slab.new.slots.items }
+        (λ moment. moment ≡ 7)) (home_of pool.new) slab.new.slots }
 {
     let mut left = joins;
     let mut cx = task.begin();
@@ -210,9 +210,9 @@ fn telling_dial<R: Abort + AllocGlobal>(rt: &R, turns: &[&[(u32, u32)]]) -> Memo
 // Takes a turn of the dial.
 fn take_turn(slab: &mut Slab<MemoryWire>, _pool: &Pool<MemoryWire>, dial: &mut MemoryDial)
     requires kept { AreKept (world_of (λ wire site transfer. IsUntouched wire) HappenedTo
-        (λ moment. moment ≡ 7)) (home_of _pool.now) slab.old.slots.items }
+        (λ moment. moment ≡ 7)) (home_of _pool.now) slab.old.slots }
     ensures kept { AreKept (world_of (λ wire site transfer. IsUntouched wire) HappenedTo
-        (λ moment. moment ≡ 7)) (home_of _pool.now) slab.new.slots.items }
+        (λ moment. moment ≡ 7)) (home_of _pool.now) slab.new.slots }
 {
     let _ = slab.turn(dial, Duration::ZERO);
 }
@@ -220,9 +220,9 @@ fn take_turn(slab: &mut Slab<MemoryWire>, _pool: &Pool<MemoryWire>, dial: &mut M
 // All transfers of the beginning join.
 fn join_all<R: Abort + AllocGlobal>(rt: &R, slab: &mut Slab<MemoryWire>, pool: &Pool<MemoryWire>)
     requires kept { AreKept (world_of (λ wire site transfer. IsUntouched wire) HappenedTo
-        (λ moment. moment ≡ 7)) (home_of pool.now) slab.old.slots.items }
+        (λ moment. moment ≡ 7)) (home_of pool.now) slab.old.slots }
     ensures kept { AreKept (world_of (λ wire site transfer. IsUntouched wire) HappenedTo
-        (λ moment. moment ≡ 7)) (home_of pool.now) slab.new.slots.items }
+        (λ moment. moment ≡ 7)) (home_of pool.now) slab.new.slots }
 {
     for transfer in 0..TRANSFERS {
         join(rt, slab, pool, transfer);
@@ -240,9 +240,9 @@ fn poll_all<R: Abort + AllocGlobal>(
     text: &mut String,
 )
     requires kept { AreKept (world_of (λ wire site transfer. IsUntouched wire) HappenedTo
-        (λ moment. moment ≡ 7)) (home_of pool.old) slab.old.slots.items }
+        (λ moment. moment ≡ 7)) (home_of pool.old) slab.old.slots }
     ensures kept { AreKept (world_of (λ wire site transfer. IsUntouched wire) HappenedTo
-        (λ moment. moment ≡ 7)) (home_of pool.new) slab.new.slots.items }
+        (λ moment. moment ≡ 7)) (home_of pool.new) slab.new.slots }
 {
     let mut left = joins;
     for _ in 0..MOST_POLLS {

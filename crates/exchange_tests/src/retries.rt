@@ -1,7 +1,7 @@
 //! A request that is tried once more while another transfer waits for the host's only connection.
 
 ghost use Rattle.std.specs.Prelude.{◌≡◌};
-ghost use Rattle.cache.specs.Deeds.{home_of};
+ghost use Rattle.cache.specs.PoolCalls.{home_of};
 ghost use Rattle.exchange.specs.Owning.{Owns, IsReady};
 
 use crate::driving::{

@@ -1,7 +1,7 @@
 //! A thousand transfers at once, over one pool, from a slab.
 
 ghost use Rattle.std.specs.Prelude.{◌≡◌, ⊤};
-ghost use Rattle.cache.specs.Deeds.{home_of};
+ghost use Rattle.cache.specs.PoolCalls.{home_of};
 ghost use Rattle.exchange.specs.Answers.{IsUnused};
 ghost use Rattle.exchange.specs.Slabs.{AreKept};
 ghost use Rattle.exchange.specs.Worlds.{world_of};
@@ -105,9 +105,9 @@ fn take_turn<R: Abort>(
     ends: &mut Ends,
 )
     requires kept { AreKept (world_of (λ wire site transfer. ⊤) (λ old new happening. ⊤)
-        (λ moment. moment ≡ clock.now)) (home_of pool.old) slab.old.slots.items }
+        (λ moment. moment ≡ clock.now)) (home_of pool.old) slab.old.slots }
     ensures kept { AreKept (world_of (λ wire site transfer. ⊤) (λ old new happening. ⊤)
-        (λ moment. moment ≡ clock.now)) (home_of pool.new) slab.new.slots.items }
+        (λ moment. moment ≡ clock.now)) (home_of pool.new) slab.new.slots }
 {
     if slab.is_empty() {
         return;

@@ -2,8 +2,8 @@
 //! through a pool, and puts a shared cache under load.
 #![tactic(auto)]
 
-use cli::{CountedWordsMemory, SystemNetwork, given_words, load_on_system, run_program};
-use script_run::{SystemFiles, Watched};
+use cli::{CountedArgsAlloc, SystemNetwork, given_words, load_on_system, run_program};
+use script_run::{FailureCounted, SystemFiles};
 use std::fs::{self, File};
 use std::io::{self, IsTerminal};
 use std::process::ExitCode;
@@ -21,13 +21,13 @@ fn main(rt: HostRuntime) -> ExitCode {
         taken_descriptor(&rt),
     ];
     let words = given_words(&rt);
-    let mut memory = CountedWordsMemory::new(rt.alloc());
+    let mut memory = CountedArgsAlloc::new(rt.alloc());
     let mut files = SystemFiles::new(&rt);
     let mut network = SystemNetwork::new(&rt, &rt);
     let stdin = rt.stdin();
     let is_typed = stdin.is_terminal();
-    let mut input = Watched::new(stdin);
-    let mut output = Watched::new(rt.stdout());
+    let mut input = FailureCounted::new(stdin);
+    let mut output = FailureCounted::new(rt.stdout());
     let mut errors = rt.stderr();
     let status = run_program(
         rt.alloc(),

@@ -33,6 +33,7 @@ use Rattle.script_text.specs.declared.command.Action.{Action}
 use Rattle.script_text.specs.declared.command.Action.TheVariants as actions
 use Rattle.script_text.specs.declared.command.Command.{Command}
 use Rattle.script_text.specs.declared.command.Command.TheVariants as commands
+use Rattle.script_text.specs.declared.command.HostCommand.TheVariants as asks
 use Rattle.script_text.specs.declared.command.Ending.{Ending}
 use Rattle.script_text.specs.declared.fault.FaultKind.{FaultKind}
 use Rattle.script_text.specs.declared.fault.FaultKind.TheVariants.{Place, BadLimits, TooManySites}
@@ -242,9 +243,9 @@ module _ (keep : CallsKeep) where
   unfolding step
   rest_step run (commands.Limits limits) rests = rest_limits run limits run.limits rests
   rest_step run (commands.Site word) rests = rest_site run word run.limits rests
-  rest_step run (commands.At site action) rests = rest_command (λ limits hosts. answer_of limits hosts site action) (λ limits hosts before. rest_answer limits hosts site action before) run run.limits refl rests
-  rest_step run (commands.Prune max_age max_life moment) rests = rest_command (λ limits hosts. prune_all limits max_age max_life moment hosts) (λ limits hosts before. rest_prune limits max_age max_life moment hosts before) run run.limits refl rests
-  rest_step run commands.Upkeep rests = rest_command (λ limits hosts. upkeep_all hosts) rest_upkeep run run.limits refl rests
+  rest_step run (commands.Ask (asks.At site action)) rests = rest_command (λ limits hosts. answer_of limits hosts site action) (λ limits hosts before. rest_answer limits hosts site action before) run run.limits refl rests
+  rest_step run (commands.Ask (asks.Prune max_age max_life moment)) rests = rest_command (λ limits hosts. prune_all limits max_age max_life moment hosts) (λ limits hosts before. rest_prune limits max_age max_life moment hosts before) run run.limits refl rests
+  rest_step run (commands.Ask asks.Upkeep) rests = rest_command (λ limits hosts. upkeep_all hosts) rest_upkeep run run.limits refl rests
 
   pub rest_line : (run : Run) (line : List ℕ) → RestRun run → RestStep (line_step run line)
   unfolding line_step

@@ -43,6 +43,7 @@ use Rattle.script_text.specs.declared.command.Action.{Action}
 use Rattle.script_text.specs.declared.command.Action.TheVariants as actions
 use Rattle.script_text.specs.declared.command.Command.{Command}
 use Rattle.script_text.specs.declared.command.Command.TheVariants as commands
+use Rattle.script_text.specs.declared.command.HostCommand.TheVariants as asks
 use Rattle.script_text.specs.declared.command.Ending.{Ending}
 use Rattle.script_text.specs.declared.fault.FaultKind.{FaultKind}
 use Rattle.script_text.specs.declared.fault.FaultKind.TheVariants.{Place, BadLimits, TooManySites}
@@ -458,11 +459,11 @@ module _ (keep : CallsKeep) (serve : CallsServe) where
   unfolding step
   fit_step run (commands.Limits limits) rests fit = fit_limits run limits run.limits fit
   fit_step run (commands.Site word) rests fit = fit_site run word run.limits fit
-  fit_step run (commands.At site action) rests fit =
+  fit_step run (commands.Ask (asks.At site action)) rests fit =
       fit_command (λ limits hosts. answer_of limits hosts site action) (λ limits hosts before. fit_answer limits hosts site action before) run run.limits rests fit
-  fit_step run (commands.Prune max_age max_life moment) rests fit =
+  fit_step run (commands.Ask (asks.Prune max_age max_life moment)) rests fit =
       fit_command (λ limits hosts. prune_all limits max_age max_life moment hosts) (λ limits hosts before. fit_prune limits max_age max_life moment hosts before) run run.limits rests fit
-  fit_step run commands.Upkeep rests fit = fit_command (λ limits hosts. upkeep_all hosts) fit_upkeep run run.limits rests fit
+  fit_step run (commands.Ask asks.Upkeep) rests fit = fit_command (λ limits hosts. upkeep_all hosts) fit_upkeep run run.limits rests fit
 
   fit_line : (run : Run) (line : List ℕ) → RestRun run → FitRun run → FitStep (line_step run line)
   unfolding line_step

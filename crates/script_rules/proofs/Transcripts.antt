@@ -26,6 +26,7 @@ use Rattle.script_text.specs.declared.command.Action.{Action}
 use Rattle.script_text.specs.declared.command.Action.TheVariants as actions
 use Rattle.script_text.specs.declared.command.Command.{Command}
 use Rattle.script_text.specs.declared.command.Command.TheVariants as commands
+use Rattle.script_text.specs.declared.command.HostCommand.TheVariants as asks
 use Rattle.script_text.specs.declared.command.Ending.{Ending}
 use Rattle.script_text.specs.declared.fault.FaultKind.{FaultKind}
 use Rattle.script_text.specs.declared.fault.FaultKind.TheVariants.{Place, BadLimits, TooManySites, ScriptTooLong}
@@ -256,11 +257,11 @@ tells-step : (run : Run) (command : Command) → IsSmall run → TellsStep run.h
 unfolding step
 tells-step run (commands.Limits limits) small = tells-limits run limits run.limits small
 tells-step run (commands.Site word) small = tells-site run word run.limits small
-tells-step run (commands.At site action) small =
+tells-step run (commands.Ask (asks.At site action)) small =
     tells-after run (λ limits hosts. answer_of limits hosts site action) (λ limits hosts few. tells-answer limits hosts site action few) small run.limits
-tells-step run (commands.Prune max_age max_life moment) small =
+tells-step run (commands.Ask (asks.Prune max_age max_life moment)) small =
     tells-after run (λ limits hosts. prune_all limits max_age max_life moment hosts) (λ limits hosts few. tells-pruned limits max_age max_life moment hosts few) small run.limits
-tells-step run commands.Upkeep small = tells-after run (λ limits hosts. upkeep_all hosts) (λ limits hosts few. tells-kept-up hosts) small run.limits
+tells-step run (commands.Ask asks.Upkeep) small = tells-after run (λ limits hosts. upkeep_all hosts) (λ limits hosts few. tells-kept-up hosts) small run.limits
 
 tells-line_step : (run : Run) (line : List ℕ) → IsSmall run → TellsStep run.hosts.all (line_step run line)
 unfolding line_step

@@ -24,6 +24,8 @@ use Rattle.script_text.specs.declared.command.Action.{Action}
 use Rattle.script_text.specs.declared.command.Action.TheVariants as actions
 use Rattle.script_text.specs.declared.command.Command.{Command}
 use Rattle.script_text.specs.declared.command.Command.TheVariants as commands
+use Rattle.script_text.specs.declared.command.HostCommand.{HostCommand}
+use Rattle.script_text.specs.declared.command.HostCommand.TheVariants as asks
 use Rattle.script_text.specs.declared.fault.FaultKind.{FaultKind}
 use Rattle.script_text.specs.declared.fault.FaultKind.TheVariants.{Place, BadLimits, BadSite, TooManySites}
 
@@ -260,6 +262,12 @@ with_url run word (Some limits) = if run.has_begun then Err Place else add_site 
 abbrev pub after_answer : Run → Answer → Run × List ℕ
 after_answer run answer = (record run { hosts = answer.hosts }, answer.text)
 
+-- what the hosts answer to a command
+abbrev pub asked_answer : HostCommand → Bounds → ScriptHosts → Answer
+asked_answer (asks.At site action) = λ limits hosts. answer_of limits hosts site action
+asked_answer (asks.Prune max_age max_life moment) = λ limits hosts. prune_all limits max_age max_life moment hosts
+asked_answer asks.Upkeep = λ limits hosts. upkeep_all hosts
+
 -- a command after the limits
 abbrev pub with_answer : Run → (Bounds → ScriptHosts → Answer) → Option Limits → Result (Run × List ℕ) FaultKind
 with_answer run answer None = Err Place
@@ -273,6 +281,4 @@ at_script_end run (Some limits) = begun run
 unfoldable pub step : Run → Command → Result (Run × List ℕ) FaultKind
 step run (commands.Limits limits) = with_limits run limits run.limits
 step run (commands.Site word) = with_url run word run.limits
-step run (commands.At site action) = with_answer run (λ limits hosts. answer_of limits hosts site action) run.limits
-step run (commands.Prune max_age max_life moment) = with_answer run (λ limits hosts. prune_all limits max_age max_life moment hosts) run.limits
-step run commands.Upkeep = with_answer run (λ limits hosts. upkeep_all hosts) run.limits
+step run (commands.Ask asked) = with_answer run (asked_answer asked) run.limits

@@ -9,6 +9,7 @@ use Rattle.script_text.specs.declared.command.Ending.{Ending}
 use Rattle.script_text.specs.declared.command.Ending.TheVariants.{Keep, Close, Old, OldKeep, Eof, Cut, Surplus}
 use Rattle.script_text.specs.declared.command.Command.{Command}
 use Rattle.script_text.specs.declared.command.Command.TheVariants as commands
+use Rattle.script_text.specs.declared.command.HostCommand.TheVariants as asks
 use Rattle.script_text.specs.declared.command.Action.TheVariants as actions
 use Rattle.script_text.specs.declared.fault.FaultKind.{FaultKind}
 use Rattle.script_text.specs.declared.fault.FaultKind.TheVariants.{LineTooLong, Unknown, Form}
@@ -112,14 +113,14 @@ get_form rest = do
   at ← text_first (codes "at") lane.1
   moment ← number_first (2 ^ 64) at
   options ← options_of no_options moment.1
-  Some (commands.At site.0 (actions.Get (want_of transfer.0 lane.0 options) moment.0))
+  Some (commands.Ask (asks.At site.0 (actions.Get (want_of transfer.0 lane.0 options) moment.0)))
 
 -- claim T S
 unfoldable pub claim_form : List (List ℕ) → Option Command
 claim_form rest = do
   transfer ← number_first (2 ^ 64) rest
   site ← number_first (2 ^ 32) transfer.1
-  if_none_left site.1 (commands.At site.0 (actions.Claim transfer.0))
+  if_none_left site.1 (commands.Ask (asks.At site.0 (actions.Claim transfer.0)))
 
 -- back T S KIND at M
 unfoldable pub back_form : List (List ℕ) → Option Command
@@ -129,7 +130,7 @@ back_form rest = do
   ending ← ending_first site.1
   at ← text_first (codes "at") ending.1
   moment ← number_first (2 ^ 64) at
-  if_none_left moment.1 (commands.At site.0 (actions.Back transfer.0 ending.0 moment.0))
+  if_none_left moment.1 (commands.Ask (asks.At site.0 (actions.Back transfer.0 ending.0 moment.0)))
 
 -- drop T S at M
 unfoldable pub drop_form : List (List ℕ) → Option Command
@@ -138,7 +139,7 @@ drop_form rest = do
   site ← number_first (2 ^ 32) transfer.1
   at ← text_first (codes "at") site.1
   moment ← number_first (2 ^ 64) at
-  if_none_left moment.1 (commands.At site.0 (actions.Drop transfer.0 moment.0))
+  if_none_left moment.1 (commands.Ask (asks.At site.0 (actions.Drop transfer.0 moment.0)))
 
 -- leave T S at M
 unfoldable pub leave_form : List (List ℕ) → Option Command
@@ -147,7 +148,7 @@ leave_form rest = do
   site ← number_first (2 ^ 32) transfer.1
   at ← text_first (codes "at") site.1
   moment ← number_first (2 ^ 64) at
-  if_none_left moment.1 (commands.At site.0 (actions.Leave transfer.0 moment.0))
+  if_none_left moment.1 (commands.Ask (asks.At site.0 (actions.Leave transfer.0 moment.0)))
 
 -- limit S N at M
 unfoldable pub limit_form : List (List ℕ) → Option Command
@@ -156,7 +157,7 @@ limit_form rest = do
   limit ← number_first (2 ^ 32) site.1
   at ← text_first (codes "at") limit.1
   moment ← number_first (2 ^ 64) at
-  if_none_left moment.1 (commands.At site.0 (actions.Limit limit.0 moment.0))
+  if_none_left moment.1 (commands.Ask (asks.At site.0 (actions.Limit limit.0 moment.0)))
 
 -- prune A F at M
 unfoldable pub prune_form : List (List ℕ) → Option Command
@@ -165,17 +166,17 @@ prune_form rest = do
   max_life ← number_first (2 ^ 64) max_age.1
   at ← text_first (codes "at") max_life.1
   moment ← number_first (2 ^ 64) at
-  if_none_left moment.1 (commands.Prune max_age.0 max_life.0 moment.0)
+  if_none_left moment.1 (commands.Ask (asks.Prune max_age.0 max_life.0 moment.0))
 
 -- upkeep
 unfoldable pub upkeep_form : List (List ℕ) → Option Command
-upkeep_form rest = if_none_left rest commands.Upkeep
+upkeep_form rest = if_none_left rest (commands.Ask asks.Upkeep)
 
 -- look S
 unfoldable pub look_form : List (List ℕ) → Option Command
 look_form rest = do
   site ← number_first (2 ^ 32) rest
-  if_none_left site.1 (commands.At site.0 actions.Look)
+  if_none_left site.1 (commands.Ask (asks.At site.0 actions.Look))
 
 -- a known command has its form, or else it is wrong
 abbrev pub formed : Option Command → Result Command FaultKind

@@ -15,7 +15,7 @@ pub struct Limits {
 /// How a response ended.
 #[derive(Clone, Copy, Debug, PartialEq, Eq)]
 pub enum Ending {
-    /// It lets its connection persist.
+    /// Its connection may persist.
     Keep,
     /// It has the connection option `close`.
     Close,
@@ -25,7 +25,7 @@ pub enum Ending {
     OldKeep,
     /// Its body lasts until the connection ends.
     Eof,
-    /// It was not read whole.
+    /// It was truncated.
     Cut,
     /// Bytes came after its end.
     Surplus,
@@ -36,25 +36,32 @@ pub enum Ending {
 pub enum Command<'a> {
     /// Sets the limits.
     Limits(Limits),
-    /// Adds a host, which the word names.
+    /// Adds the host that the word names.
     Site(SiteWord<'a>),
-    /// Asks that of the site's host. Sites are counted from 0.
+    /// Asks the hosts.
+    Ask(HostCommand),
+}
+
+/// A command that the hosts answer.
+#[derive(Drop)]
+pub enum HostCommand {
+    /// Asks the site's host for an action. Sites are counted from 0.
     At {
         site: u32,
         action: Action,
     },
-    /// Closes what is idle at all hosts for longer than `max_age`, or open for longer than
-    /// `max_life` where that is not 0, in seconds.
+    /// Closes, at all hosts, the connections that are idle for longer than `max_age` seconds, or
+    /// open for longer than `max_life` seconds if that is not 0.
     Prune {
         max_age: u64,
         max_life: u64,
         moment: u64,
     },
-    /// Keeps connections alive where their protocol has a way to.
+    /// Keeps connections alive if their protocol has a way to.
     Upkeep,
 }
 
-/// What a command asks of one host.
+/// An action at one host.
 #[derive(Clone, Copy, Debug, PartialEq, Eq)]
 pub enum Action {
     /// A transfer acquires a connection.
@@ -77,7 +84,7 @@ pub enum Action {
         transfer: u64,
         moment: u64,
     },
-    /// A transfer leaves where it waits.
+    /// A transfer stops waiting.
     Leave {
         transfer: u64,
         moment: u64,
@@ -87,6 +94,6 @@ pub enum Action {
         limit: u32,
         moment: u64,
     },
-    /// Asks what the host's connections do.
+    /// Asks for the numbers of the host's connections and waiters.
     Look,
 }

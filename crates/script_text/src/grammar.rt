@@ -6,13 +6,13 @@ ghost use Rattle.script_text.specs.Grammar.{leave_form, look_form, command_of, r
 ghost use Rattle.script_text.specs.Grammar.{limit_form, prune_form, upkeep_form};
 ghost use Rattle.std.specs.Option.{option_map};
 
-use crate::command::{Action, Command, Ending, Limits};
+use crate::command::{Action, Command, Ending, HostCommand, Limits};
 use crate::fault::FaultKind;
 use crate::options::{read_options, want_of};
 use crate::site::SiteWord;
 use crate::words::{first_word, is_blank, is_word, text_first, u32_first, u64_first};
 
-/// How the response ended, and the line after it.
+/// Reads how a response ended, and gives the rest of the line.
 fn ending_first(line: &[u8]) -> Option<(Ending, &[u8])>
     ensures { option_map (λ found. (found.0, words found.1.now)) result
         ≡ ending_first (words line.now) }
@@ -22,7 +22,7 @@ fn ending_first(line: &[u8]) -> Option<(Ending, &[u8])>
     Some((ending, others))
 }
 
-/// How the response ended that the word names.
+/// The ending that the word names.
 #[tactic(auto, unfolding(crate::specs::Grammar::ending_of))]
 fn ending_of(word: &[u8]) -> Option<Ending>
     ensures { result ≡ ending_of word.now }
@@ -79,7 +79,7 @@ fn get_form(line: &[u8]) -> Option<Command<'_>>
     let options = read_options(line)?;
     let want = want_of(transfer, lane, options);
     let action = Action::Get { want, moment };
-    Some(Command::At { site, action })
+    Some(Command::Ask(HostCommand::At { site, action }))
 }
 
 /// `claim T S`.
@@ -90,7 +90,7 @@ fn claim_form(line: &[u8]) -> Option<Command<'_>>
     let (transfer, line) = u64_first(line)?;
     let (site, line) = u32_first(line)?;
     let action = Action::Claim { transfer };
-    if_none_left(line, Command::At { site, action })
+    if_none_left(line, Command::Ask(HostCommand::At { site, action }))
 }
 
 /// `back T S KIND at M`.
@@ -108,7 +108,7 @@ fn back_form(line: &[u8]) -> Option<Command<'_>>
         ending,
         moment,
     };
-    if_none_left(line, Command::At { site, action })
+    if_none_left(line, Command::Ask(HostCommand::At { site, action }))
 }
 
 /// `drop T S at M`.
@@ -121,7 +121,7 @@ fn drop_form(line: &[u8]) -> Option<Command<'_>>
     let line = text_first("at", line)?;
     let (moment, line) = u64_first(line)?;
     let action = Action::Drop { transfer, moment };
-    if_none_left(line, Command::At { site, action })
+    if_none_left(line, Command::Ask(HostCommand::At { site, action }))
 }
 
 /// `leave T S at M`.
@@ -134,7 +134,7 @@ fn leave_form(line: &[u8]) -> Option<Command<'_>>
     let line = text_first("at", line)?;
     let (moment, line) = u64_first(line)?;
     let action = Action::Leave { transfer, moment };
-    if_none_left(line, Command::At { site, action })
+    if_none_left(line, Command::Ask(HostCommand::At { site, action }))
 }
 
 /// `limit S N at M`.
@@ -147,7 +147,7 @@ fn limit_form(line: &[u8]) -> Option<Command<'_>>
     let line = text_first("at", line)?;
     let (moment, line) = u64_first(line)?;
     let action = Action::Limit { limit, moment };
-    if_none_left(line, Command::At { site, action })
+    if_none_left(line, Command::Ask(HostCommand::At { site, action }))
 }
 
 /// `prune A F at M`.
@@ -159,12 +159,12 @@ fn prune_form(line: &[u8]) -> Option<Command<'_>>
     let (max_life, line) = u64_first(line)?;
     let line = text_first("at", line)?;
     let (moment, line) = u64_first(line)?;
-    let command = Command::Prune {
+    let command = HostCommand::Prune {
         max_age,
         max_life,
         moment,
     };
-    if_none_left(line, command)
+    if_none_left(line, Command::Ask(command))
 }
 
 /// `upkeep`.
@@ -172,7 +172,7 @@ fn prune_form(line: &[u8]) -> Option<Command<'_>>
 fn upkeep_form(line: &[u8]) -> Option<Command<'_>>
     ensures { result ≡ upkeep_form (words line.now) }
 {
-    if_none_left(line, Command::Upkeep)
+    if_none_left(line, Command::Ask(HostCommand::Upkeep))
 }
 
 /// `look S`.
@@ -182,20 +182,20 @@ fn look_form(line: &[u8]) -> Option<Command<'_>>
 {
     let (site, line) = u32_first(line)?;
     let action = Action::Look;
-    if_none_left(line, Command::At { site, action })
+    if_none_left(line, Command::Ask(HostCommand::At { site, action }))
 }
 
-/// The command, where no word is left.
+/// The command, if no word is left.
 fn if_none_left<'a>(line: &[u8], command: Command<'a>) -> Option<Command<'a>>
     ensures { result ≡ if_none_left (words line.now) command.entry }
 {
     if is_blank(line) { Some(command) } else { None }
 }
 
-/// The command of that name, with the words after it.
+/// Reads the command with that name and the words after it.
 ///
-/// Errors: `Unknown` if no command has that name, and `Form` if the words after it are not those
-/// that it takes.
+/// Errors: `Unknown` if no command has that name, and `Form` if the words after the name have not
+/// the command's form.
 #[tactic(auto, unfolding(crate::specs::Grammar::command_of))]
 pub fn command_of<'a>(name: &[u8], line: &'a [u8]) -> Result<Command<'a>, FaultKind>
     ensures { result ≡ command_of name.now (words line.now) }
@@ -230,7 +230,7 @@ pub fn command_of<'a>(name: &[u8], line: &'a [u8]) -> Result<Command<'a>, FaultK
 /// The most bytes of a line, without its line end.
 pub const LINE_LIMIT: usize = 2304;
 
-/// What a line says: a command, nothing where it is skipped, or what is wrong with it.
+/// Reads a line: its command, `None` if the line is skipped, or why the line is wrong.
 #[tactic(auto, unfolding(crate::specs::Grammar::reading))]
 pub fn read_line(line: &[u8]) -> Result<Option<Command<'_>>, FaultKind>
     ensures { result ≡ reading line.now }

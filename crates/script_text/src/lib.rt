@@ -1,5 +1,5 @@
-//! The language of scripts and of their transcripts: what a line of a script says, and the lines
-//! that tell of events and replies.
+//! The language of scripts and transcripts: reads a line of a script, and prints the lines of
+//! events and replies.
 #![tactic(auto)]
 
 mod command;
@@ -12,10 +12,11 @@ mod replies;
 mod site;
 mod words;
 
-pub use command::{Action, Command, Ending, Limits};
+pub use command::{Action, Command, Ending, HostCommand, Limits};
 pub use fault::{FaultKind, ScriptFault};
 pub use grammar::{LINE_LIMIT, command_of, read_line};
 pub use lines::first_line;
+pub use options::DEFAULT_MAX_AGE;
 pub use printing::LookLine;
 pub use replies::{claimed, lines_since, reply, still_waiting, too_many_leased, upkeep};
 pub use site::SiteWord;

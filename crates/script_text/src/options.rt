@@ -10,27 +10,27 @@ ghost use Rattle.script_text.specs.Grammar.{with_word, want_of};
 use crate::words::{first_word, is_word, u64_first};
 use conn_log::Want;
 
-/// The most seconds that a connection may have been idle, where `age` isn't given: the default of
+/// The default maximum idle age of a reused connection, in seconds: that of libcurl's
 /// CURLOPT_MAXAGE_CONN.
-const DEFAULT_AGE: u64 = 118;
+pub const DEFAULT_MAX_AGE: u64 = 118;
 
-/// The most seconds since a connection was opened, where `life` isn't given: no limit.
+/// The default maximum lifetime of a reused connection, in seconds: no limit.
 const DEFAULT_LIFE: u64 = 0;
 
 /// The options of a `get`.
 #[derive(Clone, Copy, Debug, PartialEq, Eq)]
 pub struct Options {
-    /// `age N`: the most seconds that a connection may have been idle.
+    /// `age N`: the maximum idle age, in seconds.
     pub age: Option<u64>,
-    /// `life N`: the most seconds since a connection was opened; 0 for no limit.
+    /// `life N`: the maximum lifetime, in seconds; 0 for no limit.
     pub life: Option<u64>,
-    /// `fresh`: only a new connection will do.
+    /// `fresh`: the connection must be new.
     pub fresh: bool,
     /// `forbid`: the connection is closed after this use.
     pub forbid: bool,
 }
 
-/// No option is given.
+/// The options if none is given.
 const NO_OPTIONS: Options = Options {
     age: None,
     life: None,
@@ -38,7 +38,7 @@ const NO_OPTIONS: Options = Options {
     forbid: false,
 };
 
-/// The options that a line's words are, in any order and each at most once.
+/// Reads the options of a line, which stand in any order, each at most once.
 pub fn read_options(line: &[u8]) -> Option<Options>
     ensures { result ≡ options_of no_options (words line.now) }
 {
@@ -52,7 +52,7 @@ pub fn read_options(line: &[u8]) -> Option<Options>
     Some(options)
 }
 
-/// The options with the one of that name, and the line after it.
+/// Adds the option with that name, and gives the rest of the line.
 fn with_option<'a>(options: Options, name: &[u8], line: &'a [u8]) -> Option<(Options, &'a [u8])>
     ensures { MatchOption result (options_of options (name.now ∷ words line.now)
         ≡ None) (λ found. (options_of options (name.now ∷ words line.now)
@@ -69,14 +69,14 @@ fn with_option<'a>(options: Options, name: &[u8], line: &'a [u8]) -> Option<(Opt
     }
 }
 
-/// Whether a number follows the option of that name.
+/// Whether the option with that name takes a number.
 fn takes_number(name: &[u8]) -> bool
     ensures { result ≡ takes_number name.now }
 {
     is_word(name, "age") || is_word(name, "life")
 }
 
-/// The options with the one of that name, to which that number belongs.
+/// Adds the option with that name and that number.
 #[tactic(auto, unfolding(crate::specs::Grammar::with_number))]
 fn with_number(name: &[u8], options: Options, number: u64) -> Option<Options>
     ensures { result ≡ with_number name.now options number }
@@ -90,7 +90,7 @@ fn with_number(name: &[u8], options: Options, number: u64) -> Option<Options>
     }
 }
 
-/// The options with `age`, which is given once.
+/// Adds `age`, unless it is given already.
 fn with_age(options: Options, number: u64) -> Option<Options>
     ensures { result ≡ with_age options number }
 {
@@ -103,7 +103,7 @@ fn with_age(options: Options, number: u64) -> Option<Options>
     })
 }
 
-/// The options with `life`, which is given once.
+/// Adds `life`, unless it is given already.
 fn with_life(options: Options, number: u64) -> Option<Options>
     ensures { result ≡ with_life options number }
 {
@@ -116,7 +116,7 @@ fn with_life(options: Options, number: u64) -> Option<Options>
     })
 }
 
-/// The options with the one of that name, which stands alone.
+/// Adds the option with that name, which takes no number.
 #[tactic(auto, unfolding(crate::specs::Grammar::with_word))]
 fn with_word(name: &[u8], options: Options) -> Option<Options>
     ensures { result ≡ with_word name.now options }
@@ -130,7 +130,7 @@ fn with_word(name: &[u8], options: Options) -> Option<Options>
     }
 }
 
-/// The options with `fresh`, which is given once.
+/// Adds `fresh`, unless it is given already.
 fn with_fresh(options: Options) -> Option<Options>
     ensures { result ≡ with_fresh options }
 {
@@ -143,7 +143,7 @@ fn with_fresh(options: Options) -> Option<Options>
     })
 }
 
-/// The options with `forbid`, which is given once.
+/// Adds `forbid`, unless it is given already.
 fn with_forbid(options: Options) -> Option<Options>
     ensures { result ≡ with_forbid options }
 {
@@ -156,14 +156,14 @@ fn with_forbid(options: Options) -> Option<Options>
     })
 }
 
-/// What a transfer wants, in that lane and with these options.
+/// The want of a transfer in that lane, with these options.
 pub fn want_of(transfer: u64, lane: u32, options: Options) -> Want
     ensures { result ≡ want_of transfer lane options }
 {
     Want {
         transfer,
         lane,
-        max_age: options.age.unwrap_or(DEFAULT_AGE),
+        max_age: options.age.unwrap_or(DEFAULT_MAX_AGE),
         max_life: options.life.unwrap_or(DEFAULT_LIFE),
         fresh: options.fresh,
         forbid_reuse: options.forbid,

@@ -2,7 +2,7 @@
 
 use crate::leases::{abandon, lease_at, pool_of};
 use crate::peer::{Peer, addresses_of, target_of};
-use exchange::{Dial, Dialled};
+use exchange::{Dial, Dialled, Reason};
 use socket::{AddressFault, Addresses, WaitingDial};
 use std::alloc::AllocGlobal;
 use std::io;
@@ -74,6 +74,7 @@ fn the_next_address_is_tried(rt: HostRuntime) {
     let mut dial = WaitingDial::new(&rt, rt.alloc(), addresses).expect(&rt, "a dial");
     assert_eq!(rt; is_opened(&rt, &mut dial, 0), Some(true));
     assert_eq!(rt; (dial.opened(), dial.failures()), (1, 0));
+    assert_eq!(rt; dial.reason(), None);
 }
 
 #[test]
@@ -88,6 +89,7 @@ fn a_refused_connection_is_counted(rt: HostRuntime) {
     let mut dial = WaitingDial::new(&rt, rt.alloc(), addresses).expect(&rt, "a dial");
     assert_eq!(rt; is_opened(&rt, &mut dial, 0), Some(false));
     assert_eq!(rt; (dial.opened(), dial.failures()), (0, 1));
+    assert_eq!(rt; dial.reason(), Some(Reason::Refused));
 }
 
 // A server, and its port.
@@ -110,4 +112,5 @@ fn each_site_has_its_own_addresses(rt: HostRuntime) {
     assert_eq!(rt; (dial.opened(), connected), (1, (false, true)));
     // There is no third site.
     assert_eq!(rt; is_opened(&rt, &mut dial, 2), Some(false));
+    assert_eq!(rt; dial.reason(), None);
 }

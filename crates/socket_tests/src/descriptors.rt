@@ -2,8 +2,8 @@
 //! again once all that was opened since is closed.
 
 ghost use Rattle.std.specs.Prelude.{◌≡◌, None};
-ghost use Rattle.leasing.specs.Homes.{IsMadeBy};
-ghost use Rattle.cache.specs.Deeds.{home_of};
+ghost use Rattle.cache_trait.specs.Homes.{IsMadeBy};
+ghost use Rattle.cache.specs.PoolCalls.{home_of};
 
 use crate::leases::{abandon, lease_at, pool_of};
 use crate::peer::addresses_of;

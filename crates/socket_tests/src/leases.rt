@@ -1,15 +1,15 @@
 //! Leases of new connections, which tests dial with.
 
 ghost use Rattle.std.specs.Prelude.{◌≡◌, None};
-ghost use Rattle.leasing.specs.Homes.{IsMadeBy};
-ghost use Rattle.cache.specs.Deeds.{home_of};
+ghost use Rattle.cache_trait.specs.Homes.{IsMadeBy};
+ghost use Rattle.cache.specs.PoolCalls.{home_of};
 
 use budget::Limits;
 use bundle::{Acquired, Lease};
 use cache::Pool;
+use cache_trait::Cache;
 use conn_log::Want;
 use exchange::Wire;
-use leasing::Cache;
 use std::alloc::AllocGlobal;
 use std::process::Abort;
 

@@ -1,6 +1,6 @@
 //! What a dial of polled sockets tells of them, and when.
 
-ghost use Rattle.cache.specs.Deeds.{home_of};
+ghost use Rattle.cache.specs.PoolCalls.{home_of};
 ghost use Rattle.exchange.specs.Answers.{IsUnused};
 ghost use Rattle.exchange.specs.Slabs.{AreKept};
 ghost use Rattle.exchange.specs.Worlds.{world_of};
@@ -171,9 +171,9 @@ fn poll_due<W: Wire, D: Dial<W>, K: Clock>(
     clock: &K,
 ) -> Option<Done>
     requires kept { AreKept (world_of W.untouched W.happened (K.tells clock.now))
-        (home_of pool.old) slab.old.slots.items }
+        (home_of pool.old) slab.old.slots }
     ensures kept { AreKept (world_of W.untouched W.happened (K.tells clock.now))
-        (home_of pool.new) slab.new.slots.items }
+        (home_of pool.new) slab.new.slots }
 {
     let mut done = None;
     let mut cx = task.begin();
@@ -198,9 +198,9 @@ fn take_turn<W: Wire, D: Dial<W>, K: Clock>(
     _clock: &K,
 )
     requires kept { AreKept (world_of W.untouched W.happened (K.tells _clock.now))
-        (home_of _pool.now) slab.old.slots.items }
+        (home_of _pool.now) slab.old.slots }
     ensures kept { AreKept (world_of W.untouched W.happened (K.tells _clock.now))
-        (home_of _pool.now) slab.new.slots.items }
+        (home_of _pool.now) slab.new.slots }
 {
     let _ = slab.turn(dial, Duration::MAX);
 }
@@ -216,9 +216,9 @@ fn rounds<W: Wire, D: Dial<W>, K: Clock>(
     clock: &K,
 ) -> (Option<Done>, u32)
     requires kept { AreKept (world_of W.untouched W.happened (K.tells clock.now))
-        (home_of pool.old) slab.old.slots.items }
+        (home_of pool.old) slab.old.slots }
     ensures kept { AreKept (world_of W.untouched W.happened (K.tells clock.now))
-        (home_of pool.new) slab.new.slots.items }
+        (home_of pool.new) slab.new.slots }
 {
     for turns in 0..MOST {
         let done = poll_due(task, slab, pool, dial, clock);

@@ -7,7 +7,7 @@ use crate::peer::{Behaviour, Peer, addresses_of, target_of};
 use budget::Limits;
 use cache::Pool;
 use conn_log::Want;
-use exchange::{Clock, Dial, Done, Exchange, Fault, Job, Prepared, Wire};
+use exchange::{Clock, Dial, Done, Exchange, Fault, Job, Prepared, Reason, Wire};
 use futures::task::{Doorbell, Solo};
 use persistence::Method;
 use socket::{Addresses, PolledDial, SystemClock, WaitingDial};
@@ -25,8 +25,8 @@ enum Outcome {
     Reused,
     /// An answer over a new connection, since the one that was used before failed.
     Retried,
-    /// None.
-    Bad(Fault),
+    /// None, and why.
+    Bad(Fault, Option<Reason>),
 }
 
 /// What the server does at the first request, and what comes of it and of the second one, which is
@@ -72,20 +72,20 @@ static ROWS: [Row; 7] = [
     },
     Row {
         behaviour: Behaviour::Cuts,
-        first: Outcome::Bad(Fault::Cut),
+        first: Outcome::Bad(Fault::Cut, None),
         second: Outcome::New,
         opened: 2,
     },
     Row {
         behaviour: Behaviour::Resets,
-        first: Outcome::Bad(Fault::Read),
+        first: Outcome::Bad(Fault::Read, Some(Reason::Reset)),
         second: Outcome::New,
         opened: 2,
     },
 ];
 
-// What came of a request that ended so.
-fn outcome_of(done: Done) -> Outcome {
+// What came of a request that ended so, for that reason if it failed.
+fn outcome_of(done: Done, reason: Option<Reason>) -> Outcome {
     match done {
         Done::Good(answer) => {
             if answer.retried {
@@ -96,7 +96,7 @@ fn outcome_of(done: Done) -> Outcome {
                 Outcome::New
             }
         }
-        Done::Bad(fault) => Outcome::Bad(fault),
+        Done::Bad(fault) => Outcome::Bad(fault, reason),
     }
 }
 
@@ -143,8 +143,9 @@ fn requested<W: Wire, D: Dial<W>, K: Clock>(
         }
         let _ = exchange.turn();
     }
+    let reason = exchange.reason();
     let (done, _, _, _) = exchange.close(0);
-    outcome_of(done)
+    outcome_of(done, reason)
 }
 
 // What comes of the two requests of a row, if there is memory and the server behaves so.

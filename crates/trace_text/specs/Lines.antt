@@ -10,6 +10,7 @@ use Rattle.script_text.specs.Grammar.{◌>>=◌, command_of, is_comment, LONGEST
 use Rattle.script_text.specs.Printing.{cause_word}
 use Rattle.script_text.specs.declared.command.Command.{Command}
 use Rattle.script_text.specs.declared.command.Command.TheVariants as commands
+use Rattle.script_text.specs.declared.command.HostCommand.TheVariants as asks
 use Rattle.script_text.specs.declared.command.Action.{Action}
 use Rattle.script_text.specs.declared.command.Action.TheVariants as actions
 use Rattle.script_text.specs.declared.fault.FaultKind.{FaultKind}
@@ -105,10 +106,10 @@ wait_form has_left rest = do
 -- a command of a script says what was asked, but for limit, which says that there is a new one
 abbrev pub line_of_action : ℕ → Action → Line
 line_of_action site (actions.Limit n moment) = lines.Event (record { host = site; moment = moment; event = events.Limit n })
-line_of_action site action = lines.Command (commands.At site action)
+line_of_action site action = lines.Command (commands.Ask (asks.At site action))
 
 abbrev pub line_of_command : Command → Line
-line_of_command (commands.At site action) = line_of_action site action
+line_of_command (commands.Ask (asks.At site action)) = line_of_action site action
 line_of_command command = lines.Command command
 
 abbrev pub if_command : Result Command FaultKind → Result Line FaultKind

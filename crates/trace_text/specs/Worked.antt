@@ -2,6 +2,7 @@
 use Rattle.std.specs.Prelude.{◌≡◌, ℕ, codes, List, ◌++◌, replicate, Some, None, Ok, Err}
 use Rattle.conn_log.specs.declared.entry.Cause.TheVariants.{TooOld}
 use Rattle.script_text.specs.declared.command.Command.TheVariants as commands
+use Rattle.script_text.specs.declared.command.HostCommand.TheVariants as asks
 use Rattle.script_text.specs.declared.command.Action.TheVariants as actions
 use Rattle.script_text.specs.declared.fault.FaultKind.{FaultKind}
 use Rattle.script_text.specs.declared.fault.FaultKind.TheVariants.{LineTooLong, Unknown, Form}
@@ -43,8 +44,8 @@ abbrev pub SaysTheOrder : Type 0
 SaysTheOrder = Says (codes "order host") lines.OrderHost × Says (codes "rest") lines.Rest
 
 abbrev pub SaysWhatWasAsked : Type 0
-SaysWhatWasAsked = Says (codes "claim 7 0") (lines.Command (commands.At 0 (actions.Claim 7)))
-    × Says (codes "upkeep") (lines.Command commands.Upkeep)
+SaysWhatWasAsked = Says (codes "claim 7 0") (lines.Command (commands.Ask (asks.At 0 (actions.Claim 7))))
+    × Says (codes "upkeep") (lines.Command (commands.Ask asks.Upkeep))
 
 abbrev pub PassesOver : Type 0
 PassesOver = IsPassedOver (codes "# opened") × IsPassedOver (codes "  ") × IsPassedOver (codes "claimed 0.1")

@@ -9,11 +9,11 @@ ghost use Rattle.trace_text.specs.Lines.{is_reply, line_named, trace_reading};
 use crate::line::{Line, Traced, TracedEvent};
 use conn_log::Cause;
 use script_text::{
-    Action, Command, FaultKind, LINE_LIMIT, command_of, first_word, is_blank, is_word, number_of,
-    place_of, small_number_of, text_first, u32_first, u64_first,
+    Action, Command, FaultKind, HostCommand, LINE_LIMIT, command_of, first_word, is_blank, is_word,
+    number_of, place_of, small_number_of, text_first, u32_first, u64_first,
 };
 
-/// The host and the number of the connection that the word `H.C` names.
+/// Reads a word `H.C`: the host and the number of a connection.
 #[tactic(auto, unfolding(crate::specs::Lines::connection_of))]
 fn connection_of(word: &[u8]) -> Option<(u32, u64)>
     ensures { result ≡ connection_of word.now }
@@ -29,7 +29,7 @@ fn connection_of(word: &[u8]) -> Option<(u32, u64)>
     }
 }
 
-/// A connection's host and number, and the line after them.
+/// Reads a connection's host and number, and gives the rest of the line.
 fn connection_first(line: &[u8]) -> Option<((u32, u64), &[u8])>
     ensures { option_map (λ found. (found.0, words found.1.now)) result
         ≡ connection_first (words line.now) }
@@ -69,7 +69,7 @@ fn cause_of(word: &[u8]) -> Option<Cause>
     }
 }
 
-/// A cause, unless the moment follows at once, and the line after it.
+/// Reads a cause, unless the moment follows at once, and gives the rest of the line.
 fn cause_first(line: &[u8]) -> Option<(Option<Cause>, &[u8])>
     ensures { option_map (λ found. (found.0, words found.1.now)) result
         ≡ cause_first (words line.now) }
@@ -82,7 +82,7 @@ fn cause_first(line: &[u8]) -> Option<(Option<Cause>, &[u8])>
     Some((Some(cause), others))
 }
 
-/// `at M`: a moment, and the line after it.
+/// Reads `at M`, a moment, and gives the rest of the line.
 fn moment_first(line: &[u8]) -> Option<(u64, &[u8])>
     ensures { option_map (λ found. (found.0, words found.1.now)) result
         ≡ moment_first (words line.now) }
@@ -131,7 +131,7 @@ fn rest_form<'a>(line: &[u8]) -> Option<Line<'a>>
     }
 }
 
-/// The event of that name, of a connection and a transfer.
+/// The event with that name, of a connection and a transfer.
 #[tactic(auto, unfolding(crate::specs::Lines::start_of))]
 fn start_of(name: &str, connection: u64, transfer: u64) -> TracedEvent
     ensures { result ≡ start_of name.now connection transfer }
@@ -154,7 +154,7 @@ fn start_of(name: &str, connection: u64, transfer: u64) -> TracedEvent
     }
 }
 
-/// `H.C for T at M`, with the word that stands in the place of `for`.
+/// `H.C for T at M`, with the word `to` in the place of `for`.
 #[tactic(auto, unfolding(crate::specs::Lines::start_form))]
 fn start_form<'a>(name: &str, to: &str, line: &[u8]) -> Option<Line<'a>>
     ensures { result ≡ start_form name.now to.now (words line.now) }
@@ -167,7 +167,7 @@ fn start_form<'a>(name: &str, to: &str, line: &[u8]) -> Option<Line<'a>>
     if_blank(line, host, moment, event)
 }
 
-/// `closed H.C CAUSE at M`, where the cause may be left out.
+/// `closed H.C CAUSE at M`. The cause may be left out.
 #[tactic(auto, unfolding(crate::specs::Lines::closed_form))]
 fn closed_form<'a>(line: &[u8]) -> Option<Line<'a>>
     ensures { result ≡ closed_form (words line.now) }
@@ -179,7 +179,7 @@ fn closed_form<'a>(line: &[u8]) -> Option<Line<'a>>
     if_blank(line, host, moment, event)
 }
 
-/// `waits T host H at M`, or the same of a transfer that left.
+/// `waits T host H at M`, or `left` in the place of `waits`.
 #[tactic(auto, unfolding(crate::specs::Lines::wait_form))]
 fn wait_form<'a>(has_left: bool, line: &[u8]) -> Option<Line<'a>>
     ensures { result ≡ wait_form has_left (words line.now) }
@@ -196,15 +196,17 @@ fn wait_form<'a>(has_left: bool, line: &[u8]) -> Option<Line<'a>>
     if_blank(line, host, moment, event)
 }
 
-/// What a command of a script says in a trace: a limit tells of a new one.
+/// The line of a command in a trace. A `limit` is the event of a new limit.
 fn line_of_command(command: Command<'_>) -> Line<'_>
     ensures { result ≡ line_of_command command.entry }
 {
     match command {
-        Command::At {
-            site,
-            action: Action::Limit { limit, moment },
-        } => Line::Event(Traced {
+        Command::Ask(
+            HostCommand::At {
+                site,
+                action: Action::Limit { limit, moment },
+            },
+        ) => Line::Event(Traced {
             host: site,
             moment,
             event: TracedEvent::Limit { limit },
@@ -213,7 +215,7 @@ fn line_of_command(command: Command<'_>) -> Line<'_>
     }
 }
 
-/// Whether a line with that first word, and those after it, is a reply of a transcript.
+/// Whether the words are those of a reply of a transcript.
 fn is_reply(name: &[u8], line: &[u8]) -> bool
     ensures { result ≡ is_reply name.now (words line.now) }
 {
@@ -229,7 +231,7 @@ fn is_reply(name: &[u8], line: &[u8]) -> bool
         || is_word(name, "refused")
 }
 
-/// What the line of that name says, with the words after it.
+/// Reads the line with that first word and the words after it.
 #[tactic(auto, unfolding(crate::specs::Lines::line_named))]
 fn line_named<'a>(name: &[u8], line: &'a [u8]) -> Result<Line<'a>, FaultKind>
     ensures { result ≡ line_named name.now (words line.now) }
@@ -255,10 +257,10 @@ fn line_named<'a>(name: &[u8], line: &'a [u8]) -> Result<Line<'a>, FaultKind>
     }
 }
 
-/// What a line of a trace says, without its line end; nothing if it is passed over.
+/// Reads a line of a trace, without its line end; `None` if the line is skipped.
 ///
-/// Errors: `LineTooLong` if it has more than 2,304 bytes, `Unknown` if its first word begins no
-/// line of a trace, and `Form` if the words after it are not those that belong there.
+/// Errors: `LineTooLong` if the line has more than 2,304 bytes, `Unknown` if no line of a trace
+/// begins with its first word, and `Form` if the words after that have not the line's form.
 #[tactic(auto, unfolding(crate::specs::Lines::trace_reading))]
 pub fn read_line(line: &[u8]) -> Result<Option<Line<'_>>, FaultKind>
     ensures { result ≡ trace_reading line.now }

@@ -3,9 +3,9 @@
 
 ghost use Rattle.std.specs.Prelude.{◌≡◌, ◌+◌, ◌^◌, ◌<◌, ◌++◌, ◌∷◌, []};
 ghost use Rattle.budget.specs.Words.{whole};
-ghost use Rattle.claim.specs.Draws.{first_seat};
+ghost use Rattle.job_counter.specs.Draws.{first_seat};
 
-use claim::{Claim, ClaimSeat};
+use job_counter::{Claim, ClaimSeat};
 use std::alloc::Global;
 use std::process::Abort;
 

@@ -2,9 +2,9 @@
 
 ghost use Rattle.std.specs.Prelude.{◌≡◌, ◌+◌, ◌^◌, ◌<◌, []};
 ghost use Rattle.std.specs.Thread.{IsSync};
-ghost use Rattle.claim.specs.Draws.{AreFirst, new_seat};
+ghost use Rattle.job_counter.specs.Draws.{AreFirst, new_seat};
 
-use claim::{Claim, ClaimSeat};
+use job_counter::{Claim, ClaimSeat};
 use std::alloc::Global;
 use std::process::Abort;
 use std::sync::Wait;

@@ -1,9 +1,9 @@
 use Rattle.std.specs.Prelude.{◌≡◌}
-use Rattle.cache.specs.Deeds.{home_of}
+use Rattle.cache.specs.PoolCalls.{home_of}
 use Rattle.exchange.specs.Slabs.{AreKept}
 use Rattle.exchange.specs.Worlds.{world_of}
 use Rattle.exchange_memory.specs.Memory.{IsUntouched, HappenedTo}
 use Rattle.exchange_tests.proofs.places.poll_all.Given as goal
 
 abbrev pub invariant-loop : goal.invariant-loop
-invariant-loop g l = AreKept (world_of (λ wire site transfer. IsUntouched wire) HappenedTo (λ moment. moment ≡ 7)) (home_of l.pool) l.slab.slots.items
+invariant-loop g l = AreKept (world_of (λ wire site transfer. IsUntouched wire) HappenedTo (λ moment. moment ≡ 7)) (home_of l.pool) l.slab.slots

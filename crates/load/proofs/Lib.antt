@@ -1,9 +1,0 @@
-pub mod CutLogs
-pub mod WhatIsLoaded
-pub mod Refusals
-pub mod SiteAddresses
-pub mod TakenResults
-pub mod CollectedWork
-pub mod CarriedOut
-pub mod ManyRefusals
-pub mod WhatMayBeLoaded
