@@ -34,7 +34,7 @@ WORDS_OF_LOAD = ["load", "--sites", "2", "--jobs", "12", "--workers", "2", "--ho
 # words that are answered without a network or threads: five that are refused, and one that is not
 WORDS = (
     ("load", "--jobs", "0"), ("load", "--sites", "9"), ("get", "--timeout", "0", "http://127.0.0.1/"),
-    ("get", "ftp://a/"), ("get", "http://a.test/"), ("--help",),
+    ("get", "ftp://a/"), ("get", "http://127.0.0.1:65536/"), ("--help",),
 )
 # a trace that has several violations, and each way to tell them
 TRACE = os.path.join(TOP, "tools", "trace_model", "worked", "all-violations.trace")

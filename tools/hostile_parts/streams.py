@@ -2,6 +2,7 @@
 import contextlib
 import os
 import re
+import tempfile
 import threading
 import time
 
@@ -17,6 +18,8 @@ SCRIPT = "limits 0 0 4\nsite http://a.test/\nget 1 0 0 at 0\n"
 TRANSCRIPT = "opened 0.1 for 1 at 0\n"
 # a trace that breaks a rule; a script that asks for connections is a lawful one
 TRACE = f"{SCRIPT}closed 0.1 at 0\n"
+# the words of a load with figures
+MEASURED = ("load", "--sites", "1", "--jobs", "30", "--connections", "3")
 SIGN = {0: "<", 1: ">", 2: ">"}
 
 
@@ -140,6 +143,56 @@ def get_others():
     return "lines and status stay"
 
 
+@contextlib.contextmanager
+def crawl(file=None):
+    """The words of a crawl of five URLs, which are in a file if none is given, and the lines that it writes."""
+    heard = Overheard()
+    with listening(heard) as (server,), tempfile.TemporaryDirectory() as room:
+        urls = [f"http://127.0.0.1:{server.port}/{number}" for number in range(5)]
+        name = os.path.join(room, "urls")
+        with open(name, "w", encoding="utf-8") as written:
+            written.writelines(f"{url}\n" for url in urls)
+        yield [curlpool(), "get", "--file", file or name], "".join(
+            f"200 {number} {'reused' if number else 'new'} {url}\n" for number, url in enumerate(urls))
+        # what was sent last is read by now
+        time.sleep(0.2)
+        check_same(heard.other, b"", "bytes beside requests")
+
+
+def crawl_output():
+    with crawl() as (words, _):
+        for options in ([], ["--parallel", "3"], ["--json"]):
+            for name, done in outputs([*words, *options]):
+                check_same((done.status, done.errors), (4, "run: cannot write\n"), f"{name} {options}")
+    return "status 4, `cannot write`"
+
+
+def crawl_input():
+    """A file that can't be read, by name or as standard input, is told; URLs among the words have their lines before."""
+    for file in ("/", "/missing/urls"):
+        check_same(run([curlpool(), "get", "--file", file]), (4, "", "run: cannot read\n"), file)
+    with crawl("-") as (words, lines):
+        check_same(run(closing([0], words)), (4, "", "run: cannot read\n"), "closed")
+        folder = os.open("/", os.O_RDONLY)
+        try:
+            first = lines.splitlines(keepends=True)[0]
+            done = run([*words, first.split()[-1]], stdin=folder)
+            check_same(done, (4, first, "run: cannot read\n"), "a folder")
+        finally:
+            os.close(folder)
+        text = "".join(f"{line.split()[-1]}\n" for line in lines.splitlines())
+        check_same(run(words, text=text), (0, lines, ""), "a pipe")
+    return "status 4, `cannot read`"
+
+
+def crawl_others():
+    with crawl() as (words, lines):
+        for closed in ([0], [2], [0, 2]):
+            done = run(closing(closed, words))
+            check_same((done.status, done.output), (0, lines), f"closed {closed}")
+    return "lines and status stay"
+
+
 def load_output():
     for name, done in outputs([curlpool(), "load", "--sites", "1", "--jobs", "3", "--workers", "1"]):
         check_same((done.status, done.errors), (4, "run: cannot write\n"), name)
@@ -161,6 +214,30 @@ def load_others():
     for closed in ([0], [2], [0, 2]):
         done = run(closing(closed, words))
         check_same((done.status, done.output), (0, ample.output), f"closed {closed}")
+    return "report and status stay"
+
+
+def measured_output():
+    """A load with figures: its report, object or picture can't be written."""
+    for options in ([], ["--json"]):
+        for name, done in outputs([curlpool(), *MEASURED, "--quiet", *options]):
+            check_same((done.status, done.errors), (4, "run: cannot write\n"), f"{name} {options}")
+    for file in ("/dev/full", "/", os.path.join(TOP, "no-such-folder", "load.svg")):
+        done = run([curlpool(), *MEASURED, "--quiet", "--picture", file])
+        check_same((done.status, done.errors), (4, "run: cannot write\n"), file)
+    return "status 4, `cannot write`"
+
+
+def measured_others():
+    """Where standard error takes no summary, report and status are as ever."""
+    wanted = 0, ["host", "all", "jobs"]
+    for closed in ([0], [2], [0, 2]):
+        done = run(closing(closed, [curlpool(), *MEASURED]))
+        check_same((done.status, [line.split()[0] for line in done.output.splitlines()]), wanted, f"closed {closed}")
+    for name, opened in (("full", full), ("left", left_pipe)):
+        with opened() as errors:
+            done = run([curlpool(), *MEASURED], stderr=errors)
+        check_same((done.status, [line.split()[0] for line in done.output.splitlines()]), wanted, name)
     return "report and status stay"
 
 
@@ -191,9 +268,14 @@ PARTS = [
     Part("streams: script, no file of a picture", script_picture),
     Part("streams: curlpool get, no output", get_output),
     Part("streams: curlpool get, no input or errors", get_others),
+    Part("streams: curlpool get --file, no output", crawl_output),
+    Part("streams: curlpool get --file, no input", crawl_input),
+    Part("streams: curlpool get --file, no input or errors", crawl_others),
     Part("streams: curlpool load, no output", load_output),
     Part("streams: curlpool load, no file of a trace", load_trace),
     Part("streams: curlpool load, no input or errors", load_others),
+    Part("streams: curlpool load --connections, no output or picture", measured_output),
+    Part("streams: curlpool load --connections, no input or errors", measured_others),
     Part("streams: curlpool audit, no output", audit_output),
     Part("streams: curlpool audit, no input", audit_input),
 ]

@@ -45,6 +45,8 @@ class Case:
     address: str = "127.0.0.1"
     # of curlpool get, which has no line of counts
     options: tuple = ()
+    # whether 127.0.0.1 has a name in the URLs
+    is_named: bool = False
 
     def needs_nginx(self):
         return any(isinstance(at, str) for at in self.at)
@@ -161,6 +163,9 @@ GET_CASES = [
     # whole seconds are counted: after 3 a connection was idle for more than 1
     Case("idle for too long", (servers.lasts, servers.takes(3)), "3 new", 3, opened=3, options=("--max-age", "1")),
     UNASKED,
+    Case("a name in /etc/hosts", (servers.lasts,), "new, then reused", 100, opened=1, reused=99, is_named=True),
+    Case("a name in /etc/hosts, as a crawl", (servers.lasts,), "new, then reused", 100, opened=1, reused=99,
+         options=("--parallel", "1"), is_named=True),
     Case("reset in place of the second answer, and once more", (servers.resets_twice,),
          "new, Read retried or Write retried", 4, opened=4, failed=2),
 ]

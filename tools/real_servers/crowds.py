@@ -63,6 +63,33 @@ class Crowd:
         return "passed", f"{self.requests} requests, {server.accepted} connections; {time.monotonic() - began:.1f} seconds"
 
 
+class LongFile:
+    """A file of more lines than a crawl reads at once, whose first URLs are never answered: those behind them have to be
+    fetched meanwhile."""
+
+    name = "get --parallel: the first requests of a long file have no answer"
+    is_get = True
+    hung, answered, comments = 3, 200, 5_000
+
+    def needs_nginx(self):
+        return False
+
+    def run(self, _ports):
+        """How it ended, and what there is to say of it."""
+        with Server(servers.hangs_up_to(self.hung)) as server:
+            urls = [f"http://127.0.0.1:{server.port}/{number}" for number in range(1, self.hung + self.answered + 1)]
+            with tempfile.NamedTemporaryFile("w", encoding="utf8", suffix=".urls") as file:
+                file.write("\n".join([*urls[:self.hung], *["#"] * self.comments, *urls[self.hung:]]))
+                file.flush()
+                run = programs.get(["--parallel", str(AT_ONCE), "--timeout", "3", "--file", file.name])
+        told = [LINE.fullmatch(line) for line in run.output.splitlines()]
+        if run.status != 4 or None in told or sorted(found[0].rsplit(" ", 1)[1] for found in told) != sorted(urls):
+            return "failed", f"{len(told)} lines for {len(urls)} URLs; status {run.status}, {run.errors[-200:]!r}"
+        if any(found[2] for found in told[:self.answered]):
+            return "failed", "URLs that are answered waited for those that are not"
+        return "passed", f"{self.answered} answers before {self.hung} requests were cancelled"
+
+
 def crowd_of_urls(crowd, server):
     """What is wrong with the lines of a crawl, or nothing."""
     urls = [f"http://127.0.0.1:{server.port}/{number}" for number in range(1, crowd.requests + 1)]
@@ -112,3 +139,4 @@ def too_many(crowd, server):
 def all_crowds():
     for kind in ("get --parallel", "load --connections"):
         yield from (Crowd(kind, behaviour) for behaviour in BEHAVIOURS)
+    yield LongFile()

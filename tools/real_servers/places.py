@@ -2,7 +2,7 @@
 import contextlib
 from typing import NamedTuple
 
-from .servers import Server, has_ipv6, nobody
+from .servers import Server, has_ipv6, local_name, nobody
 
 
 class Places(NamedTuple):
@@ -22,6 +22,8 @@ def what_is_missing(case, ports):
         return "nginx is missing: apt-get install nginx-light"
     if case.address != "127.0.0.1" and not has_ipv6():
         return "there is no address ::1"
+    if case.is_named and not local_name():
+        return "/etc/hosts has no name of 127.0.0.1 besides localhost, or is not looked at first"
     return None
 
 
@@ -31,6 +33,8 @@ def started(case, ports):
     with contextlib.ExitStack() as stack:
         servers = []
         hosts = [start(at, case.address, ports, stack, servers) for at in case.at]
+        if case.is_named:
+            hosts = [host.replace("127.0.0.1", local_name()) for host in hosts]
         yield Places([f"http://{hosts[number % len(hosts)]}/{number + 1}" for number in range(case.requests)], servers)
 
 

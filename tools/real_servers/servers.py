@@ -102,6 +102,19 @@ def nobody():
         yield held.getsockname()[1]
 
 
+def local_name():
+    """A name of 127.0.0.1 in /etc/hosts besides localhost, if the system looks there first; or nothing."""
+    with contextlib.suppress(OSError):
+        with open("/etc/nsswitch.conf", encoding="utf8") as file:
+            if not any(line.split()[:2] == ["hosts:", "files"] for line in file):
+                return None
+        with open("/etc/hosts", encoding="utf8") as file:
+            lines = [line.partition("#")[0].split() for line in file]
+        names = [name for words in lines if words[:1] == ["127.0.0.1"] for name in words[1:]]
+        return next((name for name in names if not name.startswith("localhost")), None)
+    return None
+
+
 def has_ipv6():
     """Whether the address ::1 can be listened on."""
     with contextlib.suppress(OSError), socket.socket(socket.AF_INET6) as tried:
@@ -233,6 +246,15 @@ def stalls(connection):
     """Sends the half of each body of an even number, and then nothing."""
     for request in connection.requests():
         connection.send(front_of_even(request.number))
+
+
+def hangs_up_to(last):
+    """Never answers a request for a number up to that one."""
+    def behave(connection):
+        for request in connection.requests():
+            if request.number > last:
+                connection.send(counted(request.number))
+    return behave
 
 
 def cuts_even(connection):
