@@ -12,7 +12,8 @@ import struct
 import subprocess
 import sys
 
-from program import kit, processors
+from machine import processors
+from program import kit
 
 LIBRARY = r"""
 typedef __SIZE_TYPE__ size_t;

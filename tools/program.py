@@ -116,11 +116,6 @@ def kit():
     return os.path.dirname(os.path.realpath(page))
 
 
-def processors():
-    """How many processors this process may run on."""
-    return len(os.sched_getaffinity(0))
-
-
 @functools.cache
 def built_measures():
     """The program measures, likewise; MEASURES names another one that is built, or BUILT a folder that has it."""

@@ -32,7 +32,7 @@ from typing import NamedTuple
 sys.dont_write_bytecode = True
 TOOLS = os.path.dirname(os.path.dirname(os.path.abspath(__file__)))
 sys.path.insert(0, TOOLS)
-from program import processors
+from machine import processors
 from script_model.generate import script
 from script_model.model import transcript
 from trace_model import answers, rules
