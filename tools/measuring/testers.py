@@ -18,6 +18,8 @@ from .many import WORKERS, nginx_by
 
 CONNECTIONS = (4, 64, 256)
 ROUNDS, SECONDS = 11, 2
+# how often wrk is asked for a report with both percentiles
+RUNS_OF_WRK = 3
 RATE, RATED_SECONDS = 1_000, 10
 # a server that stops for so long in each five seconds
 STOPPED, RUNNING = 0.5, 4.5
@@ -46,9 +48,14 @@ def our_latencies(connections, port):
 
 
 def latencies_of_wrk(connections, port):
-    said = run(["wrk", f"-t{WORKERS}", f"-c{connections}", f"-d{SECONDS}s", "--latency", f"http://127.0.0.1:{port}/"])
-    found = {part: float(number) * UNITS[unit] for part, number, unit in OF_WRK.findall(said)}
-    return found["50"], found["99"]
+    """The same of wrk, which now and then prints a report without a percentile: then it runs once more."""
+    words = ["wrk", f"-t{WORKERS}", f"-c{connections}", f"-d{SECONDS}s", "--latency", f"http://127.0.0.1:{port}/"]
+    for _ in range(RUNS_OF_WRK):
+        said = run(words)
+        found = {part: float(number) * UNITS[unit] for part, number, unit in OF_WRK.findall(said)}
+        if len(found) == 2:
+            return found["50"], found["99"]
+    raise SystemExit(f"wrk prints no percentiles: {said}")
 
 
 def show_latencies(port):
