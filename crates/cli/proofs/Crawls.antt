@@ -1,5 +1,5 @@
 -- What is drawn and told in a crawl.
-use Rattle.std.proofs.Common.{◌≡◌, ℕ, ◌+◌, ◌<◌, ◌++◌, suc, zero, List, [], ◌∷◌, length, map, arith, rules, refl, ap, subst, sym, ◌∙◌}
+use Rattle.std.proofs.Common.{◌≡◌, ℕ, ◌+◌, ◌<◌, suc, zero, List, [], ◌∷◌, arith, rules, refl, ap, subst, sym, ◌∙◌}
 use Rattle.std.specs.Prelude.{Bool, false, is_some, String, string_bytes, Option, None, Some, Result, Ok, Err, IfOk, IfSome, OnOk}
 use Rattle.std.proofs.KnownBytes.{Appends-nil}
 use Rattle.std.specs.Global.{Global}
@@ -19,12 +19,6 @@ use Rattle.cli.specs.Crawling.{IsLine, PutsAs, TellsAll, TellsNext, fetched_as, 
 use Rattle.cli.specs.GetLines.{line_of}
 use Rattle.cli.specs.declared.get.crawl.CrawlFault.{CrawlFault}
 use Rattle.cli.specs.declared.get.crawl.plan.CrawlFlags.{CrawlFlags}
-use Rattle.cli.specs.CrawlWords.{is_empty_list}
-
--- a list with a place is not empty
-pub has_some : {A B : Type 0} → (texts : List A) (f : A → B) (k : ℕ) → k < length texts → is_empty_list (map f texts) ≡ false
-has_some [] f k below = absurd (omega (arith, below))
-has_some (t ∷ texts) f k below = refl
 
 -- so many numbers from one on are below their sum
 pub all_below : (first n : ℕ) → All (λ k. k < first + n) (numbers_from first n)

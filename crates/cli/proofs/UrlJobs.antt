@@ -1,6 +1,6 @@
 -- What jobs of URLs are made so far.
 use Rattle.std.proofs.Common.{◌≡◌, ℕ, ◌<◌, ◌≤◌, List, [], ◌∷◌, ◌++◌, length, get_or, map, refl, ap, sym, ◌∙◌, subst, arith, inl, inr, string_bytes}
-use Rattle.std.specs.Prelude.{String, true}
+use Rattle.std.specs.Prelude.{String}
 use Rattle.std.specs.Global.{Global}
 use Rattle.std.proofs.lemmas.List.{length-append, length-map, get_or-map}
 use Rattle.clap.specs.Words.{Text}
@@ -14,7 +14,6 @@ use Rattle.exchange.specs.declared.job.Job.{Job}
 use Rattle.cli.specs.GetWords.{IsBadUrl, IsPrintable}
 use Rattle.cli.specs.LoadWords.{IsWhyNot}
 use Rattle.cli.specs.MeasuredPlan.{AreBadUrls, AreUrlJobs, IsUrlJob, url_job}
-use Rattle.cli.specs.MeasuredWords.{has_any}
 use Rattle.cli.specs.declared.loading.measured.plan.MeasuredFlags.{MeasuredFlags}
 
 -- the sites after these, with those of the jobs
@@ -74,8 +73,3 @@ pub bad-among : (urls : List (String Global)) (k : ℕ) (url : String Global) (e
 bad-among urls k url error below at (inl lacks) = inl lacks
 bad-among urls k url error below at (inr (is, bad)) =
     inr (is, inr (k, string_bytes url, subst (λ n. k < n) (sym (length-map urls string_bytes)) below, get_or-map string_bytes urls k url (string_bytes url) below ∙ ap string_bytes (sym at), bad))
-
--- there is an address if one is read
-pub any-of : (values : List (String Global)) (k : ℕ) → k < length values → has_any (map string_bytes values) ≡ true
-any-of [] k below = absurd (omega (arith, below))
-any-of (value ∷ values) k below = refl

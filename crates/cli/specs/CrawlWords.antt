@@ -1,5 +1,6 @@
 -- What the words after `get` say of a crawl: many URLs, many at once, of a file.
 use Rattle.std.specs.Prelude.{◌≡◌, ◌⊎◌, ◌||◌, ◌^◌, ℕ, Some, Bool, true, false, codes, not, List, [], ◌∷◌, is_some, map, string_bytes, Option, None, unwrap_or}
+use Rattle.std.specs.List.{Any}
 use Rattle.std.specs.Option.{option_map}
 use Rattle.clap.specs.Words.{Row, Text}
 use Rattle.clap.specs.Walk.{all_of, first_of}
@@ -7,6 +8,7 @@ use Rattle.cli.specs.Inputs.{is_set}
 use Rattle.script_text.specs.Words.{number}
 use Rattle.cli.specs.LoadRanges.{limit_range}
 use Rattle.cli.specs.LoadWords.{number_said}
+use Rattle.cli.specs.Resolving.{IsNoResolve}
 use Rattle.cli.specs.declared.get.crawl.plan.CrawlFlags.{CrawlFlags}
 use Rattle.cli.specs.declared.get.words.CrawlWords.{CrawlWords}
 use Rattle.cli.specs.declared.loading.range.NumberRange.{NumberRange}
@@ -84,7 +86,7 @@ max_life_said (Some text) = number (2 ^ 64) text
 abbrev pub flags_said : CrawlSaid → CrawlFlags
 flags_said said = record { fresh = said.fresh; skip_bad = said.skip_bad; fail = said.fail; json = said.json }
 
--- a number is out of its range; or there is an address, which may be of another form
+-- a number is out of its range, or a value of `--resolve` gives no address
 abbrev pub IsCrawlRefused : CrawlSaid → Type 0
 IsCrawlRefused said = ((number_said parallel_range 1 said.parallel ≡ None) ⊎ (max_life_said said.max_life ≡ None))
-    ⊎ ((number_said limit_range 0 said.host_limit ≡ None) ⊎ ((number_said limit_range 0 said.total ≡ None) ⊎ (is_empty_list said.resolve ≡ false)))
+    ⊎ ((number_said limit_range 0 said.host_limit ≡ None) ⊎ ((number_said limit_range 0 said.total ≡ None) ⊎ Any IsNoResolve said.resolve))

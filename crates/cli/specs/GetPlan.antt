@@ -11,10 +11,11 @@ use Rattle.conn_key.specs.declared.site.Site.{Site}
 use Rattle.conn_log.specs.declared.entry.Want.{Want}
 use Rattle.std.specs.Option.{option_map}
 use Rattle.cli.specs.GetWords.{GetSaid, IsBadUrl, IsPrintable, IsRefused, max_age_said, timeout_said}
-use Rattle.cli.specs.CrawlWords.{asks_crawl, flags_said, is_empty_list, max_life_said, parallel_range}
+use Rattle.cli.specs.CrawlWords.{asks_crawl, flags_said, max_life_said, parallel_range}
 use Rattle.cli.specs.Inputs.{asked_file}
 use Rattle.cli.specs.LoadRanges.{limit_range}
 use Rattle.cli.specs.LoadWords.{number_said}
+use Rattle.cli.specs.Resolving.{AreResolved, IsNoResolve}
 use Rattle.cli.specs.declared.get.crawl.plan.CrawlOptions.{CrawlOptions}
 use Rattle.cli.specs.declared.get.crawl.plan.CrawlPlan.{CrawlPlan}
 use Rattle.cli.specs.declared.get.plan.TurnPlan.{TurnPlan}
@@ -78,12 +79,13 @@ pub record AreOptionsOf (said : GetSaid) (options : CrawlOptions) : Type 0 where
   pub life_said : max_life_said said.crawl.max_life ≡ Some options.max_life
   pub flags : options.flags ≡ flags_said said.crawl
 
--- a crawl by these, of the URLs and the file that the words say
+-- a crawl by these, of the URLs and the file that the words say, with the addresses that they give for hosts
 pub record IsCrawlPlanOf (said : GetSaid) (plan : CrawlPlan) : Type 0 where
   pub crawls : asks_crawl said.crawl ≡ true
   pub options : AreOptionsOf said plan.options
   pub urls_said : map string_bytes plan.urls.items ≡ said.urls
   pub file_said : option_map string_bytes plan.file ≡ said.crawl.file
+  pub hosts_said : AreResolved said.crawl.resolve plan.hosts.items
 
 -- URLs in turn, or a crawl
 abbrev pub IsPlanOf : GetSaid → GetPlan → Type 0
@@ -126,7 +128,7 @@ pub record Plans (method : Method) (max_age : ℕ) (urls : List Text) (jobs : Li
   pub are_jobs : AreJobs method max_age [] 1 urls jobs
   pub sites_are : sites ≡ sites_with [] jobs
 
--- if memory did not run out, an address of a host is not of its form
+-- if memory did not run out, a value of `--resolve` gives no address
 abbrev pub IsWhyOfHosts : List Text → GetRefusal → Type 0
 IsWhyOfHosts given Memory = Unit {0}
-IsWhyOfHosts given (Wrong text) = is_empty_list given ≡ false
+IsWhyOfHosts given (Wrong text) = Any IsNoResolve given

@@ -15,6 +15,7 @@ use Rattle.cli.specs.GetWords.{IsBadUrl, IsPrintable}
 use Rattle.cli.specs.LoadRanges.{connections_range, rate_range, seconds_range, timeout_range, warmup_range}
 use Rattle.cli.specs.LoadWords.{IsOutside, number_in, number_said}
 use Rattle.cli.specs.MeasuredWords.{MeasuredSaid, asks_measured, has_any}
+use Rattle.cli.specs.Resolving.{AreResolved, IsNoResolve}
 use Rattle.cli.specs.declared.loading.measured.plan.MeasuredFlags.{MeasuredFlags}
 use Rattle.cli.specs.declared.loading.measured.plan.MeasuredNumbers.{MeasuredNumbers}
 use Rattle.cli.specs.declared.loading.measured.plan.MeasuredPlan.{MeasuredPlan}
@@ -113,22 +114,23 @@ abbrev pub AreBadUrls : List Text → Type 0
 AreBadUrls urls = (8 < length urls) ⊎ Any IsBadUrl urls
 
 -- the plan of a measured load: its numbers and flags are those of the words, its URLs and the file of its picture the texts
--- that were given
+-- that were given, its addresses of hosts those that the values of `--resolve` give
 pub record IsMeasuredPlanOf (said : MeasuredSaid) (plan : MeasuredPlan) : Type 0 where
   pub numbers_said : AreNumbersOf said plan.numbers
   pub flags_are : plan.flags ≡ flags_said said
   pub urls_said : map string_bytes plan.urls.items ≡ said.urls
   pub jobs_said : ArePlannedUrls plan.flags said.urls plan.jobs.items
   pub picture_said : option_map string_bytes plan.picture ≡ said.picture
+  pub hosts_said : AreResolved said.resolve plan.resolved.items
 
 -- there is one exactly if a word of a measured load is given
 abbrev pub IsMeasuredOf : MeasuredSaid → Option MeasuredPlan → Type 0
 IsMeasuredOf said None = asks_measured said ≡ false
 IsMeasuredOf said (Some plan) = (asks_measured said ≡ true) × IsMeasuredPlanOf said plan
 
--- a number is out of its range, a URL is bad, or there are too many; or there is an address, which may be of another form
+-- a number is out of its range, a URL is bad, or there are too many; or a value of `--resolve` gives no address
 abbrev pub IsMeasuredRefused : MeasuredSaid → Type 0
-IsMeasuredRefused said = IsNumberOutside said ⊎ (AreBadUrls said.urls ⊎ (has_any said.resolve ≡ true))
+IsMeasuredRefused said = IsNumberOutside said ⊎ (AreBadUrls said.urls ⊎ Any IsNoResolve said.resolve)
 
 -- small texts
 abbrev pub ReadsPercentages : Type 0

@@ -11,6 +11,7 @@ ghost use Rattle.cli.specs.CommandLine.{TakesMeasured};
 ghost use Rattle.cli.specs.CommandLine.{TakesTrace, RefusesFlagTwice, TakesTraceFlag, TakesPicture};
 ghost use Rattle.cli.specs.GetLines.{TellsResponses, TellsFaults};
 ghost use Rattle.cli.specs.MeasuredPlan.{ReadsPercentages, RefusesPercentages};
+ghost use Rattle.cli.specs.Resolving.{ReadsResolves, RefusesResolves};
 
 /// What is wrong with small command lines, by computation: with `script` alone, or a file after it,
 /// nothing; no word at all, and a word after the file, are refused; `--help`, `help` and
@@ -55,6 +56,14 @@ pub fn worked_audit_lines()
 pub fn worked_percentages()
     ensures read { ReadsPercentages }
     ensures refused { RefusesPercentages }
+{}
+
+/// What values of `--resolve` say, by computation: a host, in brackets too, a port and the text of
+/// an address. A value without a host, a port from 1 to 65535, or an address is refused.
+#[tactic(auto, unfolding(script_text::specs::Words::number))]
+pub fn worked_resolves()
+    ensures read { ReadsResolves }
+    ensures refused { RefusesResolves }
 {}
 
 /// The lines of transfers that ended so, by computation.

@@ -1,8 +1,24 @@
 //! The addresses of hosts: those that the words give, and those that the system knows.
 
+ghost use Rattle.std.specs.Prelude.{◌≡◌, ◌++◌, IfErr, IfOk, IfNone, IfSome, IsTrue, ◌↔◌};
+ghost use Rattle.std.specs.Prelude.{ℕ, List, map, option_map, string_bytes, MatchOption};
+ghost use Rattle.std.specs.declared.net.ip_addr.IpAddr.{IpAddr};
+ghost use Rattle.socket.specs.Hosts.{in_brackets};
+ghost use Rattle.cli.specs.LoadWords.{number_in};
+ghost use Rattle.cli.specs.Resolving.{AreResolved, IsAddressText, IsGivenAddress, IsGivenFor};
+ghost use Rattle.cli.specs.Resolving.{IsNoResolve, IsWhyNotResolved, Resolves, cut_at, host_said};
+ghost use Rattle.cli.specs.Resolving.{is_colon, ports, resolve_said, said_by};
+
 use crate::command_line::values::number_of;
+use crate::loading::range::NumberRange;
 use std::alloc::{AllocError, Global};
-use std::net::{IpAddr, Ipv4Addr, Ipv6Addr, SocketAddr, ToSocketAddrs};
+use std::net::{IpAddr, Ipv6Addr, SocketAddr, ToSocketAddrs};
+
+/// The ports of a host.
+const PORTS: NumberRange = NumberRange {
+    least: 1,
+    greatest: 65_535,
+};
 
 /// An address that `--resolve` gives for a host and port.
 #[derive(Drop)]
@@ -13,14 +29,18 @@ pub struct Resolved {
 }
 
 impl Resolved {
-    /// Whether it is the address of that host and port.
-    pub fn is_of(&self, host: &str, port: u16) -> bool {
+    /// Whether it is the address of that host, in whatever case, and port.
+    pub fn is_of(&self, host: &str, port: u16) -> bool
+        ensures { IsTrue result ↔ IsGivenFor host.now port self.now }
+    {
         self.address.port() == port && self.host.as_str().eq_ignore_ascii_case(host)
     }
 }
 
 /// The first address that is given for a host and port, if one is.
-pub(crate) fn resolved_of(resolved: &[Resolved], host: &str, port: u16) -> Option<SocketAddr> {
+pub(crate) fn resolved_of(resolved: &[Resolved], host: &str, port: u16) -> Option<SocketAddr>
+    ensures { IsGivenAddress host.now port resolved.now result }
+{
     for given in resolved {
         if given.is_of(host, port) {
             return Some(given.address);
@@ -51,51 +71,152 @@ pub(crate) fn system_addresses(
     Ok(addresses)
 }
 
+/// Why values of `--resolve` give no addresses.
+#[derive(Clone, Copy, Drop)]
+pub(crate) enum ResolveFault<'a> {
+    /// There is no memory for them.
+    Memory,
+    /// This value is not `HOST:PORT:ADDRESS`.
+    OtherForm(&'a str),
+}
+
+/// Reads values of `--resolve`.
+///
+/// # Errors
+///
+/// `OtherForm` of the first that is not `HOST:PORT:ADDRESS`, `Memory` if memory ran out.
+pub(crate) fn resolved_by<'a>(
+    alloc: Global,
+    values: &'a [String],
+) -> Result<Vec<Resolved>, ResolveFault<'a>>
+    ensures hosts { IfOk result (λ hosts.
+        AreResolved (map string_bytes values.now) hosts.items) }
+    ensures refused { IfErr result (IsWhyNotResolved (map string_bytes values.now)) }
+{
+    let mut hosts = Vec::new(alloc);
+    for text in values {
+        let text = text.as_str();
+        let host = match resolved_in(alloc, text) {
+            Ok(Some(host)) => host,
+            Ok(None) => return Err(ResolveFault::OtherForm(text)),
+            Err(_) => return Err(ResolveFault::Memory),
+        };
+        match hosts.push(host) {
+            Ok(()) => {}
+            Err(_) => return Err(ResolveFault::Memory),
+        }
+    }
+    Ok(hosts)
+}
+
 /// Reads a value of `--resolve`; `None` if it is not `HOST:PORT:ADDRESS`.
 ///
 /// # Errors
 ///
 /// There is no memory for it.
-pub(crate) fn resolved_by(alloc: Global, text: &str) -> Result<Option<Resolved>, AllocError> {
-    let Some((host, address)) = parts_of(text) else {
+fn resolved_in(alloc: Global, text: &str) -> Result<Option<Resolved>, AllocError>
+    ensures { IfOk result (λ found. MatchOption found (IsNoResolve text.now) (Resolves text.now)) }
+{
+    let Some(said) = said_in(text) else {
         return Ok(None);
     };
-    let host = String::from_str(alloc, host)?;
+    let Some(ip) = ip_of(said.address.as_bytes()) else {
+        return Ok(None);
+    };
+    let mut host = String::from_str(alloc, said.name)?;
+    host.push_str(said.end)?;
+    let address = SocketAddr::new(ip, said.port);
     Ok(Some(Resolved { host, address }))
 }
 
-// The host and the address that `HOST:PORT:ADDRESS` gives; `None` if the text has another form.
-fn parts_of(text: &str) -> Option<(&str, SocketAddr)> {
-    let (host, rest) = host_of(text)?;
-    let (port, address) = rest.split_once(":")?;
-    let port = u16::try_from(number_of(port)?).ok()?;
-    if host.is_empty() || port == 0 {
-        return None;
-    }
-    Some((host, SocketAddr::new(ip_of(address)?, port)))
+/// The parts of `HOST:PORT:ADDRESS`.
+#[derive(Clone, Copy)]
+struct ResolveText<'a> {
+    /// The host, but for a bracket at its end.
+    name: &'a str,
+    /// That bracket, or nothing.
+    end: &'a str,
+    port: u16,
+    /// The text of the address.
+    address: &'a str,
 }
 
-// The host before the first colon, or in brackets, and the text after its colon.
-fn host_of(text: &str) -> Option<(&str, &str)> {
-    if !text.starts_with("[") {
-        return text.split_once(":");
+// The parts of `HOST:PORT:ADDRESS`, whose address may be none; `None` if the text has another form.
+fn said_in(text: &str) -> Option<ResolveText<'_>>
+    ensures { option_map said_by result ≡ resolve_said text.now }
+{
+    let (name, end, rest) = host_of(text)?;
+    let (port, address) = at_colon(rest)?;
+    let port = port_of(port)?;
+    Some(ResolveText {
+        name,
+        end,
+        port,
+        address,
+    })
+}
+
+// The host before the first colon, or in brackets, whose last one stands apart; and the text after
+// its colon. The host is not empty.
+fn host_of(text: &str) -> Option<(&str, &str, &str)>
+    ensures { option_map (λ it. (it.0.now ++ it.1.now, it.2.now)) result ≡ host_said text.now }
+{
+    if text.starts_with('[') {
+        let (name, rest) = text.split_once(']')?;
+        let (between, rest) = at_colon(rest)?;
+        if between.is_empty() {
+            return Some((name, "]", rest));
+        }
+        return None;
     }
-    let (inside, rest) = text.split_once("]:")?;
-    let host = text.get(..inside.len().checked_add(1)?)?;
-    Some((host, rest))
+    let (name, rest) = at_colon(text)?;
+    if name.is_empty() {
+        None
+    } else {
+        Some((name, "", rest))
+    }
+}
+
+// What stands before the first colon, and what stands after it.
+fn at_colon(text: &str) -> Option<(&str, &str)>
+    ensures { option_map (λ it. (it.0.now, it.1.now)) result ≡ cut_at is_colon text.now }
+{
+    text.split_once(':')
+}
+
+// The port that a text is.
+fn port_of(text: &str) -> Option<u16>
+    ensures { result ≡ number_in ports text.now }
+{
+    let number = number_of(text)?;
+    if PORTS.least as u64 <= number && number <= PORTS.greatest as u64 {
+        Some(number as u16)
+    } else {
+        None
+    }
 }
 
 // The address that a text writes; an IPv6 address may be in brackets.
-fn ip_of(text: &str) -> Option<IpAddr> {
-    if let Ok(ip) = Ipv4Addr::parse_ascii(text.as_bytes()) {
-        return Some(IpAddr::V4(ip));
+fn ip_of(text: &[u8]) -> Option<IpAddr>
+    ensures some { IfSome result (IsAddressText text.now) }
+    ensures none { IfNone result ((ip : IpAddr) → IsAddressText text.now ip → ⊥) }
+{
+    if let Ok(ip) = IpAddr::parse_ascii(text) {
+        return Some(ip);
     }
-    let inside = match text.strip_prefix("[") {
-        Some(rest) => rest.strip_suffix("]")?,
-        None => text,
-    };
-    match Ipv6Addr::parse_ascii(inside.as_bytes()) {
+    match Ipv6Addr::parse_ascii(inside_of(text)?) {
         Ok(ip) => Some(IpAddr::V6(ip)),
         Err(_) => None,
+    }
+}
+
+// What stands in brackets, if a text does.
+fn inside_of(text: &[u8]) -> Option<&[u8]>
+    ensures some { IfSome result (λ inside. text.now ≡ in_brackets inside.now) }
+    ensures none { IfNone result ((inside : List ℕ) → text.now ≡ in_brackets inside → ⊥) }
+{
+    match text {
+        [b'[', inside @ .., b']'] => Some(inside),
+        _ => None,
     }
 }

@@ -1,15 +1,16 @@
 //! The jobs of a load's URLs, and the addresses given for hosts.
 
-ghost use Rattle.std.specs.Prelude.{◌≡◌, true, map, string_bytes, IfErr, IfOk};
+ghost use Rattle.std.specs.Prelude.{◌≡◌, map, string_bytes, IfErr, IfOk};
+ghost use Rattle.std.specs.List.{Any};
 ghost use Rattle.clap.specs.Words.{kind_of};
 ghost use Rattle.conn_key.specs.Target.{GivesTarget};
 ghost use Rattle.cli.specs.GetWords.{IsBadUrl, IsPrintable};
 ghost use Rattle.cli.specs.LoadWords.{IsWhyNot};
 ghost use Rattle.cli.specs.MeasuredPlan.{AreBadUrls, ArePlannedUrls, url_job};
-ghost use Rattle.cli.specs.MeasuredWords.{has_any};
+ghost use Rattle.cli.specs.Resolving.{AreResolved, IsNoResolve};
 
 use crate::command_line::printable::{Escaped, has_unprintable};
-use crate::command_line::resolving::{Resolved, resolved_by};
+use crate::command_line::resolving::{ResolveFault, Resolved, resolved_by};
 use crate::get::planning::want_of;
 use crate::loading::measured::plan::MeasuredFlags;
 use crate::loading::numbers::refusal;
@@ -103,27 +104,31 @@ fn bad_url(alloc: Global, url: &str, why: &str) -> Result<Error, AllocError>
     refusal(alloc, ErrorKind::ValueValidation, message.as_str())
 }
 
-/// Reads the addresses that the values of `--resolve` give.
+/// The addresses that the values of `--resolve` give.
 ///
 /// # Errors
 ///
 /// `ValueValidation`, with a text for the user, if one is not `HOST:PORT:ADDRESS`. `OutOfMemory`
 /// if memory ran out.
 pub(crate) fn resolved_hosts(alloc: Global, values: &[String]) -> Result<Vec<Resolved>, Error>
-    ensures { IfErr result (IsWhyNot (has_any (map string_bytes values.now) ≡ true)) }
+    ensures hosts { IfOk result (λ hosts.
+        AreResolved (map string_bytes values.now) hosts.items) }
+    ensures refused { IfErr result (IsWhyNot (Any IsNoResolve (map string_bytes values.now))) }
 {
-    let mut resolved = Vec::new(alloc);
-    for text in values {
-        let text = text.as_str();
-        let Some(host) = resolved_by(alloc, text)? else {
-            let shown = Escaped(text);
-            let message = format!(in alloc;
-                "invalid value '{shown}' for '--resolve <HOST:PORT:ADDRESS>': not HOST:PORT:ADDRESS"
-            )?;
-            let error = refusal(alloc, ErrorKind::ValueValidation, message.as_str())?;
-            return Err(error);
-        };
-        resolved.push(host)?;
+    match resolved_by(alloc, values) {
+        Ok(hosts) => Ok(hosts),
+        Err(ResolveFault::Memory) => Err(AllocError.into()),
+        Err(ResolveFault::OtherForm(text)) => Err(no_resolve(alloc, text)?),
     }
-    Ok(resolved)
+}
+
+// The error for a value that gives no address.
+fn no_resolve(alloc: Global, text: &str) -> Result<Error, AllocError>
+    ensures { IfOk result (λ error. kind_of error ≡ ErrorKind.ValueValidation) }
+{
+    let shown = Escaped(text);
+    let message = format!(in alloc;
+        "invalid value '{shown}' for '--resolve <HOST:PORT:ADDRESS>': not HOST:PORT:ADDRESS"
+    )?;
+    refusal(alloc, ErrorKind::ValueValidation, message.as_str())
 }
