@@ -11,3 +11,5 @@ pub mod LoadTraces
 pub mod LoadRefusals
 pub mod Percentages
 pub mod UrlJobs
+pub mod Resolves
+pub mod CrawlHosts

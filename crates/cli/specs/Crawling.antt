@@ -1,6 +1,7 @@
 -- What a crawl does.
 use Rattle.std.specs.Prelude.{◌≡◌, ◌==◌, ◌&&◌, ◌+◌, nat_eq, nat_lt, length, ℕ, zero, suc, Bool, false, List, [], ◌∷◌, ◌++◌, option_map, String, string_bytes, Option, Some, None, Result, Ok, Err}
 use Rattle.std.specs.Global.{Global}
+use Rattle.std.specs.List.{list_any}
 use Rattle.std.specs.HashMap.{get, HashMap}
 use Rattle.std.specs.Io.KnownBytes.{Appends}
 use Rattle.clap.specs.Words.{Text}
@@ -33,6 +34,11 @@ TakesAll Came took old new = (told : List JobResult) × Came told × AllTaken to
 -- the URL of the transfer of that number, if one is under way
 abbrev pub url_in : {S : Type 0} → HashMap ℕ GivenUrl S → ℕ → Option (String Global)
 url_in urls number = option_map (λ (given : GivenUrl). given.url) (get nat_eq urls number)
+
+-- the URLs of all numbers but these stay
+abbrev pub KeepsOtherUrls : {S : Type 0} → List ℕ → HashMap ℕ GivenUrl S → HashMap ℕ GivenUrl S → Type 0
+KeepsOtherUrls numbers old new =
+    (number : ℕ) → list_any (nat_eq number) numbers ≡ false → get nat_eq new number ≡ get nat_eq old number
 
 -- no connection is open at a site of a pool, and no transfer waits there
 abbrev pub is_unused_site : {S : Type 0} → PoolShown S → ℕ → Bool

@@ -9,6 +9,7 @@ pub mod HostNames
 pub mod GetPlan
 pub mod GetLines
 pub mod Fetching
+pub mod CrawlHosts
 pub mod Crawling
 pub mod LoadRanges
 pub mod LoadWords
@@ -18,5 +19,6 @@ pub mod CommandLine
 pub mod SystemLoads
 pub mod LoadTraces
 pub mod MeasuredWords
+pub mod Resolving
 pub mod MeasuredPlan
 pub mod LoadPlan

@@ -147,6 +147,8 @@ impl Places for FakeCrawler {
 impl Crawler for FakeCrawler {
     ghost stands = { λ crawler. ⊤ };
 
+    ghost dials = { λ crawler addresses. ⊤ };
+
     ghost crawled = { λ old new jobs told. ⊤ };
 
     ghost finished = { λ crawler told. ⊤ };

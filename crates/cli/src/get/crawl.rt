@@ -1,7 +1,10 @@
 //! Fetches any number of URLs, many at once, and writes how each transfer ended.
 
-ghost use Rattle.std.specs.Prelude.{◌≡◌, None, OnOk};
+ghost use Rattle.std.specs.Prelude.{◌≡◌, None, OnOk, nat_eq};
+ghost use Rattle.std.specs.HashMap.{InsertsAll, values};
+ghost use Rattle.std.specs.List.{All};
 ghost use Rattle.script_run.specs.Streams.{CanCount};
+ghost use Rattle.cli.specs.CrawlHosts.{IsNoted};
 ghost use Rattle.cli.specs.Crawling.{TellsWindow, line_fault, url_in};
 ghost use Rattle.cli.specs.Fetching.{RunsCrawl};
 ghost use Rattle.cli.specs.GetPlan.{plan_file};
@@ -25,6 +28,7 @@ use crate::get::fetching::{Network, NetworkFault};
 use crate::get::looking_up::Resolver;
 use crawler::Crawler;
 use exchange::Job;
+use hosts::Hosts;
 use json_line::{JsonLine, Outcome};
 use plan::{CrawlFlags, CrawlPlan};
 use script_run::{ScriptFiles, Sink, Source};
@@ -217,7 +221,7 @@ fn set_hosts<N: Resolver, C: Crawler>(
     requires { C.stands crawler.old }
     ensures { C.stands crawler.new }
 {
-    if let Some(addresses) = source.hosts().new_addresses(resolver)? {
+    if let Some(addresses) = source.hosts.new_addresses(resolver)? {
         crawler.set_addresses(addresses);
     }
     Ok(())
@@ -229,9 +233,10 @@ fn begin<W: Sink>(
     telling: &mut Telling<'_, '_, W>,
     urls: Vec<(u64, GivenUrl)>,
 ) -> Result<(), AllocError>
-    ensures { telling.new.fault ≡ telling.old.fault }
+    ensures fault { telling.new.fault ≡ telling.old.fault }
+    ensures urls { OnOk result (InsertsAll nat_eq telling.old.urls urls.items telling.new.urls) }
 {
-    let unknown = source.hosts().unknown(telling.alloc)?;
+    let unknown = source.hosts.unknown(telling.alloc)?;
     telling.begin(urls, unknown)
 }
 
@@ -258,12 +263,20 @@ fn fetch_window<C: Crawler, W: Sink>(
 
 // Forgets the URLs of the transfers that have ended: only the places of the others are in use.
 fn settle<W: Sink>(source: &mut UrlSource, telling: &mut Telling<'_, '_, W>)
-    ensures { telling.new.fault ≡ telling.old.fault }
+    ensures fault { telling.new.fault ≡ telling.old.fault }
+    ensures noted { All (IsNoted source.new.hosts.awaited.items) (values telling.new.urls) }
 {
     telling.forget_ended();
-    let hosts = source.hosts();
+    await_all(&mut source.hosts, &telling.urls);
+}
+
+// Notes that the transfers of these URLs, and no others, are under way.
+fn await_all(hosts: &mut Hosts, urls: &HashMap<u64, GivenUrl>)
+    ensures table { hosts.new.table ≡ hosts.old.table }
+    ensures noted { All (IsNoted hosts.new.awaited.items) (values urls.now) }
+{
     hosts.settle();
-    for given in telling.urls.values() {
+    for given in urls.values() {
         hosts.await_at(given.site);
     }
 }

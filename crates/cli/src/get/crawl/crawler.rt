@@ -14,9 +14,13 @@ pub trait Crawler: Places {
     ghost use Rattle.cli.specs.Crawling.{TakesAll};
     ghost use Rattle.exchange.specs.declared.job.Job.{Job};
     ghost use Rattle.run_loop.specs.Taking.{JobResult};
+    ghost use Rattle.socket.specs.declared.addresses.Addresses.{Addresses};
 
     /// Each transfer that is under way stands so that it can be carried on.
     ghost stands: { Self → Type 0 };
+
+    /// It dials the hosts at these addresses.
+    ghost dials: { Self → Addresses → Type 0 };
 
     /// From the one time to the other these jobs were begun, and these results came, the newest
     /// first, of them and of those that were under way before.
@@ -28,7 +32,8 @@ pub trait Crawler: Places {
     /// From now on the hosts at these places have these addresses.
     fn set_addresses(&mut self, addresses: Addresses)
         requires { stands self.old }
-        ensures { stands self.new };
+        ensures stands { stands self.new }
+        ensures dials { dials self.new addresses };
 
     /// Closes the idle connections that it keeps.
     fn prune(&mut self)

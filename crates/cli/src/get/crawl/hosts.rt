@@ -1,6 +1,8 @@
 //! Gives the hosts of a crawl places in its pool, and finds the addresses of these hosts.
 
-ghost use Rattle.std.specs.Prelude.{◌&&◌, not, unwrap_or, slice_get, false};
+ghost use Rattle.std.specs.Prelude.{◌≡◌, ◌≤◌, ◌<◌, ◌&&◌, not, true, false, length};
+ghost use Rattle.std.specs.Prelude.{replicate, slice_set, IfOk, OnOk};
+ghost use Rattle.cli.specs.CrawlHosts.{GrowsOrStays, KeepsAwaited, is_awaited};
 
 use crate::command_line::resolving::{Resolved, resolved_of};
 use crate::get::looking_up::{HostNames, Resolver};
@@ -45,6 +47,7 @@ pub(crate) struct Hosts {
     awaited: Vec<bool>,
     /// Whether a place was given to a host since the addresses were told.
     is_changed: bool,
+    ghost sized: { length table.keys ≤ length awaited.items },
 }
 
 /// The unused places of a pool at which no job waits or is under way.
@@ -56,7 +59,7 @@ struct Unawaited<'a, P: Places> {
 
 impl<P: Places> Places for Unawaited<'_, P> {
     ghost unused = { λ places place. P.unused places.pool.now place
-        && not (unwrap_or (slice_get places.awaited.now place) false) };
+        && not (is_awaited places.awaited.now place) };
 
     fn is_unused(&self, place: u32) -> bool {
         let awaited = self.awaited.get(place as usize).copied().unwrap_or(false);
@@ -84,7 +87,11 @@ impl Hosts {
     /// # Errors
     ///
     /// `Full` if the host has no place and each is in use, `Memory` if memory ran out.
-    pub(crate) fn place<P: Places>(&mut self, target: &Target, pool: &P) -> Result<u32, HostFault> {
+    pub(crate) fn place<P: Places>(&mut self, target: &Target, pool: &P) -> Result<u32, HostFault>
+        ensures keeps { KeepsAwaited self.old.table self.new.table self.old.awaited.items
+            self.new.awaited.items }
+        ensures awaits { IfOk result (λ place. is_awaited self.new.awaited.items place ≡ true) }
+    {
         let (host, port) = (target.host.as_str(), target.port);
         let key = format!(in self.alloc; "{host}:{port}")?;
         let place = match self.table.find(key.as_str()) {
@@ -101,10 +108,14 @@ impl Hosts {
         key: &str,
         target: &Target,
         pool: &P,
-    ) -> Result<u32, HostFault> {
+    ) -> Result<u32, HostFault>
+        ensures keeps { KeepsAwaited self.old.table self.new.table self.old.awaited.items
+            self.new.awaited.items }
+        ensures there { IfOk result (λ place. place < length self.new.awaited.items) }
+    {
         let kept = copy_of(self.alloc, target)?;
         self.targets.reserve(1)?;
-        self.awaited.reserve(1)?;
+        self.add_awaited()?;
         let unused = Unawaited {
             pool,
             awaited: self.awaited.as_slice(),
@@ -118,8 +129,7 @@ impl Hosts {
         match self.targets.get_mut(place as usize) {
             Some(former) => *former = kept,
             None => {
-                let is_kept = self.targets.push(kept).is_ok();
-                if !is_kept || self.awaited.push(false).is_err() {
+                if self.targets.push(kept).is_err() {
                     return Err(HostFault::Memory);
                 }
             }
@@ -127,18 +137,38 @@ impl Hosts {
         Ok(place)
     }
 
+    // Makes room for what is noted of the next place that is given.
+    fn add_awaited(&mut self) -> Result<(), HostFault>
+        ensures table { self.new.table ≡ self.old.table }
+        ensures awaited { GrowsOrStays self.old.awaited.items self.new.awaited.items }
+        ensures room { OnOk result (length self.new.table.keys < length self.new.awaited.items) }
+    {
+        if (self.table.len() as usize) < self.awaited.len() {
+            return Ok(());
+        }
+        match self.awaited.push(false) {
+            Ok(()) => Ok(()),
+            Err(_) => Err(HostFault::Memory),
+        }
+    }
+
     /// Notes that a job waits or is under way at that place.
-    pub(crate) fn await_at(&mut self, place: u32) {
+    pub(crate) fn await_at(&mut self, place: u32)
+        ensures table { self.new.table ≡ self.old.table }
+        ensures awaited { self.new.awaited.items ≡ slice_set self.old.awaited.items place true }
+    {
         if let Some(awaited) = self.awaited.get_mut(place as usize) {
             *awaited = true;
         }
     }
 
     /// Notes that no job waits, and none is under way.
-    pub(crate) fn settle(&mut self) {
-        for awaited in self.awaited.iter_mut() {
-            *awaited = false;
-        }
+    pub(crate) fn settle(&mut self)
+        ensures table { self.new.table ≡ self.old.table }
+        ensures awaited { self.new.awaited.items
+            ≡ replicate (length self.old.awaited.items) false }
+    {
+        self.awaited.as_mut_slice().fill(false);
     }
 
     /// The addresses of the hosts, by place, if a host was given a place since they were told. A
@@ -178,7 +208,9 @@ impl Hosts {
     /// # Errors
     ///
     /// There is no memory for it.
-    pub(crate) fn unknown(&self, alloc: Global) -> Result<Vec<bool>, AllocError> {
+    pub(crate) fn unknown(&self, alloc: Global) -> Result<Vec<bool>, AllocError>
+        ensures { IfOk result (λ copy. copy.items ≡ self.now.unknown.items) }
+    {
         let mut unknown = Vec::new(alloc);
         unknown.extend_from_slice(self.unknown.as_slice())?;
         Ok(unknown)

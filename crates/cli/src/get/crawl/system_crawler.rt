@@ -168,6 +168,8 @@ impl<H: Wait + RandomSource + AllocGlobal> Crawler for SystemCrawler<'_, H> {
         ⟦<PolledWire as Wire>⟧.happened (λ moment. ⊤)) (home_of crawler.pool)
         crawler.run.slab.slots };
 
+    ghost dials = { λ crawler addresses. crawler.dial.connector.addresses ≡ addresses };
+
     ghost crawled = { λ old new jobs told. ⊤ };
 
     ghost finished = { λ crawler told. ⊤ };

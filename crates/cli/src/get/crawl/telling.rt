@@ -1,8 +1,10 @@
 //! The lines of a crawl, written as its transfers end.
 
-ghost use Rattle.std.specs.Prelude.{◌≡◌, Some, None, false, string_bytes, IfNone, IfOk};
+ghost use Rattle.std.specs.Prelude.{◌≡◌, Some, None, false, nat_eq, string_bytes, IfNone, IfOk};
+ghost use Rattle.std.specs.Prelude.{OnOk};
+ghost use Rattle.std.specs.HashMap.{InsertsAll};
 ghost use Rattle.script_run.specs.Streams.{CanCount};
-ghost use Rattle.cli.specs.Crawling.{PutsAs, fetched_as};
+ghost use Rattle.cli.specs.Crawling.{KeepsOtherUrls, PutsAs, fetched_as};
 ghost use Rattle.cli.specs.GetLines.{line_of};
 
 use crate::get::crawl::json_line::{JsonLine, Outcome};
@@ -103,16 +105,18 @@ impl<W: Sink> Telling<'_, '_, W> {
         unknown: Vec<bool>,
     ) -> Result<(), AllocError>
         ensures fault { self.new.fault ≡ self.old.fault }
+        ensures urls { OnOk result (InsertsAll nat_eq self.old.urls urls.items self.new.urls) }
     {
         self.unknown = unknown;
         self.ended
             .reserve(self.urls.len().saturating_add(urls.len()))?;
-        add_urls(&mut self.urls, urls)
+        self.urls.extend(urls)
     }
 
     /// Forgets the URLs of transfers that have ended.
     pub(crate) fn forget_ended(&mut self)
         ensures fault { self.new.fault ≡ self.old.fault }
+        ensures others { KeepsOtherUrls self.old.ended.items self.old.urls self.new.urls }
     {
         remove_urls(&mut self.urls, self.ended.as_slice());
         self.ended.clear();
@@ -166,21 +170,10 @@ impl<W: Sink> Telling<'_, '_, W> {
     }
 }
 
-// Adds URLs with their numbers.
-fn add_urls(
-    urls: &mut HashMap<u64, GivenUrl>,
-    new: Vec<(u64, GivenUrl)>,
-) -> Result<(), AllocError> {
-    for (number, given) in new {
-        if urls.insert(number, given).is_err() {
-            return Err(AllocError);
-        }
-    }
-    Ok(())
-}
-
 // Takes out the URLs of these numbers.
-fn remove_urls(urls: &mut HashMap<u64, GivenUrl>, numbers: &[u64]) {
+fn remove_urls(urls: &mut HashMap<u64, GivenUrl>, numbers: &[u64])
+    ensures { KeepsOtherUrls numbers.now urls.old urls.new }
+{
     for number in numbers {
         let _given = urls.remove(number);
     }

@@ -1,7 +1,8 @@
 //! The jobs of a crawl that are begun next.
 
-ghost use Rattle.std.specs.Prelude.{OnOk};
+ghost use Rattle.std.specs.Prelude.{◌≡◌, ◌++◌, ◌∷◌, [], IfOk, OnOk};
 ghost use Rattle.script_run.specs.Streams.{CanCount};
+ghost use Rattle.cli.specs.CrawlHosts.{AreAwaited, IsNextAwaited, KeepsAwaited, numbered};
 
 use crate::command_line::resolving::Resolved;
 use crate::get::crawl::hosts::{HostFault, Hosts};
@@ -88,12 +89,41 @@ pub(crate) struct UrlSource {
     // The number of the next job.
     number: u64,
     lines: UrlLines,
-    hosts: Hosts,
+    /// The hosts of the jobs.
+    pub(crate) hosts: Hosts,
     // A line whose host has no place yet.
     held: Option<String>,
 }
 
 impl Window {
+    // No jobs yet; more may stand with them.
+    fn new(alloc: Global) -> Window
+        ensures { result.urls.items ≡ [] }
+    {
+        Window {
+            jobs: Vec::new(alloc),
+            urls: Vec::new(alloc),
+            then: Then::More,
+        }
+    }
+
+    // Adds a job with its URL.
+    fn add(&mut self, given: UrlJob) -> Result<(), FaultKind>
+        ensures { OnOk result (self.new.urls.items
+            ≡ self.old.urls.items ++ numbered given ∷ []) }
+    {
+        let UrlJob { url, job } = given;
+        let site = job.site;
+        let numbered = (job.want.transfer, GivenUrl { url, site });
+        if self.jobs.push(job).is_err() {
+            return Err(FaultKind::Memory);
+        }
+        match self.urls.push(numbered) {
+            Ok(()) => Ok(()),
+            Err(_) => Err(FaultKind::Memory),
+        }
+    }
+
     /// Whether the transfers that are under way have to end before the next window: before a read
     /// that may wait, or if a place has to be made and no job of this window may free one.
     pub(crate) fn is_to_end(&self) -> bool {
@@ -133,11 +163,6 @@ impl UrlSource {
         })
     }
 
-    /// The hosts of the jobs.
-    pub(crate) fn hosts(&mut self) -> &mut Hosts {
-        &mut self.hosts
-    }
-
     /// The jobs that are begun next. A read that may wait is done only if there is no job yet and
     /// no transfer is under way, as `is_idle` says.
     ///
@@ -152,35 +177,30 @@ impl UrlSource {
     ) -> Result<Window, FaultKind>
         requires counts { CanCount (R.source input.old) }
         ensures counts_on { OnOk result (CanCount (R.source input.new)) }
+        ensures keeps { KeepsAwaited self.old.hosts.table self.new.hosts.table
+            self.old.hosts.awaited.items self.new.hosts.awaited.items }
+        ensures awaits { IfOk result (λ window.
+            AreAwaited self.new.hosts.awaited.items window.urls.items) }
     {
-        let mut jobs = Vec::new(self.alloc);
-        let mut urls = Vec::new(self.alloc);
+        let mut window = Window::new(self.alloc);
         for _ in 0..MOST_LINES {
             match self.next(pool)? {
-                Next::Job(UrlJob { url, job }) => {
-                    let site = job.site;
-                    let given = (job.want.transfer, GivenUrl { url, site });
-                    let is_kept = jobs.push(job).is_ok();
-                    if !is_kept || urls.push(given).is_err() {
-                        return Err(FaultKind::Memory);
-                    }
-                }
+                Next::Job(given) => window.add(given)?,
                 Next::Passed => {}
-                Next::End(then) => return Ok(Window { jobs, urls, then }),
+                Next::End(then) => {
+                    window.then = then;
+                    return Ok(window);
+                }
                 Next::Unread => {
-                    if !self.may_read(is_idle && jobs.is_empty()) {
-                        let then = Then::Unread;
-                        return Ok(Window { jobs, urls, then });
+                    if !self.may_read(is_idle && window.jobs.is_empty()) {
+                        window.then = Then::Unread;
+                        return Ok(window);
                     }
                     self.lines.read_on(input)?;
                 }
             }
         }
-        Ok(Window {
-            jobs,
-            urls,
-            then: Then::More,
-        })
+        Ok(window)
     }
 
     // Whether the file may be read on, if nothing is under way or only if its reads don't wait.
@@ -189,7 +209,11 @@ impl UrlSource {
     }
 
     // The next job, or the end of the window.
-    fn next<P: Places>(&mut self, pool: &P) -> Result<Next, FaultKind> {
+    fn next<P: Places>(&mut self, pool: &P) -> Result<Next, FaultKind>
+        ensures keeps { KeepsAwaited self.old.hosts.table self.new.hosts.table
+            self.old.hosts.awaited.items self.new.hosts.awaited.items }
+        ensures awaits { IfOk result (IsNextAwaited self.new.hosts.awaited.items) }
+    {
         if let Some(url) = self.held.take() {
             return self.job(url, pool);
         }
@@ -210,7 +234,11 @@ impl UrlSource {
     }
 
     // The job of a URL, with the next number.
-    fn job<P: Places>(&mut self, url: String, pool: &P) -> Result<Next, FaultKind> {
+    fn job<P: Places>(&mut self, url: String, pool: &P) -> Result<Next, FaultKind>
+        ensures keeps { KeepsAwaited self.old.hosts.table self.new.hosts.table
+            self.old.hosts.awaited.items self.new.hosts.awaited.items }
+        ensures awaits { IfOk result (IsNextAwaited self.new.hosts.awaited.items) }
+    {
         let target = match target_of(self.alloc, url.as_str()) {
             Ok(target) => target,
             Err(GetRefusal::Memory) => return Err(FaultKind::Memory),
@@ -236,7 +264,9 @@ impl UrlSource {
     }
 
     // The end of a window before a bad URL.
-    fn bad(&self, url: String) -> Next {
+    fn bad(&self, url: String) -> Next
+        ensures { IsNextAwaited self.now.hosts.awaited.items result }
+    {
         let number = self.lines.number();
         let line = if number == 0 { None } else { Some(number) };
         Next::End(Then::Bad(BadUrl { url, line }))
