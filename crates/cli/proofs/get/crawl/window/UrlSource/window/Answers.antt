@@ -17,5 +17,5 @@ loop-preserved g c =
           let one = subst (IsNextAwaited next.awaited.items) w.in-Job.is c.in_ok-given.ensures.awaits in
           rw (w.self-is, w.input-is, w.window-is, w.in_ok-add-in-Job.ensures) (c.loop.invariant.0, keeps, awaited_more next.awaited.items urls (numbered w.in-Job.given) all one)
       | in-Passed w ↦ rw (w.self-is, w.input-is, w.window-is) (c.loop.invariant.0, keeps, all)
-      | in-Unread+else-not-may_read+in_ok-read_on-in-Unread w ↦ rw (w.self-is, w.input-is, w.window-is) (w.in_ok-read_on-in-Unread.ensures, keeps, all)
+      | in-Unread+else-not-may_read+in_ok-read_on-in-Unread w ↦ rw (w.self-is, w.input-is, w.window-is) (w.in_ok-read_on-in-Unread.ensures.counts_on, keeps, all)
     ]
