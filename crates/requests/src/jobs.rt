@@ -1,12 +1,12 @@
 //! Jobs, and the line that says how a job ended.
 
-use cli::line_text;
 use client::Fetched;
 use conn_key::Target;
 use conn_log::Want;
-use exchange::Job;
+use exchange::{Done, Fault, Job};
 use persistence::Method;
 use script_text::DEFAULT_MAX_AGE;
+use std::alloc::{AllocError, Global};
 use std::io::Write;
 
 /// Makes a GET of the target, at the site with that index. It takes any idle connection.
@@ -26,8 +26,52 @@ pub(crate) fn job_of(site: u32, transfer: u64, target: Target) -> Job {
     }
 }
 
+/// Makes `count` jobs, of which job k asks for the path `/k` of 127.0.0.1, at the port with the index
+/// k modulo the number of ports.
+///
+/// # Errors
+///
+/// Memory ran out.
+pub(crate) fn jobs_at(alloc: Global, count: u32, ports: &[u16]) -> Result<Vec<Job>, AllocError> {
+    let mut jobs = Vec::new(alloc);
+    for (number, (site, port)) in (0..count).zip(ports.iter().enumerate().cycle()) {
+        let target = Target {
+            host: String::from_str(alloc, "127.0.0.1")?,
+            port: *port,
+            path: format!(in alloc; "/{number}")?,
+        };
+        jobs.push(job_of(site as u32, number as u64, target))?;
+    }
+    Ok(jobs)
+}
+
 /// Prints how a job ended, as `curlpool get` does for a URL. `None` if printing failed.
 pub(crate) fn print_line(rt: &HostRuntime, name: &str, fetched: Fetched) -> Option<()> {
-    let line = line_text(rt.alloc(), name, fetched).ok()?;
-    print!(rt; "{line}").ok()
+    let retried = if fetched.retried { " retried" } else { "" };
+    match fetched.done {
+        Done::Good(answer) => {
+            let status = answer.status;
+            let length = answer.body_len;
+            let reused = if answer.reused { "reused" } else { "new" };
+            println!(rt; "{status} {length} {reused}{retried} {name}").ok()
+        }
+        Done::Bad(fault) => {
+            let fault = name_of(fault);
+            println!(rt; "{fault}{retried} {name}").ok()
+        }
+    }
+}
+
+// The name of a fault.
+fn name_of(fault: Fault) -> &'static str {
+    match fault {
+        Fault::Memory => "Memory",
+        Fault::Dial => "Dial",
+        Fault::Read => "Read",
+        Fault::Write => "Write",
+        Fault::BadResponse => "BadResponse",
+        Fault::Cut => "Cut",
+        Fault::Refused(_) => "Refused",
+        Fault::Cancelled => "Cancelled",
+    }
 }

@@ -2,14 +2,14 @@
 
 mod task;
 
-use crate::jobs::print_line;
+use crate::addresses::sites_at;
+use crate::jobs::{jobs_at, print_line};
 use crate::loading::task::{Task, task_of};
 use crate::statuses::{BAD_WORDS, status_of};
 use crate::tally::Tally;
 use budget::Limits;
 use bundle::MOST_HOSTS;
 use cache_report::totals;
-use cli::{load_jobs, sites_at};
 use client::Fetched;
 use exchange::Done;
 use load_run::{Loaded, load};
@@ -50,7 +50,7 @@ fn loaded_by<R: Threads + Wait + RandomSource + AllocGlobal + Sync>(
     if sites.is_empty() || sites.len() > MOST_HOSTS as usize {
         return None;
     }
-    let jobs = load_jobs(alloc, task.jobs, &task.ports).ok()?;
+    let jobs = jobs_at(alloc, task.jobs, &task.ports).ok()?;
     load(threads, rt, alloc, limits, &sites, &jobs, task.workers).ok()
 }
 

@@ -21,8 +21,8 @@ use crate::many::load_many;
 use crate::soaking::soak;
 use crate::sockets::request_urls;
 use crate::statuses::{BAD_WORDS, FAILED, PASSED};
-use cli::{Words, given_words};
 use std::alloc::AllocGlobal;
+use std::env;
 use std::process::ExitCode;
 use std::random::RandomSource;
 use std::sync::Wait;
@@ -41,10 +41,12 @@ const USAGE: &str = "\
 const THEN: &str = "then";
 
 fn main(rt: HostRuntime) -> ExitCode {
-    let status = match given_words(&rt) {
-        Words::Given(words) => run_all(&rt, &rt, words.get(1..).unwrap_or(&[])),
-        Words::NotText => BAD_WORDS,
-        Words::NoMemory => FAILED,
+    let status = match env::args(&rt) {
+        Ok(words) => match words.collect::<Vec<String>>(rt.alloc()) {
+            Ok(words) => run_all(&rt, &rt, words.get(1..).unwrap_or(&[])),
+            Err(_) => FAILED,
+        },
+        Err(_) => BAD_WORDS,
     };
     if status == BAD_WORDS {
         let _ = eprint!(rt; "{USAGE}");

@@ -6,6 +6,7 @@ mod run_clock;
 mod task;
 mod tools;
 
+use crate::jobs::jobs_at;
 use crate::many::run_clock::RunClock;
 use crate::many::task::{Task, task_of};
 use crate::many::tools::{alarms_of, tools_of};
@@ -13,7 +14,6 @@ use crate::statuses::{BAD_WORDS, status_of};
 use crate::tally::Tally;
 use budget::Limits;
 use bundle::MOST_HOSTS;
-use cli::load_jobs;
 use driver::{Finished, ListedJobs, ManyReport, NotBegun, run_many};
 use exchange::Job;
 use run_loop::RunEnd;
@@ -54,7 +54,7 @@ fn done<R: Threads + Wait + RandomSource + AllocGlobal + Sync>(
     }
     let hosts = task.ports.len() as u32;
     let plan: Plan<PolledWire> = Plan::new(alloc, limits, hosts).ok()?;
-    let jobs = load_jobs(alloc, task.jobs, &task.ports).ok()?;
+    let jobs = jobs_at(alloc, task.jobs, &task.ports).ok()?;
     let clock = RunClock::new(rt)?;
     let (end, tally) = carried::<Brand, R>(threads, rt, task, plan, &jobs, &clock)?;
     let late = clock.late();
