@@ -22,9 +22,8 @@ from .programs import curlpool, run, tests_of, tool
 # the crates whose tests of allocation failures try the public calls that may be refused memory, and how many requests
 # are refused alone at least: all, but for a few of threads, which ask for some more or fewer each time
 CRATES = {
-    "budget_tests": 13, "bundle_tests": 151, "cache_tests": 85, "cli_tests": 283, "conn_key_tests": 63,
-    "conn_log_tests": 10, "exchange_tests": 137, "load_tests": 220, "persistence_tests": 1, "shared_cache_tests": 94,
-    "threads_tests": 1_300,
+    "bundle_tests": 151, "cache_tests": 85, "cli_tests": 503, "exchange_tests": 137, "foundation_tests": 87,
+    "threads_tests": 1_394,
 }
 # the status of words that are refused
 REFUSED_WORDS = 2

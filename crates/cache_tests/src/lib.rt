@@ -19,3 +19,5 @@ mod example;
 mod memory;
 #[cfg(test)]
 mod oldest_of_all;
+#[cfg(test)]
+mod slots;

@@ -16,6 +16,8 @@ mod limits;
 #[cfg(test)]
 mod load_rows;
 #[cfg(test)]
+mod load_sockets;
+#[cfg(test)]
 mod loads;
 #[cfg(test)]
 mod machine;

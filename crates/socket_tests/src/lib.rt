@@ -15,3 +15,5 @@ mod peer;
 mod readiness;
 #[cfg(test)]
 mod requests;
+#[cfg(test)]
+mod servers;

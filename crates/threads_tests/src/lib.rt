@@ -1,6 +1,9 @@
-//! Tests of what threads do over a shared cache: exchanges at desks, runs of jobs, and reports.
+//! Tests of shared caches, and of what threads do over them: exchanges at desks, runs of jobs, and
+//! reports.
 #![tactic(auto)]
 
+#[cfg(test)]
+mod caches;
 #[cfg(test)]
 mod desks;
 #[cfg(test)]

@@ -1,5 +1,0 @@
-use Rattle.std.proofs.Common.{◌≡◌}
-use Rattle.budget_tests.proofs.permits.hammer.Given as goal
-
-abbrev pub invariant-loop : goal.invariant-loop
-invariant-loop l = (l.seat.table ≡ l.initial.seat.table) × (l.seat.view.share ≡ l.initial.seat.view.share)

@@ -1,0 +1,8 @@
+//! Tests of `budget` and `job_counter`: threads that come and go, or draw jobs.
+
+mod claims;
+mod holders;
+mod memory;
+mod pass;
+mod permits;
+mod threads;

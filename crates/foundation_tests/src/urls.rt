@@ -1,0 +1,5 @@
+//! Tests of `conn_key`: targets and sites, and what finding a site costs.
+
+mod memory;
+mod sites;
+mod targets;

@@ -1,5 +1,0 @@
-use Rattle.std.proofs.Common.{length}
-use Rattle.held_pool_tests.proofs.tables.end.Given as goal
-
-abbrev pub decreases-loop-value : goal.decreases-loop-value
-decreases-loop-value l = length l.table.places.items

@@ -1,5 +1,0 @@
-use Rattle.std.proofs.Common.{length}
-use Rattle.shared_cache_tests.proofs.gathering.Passes.discard.Given as goal
-
-abbrev pub decreases-loop-pass : goal.decreases-loop-pass
-decreases-loop-pass g l = length l.list.items

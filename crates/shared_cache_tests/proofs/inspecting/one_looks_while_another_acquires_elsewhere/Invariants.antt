@@ -1,4 +1,0 @@
-use Rattle.shared_cache_tests.proofs.inspecting.one_looks_while_another_acquires_elsewhere.Given as goal
-
-abbrev pub ghosts-both : goal.ghosts-both
-ghosts-both g a = record { names = a.plan }

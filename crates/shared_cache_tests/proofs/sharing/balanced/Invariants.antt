@@ -1,4 +1,0 @@
-use Rattle.shared_cache_tests.proofs.sharing.balanced.Given as goal
-
-abbrev pub ghosts-share : goal.ghosts-share
-ghosts-share g a = record { names = a.plan }

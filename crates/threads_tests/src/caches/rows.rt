@@ -1,0 +1,396 @@
+//! What one thread sees of a shared cache, and no clause says: that calls succeed in ample memory,
+//! which connection is closed for room, what hosts that wait get, and how accounts are balanced.
+
+use crate::caches::desk::{Said, Stream, WANT};
+use crate::caches::keeper::{Row, Step, run_all};
+use budget::{Limits, Refusal};
+use conn_log::{Cause, Want};
+use shared_cache::Plan;
+use std::test::Fail;
+
+static ROWS: [Row; 22] = [
+    Row {
+        name: "one waits for the total, and passes are missing",
+        limits: (0, 1, 4),
+        hosts: 2,
+        steps: &[
+            (Step::Get(1, 0, 0), Said::Opened(1, 0)),
+            (Step::Get(2, 1, 1), Said::Waits),
+            (Step::Look(0), Said::Look(1, 0, 1, 0, false)),
+            (Step::Look(1), Said::Look(0, 0, 0, 1, true)),
+            (Step::Gather, Said::Refused(Refusal::Busy(2))),
+            (Step::Drop(1, 2), Said::Done),
+            (Step::Claim(2), Said::Opened(1, 2)),
+            (Step::Gather, Said::Refused(Refusal::Busy(1))),
+            (Step::Drop(2, 3), Said::Done),
+            (Step::Gather, Said::Refused(Refusal::PassesMissing)),
+        ],
+        account: Some((0, 0, &[(1, 0, 1, 0, 0), (1, 0, 1, 1, 0)])),
+    },
+    Row {
+        name: "a full cache closes the oldest first",
+        limits: (0, 0, 1),
+        hosts: 2,
+        steps: &[
+            (Step::Get(1, 0, 0), Said::Opened(1, 0)),
+            (Step::Get(2, 1, 0), Said::Opened(1, 0)),
+            (Step::Back(1, 4), Said::Done),
+            (Step::Back(2, 5), Said::Done),
+            (Step::Entry(0, 2), Said::Closed(5, 1, Cause::CacheFull)),
+        ],
+        account: Some((1, 1, &[(1, 0, 1, 0, 0), (1, 0, 0, 0, 1)])),
+    },
+    Row {
+        name: "who waits for the host leaves",
+        limits: (1, 0, 4),
+        hosts: 1,
+        steps: &[
+            (Step::Get(1, 0, 0), Said::Opened(1, 0)),
+            (Step::Get(2, 0, 0), Said::Waits),
+            (Step::Claim(2), Said::Still),
+            (Step::Leave(2, 1), Said::Left),
+            (Step::Back(1, 2), Said::Done),
+        ],
+        account: Some((1, 1, &[(1, 0, 0, 1, 1)])),
+    },
+    Row {
+        name: "a raised limit starts who waits",
+        limits: (1, 0, 4),
+        hosts: 1,
+        steps: &[
+            (Step::Get(1, 0, 0), Said::Opened(1, 0)),
+            (Step::Get(2, 0, 1), Said::Waits),
+            (Step::Get(3, 0, 2), Said::Waits),
+            (Step::Limit(2, 0, 5), Said::Done),
+            (Step::Look(0), Said::Look(2, 0, 2, 1, false)),
+            (Step::Claim(2), Said::Opened(2, 5)),
+            (Step::Limit(1, 0, 6), Said::Refused(Refusal::Busy(2))),
+            (Step::Back(1, 7), Said::Done),
+            (Step::Claim(3), Said::Reused(1, 7)),
+            (Step::Drop(2, 8), Said::Done),
+            (Step::Back(3, 9), Said::Done),
+        ],
+        account: Some((1, 1, &[(2, 1, 1, 2, 1)])),
+    },
+    // 0 is no limit
+    Row {
+        name: "a lowered limit closes the oldest of its host",
+        limits: (0, 0, 4),
+        hosts: 1,
+        steps: &[
+            (Step::Get(1, 0, 0), Said::Opened(1, 0)),
+            (Step::Get(2, 0, 0), Said::Opened(2, 0)),
+            (Step::Get(3, 0, 0), Said::Opened(3, 0)),
+            (Step::Back(1, 4), Said::Done),
+            (Step::Back(2, 5), Said::Done),
+            (Step::Limit(2, 0, 6), Said::Done),
+            (Step::Entry(0, 5), Said::Closed(6, 1, Cause::HostRoom)),
+            (Step::Limit(65_536, 0, 7), Said::Refused(Refusal::BadLimit)),
+            (Step::Look(0), Said::Look(2, 1, 1, 0, false)),
+            (Step::Limit(0, 0, 8), Said::Done),
+            (Step::Get(4, 0, 9), Said::Reused(2, 9)),
+            (Step::Get(5, 0, 9), Said::Opened(4, 9)),
+            (Step::Limit(2, 0, 9), Said::Refused(Refusal::Busy(3))),
+            (Step::Drop(3, 9), Said::Done),
+            (Step::Drop(4, 9), Said::Done),
+            (Step::Back(5, 9), Said::Done),
+        ],
+        account: Some((1, 1, &[(4, 1, 3, 0, 1)])),
+    },
+    // the connection of the other host makes room, as the only idle one
+    Row {
+        name: "a limit is raised, and the total has no room",
+        limits: (1, 2, 4),
+        hosts: 2,
+        steps: &[
+            (Step::Get(1, 0, 0), Said::Opened(1, 0)),
+            (Step::Get(2, 0, 1), Said::Waits),
+            (Step::Get(3, 1, 1), Said::Opened(1, 1)),
+            (Step::Limit(2, 0, 2), Said::Done),
+            (Step::Look(0), Said::Look(1, 0, 1, 1, true)),
+            (Step::Back(3, 3), Said::Done),
+            (Step::Entry(1, 2), Said::Closed(3, 1, Cause::TotalRoom)),
+            (Step::Claim(2), Said::Opened(2, 3)),
+            (Step::Drop(1, 4), Said::Done),
+            (Step::Drop(2, 4), Said::Done),
+        ],
+        account: Some((0, 0, &[(2, 0, 2, 1, 0), (1, 0, 1, 0, 0)])),
+    },
+    // the host is queued, and takes its turn at once
+    Row {
+        name: "a limit is raised beside an idle connection elsewhere",
+        limits: (1, 2, 4),
+        hosts: 2,
+        steps: &[
+            (Step::Get(1, 0, 0), Said::Opened(1, 0)),
+            (Step::Get(2, 0, 1), Said::Waits),
+            (Step::Get(3, 1, 1), Said::Opened(1, 1)),
+            (Step::Back(3, 2), Said::Done),
+            (Step::Limit(2, 0, 3), Said::Done),
+            (Step::Entry(1, 2), Said::Closed(3, 1, Cause::TotalRoom)),
+            (Step::Look(0), Said::Look(2, 0, 2, 0, false)),
+            (Step::Claim(2), Said::Opened(2, 3)),
+            (Step::Drop(1, 4), Said::Done),
+            (Step::Drop(2, 4), Said::Done),
+        ],
+        account: Some((0, 0, &[(2, 0, 2, 1, 0), (1, 0, 1, 0, 0)])),
+    },
+    Row {
+        name: "no call takes a site that is not there",
+        limits: (0, 0, 4),
+        hosts: 2,
+        steps: &[
+            (Step::Get(1, 2, 0), Said::Refused(Refusal::BadSite)),
+            (Step::Get(1, u32::MAX, 0), Said::Refused(Refusal::BadSite)),
+            (Step::Limit(1, 2, 0), Said::Refused(Refusal::BadSite)),
+            (Step::Limit(65_536, 2, 0), Said::Refused(Refusal::BadSite)),
+            (Step::Look(2), Said::Refused(Refusal::BadSite)),
+            (Step::Look(7), Said::Refused(Refusal::BadSite)),
+            (Step::Told(0), Said::Told(None, 0, 0)),
+            (Step::Told(1), Said::Told(None, 0, 0)),
+        ],
+        account: Some((0, 0, &[])),
+    },
+    Row {
+        name: "there may be no host",
+        limits: (0, 0, 4),
+        hosts: 0,
+        steps: &[
+            (Step::Get(1, 0, 0), Said::Refused(Refusal::BadSite)),
+            (Step::Look(0), Said::Refused(Refusal::BadSite)),
+            (Step::Prune(1, 0, 0), Said::Number(0)),
+        ],
+        account: Some((0, 0, &[])),
+    },
+    Row {
+        name: "what was spent with a pass that is given up is missing",
+        limits: (0, 0, 4),
+        hosts: 1,
+        steps: &[
+            (Step::Get(1, 0, 0), Said::Opened(1, 0)),
+            (Step::Back(1, 1), Said::Done),
+            (Step::Discard, Said::Done),
+            (Step::Told(0), Said::Told(None, 0, 0)),
+            (Step::Get(2, 0, 2), Said::Reused(1, 2)),
+            (Step::Drop(2, 3), Said::Done),
+            (Step::PutBy, Said::Done),
+            (Step::Gather, Said::Refused(Refusal::PassesMissing)),
+        ],
+        account: None,
+    },
+    Row {
+        name: "a pass with which nothing was spent may be given up",
+        limits: (0, 0, 4),
+        hosts: 1,
+        steps: &[
+            (Step::Get(1, 0, 0), Said::Opened(1, 0)),
+            (Step::Discard, Said::Done),
+            (Step::Drop(1, 1), Said::Done),
+        ],
+        account: Some((0, 0, &[(1, 0, 1, 0, 0)])),
+    },
+    Row {
+        name: "two passes add up",
+        limits: (0, 0, 4),
+        hosts: 1,
+        steps: &[
+            (Step::Get(1, 0, 0), Said::Opened(1, 0)),
+            (Step::Get(2, 0, 0), Said::Opened(2, 0)),
+            (Step::Back(1, 1), Said::Done),
+            (Step::PutBy, Said::Done),
+            (Step::Told(0), Said::Told(None, 0, 0)),
+            (Step::Back(2, 2), Said::Done),
+            (Step::Gather, Said::Refused(Refusal::PassesMissing)),
+        ],
+        account: Some((2, 2, &[(2, 0, 0, 0, 2)])),
+    },
+    // as long idle as the prune allows, and as long open
+    Row {
+        name: "a prune is of all hosts",
+        limits: (0, 0, 4),
+        hosts: 3,
+        steps: &[
+            (Step::Get(1, 0, 0), Said::Opened(1, 0)),
+            (Step::Get(2, 0, 0), Said::Opened(2, 0)),
+            (Step::Get(3, 2, 0), Said::Opened(1, 0)),
+            (Step::Back(1, 5), Said::Done),
+            (Step::Back(2, 9), Said::Done),
+            (Step::Back(3, 6), Said::Done),
+            (Step::Prune(9, 4, 9), Said::Number(0)),
+            (Step::Prune(10, 3, 0), Said::Number(2)),
+            (Step::Entry(0, 4), Said::Closed(10, 1, Cause::Pruned)),
+            (Step::Entry(2, 2), Said::Closed(10, 1, Cause::Pruned)),
+            (Step::Upkeep, Said::Number(0)),
+            (Step::Look(0), Said::Look(1, 1, 0, 0, false)),
+            (Step::Prune(10, 100, 9), Said::Number(1)),
+        ],
+        account: Some((0, 0, &[(2, 0, 2, 0, 0), (0, 0, 0, 0, 0), (1, 0, 1, 0, 0)])),
+    },
+    Row {
+        name: "the oldest of all makes room in the total",
+        limits: (0, 2, 4),
+        hosts: 3,
+        steps: &[
+            (Step::Get(1, 0, 0), Said::Opened(1, 0)),
+            (Step::Get(2, 1, 0), Said::Opened(1, 0)),
+            (Step::Back(2, 5), Said::Done),
+            (Step::Back(1, 6), Said::Done),
+            (Step::Get(3, 2, 7), Said::Opened(1, 7)),
+            (Step::Entry(1, 2), Said::Closed(7, 1, Cause::TotalRoom)),
+            (Step::Drop(3, 8), Said::Done),
+        ],
+        account: Some((1, 1, &[(1, 0, 0, 0, 1), (1, 0, 1, 0, 0), (1, 0, 1, 0, 0)])),
+    },
+    Row {
+        name: "of two that are as old that of the lower host makes room",
+        limits: (0, 2, 4),
+        hosts: 3,
+        steps: &[
+            (Step::Get(1, 0, 0), Said::Opened(1, 0)),
+            (Step::Get(2, 1, 0), Said::Opened(1, 0)),
+            (Step::Back(2, 5), Said::Done),
+            (Step::Back(1, 5), Said::Done),
+            (Step::Get(3, 2, 7), Said::Opened(1, 7)),
+            (Step::Entry(0, 2), Said::Closed(7, 1, Cause::TotalRoom)),
+            (Step::Drop(3, 8), Said::Done),
+        ],
+        account: Some((1, 1, &[(1, 0, 1, 0, 0), (1, 0, 0, 0, 1), (1, 0, 1, 0, 0)])),
+    },
+    Row {
+        name: "what comes back makes room for a host that waits",
+        limits: (0, 1, 4),
+        hosts: 2,
+        steps: &[
+            (Step::Get(1, 0, 0), Said::Opened(1, 0)),
+            (Step::Get(2, 1, 1), Said::Waits),
+            (Step::Look(1), Said::Look(0, 0, 0, 1, true)),
+            (Step::Back(1, 3), Said::Done),
+            (Step::Entry(0, 2), Said::Closed(3, 1, Cause::TotalRoom)),
+            (Step::Claim(2), Said::Opened(1, 3)),
+            (Step::Back(2, 4), Said::Done),
+        ],
+        account: Some((1, 1, &[(1, 0, 1, 0, 0), (1, 0, 0, 1, 1)])),
+    },
+    Row {
+        name: "a host that got a connection is served again after the others",
+        limits: (0, 2, 4),
+        hosts: 3,
+        steps: &[
+            (Step::Get(1, 0, 0), Said::Opened(1, 0)),
+            (Step::Get(2, 0, 0), Said::Opened(2, 0)),
+            (Step::Get(3, 1, 1), Said::Waits),
+            (Step::Get(4, 1, 2), Said::Waits),
+            (Step::Get(5, 2, 3), Said::Waits),
+            (Step::Drop(1, 4), Said::Done),
+            (Step::Drop(2, 5), Said::Done),
+            (Step::Claim(4), Said::Still),
+            (Step::Claim(5), Said::Opened(1, 5)),
+            (Step::Claim(3), Said::Opened(1, 4)),
+            (Step::Drop(5, 6), Said::Done),
+            (Step::Claim(4), Said::Opened(2, 6)),
+            (Step::Drop(3, 7), Said::Done),
+            (Step::Drop(4, 7), Said::Done),
+        ],
+        account: Some((0, 0, &[(2, 0, 2, 0, 0), (2, 0, 2, 2, 0), (1, 0, 1, 1, 0)])),
+    },
+    // what one at a host gives up goes to the next one there
+    Row {
+        name: "hosts that wait take turns",
+        limits: (0, 1, 4),
+        hosts: 3,
+        steps: &[
+            (Step::Get(1, 0, 0), Said::Opened(1, 0)),
+            (Step::Get(2, 1, 1), Said::Waits),
+            (Step::Get(3, 1, 2), Said::Waits),
+            (Step::Get(4, 2, 3), Said::Waits),
+            (Step::Drop(1, 5), Said::Done),
+            (Step::Leave(2, 6), Said::Withdrawn(1)),
+            (Step::Leave(3, 7), Said::Withdrawn(2)),
+            (Step::Claim(4), Said::Opened(1, 7)),
+            (Step::Drop(4, 8), Said::Done),
+        ],
+        account: Some((0, 0, &[(1, 0, 1, 0, 0), (2, 0, 2, 2, 0), (1, 0, 1, 1, 0)])),
+    },
+    Row {
+        name: "a full cache closes the oldest of all",
+        limits: (0, 0, 2),
+        hosts: 3,
+        steps: &[
+            (Step::Get(1, 0, 0), Said::Opened(1, 0)),
+            (Step::Get(2, 1, 0), Said::Opened(1, 0)),
+            (Step::Get(3, 2, 0), Said::Opened(1, 0)),
+            (Step::Back(2, 4), Said::Done),
+            (Step::Back(1, 5), Said::Done),
+            (Step::Back(3, 6), Said::Done),
+            (Step::Entry(1, 2), Said::Closed(6, 1, Cause::CacheFull)),
+        ],
+        account: Some((2, 2, &[(1, 0, 0, 0, 1), (1, 0, 1, 0, 0), (1, 0, 0, 0, 1)])),
+    },
+    Row {
+        name: "a connection fits that is idle as long as its transfer allows, and no longer",
+        limits: (0, 0, 4),
+        hosts: 1,
+        steps: &[
+            (Step::Get(1, 0, 0), Said::Opened(1, 0)),
+            (Step::Back(1, 10), Said::Done),
+            (Step::Get(2, 0, 128), Said::Reused(1, 128)),
+            (Step::Back(2, 128), Said::Done),
+            (Step::Get(3, 0, 247), Said::Opened(2, 247)),
+            (Step::Entry(0, 4), Said::Closed(247, 1, Cause::TooOld)),
+            (Step::Drop(3, 248), Said::Done),
+        ],
+        account: Some((0, 0, &[(2, 1, 2, 0, 0)])),
+    },
+    Row {
+        name: "what may not be leased again is closed",
+        limits: (0, 0, 4),
+        hosts: 1,
+        steps: &[
+            (Step::Ask(FORBIDS, 0, 0), Said::Opened(1, 0)),
+            (Step::Back(9, 1), Said::Done),
+            (Step::Entry(0, 2), Said::Closed(1, 1, Cause::Forbidden)),
+            (Step::Get(2, 0, 2), Said::Opened(2, 2)),
+            (Step::BackToClose(2, 3), Said::Done),
+            (Step::Entry(0, 5), Said::Closed(3, 2, Cause::NotPersistent)),
+        ],
+        account: Some((0, 0, &[(2, 0, 2, 0, 0)])),
+    },
+    Row {
+        name: "there may be 1,024 hosts",
+        limits: (0, 0, 4),
+        hosts: 1_024,
+        steps: &[
+            (Step::Get(1, 1_024, 0), Said::Refused(Refusal::BadSite)),
+            (Step::Look(1_024), Said::Refused(Refusal::BadSite)),
+            (Step::Look(1_023), Said::Look(0, 0, 0, 0, false)),
+            (Step::Prune(1, 0, 0), Said::Number(0)),
+        ],
+        account: Some((0, 0, &[])),
+    },
+];
+
+/// What transfer 9 wants, whose connection is not leased again.
+const FORBIDS: Want = Want {
+    transfer: 9,
+    forbid_reuse: true,
+    ..WANT
+};
+
+#[test]
+fn one_thread_sees_that(rt: HostRuntime) {
+    run_all(&rt, rt.alloc(), &ROWS);
+}
+
+#[test]
+fn a_plan_is_for_1024_hosts_at_most(rt: HostRuntime) -> Result<(), Fail> {
+    let limits = Limits::new(0, 0, 4)?;
+    for &(hosts, expected) in &[
+        (0, Ok(0)),
+        (1_024, Ok(1_024)),
+        (1_025, Err(Refusal::BadSite)),
+    ] {
+        let made: Result<Plan<Stream>, Refusal> = Plan::new(rt.alloc(), limits, hosts);
+        assert_eq!(rt; made.map(|plan| plan.hosts()), expected);
+    }
+    Ok(())
+}
