@@ -4,7 +4,6 @@ ghost use Rattle.std.specs.Prelude.{◌≡◌};
 
 use crate::desk::{KEEP, want_of};
 use host_state::{Returned, State};
-use std::test::Fail;
 
 // How often it comes back.
 const ROUNDS: u64 = 8;
@@ -24,7 +23,7 @@ fn is_leased_at_once(state: &mut State<u32>, number: u32, transfer: u64, next: u
 }
 
 #[test]
-fn what_came_back_last_is_leased_at_once(rt: HostRuntime) -> Result<(), Fail> {
+fn what_came_back_last_is_leased_at_once(rt: HostRuntime) {
     let Ok(mut state) = State::new(rt.alloc(), 4, 0, 1) else {
         panic!(rt; "no memory");
     };
@@ -39,5 +38,4 @@ fn what_came_back_last_is_leased_at_once(rt: HostRuntime) -> Result<(), Fail> {
         }
     }
     assert_eq!(rt; leased, ROUNDS);
-    Ok(())
 }

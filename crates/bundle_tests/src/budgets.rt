@@ -5,7 +5,6 @@ use crate::desk::{Desk, WANT};
 use crate::keeper::{Row, Said, Step, run};
 use budget::{Refusal, Try};
 use conn_log::{Cause, Want};
-use std::test::Fail;
 
 // Wants of another lane, which no connection of lane 0 fits.
 const OTHER_LANE: Want = Want {
@@ -32,7 +31,7 @@ const OF_AGE: Want = Want {
 };
 
 // What the total limits, at two hosts.
-const TOTALS: [Row; 8] = [
+static TOTALS: [Row; 8] = [
     (
         "two hosts share one connection",
         (0, 1, 4),
@@ -202,7 +201,7 @@ const TOTALS: [Row; 8] = [
 ];
 
 // What the number of those that are kept limits, and what ends for its age.
-const KEPT: [Row; 6] = [
+static KEPT: [Row; 6] = [
     (
         "the oldest goes where no more are kept",
         (0, 0, 1),
@@ -324,21 +323,19 @@ const KEPT: [Row; 6] = [
 ];
 
 #[test]
-fn two_hosts_share_the_total_so(rt: HostRuntime) -> Result<(), Fail> {
+fn two_hosts_share_the_total_so(rt: HostRuntime) {
     for row in &TOTALS {
         let (name, limits, first, steps) = *row;
-        let desk = Desk::new(rt.alloc(), limits, first)?;
+        let desk = Desk::new(rt.alloc(), limits, first).expect(&rt, "memory");
         run(&rt, rt.alloc(), desk, name, steps);
     }
-    Ok(())
 }
 
 #[test]
-fn a_host_keeps_so_many_so_long(rt: HostRuntime) -> Result<(), Fail> {
+fn a_host_keeps_so_many_so_long(rt: HostRuntime) {
     for row in &KEPT {
         let (name, limits, first, steps) = *row;
-        let desk = Desk::new(rt.alloc(), limits, first)?;
+        let desk = Desk::new(rt.alloc(), limits, first).expect(&rt, "memory");
         run(&rt, rt.alloc(), desk, name, steps);
     }
-    Ok(())
 }

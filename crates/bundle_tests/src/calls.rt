@@ -11,7 +11,6 @@ use crate::keeper::{Row, Said, Step, run};
 use budget::Refusal;
 use bundle::Lease;
 use conn_log::{Cause, Want};
-use std::test::Fail;
 
 // What transfer 2 wants that a connection of lane 0 does not fit 9 seconds after it was opened.
 const OTHER_LANE: Want = Want {
@@ -34,7 +33,7 @@ const YOUNG: Want = Want {
 
 const YOUNG_OF_OTHER_LANE: Want = Want { lane: 1, ..YOUNG };
 
-const CALLS: [Row; 13] = [
+static CALLS: [Row; 13] = [
     // both come back in one moment: the greater number is the newer one
     (
         "the first comes back first",
@@ -234,7 +233,7 @@ const CALLS: [Row; 13] = [
 ];
 
 // Each of them, with the cause for which the connection is closed.
-const UNFIT: [Row; 4] = [
+static UNFIT: [Row; 4] = [
     (
         "another lane",
         (1, 0, 65_535),
@@ -290,29 +289,27 @@ const UNFIT: [Row; 4] = [
 ];
 
 #[test]
-fn calls_are_answered_so(rt: HostRuntime) -> Result<(), Fail> {
+fn calls_are_answered_so(rt: HostRuntime) {
     for row in &CALLS {
         let (name, limits, first, steps) = *row;
-        let desk = Desk::new(rt.alloc(), limits, first)?;
+        let desk = Desk::new(rt.alloc(), limits, first).expect(&rt, "memory");
         run(&rt, rt.alloc(), desk, name, steps);
     }
-    Ok(())
 }
 
 #[test]
-fn what_does_not_fit_the_first_that_waits_is_closed(rt: HostRuntime) -> Result<(), Fail> {
+fn what_does_not_fit_the_first_that_waits_is_closed(rt: HostRuntime) {
     for row in &UNFIT {
         let (name, limits, first, steps) = *row;
-        let desk = Desk::new(rt.alloc(), limits, first)?;
+        let desk = Desk::new(rt.alloc(), limits, first).expect(&rt, "memory");
         run(&rt, rt.alloc(), desk, name, steps);
     }
-    Ok(())
 }
 
 #[test]
-fn a_ticket_may_be_a_stranger(rt: HostRuntime) -> Result<(), Fail> {
-    let mut here = Desk::of_host(rt.alloc(), 1, 1)?;
-    let mut there = Desk::of_host(rt.alloc(), 1, 1)?;
+fn a_ticket_may_be_a_stranger(rt: HostRuntime) {
+    let mut here = Desk::of_host(rt.alloc(), 1, 1).expect(&rt, "memory");
+    let mut there = Desk::of_host(rt.alloc(), 1, 1).expect(&rt, "memory");
     let holder_here = leased(&rt, &mut here, 1, 0);
     let holder_there = leased(&rt, &mut there, 1, 0);
     let ticket = waits(&rt, &mut here, 2, 1);
@@ -334,7 +331,6 @@ fn a_ticket_may_be_a_stranger(rt: HostRuntime) -> Result<(), Fail> {
     give_back(&rt, &mut here, holder_here, 2);
     leave(&rt, &mut there, other, 2);
     give_back(&rt, &mut there, holder_there, 2);
-    Ok(())
 }
 
 // Writes through the stream that the lease may have.
@@ -348,8 +344,8 @@ fn put_stream(lease: &mut Lease<Stream>, stream: Stream)
 }
 
 #[test]
-fn a_lease_lends_its_stream(rt: HostRuntime) -> Result<(), Fail> {
-    let mut desk = Desk::of_host(rt.alloc(), 1, 1)?;
+fn a_lease_lends_its_stream(rt: HostRuntime) {
+    let mut desk = Desk::of_host(rt.alloc(), 1, 1).expect(&rt, "memory");
     let mut lease = lease_of(&rt, asked(&rt, &mut desk, want_of(1), 0));
     assert_eq!(rt; stream_of(&mut lease), None);
     lease.attach(Stream(1));
@@ -365,5 +361,4 @@ fn a_lease_lends_its_stream(rt: HostRuntime) -> Result<(), Fail> {
         stream_under(&rt, &mut desk, again, 6),
         (1, Some(Stream(9)))
     );
-    Ok(())
 }

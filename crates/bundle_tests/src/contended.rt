@@ -13,7 +13,6 @@ use bundle::{Asker, Back, Booking, Bundle, Changed, Did, Got, Lease, Served, Tic
 use std::alloc::Global;
 use std::marker::Model;
 use std::process::Abort;
-use std::test::Fail;
 
 // A part of a budget that answers what it is told to; only where it may is a permit given.
 #[derive(Drop)]
@@ -278,9 +277,9 @@ impl ToldHost {
 }
 
 #[test]
-fn an_acquire_is_tried_again(rt: HostRuntime) -> Result<(), Fail> {
-    let mut host = ToldHost::new(rt.alloc(), 4, Try::Contended)?;
-    let got = host.acquire(1, 0)?;
+fn an_acquire_is_tried_again(rt: HostRuntime) {
+    let mut host = ToldHost::new(rt.alloc(), 4, Try::Contended).expect(&rt, "memory");
+    let got = host.acquire(1, 0).expect(&rt, "memory");
     let booking = again_of(&rt, got);
     let booking = again_of(&rt, host.retry(&rt, booking, 1));
     let booking = again_of(&rt, host.retry_at_last(&rt, booking, 2));
@@ -291,14 +290,13 @@ fn an_acquire_is_tried_again(rt: HostRuntime) -> Result<(), Fail> {
     assert_eq!(rt; (lease.moment(), host.held().alive), (3, 1));
     assert_eq!(rt; host.abandon(&rt, lease, 4), true);
     assert_eq!(rt; host.held(), Held { alive: 0, kept: 0 });
-    Ok(())
 }
 
 #[test]
-fn a_give_back_comes_again(rt: HostRuntime) -> Result<(), Fail> {
+fn a_give_back_comes_again(rt: HostRuntime) {
     for &close_if_full in &[true, false] {
-        let mut host = ToldHost::new(rt.alloc(), 4, Try::Got)?;
-        let got = host.acquire(1, 0)?;
+        let mut host = ToldHost::new(rt.alloc(), 4, Try::Got).expect(&rt, "memory");
+        let got = host.acquire(1, 0).expect(&rt, "memory");
         let mut lease = lease_of(&rt, got);
         attach_new(&mut lease);
         host.answer(Try::Contended);
@@ -315,13 +313,12 @@ fn a_give_back_comes_again(rt: HostRuntime) -> Result<(), Fail> {
         assert_eq!(rt; host.held(), Held { alive: 1, kept: 1 });
         assert_eq!(rt; host.told(), (2, 1));
     }
-    Ok(())
 }
 
 #[test]
-fn a_turn_and_a_new_limit_come_again(rt: HostRuntime) -> Result<(), Fail> {
-    let mut host = ToldHost::new(rt.alloc(), 1, Try::Full)?;
-    let got = host.acquire(1, 0)?;
+fn a_turn_and_a_new_limit_come_again(rt: HostRuntime) {
+    let mut host = ToldHost::new(rt.alloc(), 1, Try::Full).expect(&rt, "memory");
+    let got = host.acquire(1, 0).expect(&rt, "memory");
     let booking = booking_of(&rt, got);
     let first = ticket_of(&rt, host.retry_at_last(&rt, booking, 0));
     host.answer(Try::Contended);
@@ -346,14 +343,13 @@ fn a_turn_and_a_new_limit_come_again(rt: HostRuntime) -> Result<(), Fail> {
     host.withdraw(&rt, first, 9);
     host.withdraw(&rt, second, 9);
     assert_eq!(rt; host.held(), Held { alive: 0, kept: 0 });
-    Ok(())
 }
 
 #[test]
-fn a_booking_is_tried_again_at_its_own_host(rt: HostRuntime) -> Result<(), Fail> {
-    let mut host = ToldHost::new(rt.alloc(), 4, Try::Contended)?;
-    let other = ToldHost::new(rt.alloc(), 4, Try::Got)?;
-    let got = host.acquire(1, 0)?;
+fn a_booking_is_tried_again_at_its_own_host(rt: HostRuntime) {
+    let mut host = ToldHost::new(rt.alloc(), 4, Try::Contended).expect(&rt, "memory");
+    let other = ToldHost::new(rt.alloc(), 4, Try::Got).expect(&rt, "memory");
+    let got = host.acquire(1, 0).expect(&rt, "memory");
     let booking = again_of(&rt, got);
     assert!(rt; host.bundle.has_booked(&booking));
     if other.bundle.has_booked(&booking) {
@@ -367,5 +363,4 @@ fn a_booking_is_tried_again_at_its_own_host(rt: HostRuntime) -> Result<(), Fail>
     let lease = lease_of(&rt, host.retry(&rt, booking, 2));
     assert_eq!(rt; (lease.transfer(), lease.moment()), (1, 2));
     assert_eq!(rt; host.abandon(&rt, lease, 3), true);
-    Ok(())
 }

@@ -6,7 +6,6 @@ use crate::desk::{Desk, KEEP, Stream, WANT, asked, drop_lease, give_back, lease_
 use budget::Refusal;
 use conn_log::{Counts, Entry, Event, Want, holder, idle_oldest, open_count, waiting_len};
 use std::process::Abort;
-use std::test::Fail;
 
 /// What is handed out; where memory runs out nothing changes, and it comes the second time.
 pub(crate) fn cut_at_last(rt: &impl Abort, desk: &mut Desk<Stream>) -> Vec<Entry>
@@ -27,8 +26,8 @@ pub(crate) fn cut_at_last(rt: &impl Abort, desk: &mut Desk<Stream>) -> Vec<Entry
 
 // A connection is used, its host's log is cut, and it is used again.
 #[test]
-fn a_host_goes_on_after_a_cut(rt: HostRuntime) -> Result<(), Fail> {
-    let mut desk = Desk::of_host(rt.alloc(), 4, 1)?;
+fn a_host_goes_on_after_a_cut(rt: HostRuntime) {
+    let mut desk = Desk::of_host(rt.alloc(), 4, 1).expect(&rt, "memory");
     let first = leased(&rt, &mut desk, 1, 0);
     give_back(&rt, &mut desk, first, 5);
     let part = cut_at_last(&rt, &mut desk);
@@ -71,5 +70,4 @@ fn a_host_goes_on_after_a_cut(rt: HostRuntime) -> Result<(), Fail> {
     assert_eq!(rt; (part.len(), part.first().copied()), (1, Some(leased)));
     assert!(rt; cut_at_last(&rt, &mut desk).is_empty());
     drop_lease(&rt, &mut desk, lease, 6);
-    Ok(())
 }

@@ -125,17 +125,25 @@ impl<S: Drop> Desk<S> {
         let Ok(limits) = Limits::new(host, total, connects) else {
             return Err(Refusal::BadLimit);
         };
-        let parts = new_parts(alloc, limits, hosts, two, first.max(1))?;
-        let (mut bundle, mut other, budget, lobby, mut pass) = parts;
-        bundle.enrol(&mut pass);
-        other.enrol(&mut pass);
-        Ok(Desk {
-            bundle,
-            other,
-            budget,
-            lobby,
-            pass,
-        })
+        let shared = new_shared(alloc, limits, hosts)?;
+        let (budget, lobby, mut pass) = shared;
+        match new_hosts(alloc, limits.host(), two, first.max(1)) {
+            Ok((mut bundle, mut other)) => {
+                bundle.enrol(&mut pass);
+                other.enrol(&mut pass);
+                Ok(Desk {
+                    bundle,
+                    other,
+                    budget,
+                    lobby,
+                    pass,
+                })
+            }
+            Err(refusal) => {
+                pass.discard();
+                Err(refusal)
+            }
+        }
     }
 
     /// Cuts the host's log.
@@ -293,28 +301,6 @@ impl<S: Drop> Desk<S> {
         self.bundle
             .set_host_limit(limit, now, &mut permits, lobby, pass)
     }
-}
-
-// Two hosts without connections, the budget and the lobby of so many, and a pass without a seat.
-type Parts<S> = (Bundle<S>, Bundle<S>, PlainBudget, Lobby, Pass<Did>);
-
-fn new_parts<S: Drop>(
-    alloc: Global,
-    limits: Limits,
-    hosts: u32,
-    two: (u32, u32),
-    first: u32,
-) -> Result<Parts<S>, Refusal>
-    requires { 0 < first }
-    ensures here { IfOk result (λ made. IsNewHost limits.host two.0 first made.0) }
-    ensures there { IfOk result (λ made. IsNewHost limits.host two.1 first made.1) }
-    ensures budget { IfOk result (λ made. made.2 ≡ nothing_held limits hosts) }
-    ensures lobby { IfOk result (λ made. made.3 ≡ record { hosts = hosts; order = [] }) }
-    ensures pass { IfOk result (λ made. made.4 ≡ replicate hosts vacant) }
-{
-    let (bundle, other) = new_hosts(alloc, limits.host(), two, first)?;
-    let (budget, lobby, pass) = new_shared(alloc, limits, hosts)?;
-    Ok((bundle, other, budget, lobby, pass))
 }
 
 // Two hosts without connections.

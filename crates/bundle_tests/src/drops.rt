@@ -8,7 +8,6 @@ use bundle::Lease;
 use conn_log::Want;
 use std::cell::Cell;
 use std::process::Abort;
-use std::test::Fail;
 
 // A stream that counts its end.
 struct Counted<'a>(&'a Cell<u32>);
@@ -45,33 +44,37 @@ fn give_back<'a>(rt: &impl Abort, desk: &mut Desk<Counted<'a>>, lease: Lease<Cou
     spent(rt, desk.give_back(rt, lease, KEEP, now, false));
 }
 
+// So many streams were dropped.
+fn check_ends(rt: &impl Abort, ends: &Cell<u32>, expected: u32) {
+    assert_eq!(rt; ends.get(), expected);
+}
+
 #[test]
-fn each_closing_drops_one_stream(rt: HostRuntime) -> Result<(), Fail> {
+fn each_closing_drops_one_stream(rt: HostRuntime) {
     let ends = Cell::new(0);
-    let mut desk = Desk::new(rt.alloc(), (3, 0, 4), 1)?;
+    let mut desk = Desk::new(rt.alloc(), (3, 0, 4), 1).expect(&rt, "memory");
     let first = leased(&rt, &mut desk, want_of(1), 0, &ends);
     let second = leased(&rt, &mut desk, want_of(2), 0, &ends);
     let third = leased(&rt, &mut desk, want_of(3), 0, &ends);
     give_back(&rt, &mut desk, first, 1);
     give_back(&rt, &mut desk, second, 2);
-    assert_eq!(rt; ends.get(), 0);
+    check_ends(&rt, &ends, 0);
     // a lease that is dropped, one idle for room, one too old, one above a limit
     accept(&rt, desk.abandon(third, 3));
-    assert_eq!(rt; ends.get(), 1);
+    check_ends(&rt, &ends, 1);
     let again = leased(&rt, &mut desk, want_of(4), 4, &ends);
     give_back(&rt, &mut desk, again, 5);
-    assert_eq!(rt; ends.get(), 1);
+    check_ends(&rt, &ends, 1);
     assert_eq!(rt; desk.set_host_limit(2, 6).is_ok(), true);
     let fresh = Want {
         fresh: true,
         ..want_of(5)
     };
     let fresh = leased(&rt, &mut desk, fresh, 7, &ends);
-    assert_eq!(rt; ends.get(), 2);
+    check_ends(&rt, &ends, 2);
     assert_eq!(rt; desk.set_host_limit(1, 8).is_ok(), true);
-    assert_eq!(rt; ends.get(), 3);
+    check_ends(&rt, &ends, 3);
     give_back(&rt, &mut desk, fresh, 9);
     assert_eq!(rt; desk.prune(20, 10, 0), 1);
-    assert_eq!(rt; ends.get(), 4);
-    Ok(())
+    check_ends(&rt, &ends, 4);
 }

@@ -3,9 +3,8 @@
 use crate::desk::Desk;
 use crate::keeper::{Row, Said, Step, run};
 use budget::{Refusal, Try};
-use std::test::Fail;
 
-const ROWS: [Row; 2] = [
+static ROWS: [Row; 2] = [
     (
         "one host under another's total",
         (0, 1, 4),
@@ -38,11 +37,10 @@ const ROWS: [Row; 2] = [
 ];
 
 #[test]
-fn the_first_two_hosts_do_so(rt: HostRuntime) -> Result<(), Fail> {
+fn the_first_two_hosts_do_so(rt: HostRuntime) {
     for row in &ROWS {
         let (name, limits, first, steps) = *row;
-        let desk = Desk::of_two(rt.alloc(), limits, first, 3, (0, 1))?;
+        let desk = Desk::of_two(rt.alloc(), limits, first, 3, (0, 1)).expect(&rt, "memory");
         run(&rt, rt.alloc(), desk, name, steps);
     }
-    Ok(())
 }

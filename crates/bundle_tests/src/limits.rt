@@ -5,9 +5,8 @@ use crate::desk::Desk;
 use crate::keeper::{Row, Said, Step, run};
 use budget::{Refusal, Try};
 use conn_log::Cause;
-use std::test::Fail;
 
-const ROWS: [Row; 9] = [
+static ROWS: [Row; 9] = [
     (
         "a raised limit starts who waits",
         (1, 0, 4),
@@ -178,11 +177,10 @@ const ROWS: [Row; 9] = [
 ];
 
 #[test]
-fn a_change_of_the_limit_comes_to_that(rt: HostRuntime) -> Result<(), Fail> {
+fn a_change_of_the_limit_comes_to_that(rt: HostRuntime) {
     for row in &ROWS {
         let (name, limits, first, steps) = *row;
-        let desk = Desk::new(rt.alloc(), limits, first)?;
+        let desk = Desk::new(rt.alloc(), limits, first).expect(&rt, "memory");
         run(&rt, rt.alloc(), desk, name, steps);
     }
-    Ok(())
 }

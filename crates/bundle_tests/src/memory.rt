@@ -12,51 +12,67 @@ use crate::desk::{
     ticket_of, told, told_at_turn, want_of,
 };
 use budget::{Pass, Refusal, Try};
-use bundle::{Booking, Bundle, Changed, Got, Lease, Shortage, Ticket};
+use bundle::{Booking, Bundle, Changed, Did, Got, Lease, Shortage, Snapshot, Ticket};
 use conn_log::{Stamp, Want};
 use std::alloc::Global;
 use std::process::Abort;
-use std::test::Fail;
 
 // A desk under those limits; where memory is refused once, it comes the second time.
-fn new_at_last(
-    rt: &impl Abort,
-    alloc: Global,
-    limits: (u32, u32, u32),
-) -> Result<Desk<Stream>, Refusal> {
+fn new_at_last(rt: &impl Abort, alloc: Global, limits: (u32, u32, u32)) -> Desk<Stream> {
     match Desk::new(alloc, limits, 1) {
-        Ok(desk) => Ok(desk),
+        Ok(desk) => desk,
         Err(refusal) => {
             assert_eq!(rt; refusal, Refusal::Memory);
-            Desk::new(alloc, limits, 1)
+            Desk::new(alloc, limits, 1).expect(rt, "memory")
         }
     }
 }
 
 #[test]
-fn want_of_memory_refuses_a_new_host_and_a_new_pass(rt: HostRuntime) -> Result<(), Fail> {
+fn want_of_memory_refuses_a_new_host(rt: HostRuntime) {
     let made: Result<Bundle<Stream>, Refusal> = Bundle::new(rt.alloc(), 4, 7, 1);
-    let mut bundle = match made {
+    let bundle = match made {
         Ok(bundle) => bundle,
         Err(refusal) => {
             assert_eq!(rt; refusal, Refusal::Memory);
-            Bundle::new(rt.alloc(), 4, 7, 1)?
+            Bundle::new(rt.alloc(), 4, 7, 1).expect(&rt, "memory")
         }
     };
     assert_eq!(rt; (bundle.host(), bundle.log().len()), (7, 0));
+}
+
+#[test]
+fn want_of_memory_refuses_a_new_pass(rt: HostRuntime) {
     let mut pass = match Pass::new(rt.alloc(), 8) {
         Ok(pass) => pass,
         Err(refusal) => {
             assert_eq!(rt; refusal, Refusal::Memory);
-            Pass::new(rt.alloc(), 8)?
+            Pass::new(rt.alloc(), 8).expect(&rt, "memory")
         }
     };
     // a seat takes no memory
-    bundle.enrol(&mut pass);
-    assert_eq!(rt; (pass.is_enrolled(7), pass.is_enrolled(0)), (true, false));
+    if let Ok(mut bundle) = Bundle::<Stream>::new(rt.alloc(), 4, 7, 1) {
+        bundle.enrol(&mut pass);
+        assert_eq!(rt; (pass.is_enrolled(7), pass.is_enrolled(0)), (true, false));
+    }
     assert_eq!(rt; (pass.spent(7), pass.calls(7)), (0, 0));
     pass.discard();
-    Ok(())
+}
+
+// What a desk shows of its host, and what its pass remembers.
+type Shown = (usize, Snapshot, (Option<Did>, u64, u64));
+
+fn shown(rt: &impl Abort, desk: &Desk<Stream>) -> Shown {
+    (
+        desk.bundle.log().len(),
+        desk.bundle.look(),
+        told(rt, desk, 7),
+    )
+}
+
+// A call was refused for want of memory, and changed nothing.
+fn check_refused(rt: &impl Abort, desk: &Desk<Stream>, refusal: Refusal, before: Shown) {
+    assert_eq!(rt; (refusal, shown(rt, desk)), (Refusal::Memory, before));
 }
 
 // What an acquire gives; where memory runs out it changes nothing, and comes again.
@@ -64,16 +80,11 @@ fn asked_at_last(rt: &impl Abort, desk: &mut Desk<Stream>, want: Want) -> Got<St
     ensures made_here { GivesLease result (IsMadeAt desk.old.here) }
     ensures same { desk.new ≡ desk.old }
 {
-    let entries = desk.bundle.log().len();
-    let before = desk.bundle.look();
-    let remembered = told(rt, desk, 7);
+    let before = shown(rt, desk);
     match desk.acquire(want, 0) {
         Ok(got) => got,
         Err(refusal) => {
-            assert_eq!(rt; refusal, Refusal::Memory);
-            assert_eq!(rt; desk.bundle.log().len(), entries);
-            assert_eq!(rt; desk.bundle.look(), before);
-            assert_eq!(rt; told(rt, desk, 7), remembered);
+            check_refused(rt, desk, refusal, before);
             desk.acquire(want, 0).expect(rt, "an answer")
         }
     }
@@ -95,8 +106,8 @@ fn waits_at_last(rt: &impl Abort, desk: &mut Desk<Stream>, transfer: u64) -> Tic
 }
 
 #[test]
-fn want_of_memory_refuses_an_acquire(rt: HostRuntime) -> Result<(), Fail> {
-    let mut desk = new_at_last(&rt, rt.alloc(), (40, 0, 40))?;
+fn want_of_memory_refuses_an_acquire(rt: HostRuntime) {
+    let mut desk = new_at_last(&rt, rt.alloc(), (40, 0, 40));
     for transfer in 0..40 {
         let lease = leased_at_last(&rt, &mut desk, transfer);
         give_back(&rt, &mut desk, lease, 0);
@@ -105,12 +116,11 @@ fn want_of_memory_refuses_an_acquire(rt: HostRuntime) -> Result<(), Fail> {
         drop_lease(&rt, &mut desk, again, 0);
     }
     assert_eq!(rt; desk.bundle.log().len(), 160);
-    Ok(())
 }
 
 #[test]
-fn want_of_memory_refuses_a_wait(rt: HostRuntime) -> Result<(), Fail> {
-    let mut desk = new_at_last(&rt, rt.alloc(), (1, 0, 4))?;
+fn want_of_memory_refuses_a_wait(rt: HostRuntime) {
+    let mut desk = new_at_last(&rt, rt.alloc(), (1, 0, 4));
     let lease = leased_at_last(&rt, &mut desk, 1);
     let first = waits_at_last(&rt, &mut desk, 2);
     let second = waits_at_last(&rt, &mut desk, 3);
@@ -123,12 +133,11 @@ fn want_of_memory_refuses_a_wait(rt: HostRuntime) -> Result<(), Fail> {
     leave(&rt, &mut desk, second, 0);
     drop_lease(&rt, &mut desk, served, 0);
     assert_eq!(rt; desk.bundle.log().len(), 79);
-    Ok(())
 }
 
 #[test]
-fn want_of_memory_leaves_no_booking(rt: HostRuntime) -> Result<(), Fail> {
-    let mut desk = new_at_last(&rt, rt.alloc(), (0, 1, 4))?;
+fn want_of_memory_leaves_no_booking(rt: HostRuntime) {
+    let mut desk = new_at_last(&rt, rt.alloc(), (0, 1, 4));
     let lease = leased_at_last(&rt, &mut desk, 1);
     for transfer in 2..40 {
         let booking = booking_of(&rt, asked_at_last(&rt, &mut desk, want_of(transfer)));
@@ -140,41 +149,34 @@ fn want_of_memory_leaves_no_booking(rt: HostRuntime) -> Result<(), Fail> {
     }
     drop_lease(&rt, &mut desk, lease, 0);
     assert_eq!(rt; desk.bundle.log().len(), 78);
-    Ok(())
 }
 
 #[test]
-fn want_of_memory_refuses_a_cut(rt: HostRuntime) -> Result<(), Fail> {
-    let mut desk = new_at_last(&rt, rt.alloc(), (4, 0, 4))?;
+fn want_of_memory_refuses_a_cut(rt: HostRuntime) {
+    let mut desk = new_at_last(&rt, rt.alloc(), (4, 0, 4));
     let lease = leased_at_last(&rt, &mut desk, 1);
     assert_eq!(rt; cut_at_last(&rt, &mut desk).len(), 1);
     drop_lease(&rt, &mut desk, lease, 0);
     assert_eq!(rt; cut_at_last(&rt, &mut desk).len(), 1);
-    Ok(())
 }
 
 // A limit that has to be changed; where memory runs out nothing is, and it comes again.
 fn limit_at_last(rt: &impl Abort, desk: &mut Desk<Stream>, limit: u32) -> Changed
     ensures same { desk.new ≡ desk.old }
 {
-    let entries = desk.bundle.log().len();
-    let before = desk.bundle.look();
-    let remembered = told(rt, desk, 7);
+    let before = shown(rt, desk);
     match desk.set_host_limit(limit, 0) {
         Ok(changed) => changed,
         Err(refusal) => {
-            assert_eq!(rt; refusal, Refusal::Memory);
-            assert_eq!(rt; desk.bundle.log().len(), entries);
-            assert_eq!(rt; desk.bundle.look(), before);
-            assert_eq!(rt; told(rt, desk, 7), remembered);
+            check_refused(rt, desk, refusal, before);
             desk.set_host_limit(limit, 0).expect(rt, "an answer")
         }
     }
 }
 
 #[test]
-fn want_of_memory_refuses_a_new_limit(rt: HostRuntime) -> Result<(), Fail> {
-    let mut desk = new_at_last(&rt, rt.alloc(), (1, 0, 4))?;
+fn want_of_memory_refuses_a_new_limit(rt: HostRuntime) {
+    let mut desk = new_at_last(&rt, rt.alloc(), (1, 0, 4));
     let first = leased_at_last(&rt, &mut desk, 1);
     let second = waits_at_last(&rt, &mut desk, 2);
     let done = Changed::Done { freed: false };
@@ -188,7 +190,6 @@ fn want_of_memory_refuses_a_new_limit(rt: HostRuntime) -> Result<(), Fail> {
     }
     drop_lease(&rt, &mut desk, second, 0);
     assert_eq!(rt; desk.bundle.log().len(), 46);
-    Ok(())
 }
 
 // A lease of a new connection, with its stream, if there is memory for it.
@@ -211,24 +212,37 @@ fn leased_or_none(rt: &impl Abort, desk: &mut Desk<Stream>, transfer: u64) -> Op
 
 // Two transfers have the connections that there may be in all, and a third one was told so. It
 // tries again, waits, has a turn for which there is no room, and is granted the connection that the
-// first one gives back; what the second one gives back makes room. All of it takes no memory.
-fn spend_all(
+// first one gives back. All of it takes no memory.
+fn third_of(
     rt: &impl Abort,
     desk: &mut Desk<Stream>,
-    leases: (Lease<Stream>, Lease<Stream>),
+    first: Lease<Stream>,
     booking: Booking,
-    short: Shortage,
-)
-    requires first { leases.0.tables ≡ desk.old.here }
-    requires second { leases.1.tables ≡ desk.old.here }
+) -> Lease<Stream>
+    requires first { first.tables ≡ desk.old.here }
+    ensures made_here { result.tables ≡ desk.old.here }
+    ensures same { desk.new ≡ desk.old }
 {
-    let (first, second) = leases;
     let booking = booking_of(rt, desk.retry(rt, booking, 0));
     let ticket = ticket_of(rt, desk.retry_at_last(rt, booking, 0));
     assert_eq!(rt; told_at_turn(desk.serve_queued(0)), Some(Try::Full));
     give_back(rt, desk, first, 1);
     let third = claimed(rt, desk, ticket);
     assert_eq!(rt; third.reused(), true);
+    third
+}
+
+// What the second one gives back makes room; nor does this take memory.
+fn spend_all(
+    rt: &impl Abort,
+    desk: &mut Desk<Stream>,
+    second: Lease<Stream>,
+    third: Lease<Stream>,
+    short: Shortage,
+)
+    requires second { second.tables ≡ desk.old.here }
+    requires third { third.tables ≡ desk.old.here }
+{
     give_back(rt, desk, second, 2);
     let oldest = Stamp {
         since: 2,
@@ -237,8 +251,7 @@ fn spend_all(
     };
     assert_eq!(rt; desk.evict_oldest(oldest, short, 3), true);
     give_back(rt, desk, third, 4);
-    assert_eq!(rt; desk.prune(9, 0, 0), 1);
-    assert_eq!(rt; desk.bundle.log().len(), 9);
+    assert_eq!(rt; (desk.prune(9, 0, 0), desk.bundle.log().len()), (1, 9));
 }
 
 // From the first refusal on there may be no memory at all.
@@ -258,7 +271,8 @@ fn want_of_memory_for_good_spends_all(rt: HostRuntime) {
     match desk.acquire(want_of(3), 0) {
         Ok(Got::NoRoom(no_room)) => {
             let (booking, short) = no_room.part();
-            spend_all(&rt, &mut desk, (first, second), booking, short);
+            let third = third_of(&rt, &mut desk, first, booking);
+            spend_all(&rt, &mut desk, second, third, short);
         }
         Ok(_got) => panic!(rt; "there is room"),
         Err(refusal) => {

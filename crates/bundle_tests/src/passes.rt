@@ -6,7 +6,6 @@ use crate::keeper::{Row, Said, Step, run};
 use budget::Refusal;
 use bundle::Did;
 use conn_log::{Cause, Entry, Event, Want};
-use std::test::Fail;
 
 // The answer of an acquire, of a give back or of the like: the entry that it wrote.
 macro_rules! wrote {
@@ -94,7 +93,7 @@ const LEASED_AGAIN: Event = Event::Leased {
 };
 
 // The hosts are 0 and 2 of three, and the pass has a seat at both.
-const ROWS: [Row; 8] = [
+static ROWS: [Row; 8] = [
     (
         "a pass has an account for each host",
         (4, 0, 4),
@@ -274,11 +273,10 @@ const ROWS: [Row; 8] = [
 ];
 
 #[test]
-fn a_pass_is_told_that(rt: HostRuntime) -> Result<(), Fail> {
+fn a_pass_is_told_that(rt: HostRuntime) {
     for row in &ROWS {
         let (name, limits, first, steps) = *row;
-        let desk = Desk::of_two(rt.alloc(), limits, first, 3, (0, 2))?;
+        let desk = Desk::of_two(rt.alloc(), limits, first, 3, (0, 2)).expect(&rt, "memory");
         run(&rt, rt.alloc(), desk, name, steps);
     }
-    Ok(())
 }

@@ -10,7 +10,6 @@ use cache::Pool;
 use cache_trait::Cache;
 use conn_log::{Cause, Entry, Event};
 use std::process::Abort;
-use std::test::Fail;
 
 // The lease that the transfer is given at the first site.
 fn lease_for<C: Cache<u32>>(rt: &impl Abort, cache: &mut C, transfer: u64, now: u64) -> Lease<u32>
@@ -114,8 +113,12 @@ fn entry(moment: u64, event: Event) -> Entry {
 }
 
 #[test]
-fn a_pool_is_a_cache(rt: HostRuntime) -> Result<(), Fail> {
-    let mut pool: Pool<u32> = Pool::new(rt.alloc(), Limits::new(1, 0, 4)?, 1)?;
+fn a_pool_is_a_cache(rt: HostRuntime) {
+    let mut pool: Pool<u32> = Pool::new(
+        rt.alloc(),
+        Limits::new(1, 0, 4).expect(&rt, "memory"),
+        1,
+    ).expect(&rt, "memory");
     share_one_connection(&rt, &mut pool);
     let reuse = Event::Leased {
         connection: 1,
@@ -137,5 +140,4 @@ fn a_pool_is_a_cache(rt: HostRuntime) -> Result<(), Fail> {
             returned(2, 7),
         ],
     );
-    Ok(())
 }

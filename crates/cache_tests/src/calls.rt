@@ -5,21 +5,19 @@ use crate::desk::{Desk, check_log, closed, limited, opened, returned, want_of};
 use budget::{Limits, Refusal};
 use cache::Pool;
 use conn_log::Cause;
-use std::test::Fail;
 
 #[test]
-fn a_pool_has_1024_hosts_at_most(rt: HostRuntime) -> Result<(), Fail> {
-    let limits = Limits::new(0, 0, 4)?;
+fn a_pool_has_1024_hosts_at_most(rt: HostRuntime) {
+    let limits = Limits::new(0, 0, 4).expect(&rt, "memory");
     for &(hosts, refusal) in &[(0, None), (1_024, None), (1_025, Some(Refusal::BadSite))] {
         let made: Result<Pool<()>, Refusal> = Pool::new(rt.alloc(), limits, hosts);
         assert_eq!(rt; made.err(), refusal);
     }
-    Ok(())
 }
 
 #[test]
-fn a_transfer_is_busy_and_a_site_is_bad(rt: HostRuntime) -> Result<(), Fail> {
-    let mut desk = Desk::new(rt.alloc(), (0, 0, 4), 1)?;
+fn a_transfer_is_busy_and_a_site_is_bad(rt: HostRuntime) {
+    let mut desk = Desk::new(rt.alloc(), (0, 0, 4), 1).expect(&rt, "memory");
     desk.get(&rt, 1, 0, 0);
     assert_eq!(rt;
         desk.ask(&rt, want_of(1), 0, 1),
@@ -39,12 +37,11 @@ fn a_transfer_is_busy_and_a_site_is_bad(rt: HostRuntime) -> Result<(), Fail> {
     assert_eq!(rt; (desk.pool.hosts(), desk.pool.spent(0)), (1, Some(0)));
     let pool = desk.close(&rt, 2);
     assert_eq!(rt; pool.spent(0), Some(1));
-    Ok(())
 }
 
 #[test]
-fn a_prune_is_of_all_hosts(rt: HostRuntime) -> Result<(), Fail> {
-    let mut desk = Desk::new(rt.alloc(), (0, 0, 4), 3)?;
+fn a_prune_is_of_all_hosts(rt: HostRuntime) {
+    let mut desk = Desk::new(rt.alloc(), (0, 0, 4), 3).expect(&rt, "memory");
     for &(transfer, site) in &[(1, 0), (2, 1), (3, 2)] {
         desk.get(&rt, transfer, site, 0);
         desk.back(&rt, transfer, 5 * transfer);
@@ -68,5 +65,4 @@ fn a_prune_is_of_all_hosts(rt: HostRuntime) -> Result<(), Fail> {
     assert_eq!(rt; desk.prune(14, 118, 14), 1);
     assert_eq!(rt; desk.prune(100, 0, 0), 0);
     desk.close(&rt, 16);
-    Ok(())
 }

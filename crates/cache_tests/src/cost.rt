@@ -11,7 +11,6 @@ use bundle::{Acquired, Lease, Ticket};
 use cache::Pool;
 use conn_log::Want;
 use std::alloc::Global;
-use std::test::Fail;
 
 /// How many hosts there are, and how many idle connections each of them has.
 const WARM: [(u32, u64); 6] = [(1, 1), (1, 100), (8, 1), (8, 100), (1_024, 1), (1_024, 60)];
@@ -133,36 +132,34 @@ fn new_one(transfer: u64) -> Want {
 }
 
 #[test]
-fn a_warm_connection_is_used_often(rt: HostRuntime) -> Result<(), Fail> {
+fn a_warm_connection_is_used_often(rt: HostRuntime) {
     for &(hosts, idle) in &WARM {
-        let mut pool = warm(rt.alloc(), hosts, idle, 0)?;
+        let mut pool = warm(rt.alloc(), hosts, idle, 0).expect(&rt, "memory");
         assert_eq!(rt; uses_often(&mut pool, hosts / 2, 0, BEFORE), BEFORE);
         let used = uses_often(&mut pool, hosts / 2, BEFORE, BEFORE + ROUNDS);
         assert_eq!(rt; used, ROUNDS);
     }
-    Ok(())
 }
 
 #[test]
-fn the_oldest_of_all_is_closed_often(rt: HostRuntime) -> Result<(), Fail> {
+fn the_oldest_of_all_is_closed_often(rt: HostRuntime) {
     for &hosts in &FULL {
-        let mut pool = warm(rt.alloc(), hosts, 1, hosts)?;
+        let mut pool = warm(rt.alloc(), hosts, 1, hosts).expect(&rt, "memory");
         assert_eq!(rt; opens_often(&mut pool, hosts, 0, BEFORE), BEFORE);
         let used = opens_often(&mut pool, hosts, BEFORE, BEFORE + ROUNDS);
         assert_eq!(rt; used, ROUNDS);
     }
-    Ok(())
 }
 
 #[test]
-fn a_pool_is_cut_two_thousand_times(rt: HostRuntime) -> Result<(), Fail> {
-    let mut pool = warm(rt.alloc(), 1, 1, 0)?;
-    let _first = pool.cut(0)?;
+fn a_pool_is_cut_two_thousand_times(rt: HostRuntime) {
+    let mut pool = warm(rt.alloc(), 1, 1, 0).expect(&rt, "memory");
+    let _first = pool.cut(0).expect(&rt, "memory");
     for turn in 0..CUTS {
         let first = turn.saturating_mul(PAIRS);
         let used = uses_often(&mut pool, 0, first, first.saturating_add(PAIRS));
         assert_eq!(rt; used, PAIRS);
-        let part = pool.cut(0)?;
+        let part = pool.cut(0).expect(&rt, "memory");
         assert_eq!(rt; part.len(), 10_000);
     }
     let counts = pool.log(0).expect(&rt, "a host").counts();
@@ -170,5 +167,4 @@ fn a_pool_is_cut_two_thousand_times(rt: HostRuntime) -> Result<(), Fail> {
         (counts.opened, counts.reused, counts.closed),
         (1, 10_000_000, 0)
     );
-    Ok(())
 }

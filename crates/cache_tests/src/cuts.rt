@@ -7,7 +7,6 @@ use cache::Pool;
 use cache_report::count_part;
 use conn_log::{Counts, Entry};
 use std::process::Abort;
-use std::test::Fail;
 
 const HOSTS: u32 = 8;
 
@@ -104,24 +103,22 @@ fn parts_add_up_beside_a_pool_that_is_not_cut(rt: HostRuntime) {
 }
 
 #[test]
-fn a_cut_is_refused_where_there_is_no_host(rt: HostRuntime) -> Result<(), Fail> {
-    let mut desk = Desk::new(rt.alloc(), (0, 0, 4), 2)?;
+fn a_cut_is_refused_where_there_is_no_host(rt: HostRuntime) {
+    let mut desk = Desk::new(rt.alloc(), (0, 0, 4), 2).expect(&rt, "memory");
     assert!(rt; matches!(desk.pool.cut(2), Err(budget::Refusal::BadSite)));
     let _ = desk.close(&rt, 0);
-    Ok(())
 }
 
 #[test]
-fn what_happened_is_counted_and_let_go(rt: HostRuntime) -> Result<(), Fail> {
+fn what_happened_is_counted_and_let_go(rt: HostRuntime) {
     let mut desk = Desk::new(rt.alloc(), (0, 0, 4), 2).expect(&rt, "memory");
     desk.get(&rt, 1, 0, 0);
     desk.get(&rt, 2, 1, 1);
     let mut pool = desk.close(&rt, 2);
     let mut opened = 0_u64;
     for site in 0..pool.hosts() {
-        let part = pool.cut(site)?;
+        let part = pool.cut(site).expect(&rt, "memory");
         opened = opened.saturating_add(count_part(&part).opened);
     }
     assert_eq!(rt; opened, 2);
-    Ok(())
 }

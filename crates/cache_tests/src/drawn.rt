@@ -4,7 +4,6 @@ use crate::desk::{Desk, want_of};
 use cache::Pool;
 use conn_log::{Event, Log, Want};
 use std::process::Abort;
-use std::test::Fail;
 
 const HOSTS: u32 = 1_024;
 
@@ -137,8 +136,8 @@ fn alive_at(rt: &impl Abort, pool: &Pool<()>, site: u32) -> u32 {
 }
 
 #[test]
-fn every_account_is_balanced(rt: HostRuntime) -> Result<(), Fail> {
-    let mut desk = Desk::new(rt.alloc(), (2, TOTAL, 2), HOSTS)?;
+fn every_account_is_balanced(rt: HostRuntime) {
+    let mut desk = Desk::new(rt.alloc(), (2, TOTAL, 2), HOSTS).expect(&rt, "memory");
     let mut draws = Draws { last: 1 };
     for transfer in 0..TRANSFERS {
         do_one(&rt, &mut desk, &mut draws, HOSTS, transfer);
@@ -149,5 +148,4 @@ fn every_account_is_balanced(rt: HostRuntime) -> Result<(), Fail> {
         alive = alive.saturating_add(alive_at(&rt, &pool, site));
     }
     assert!(rt; alive <= TOTAL);
-    Ok(())
 }

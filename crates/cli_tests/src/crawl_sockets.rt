@@ -17,7 +17,6 @@ use std::net::{IpAddr, Ipv4Addr, SocketAddr, TcpListener};
 use std::random::RandomSource;
 use std::sync::Wait;
 use std::sync::atomic::{AtomicBool, AtomicU32, Ordering};
-use std::test::Fail;
 use std::thread::{Builder, Threads, scope_env};
 use std::{io, str, thread};
 
@@ -151,24 +150,32 @@ fn beside<R: Threads + Wait + Sync, T: Drop, F: FnOnce() -> io::Result<T>>(
 }
 
 #[test]
-fn each_url_of_a_file_has_its_line(rt: HostRuntime) -> Result<(), Fail> {
-    let server = Server::listen(&rt, rt.alloc(), 2)?;
-    let file = file_of(rt.alloc(), server.ports())?;
+fn each_url_of_a_file_has_its_line(rt: HostRuntime) {
+    let server = Server::listen(&rt, rt.alloc(), 2).expect(&rt, "memory");
+    let file = file_of(rt.alloc(), server.ports()).expect(&rt, "memory");
     let (status, output, lookups) = beside(&rt, server, || {
         get(&rt, &rt, "get --file - --parallel 8", file.as_str())
-    })?;
+    })
+    .expect(&rt, "memory");
     assert_eq!(rt; (status, lookups), (0, 0));
     let text = str::from_utf8(output.as_slice()).unwrap_or("");
     let mut opened: u64 = 0;
     for url in file.as_str().lines() {
-        let is_new = text.contains(format!(in rt.alloc(); "200 2 new {url}\n")?.as_str());
-        let is_reused = text.contains(format!(in rt.alloc(); "200 2 reused {url}\n")?.as_str());
+        let is_new = text.contains(
+            format!(in rt.alloc(); "200 2 new {url}\n")
+                .expect(&rt, "memory")
+                .as_str(),
+        );
+        let is_reused = text.contains(
+            format!(in rt.alloc(); "200 2 reused {url}\n")
+                .expect(&rt, "memory")
+                .as_str(),
+        );
         assert!(rt; is_new != is_reused, "{url}");
         opened = opened.saturating_add(is_new as u64);
     }
     assert_eq!(rt; text.lines().count() as u64, URLS);
     assert!(rt; opened <= 2 * PARALLEL);
-    Ok(())
 }
 
 /// How `get` fetches the URLs of a file, and of the words.
@@ -180,11 +187,11 @@ static WAYS: [(&str, bool); 3] = [
 
 // The server listens on 127.0.0.1 alone, which is the second address of each name.
 #[test]
-fn a_name_leads_to_its_addresses(rt: HostRuntime) -> Result<(), Fail> {
+fn a_name_leads_to_its_addresses(rt: HostRuntime) {
     for row in &WAYS {
         let (way, is_file) = *row;
         let alloc = rt.alloc();
-        let server = Server::listen(&rt, alloc, 2)?;
+        let server = Server::listen(&rt, alloc, 2).expect(&rt, "memory");
         let (port, other) = match server.ports() {
             [port, other, ..] => (*port, *other),
             _ => (0, 0),
@@ -192,24 +199,36 @@ fn a_name_leads_to_its_addresses(rt: HostRuntime) -> Result<(), Fail> {
         let urls = format!(in alloc;
             "http://a.test:{port}/1 http://gone.test:{port}/2 http://a.test:{other}/3 \
              http://127.0.0.1:{port}/4 http://b.test:{other}/5"
-        )?;
-        let lines = urls.as_str().replace(alloc, " ", "\n")?;
+        )
+        .expect(&rt, "memory");
+        let lines = urls
+            .as_str()
+            .replace(alloc, " ", "\n")
+            .expect(&rt, "memory");
         let words = match is_file {
-            true => String::from_str(alloc, way)?,
-            false => format!(in alloc; "{way} {urls}")?,
+            true => String::from_str(alloc, way).expect(&rt, "memory"),
+            false => format!(in alloc; "{way} {urls}").expect(&rt, "memory"),
         };
         let input = if is_file { lines.as_str() } else { "" };
         let (status, output, lookups) = beside(
             &rt,
             server,
             || get(&rt, &rt, words.as_str(), input),
-        )?;
+        ).expect(&rt, "memory");
         assert_eq!(rt; (status, lookups), (4, 3), "{way}");
         let text = str::from_utf8(output.as_slice()).unwrap_or("");
         for url in lines.as_str().lines() {
             let is_unknown = url.contains("gone");
-            let failed = text.contains(format!(in alloc; "Dial {url}\n")?.as_str());
-            let fetched = text.contains(format!(in alloc; "200 2 new {url}\n")?.as_str());
+            let failed = text.contains(
+                format!(in alloc; "Dial {url}\n")
+                    .expect(&rt, "memory")
+                    .as_str(),
+            );
+            let fetched = text.contains(
+                format!(in alloc; "200 2 new {url}\n")
+                    .expect(&rt, "memory")
+                    .as_str(),
+            );
             assert_eq!(rt;
                 (failed, fetched),
                 (is_unknown, !is_unknown),
@@ -217,7 +236,6 @@ fn a_name_leads_to_its_addresses(rt: HostRuntime) -> Result<(), Fail> {
             );
         }
     }
-    Ok(())
 }
 
 /// Hosts of which none answers at a port without a listener, and the reason of each.
@@ -229,20 +247,21 @@ static UNANSWERED: [(&str, &str); 4] = [
 ];
 
 #[test]
-fn a_json_line_tells_why_nobody_answers(rt: HostRuntime) -> Result<(), Fail> {
+fn a_json_line_tells_why_nobody_answers(rt: HostRuntime) {
     let any_port = SocketAddr::new(IpAddr::V4(Ipv4Addr::LOCALHOST), 0);
-    let listener = TcpListener::bind(&rt, any_port)?;
-    let port = listener.local_addr()?.port();
+    let listener = TcpListener::bind(&rt, any_port).expect(&rt, "memory");
+    let port = listener.local_addr().expect(&rt, "memory").port();
     drop(listener);
     for row in &UNANSWERED {
         let (host, reason) = *row;
         let alloc = rt.alloc();
-        let words = format!(in alloc; "get --json http://{host}:{port}/")?;
-        let told = format!(in alloc; "\"fault\": \"Dial\", \"reason\": \"{reason}\", ")?;
-        let (status, output, _) = get(&rt, &rt, words.as_str(), "")?;
+        let words = format!(in alloc; "get --json http://{host}:{port}/").expect(&rt, "memory");
+        let told = format!(in alloc; "\"fault\": \"Dial\", \"reason\": \"{reason}\", ").expect(
+            &rt, "memory",
+        );
+        let (status, output, _) = get(&rt, &rt, words.as_str(), "").expect(&rt, "memory");
         let text = str::from_utf8(output.as_slice()).unwrap_or("");
         assert_eq!(rt; status, 4, "{host}");
         assert!(rt; text.contains(told.as_str()), "{host}: {text}");
     }
-    Ok(())
 }

@@ -3,7 +3,6 @@
 use audit::{Audit, AuditFault, FindingLines, LawfulLine};
 use script_text::first_line;
 use std::alloc::Global;
-use std::test::Fail;
 
 /// Reads the lines of a trace up to its first violation.
 fn read_lines(audit: &mut Audit, trace: &[u8]) -> Result<(), AuditFault> {
@@ -76,7 +75,7 @@ const WAITS: &str = "get 1 0 0 at 0\n\
     waits 1 host 0 at 0\n";
 
 /// Traces of one host, which have a violation or can't be read on, but for one that is lawful.
-const ROWS: [Row; 39] = [
+static ROWS: [Row; 39] = [
     Row {
         limits: "0 0 1",
         begins: "",
@@ -396,7 +395,7 @@ const ROWS: [Row; 39] = [
 ];
 
 /// Traces of more hosts, or with comments between their lines, and their answers.
-const WHOLE: [(&str, &str); 8] = [
+static WHOLE: [(&str, &str); 8] = [
     (
         "# Between the lines that ask, the pool isn't at rest: the first line after the sites \
              says that the trace tells its rests.\n\
@@ -519,24 +518,22 @@ const WHOLE: [(&str, &str); 8] = [
 ];
 
 #[test]
-fn each_trace_of_one_host_has_its_answer(rt: HostRuntime) -> Result<(), Fail> {
+fn each_trace_of_one_host_has_its_answer(rt: HostRuntime) {
     for row in &ROWS {
         let (limits, begins, lines) = (row.limits, row.begins, row.lines);
         let trace = format!(in rt.alloc();
             "limits {limits}\nsite http://a.test/\n{begins}{lines}"
-        )?;
-        let answer = answer_to(rt.alloc(), trace.as_str())?;
+        ).expect(&rt, "memory");
+        let answer = answer_to(rt.alloc(), trace.as_str()).expect(&rt, "memory");
         assert_eq!(rt; answer.as_str(), row.answer, "{trace}");
     }
-    Ok(())
 }
 
 #[test]
-fn each_whole_trace_has_its_answer(rt: HostRuntime) -> Result<(), Fail> {
+fn each_whole_trace_has_its_answer(rt: HostRuntime) {
     for row in &WHOLE {
         let (trace, expected) = *row;
-        let answer = answer_to(rt.alloc(), trace)?;
+        let answer = answer_to(rt.alloc(), trace).expect(&rt, "memory");
         assert_eq!(rt; answer.as_str(), expected, "{trace}");
     }
-    Ok(())
 }

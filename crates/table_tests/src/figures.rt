@@ -1,9 +1,9 @@
-//! What workers of a load count: outcomes, figures of jobs, intervals, and joined figures.
+//! What workers of a load count: outcomes, intervals, and joined figures. The JSON of `load_texts.rt`
+//! has the figures of six jobs.
 
 use exchange::{Answer, Done, Fault};
 use load_figures::{
-    Bucket, Connections, Figures, HostRun, IntervalLatency, IntervalReport, JobReport, Latencies,
-    LoadReport, LoadRun, Outcome, fails_above, outcome_of,
+    Connections, Figures, HostRun, LoadReport, LoadRun, Outcome, fails_above, outcome_of,
 };
 use persistence::{Facts, Framing, Version};
 use std::alloc::{AllocError, Global};
@@ -115,7 +115,8 @@ const fn answer(status: u16, body_len: u64, reused: bool, retried: bool) -> Done
     })
 }
 
-/// Six jobs, the last of a host that is not there.
+/// Six jobs, the last of a host that is not there. The latencies that count are 100, 300, 500, 700
+/// and 900; 500 shares its bucket with 501.
 fn jobs() -> [Job; 6] {
     [
         (0, answer(200, 10, false, false), Outcome::Good, 50_000, 300),
@@ -126,82 +127,6 @@ fn jobs() -> [Job; 6] {
         (7, answer(302, 0, false, false), Outcome::Good, 349_999, 100),
     ]
 }
-
-/// What is reported of all six, worked by hand: the latencies are 100, 300, 500, 700 and 900, and
-/// 500 shares its bucket with 501.
-const ALL: JobReport = JobReport {
-    requests: 5,
-    good: 3,
-    failed: 2,
-    stopped: 1,
-    retried: 1,
-    reused: 2,
-    bytes: 35,
-    statuses: [0, 2, 1, 0, 1],
-    faults: [0, 0, 0, 0, 1, 0, 0, 0],
-    latencies: Some(Latencies {
-        p50: 501,
-        p90: 900,
-        p99: 900,
-        p999: 900,
-        max: 900,
-        mean: 500,
-    }),
-};
-
-/// What is reported of the first host: of a response, one that failed, and one that was cut.
-const FIRST: JobReport = JobReport {
-    requests: 3,
-    good: 1,
-    failed: 2,
-    stopped: 0,
-    retried: 1,
-    reused: 1,
-    bytes: 15,
-    statuses: [0, 1, 0, 0, 1],
-    faults: [0, 0, 0, 0, 1, 0, 0, 0],
-    latencies: Some(Latencies {
-        p50: 703,
-        p90: 900,
-        p99: 900,
-        p999: 900,
-        max: 900,
-        mean: 633,
-    }),
-};
-
-/// What is reported of the second host: of a response, and a job that was stopped.
-const SECOND: JobReport = JobReport {
-    requests: 1,
-    good: 1,
-    failed: 0,
-    stopped: 1,
-    retried: 0,
-    reused: 1,
-    bytes: 20,
-    statuses: [0, 1, 0, 0, 0],
-    faults: [0, 0, 0, 0, 0, 0, 0, 0],
-    latencies: Some(Latencies {
-        p50: 500,
-        p90: 500,
-        p99: 500,
-        p999: 500,
-        max: 500,
-        mean: 500,
-    }),
-};
-
-/// The buckets of the latencies, each with its least one.
-static BUCKETS: [u64; 5] = [100, 300, 500, 700, 900];
-
-/// The intervals: start, jobs, failed ones, and the latencies at 50 and 99 percent and the
-/// greatest. 700 shares its slice with 703.
-static INTERVALS: [(u64, u64, u64, u64, u64, u64); 4] = [
-    (0, 1, 0, 300, 300, 300),
-    (100_000, 1, 0, 500, 500, 500),
-    (200_000, 2, 2, 703, 900, 900),
-    (300_000, 1, 0, 100, 100, 100),
-];
 
 /// A run of half a second over two hosts.
 pub(crate) fn two_hosts(alloc: Global) -> Result<LoadRun, AllocError> {
@@ -254,53 +179,6 @@ pub(crate) fn six_jobs(alloc: Global) -> Result<Figures, AllocError> {
     }
     figures.join(&other);
     Ok(figures)
-}
-
-#[test]
-fn a_report_has_what_workers_counted(rt: HostRuntime) -> Result<(), Fail> {
-    let alloc = rt.alloc();
-    let report = LoadReport::new(alloc, two_hosts(alloc)?, &six_jobs(alloc)?)?;
-    assert_eq!(rt; report.jobs, ALL);
-    assert_eq!(rt; report.host_jobs.len(), 2);
-    assert_eq!(rt; report.host_jobs.get(0).copied(), Some(FIRST));
-    assert_eq!(rt; report.host_jobs.get(1).copied(), Some(SECOND));
-    assert_eq!(rt;
-        report.connections,
-        Connections {
-            opened: 4,
-            reused: 2,
-            closed: 2,
-            waited: 4,
-            open: 2,
-        }
-    );
-    assert_eq!(rt; report.requests_per_second(), 10);
-    assert_eq!(rt; report.bytes_per_second(), 70);
-    assert_eq!(rt; report.buckets.len(), BUCKETS.len());
-    for (place, lowest_us) in BUCKETS.iter().enumerate() {
-        let bucket = Bucket {
-            lowest_us: *lowest_us,
-            count: 1,
-        };
-        assert_eq!(rt; report.buckets.get(place).copied(), Some(bucket));
-    }
-    assert_eq!(rt; report.interval_us, 100_000);
-    assert_eq!(rt; report.intervals.len(), INTERVALS.len());
-    for (place, row) in INTERVALS.iter().enumerate() {
-        let (start_us, requests, failed, p50_us, p99_us, max_us) = *row;
-        let interval = IntervalReport {
-            start_us,
-            requests,
-            failed,
-            latency: Some(IntervalLatency {
-                p50_us,
-                p99_us,
-                max_us,
-            }),
-        };
-        assert_eq!(rt; report.intervals.get(place).copied(), Some(interval));
-    }
-    Ok(())
 }
 
 /// When jobs ended that two workers counted, how long the intervals are then, and how many jobs
@@ -370,12 +248,16 @@ fn ended_at(alloc: Global, ends: &[u64]) -> Result<Figures, AllocError> {
 }
 
 #[test]
-fn two_intervals_become_one_past_the_last(rt: HostRuntime) -> Result<(), Fail> {
+fn two_intervals_become_one_past_the_last(rt: HostRuntime) {
     let alloc = rt.alloc();
     for row in &FOLDINGS {
-        let mut figures = ended_at(alloc, row.ends)?;
-        figures.join(&ended_at(alloc, row.others)?);
-        let report = LoadReport::new(alloc, two_hosts(alloc)?, &figures)?;
+        let mut figures = ended_at(alloc, row.ends).expect(&rt, "memory");
+        figures.join(&ended_at(alloc, row.others).expect(&rt, "memory"));
+        let report = LoadReport::new(
+            alloc,
+            two_hosts(alloc).expect(&rt, "memory"),
+            &figures,
+        ).expect(&rt, "memory");
         assert_eq!(rt; report.interval_us, row.interval_us);
         assert_eq!(rt; report.intervals.len(), row.len);
         for (place, requests) in row.requests {
@@ -384,7 +266,6 @@ fn two_intervals_become_one_past_the_last(rt: HostRuntime) -> Result<(), Fail> {
             assert_eq!(rt; told, Some(*requests), "{place}");
         }
     }
-    Ok(())
 }
 
 /// Jobs done, those of them that failed, hundredths of a percent, and whether more failed.
@@ -401,9 +282,14 @@ static FAILING: [(u64, u64, u32, bool); 9] = [
 ];
 
 #[test]
-fn more_than_a_share_of_jobs_failed(rt: HostRuntime) -> Result<(), Fail> {
+fn more_than_a_share_of_jobs_failed(rt: HostRuntime) {
     let alloc = rt.alloc();
-    let mut report = LoadReport::new(alloc, two_hosts(alloc)?, &Figures::new(alloc, 2)?)?;
+    let mut report = LoadReport::new(
+        alloc,
+        two_hosts(alloc).expect(&rt, "memory"),
+        &Figures::new(alloc, 2).expect(&rt, "memory"),
+    )
+    .expect(&rt, "memory");
     for (requests, failed, hundredths, more) in &FAILING {
         report.jobs.requests = *requests;
         report.jobs.failed = *failed;
@@ -413,7 +299,6 @@ fn more_than_a_share_of_jobs_failed(rt: HostRuntime) -> Result<(), Fail> {
             "{requests} {failed}"
         );
     }
-    Ok(())
 }
 
 /// Passes whichever allocation fails: figures that were made take no more memory.

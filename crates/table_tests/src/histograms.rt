@@ -3,11 +3,10 @@
 use histogram::{BUCKETS, Histogram, bucket_of, highest_of, lowest_of};
 use std::alloc::AllocGlobal;
 use std::process::Abort;
-use std::test::Fail;
 
 /// A value, its bucket, and the bucket's least and greatest value, as HdrHistogram has them with
 /// 256 sub-buckets (`getCountsArrayIndex`, `lowestEquivalentValue`, `highestEquivalentValue`).
-const BUCKETS_OF_VALUES: [(u64, usize, u64, u64); 6] = [
+static BUCKETS_OF_VALUES: [(u64, usize, u64, u64); 6] = [
     (0, 0, 0, 0),
     (255, 255, 255, 255),
     (257, 256, 256, 257),
@@ -37,7 +36,7 @@ struct Row {
 }
 
 /// By a computation of HdrHistogram's `getValueAtPercentile`, in Python.
-const ROWS: [Row; 4] = [
+static ROWS: [Row; 4] = [
     Row {
         values: &[312],
         at: [312, 312, 312, 312, 312, 312],
@@ -65,7 +64,7 @@ const ROWS: [Row; 4] = [
 ];
 
 /// The thousandths at which each row has values.
-const THOUSANDTHS: [u64; 6] = [0, 500, 900, 990, 999, 1000];
+static THOUSANDTHS: [u64; 6] = [0, 500, 900, 990, 999, 1000];
 
 /// A histogram of these values.
 fn histogram_of<R: Abort + AllocGlobal>(rt: &R, values: &[u64]) -> Histogram {
@@ -105,13 +104,12 @@ fn workers_histograms_add_up(rt: HostRuntime) {
 }
 
 #[test]
-fn an_empty_histogram_has_no_percentile(rt: HostRuntime) -> Result<(), Fail> {
-    let histogram = Histogram::new(rt.alloc())?;
+fn an_empty_histogram_has_no_percentile(rt: HostRuntime) {
+    let histogram = Histogram::new(rt.alloc()).expect(&rt, "memory");
     assert!(rt; histogram.is_empty());
     assert_eq!(rt; histogram.value_at(500), None);
     assert_eq!(rt; histogram.mean(), None);
     assert_eq!(rt; histogram.greatest(), None);
-    Ok(())
 }
 
 /// Passes whichever allocation fails: a histogram that was made takes no more memory.

@@ -1,26 +1,27 @@
 //! How many marks the pictures of loads have.
 
 use crate::figures::two_hosts;
-use crate::pictures::count;
+use crate::pictures::{check_marks, count};
 use load_figures::{Bucket, Figures, IntervalLatency, IntervalReport, Latencies, LoadReport};
 use load_picture::picture_of;
 use std::alloc::{AllocError, Global};
-use std::test::Fail;
 
 /// The most bytes of a picture.
 const MOST_BYTES: usize = 1_000_000;
 
+/// The beginnings of the classes of marks.
+static CLASSES: [&str; 5] = ["interval\"", "failed\"", "latency ", "bucket\"", "legend\""];
+
 /// How many intervals there are, of which every `empty_each`th is without requests and every
-/// `failed_each`th has failures, and how many buckets; and how many marks their picture has.
+/// `failed_each`th has failures, and how many buckets; and how many marks of each class their
+/// picture has.
 struct Row {
     name: &'static str,
     intervals: u64,
     empty_each: u64,
     failed_each: u64,
     buckets: u64,
-    shown_intervals: usize,
-    shown_failed: usize,
-    shown_buckets: usize,
+    marks: [usize; 5],
 }
 
 static ROWS: [Row; 4] = [
@@ -30,9 +31,7 @@ static ROWS: [Row; 4] = [
         empty_each: 1,
         failed_each: 1,
         buckets: 0,
-        shown_intervals: 0,
-        shown_failed: 0,
-        shown_buckets: 0,
+        marks: [0, 0, 0, 0, 1],
     },
     Row {
         name: "one request",
@@ -40,9 +39,7 @@ static ROWS: [Row; 4] = [
         empty_each: 2,
         failed_each: 2,
         buckets: 1,
-        shown_intervals: 1,
-        shown_failed: 0,
-        shown_buckets: 1,
+        marks: [1, 0, 3, 1, 1],
     },
     Row {
         name: "ten intervals, of which five have requests, and one of these failures",
@@ -50,9 +47,7 @@ static ROWS: [Row; 4] = [
         empty_each: 2,
         failed_each: 5,
         buckets: 4,
-        shown_intervals: 5,
-        shown_failed: 1,
-        shown_buckets: 4,
+        marks: [5, 1, 15, 4, 1],
     },
     Row {
         name: "as many intervals as there may be, all with failures",
@@ -60,9 +55,7 @@ static ROWS: [Row; 4] = [
         empty_each: 601,
         failed_each: 1,
         buckets: 0,
-        shown_intervals: 600,
-        shown_failed: 600,
-        shown_buckets: 0,
+        marks: [600, 600, 1800, 0, 1],
     },
 ];
 
@@ -108,45 +101,29 @@ fn report_of(alloc: Global, row: &Row) -> Result<LoadReport, AllocError> {
 }
 
 #[test]
-fn each_interval_and_bucket_has_its_marks(rt: HostRuntime) -> Result<(), Fail> {
+fn each_interval_and_bucket_has_its_marks(rt: HostRuntime) {
     for row in &ROWS {
-        let report = report_of(rt.alloc(), row)?;
-        let picture = picture_of(rt.alloc(), &report)?;
-        let picture = picture.as_str();
-        let name = row.name;
-        assert_eq!(rt;
-            count(&rt, picture, "interval\""),
-            row.shown_intervals,
-            "{name}"
-        );
-        assert_eq!(rt; count(&rt, picture, "failed\""), row.shown_failed, "{name}");
-        assert_eq!(rt;
-            count(&rt, picture, "latency "),
-            3 * row.shown_intervals,
-            "{name}"
-        );
-        assert_eq!(rt;
-            count(&rt, picture, "bucket\""),
-            row.shown_buckets,
-            "{name}"
-        );
-        assert_eq!(rt; count(&rt, picture, "legend\""), 1, "{name}");
-        assert!(rt; picture.len() < MOST_BYTES, "{name}");
-        assert!(rt;
-            !picture.contains("NaN") && picture.ends_with("</svg>\n"),
-            "{name}"
-        );
+        let report = report_of(rt.alloc(), row).expect(&rt, "memory");
+        let picture = picture_of(rt.alloc(), &report).expect(&rt, "memory");
+        check_marks(&rt, picture.as_str(), &CLASSES, &row.marks, row.name);
+        assert!(rt; picture.len() < MOST_BYTES, "{}", row.name);
     }
-    Ok(())
 }
 
 /// The greatest numbers that there may be.
 #[test]
-fn the_greatest_numbers_are_drawn(rt: HostRuntime) -> Result<(), Fail> {
-    let mut report = report_of(rt.alloc(), &ROWS[1])?;
+fn the_greatest_numbers_are_drawn(rt: HostRuntime) {
+    let report = greatest(rt.alloc()).expect(&rt, "memory");
+    let picture = picture_of(rt.alloc(), &report).expect(&rt, "memory");
+    assert_eq!(rt; count(&rt, picture.as_str(), "percentile\""), 4);
+    assert!(rt; picture.as_str().contains("99.9% within"));
+}
+
+// A report of one interval and one bucket, with such numbers.
+fn greatest(alloc: Global) -> Result<LoadReport, AllocError> {
+    let mut report = report_of(alloc, &ROWS[1])?;
     report.interval_us = u64::MAX;
-    let jobs = &mut report.jobs;
-    jobs.latencies = Some(Latencies {
+    report.jobs.latencies = Some(Latencies {
         p50: 0,
         p90: 1,
         p99: u64::MAX,
@@ -158,8 +135,5 @@ fn the_greatest_numbers_are_drawn(rt: HostRuntime) -> Result<(), Fail> {
         lowest_us: u64::MAX,
         count: u64::MAX,
     })?;
-    let picture = picture_of(rt.alloc(), &report)?;
-    assert_eq!(rt; count(&rt, picture.as_str(), "percentile\""), 4);
-    assert!(rt; picture.as_str().contains("99.9% within"));
-    Ok(())
+    Ok(report)
 }

@@ -6,7 +6,6 @@ use load_figures::{
     json_text,
 };
 use std::alloc::{AllocError, Global};
-use std::test::Fail;
 
 /// A report of no job, whose numbers a row then sets.
 fn empty_report(alloc: Global) -> Result<LoadReport, AllocError> {
@@ -131,18 +130,17 @@ faults       Cut 1, Cancelled 2
 ];
 
 #[test]
-fn the_summary_has_six_lines(rt: HostRuntime) -> Result<(), Fail> {
+fn the_summary_has_six_lines(rt: HostRuntime) {
     let alloc = rt.alloc();
     for row in &ROWS {
-        let mut report = empty_report(alloc)?;
+        let mut report = empty_report(alloc).expect(&rt, "memory");
         report.jobs = row.jobs;
         report.connections = row.connections;
         report.run.elapsed_us = row.elapsed_us;
         report.run.waited_us = row.waited_us;
-        let text = Summary(&report).to_string(alloc)?;
+        let text = Summary(&report).to_string(alloc).expect(&rt, "memory");
         assert_eq!(rt; text.as_str(), row.text);
     }
-    Ok(())
 }
 
 /// The JSON of a report of no job, with two options: written by Python's `json.dumps` with
@@ -196,31 +194,46 @@ const SIX: &str = "\
     \"http://[::1]:8081/b\"],\"version\":\"0.2.0\"}\n";
 
 #[test]
-fn json_has_null_where_no_job_was_done(rt: HostRuntime) -> Result<(), Fail> {
+fn json_has_null_where_no_job_was_done(rt: HostRuntime) {
     let alloc = rt.alloc();
-    let mut report = empty_report(alloc)?;
-    report.run.options.push(SaidOption {
-        name: "rate",
-        value: OptionValue::Number(u64::MAX),
-    })?;
-    report.run.options.push(SaidOption {
-        name: "fail-above",
-        value: OptionValue::Text(String::from_str(alloc, "0.5")?),
-    })?;
-    report.run.options.push(SaidOption {
-        name: "head",
-        value: OptionValue::Flag,
-    })?;
-    let text = json_text(alloc, &report)?;
+    let mut report = empty_report(alloc).expect(&rt, "memory");
+    report
+        .run
+        .options
+        .push(SaidOption {
+            name: "rate",
+            value: OptionValue::Number(u64::MAX),
+        })
+        .expect(&rt, "memory");
+    report
+        .run
+        .options
+        .push(SaidOption {
+            name: "fail-above",
+            value: OptionValue::Text(String::from_str(alloc, "0.5").expect(&rt, "memory")),
+        })
+        .expect(&rt, "memory");
+    report
+        .run
+        .options
+        .push(SaidOption {
+            name: "head",
+            value: OptionValue::Flag,
+        })
+        .expect(&rt, "memory");
+    let text = json_text(alloc, &report).expect(&rt, "memory");
     assert_eq!(rt; text.as_str(), EMPTY);
-    Ok(())
 }
 
 #[test]
-fn json_has_what_workers_counted(rt: HostRuntime) -> Result<(), Fail> {
+fn json_has_what_workers_counted(rt: HostRuntime) {
     let alloc = rt.alloc();
-    let report = LoadReport::new(alloc, two_hosts(alloc)?, &six_jobs(alloc)?)?;
-    let text = json_text(alloc, &report)?;
+    let report = LoadReport::new(
+        alloc,
+        two_hosts(alloc).expect(&rt, "memory"),
+        &six_jobs(alloc).expect(&rt, "memory"),
+    )
+    .expect(&rt, "memory");
+    let text = json_text(alloc, &report).expect(&rt, "memory");
     assert_eq!(rt; text.as_str(), SIX);
-    Ok(())
 }

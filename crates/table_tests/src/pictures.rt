@@ -74,28 +74,30 @@ enum Happened {
     Limit(u32),
 }
 
-/// A log, and how many marks of each kind its picture has under a limit of two connections.
+/// The beginnings of the classes of marks.
+static CLASSES: [&str; 8] = [
+    "host\"",
+    "connection\"",
+    "leased\"",
+    "idle\"",
+    "closed ",
+    "waiter\"",
+    "limit\"",
+    "legend\"",
+];
+
+/// A log, and how many marks of each class its picture has under a limit of two connections.
 struct Row {
     name: &'static str,
     log: &'static [(u64, Happened)],
-    connections: usize,
-    leased: usize,
-    idle: usize,
-    closed: usize,
-    waiters: usize,
-    limits: usize,
+    marks: [usize; 8],
 }
 
 static ROWS: [Row; 6] = [
     Row {
         name: "nothing happens",
         log: &[],
-        connections: 0,
-        leased: 0,
-        idle: 0,
-        closed: 0,
-        waiters: 0,
-        limits: 1,
+        marks: [1, 0, 0, 0, 0, 0, 1, 1],
     },
     Row {
         name: "a connection is used twice and stays idle",
@@ -105,12 +107,7 @@ static ROWS: [Row; 6] = [
             (2, Happened::Leased(1, 2)),
             (9, Happened::Returned(1)),
         ],
-        connections: 1,
-        leased: 2,
-        idle: 2,
-        closed: 0,
-        waiters: 0,
-        limits: 1,
+        marks: [1, 1, 2, 2, 0, 0, 1, 1],
     },
     Row {
         name: "connections are closed for two causes",
@@ -121,12 +118,7 @@ static ROWS: [Row; 6] = [
             (1, Happened::Returned(2)),
             (1, Happened::Closed(2, Cause::Cut)),
         ],
-        connections: 2,
-        leased: 2,
-        idle: 1,
-        closed: 2,
-        waiters: 0,
-        limits: 1,
+        marks: [1, 2, 2, 1, 2, 0, 1, 1],
     },
     Row {
         name: "of three waiters one gets a connection, and one leaves",
@@ -139,12 +131,7 @@ static ROWS: [Row; 6] = [
             (1, Happened::Leased(1, 2)),
             (18_446_744_073_709_551_615, Happened::Left(3)),
         ],
-        connections: 1,
-        leased: 2,
-        idle: 1,
-        closed: 0,
-        waiters: 3,
-        limits: 1,
+        marks: [1, 1, 2, 1, 0, 3, 1, 1],
     },
     Row {
         name: "a limit changes twice, to one that is far above",
@@ -153,22 +140,12 @@ static ROWS: [Row; 6] = [
             (6, Happened::Limit(1)),
             (7, Happened::Limit(65_535)),
         ],
-        connections: 1,
-        leased: 1,
-        idle: 0,
-        closed: 0,
-        waiters: 0,
-        limits: 2,
+        marks: [1, 1, 1, 0, 0, 0, 2, 1],
     },
     Row {
         name: "no limit",
         log: &[(5, Happened::Limit(0)), (5, Happened::Opened(1, 1))],
-        connections: 1,
-        leased: 1,
-        idle: 0,
-        closed: 0,
-        waiters: 0,
-        limits: 1,
+        marks: [1, 1, 1, 0, 0, 0, 1, 1],
     },
 ];
 
@@ -253,30 +230,26 @@ pub fn count<R: AllocGlobal + Abort>(rt: &R, picture: &str, class: &str) -> usiz
     picture.matches(start.as_str()).count()
 }
 
+/// Checks how many elements have each of these classes.
+pub fn check_marks<R: AllocGlobal + Abort>(
+    rt: &R,
+    picture: &str,
+    classes: &[&'static str],
+    marks: &[usize],
+    name: &str,
+) {
+    for (class, expected) in classes.iter().zip(marks.iter()) {
+        let counted = count(rt, picture, class);
+        assert_eq!(rt; counted, *expected, "{name}: {class}");
+    }
+}
+
 #[test]
 fn each_connection_and_waiter_has_its_marks(rt: HostRuntime) {
     for row in &ROWS {
         let log = log_of(rt.alloc(), row.log).expect(&rt, "memory");
         let picture = drawn(rt.alloc(), &log).expect(&rt, "memory");
-        let picture = picture.as_str();
-        assert_eq!(rt; count(&rt, picture, "host\""), 1, "{}", row.name);
-        assert_eq!(rt;
-            count(&rt, picture, "connection\""),
-            row.connections,
-            "{}",
-            row.name
-        );
-        assert_eq!(rt; count(&rt, picture, "leased\""), row.leased, "{}", row.name);
-        assert_eq!(rt; count(&rt, picture, "idle\""), row.idle, "{}", row.name);
-        assert_eq!(rt; count(&rt, picture, "closed "), row.closed, "{}", row.name);
-        assert_eq!(rt;
-            count(&rt, picture, "waiter\""),
-            row.waiters,
-            "{}",
-            row.name
-        );
-        assert_eq!(rt; count(&rt, picture, "limit\""), row.limits, "{}", row.name);
-        assert_eq!(rt; count(&rt, picture, "legend\""), 1, "{}", row.name);
+        check_marks(&rt, picture.as_str(), &CLASSES, &row.marks, row.name);
     }
 }
 
@@ -298,10 +271,13 @@ fn one_after_another(alloc: Global, connections: u32) -> Result<Vec<Entry>, Allo
     Ok(log)
 }
 
+/// How many connections are opened and closed, and how many are shown.
+static SHOWN: [(u32, usize); 3] = [(5_000, 5_000), (5_001, 5_000), (6_000, 5_000)];
+
 // The first of the connections was open at the first event that is shown, the second one is older.
 #[test]
 fn the_newest_events_are_shown(rt: HostRuntime) {
-    for (connections, shown) in &[(5_000, 5_000), (5_001, 5_000), (6_000, 5_000)] {
+    for (connections, shown) in &SHOWN {
         let log = one_after_another(rt.alloc(), *connections).expect(&rt, "memory");
         let picture = drawn(rt.alloc(), &log).expect(&rt, "memory");
         assert_eq!(rt; count(&rt, picture.as_str(), "connection\""), *shown);
@@ -310,13 +286,13 @@ fn the_newest_events_are_shown(rt: HostRuntime) {
             picture.as_str().contains("the newest 10000 of")
         );
     }
+}
+
+#[test]
+fn a_limit_takes_the_place_of_an_event(rt: HostRuntime) {
     let mut log = one_after_another(rt.alloc(), 5_000).expect(&rt, "memory");
-    let limit = Event::Limit { limit: 1 };
-    log.push(Entry {
-        moment: 8,
-        event: limit,
-    })
-    .expect(&rt, "memory");
+    let event = Event::Limit { limit: 1 };
+    log.push(Entry { moment: 8, event }).expect(&rt, "memory");
     let picture = drawn(rt.alloc(), &log).expect(&rt, "memory");
     assert_eq!(rt; count(&rt, picture.as_str(), "connection\""), 5_000);
 }

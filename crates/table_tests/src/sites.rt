@@ -4,7 +4,6 @@ ghost use Rattle.std.specs.Prelude.{not, slice_get, true, unwrap_or};
 
 use site_table::{PlaceError, Places, SiteTable};
 use std::alloc::AllocError;
-use std::test::Fail;
 
 /// A cache of which contracts know which places are in use: those that it names, and none past
 /// them.
@@ -25,7 +24,7 @@ impl Places for InUse<'_> {
 type Step = (&'static str, [bool; 3], Result<u32, PlaceError>);
 
 /// Three places. Worked by hand from the rules.
-const STEPS: [Step; 10] = [
+static STEPS: [Step; 10] = [
     ("a:80", [false, false, false], Ok(0)),
     ("b:80", [true, false, false], Ok(1)),
     ("a:80", [true, true, false], Ok(0)),
@@ -67,12 +66,11 @@ fn a_cache_without_places_gives_none(rt: HostRuntime) {
 }
 
 #[test]
-fn errors_say_why(rt: HostRuntime) -> Result<(), Fail> {
-    let full = format!(in rt.alloc(); "{}", PlaceError::Full)?;
+fn errors_say_why(rt: HostRuntime) {
+    let full = format!(in rt.alloc(); "{}", PlaceError::Full).expect(&rt, "memory");
     assert_eq!(rt; full.as_str(), "each place is in use");
-    let memory = format!(in rt.alloc(); "{}", PlaceError::from(AllocError))?;
+    let memory = format!(in rt.alloc(); "{}", PlaceError::from(AllocError)).expect(&rt, "memory");
     assert_eq!(rt; memory.as_str(), "out of memory");
-    Ok(())
 }
 
 /// Passes whichever allocation fails: the host is refused, the table is as it was, and the host is

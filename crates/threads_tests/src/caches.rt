@@ -1,7 +1,6 @@
 //! Tests of `shared_cache`: what no clause says, worked rows, threads, and want of memory.
 
 mod cuts;
-mod desk;
 mod example;
 mod gathering;
 mod inspecting;
@@ -10,5 +9,6 @@ mod making;
 mod memory;
 mod rows;
 mod sharing;
+mod thread_desk;
 mod told;
 mod workers;

@@ -3,12 +3,11 @@
 use persistence::{Fed, Method, ReadFault};
 use slot_readers::{FeedError, SlotReaders};
 use slot_table::Slot;
-use std::test::Fail;
 
 const RESPONSE: &[u8] = b"HTTP/1.1 200 OK\r\nContent-Length: 3\r\n\r\nabc";
 
 #[test]
-fn each_slot_has_its_own_reader(rt: HostRuntime) -> Result<(), Fail> {
+fn each_slot_has_its_own_reader(rt: HostRuntime) {
     let one = Slot {
         index: 0,
         generation: 1,
@@ -23,8 +22,12 @@ fn each_slot_has_its_own_reader(rt: HostRuntime) -> Result<(), Fail> {
     };
     let mut readers = SlotReaders::new(rt.alloc());
     assert_eq!(rt; readers.feed(one, RESPONSE), Err(FeedError::NoReader));
-    readers.begin(rt.alloc(), one, Method::Get, false)?;
-    readers.begin(rt.alloc(), other, Method::Get, false)?;
+    readers
+        .begin(rt.alloc(), one, Method::Get, false)
+        .expect(&rt, "memory");
+    readers
+        .begin(rt.alloc(), other, Method::Get, false)
+        .expect(&rt, "memory");
     assert_eq!(rt; readers.feed(one, RESPONSE), Ok(Fed::Whole));
     assert_eq!(rt; readers.feed(other, b"HTTP/1.1 2"), Ok(Fed::More));
     assert_eq!(rt; readers.response(one).map(|told| told.persists), Some(true));
@@ -35,12 +38,13 @@ fn each_slot_has_its_own_reader(rt: HostRuntime) -> Result<(), Fail> {
     assert!(rt; readers.end(other));
     assert_eq!(rt; readers.feed(other, b"0"), Err(FeedError::Ended));
     // The reader is used again for another slot of its index.
-    readers.begin(rt.alloc(), later, Method::Get, true)?;
+    readers
+        .begin(rt.alloc(), later, Method::Get, true)
+        .expect(&rt, "memory");
     assert_eq!(rt; readers.response(one), None);
     assert_eq!(rt;
         readers.feed(later, b"FTP"),
         Err(FeedError::Fault(ReadFault::BadHead))
     );
     assert!(rt; !readers.end(one));
-    Ok(())
 }

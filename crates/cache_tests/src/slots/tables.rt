@@ -3,7 +3,6 @@
 use closed_tokens::ClosedTokens;
 use slot_table::{Slot, SlotTable};
 use std::alloc::AllocError;
-use std::test::Fail;
 
 /// Puts a value into a new slot, for which room is made before.
 fn put(table: &mut SlotTable<u64>, value: u64) -> Result<Slot, AllocError> {
@@ -37,11 +36,11 @@ fn a_slot_names_its_value_until_that_is_taken_out(rt: HostRuntime) {
 }
 
 #[test]
-fn tokens_are_told_once_each(rt: HostRuntime) -> Result<(), Fail> {
-    let mut closed = ClosedTokens::new(rt.alloc())?;
-    let first = closed.token(rt.alloc(), 1)?;
-    let second = closed.token(rt.alloc(), 2)?;
-    let third = closed.token(rt.alloc(), 3)?;
+fn tokens_are_told_once_each(rt: HostRuntime) {
+    let mut closed = ClosedTokens::new(rt.alloc()).expect(&rt, "memory");
+    let first = closed.token(rt.alloc(), 1).expect(&rt, "memory");
+    let second = closed.token(rt.alloc(), 2).expect(&rt, "memory");
+    let third = closed.token(rt.alloc(), 3).expect(&rt, "memory");
     assert_eq!(rt; closed.next(), None);
     drop(second);
     drop(first);
@@ -50,5 +49,4 @@ fn tokens_are_told_once_each(rt: HostRuntime) -> Result<(), Fail> {
     assert_eq!(rt; closed.next(), Some(2));
     assert_eq!(rt; closed.next(), Some(3));
     assert_eq!(rt; closed.next(), None);
-    Ok(())
 }

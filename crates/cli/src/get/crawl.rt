@@ -219,7 +219,9 @@ fn set_hosts<N: Resolver, C: Crawler>(
     crawler: &mut C,
 ) -> Result<(), AllocError>
     requires { C.stands crawler.old }
-    ensures { C.stands crawler.new }
+    ensures stands { C.stands crawler.new }
+    ensures table { source.new.hosts.table ≡ source.old.hosts.table }
+    ensures awaited { source.new.hosts.awaited.items ≡ source.old.hosts.awaited.items }
 {
     if let Some(addresses) = source.hosts.new_addresses(resolver)? {
         crawler.set_addresses(addresses);

@@ -14,7 +14,6 @@ use std::process::Abort;
 use std::random::RandomSource;
 use std::sync::Wait;
 use std::sync::atomic::{AtomicBool, Ordering};
-use std::test::Fail;
 use std::thread::{Builder, Threads, scope_env};
 use std::{io, thread};
 
@@ -189,9 +188,9 @@ static ROWS: [Row; 4] = [
 ];
 
 #[test]
-fn figures_and_account_are_those_of_the_server(rt: HostRuntime) -> Result<(), Fail> {
+fn figures_and_account_are_those_of_the_server(rt: HostRuntime) {
     for row in &ROWS {
-        let (loaded, served) = load_beside(&rt, &rt, row)?;
+        let (loaded, served) = load_beside(&rt, &rt, row).expect(&rt, "memory");
         let all = loaded.figures.all();
         let (good, stopped) = (all.good, all.stopped);
         let (least, most) = row.requests;
@@ -212,11 +211,10 @@ fn figures_and_account_are_those_of_the_server(rt: HostRuntime) -> Result<(), Fa
             "{row:?}"
         );
     }
-    Ok(())
 }
 
 #[test]
-fn no_job_begins_before_it_is_due(rt: HostRuntime) -> Result<(), Fail> {
+fn no_job_begins_before_it_is_due(rt: HostRuntime) {
     let row = Row {
         connections: 8,
         seconds: Some(2),
@@ -225,27 +223,27 @@ fn no_job_begins_before_it_is_due(rt: HostRuntime) -> Result<(), Fail> {
         requests: (0, 402),
         ..UNTIMED
     };
-    let (loaded, served) = load_beside(&rt, &rt, &row)?;
+    let (loaded, served) = load_beside(&rt, &rt, &row).expect(&rt, "memory");
     let good = loaded.figures.all().good;
     let (least, most) = row.requests;
     assert!(rt; least <= good && good <= most, "{good}");
     assert!(rt; served <= 602, "{served}");
-    Ok(())
 }
 
 #[test]
-fn jobs_of_a_silent_peer_are_cancelled(rt: HostRuntime) -> Result<(), Fail> {
-    let silent = TcpListener::bind(&rt, SocketAddr::new(IpAddr::V4(Ipv4Addr::LOCALHOST), 0))?;
-    let port = silent.local_addr()?.port();
+fn jobs_of_a_silent_peer_are_cancelled(rt: HostRuntime) {
+    let silent = TcpListener::bind(&rt, SocketAddr::new(IpAddr::V4(Ipv4Addr::LOCALHOST), 0)).expect(
+        &rt, "memory",
+    );
+    let port = silent.local_addr().expect(&rt, "memory").port();
     let row = Row {
         workers: 1,
         jobs: Some(8),
         timeout: Some(1),
         ..UNTIMED
     };
-    let loaded = load_at(&rt, &rt, &[port], &row)?;
+    let loaded = load_at(&rt, &rt, &[port], &row).expect(&rt, "memory");
     let all = loaded.figures.all();
     assert_eq!(rt; (all.good, all.failed, all.stopped), (0, 8, 0));
     assert!(rt; 2_000_000 <= loaded.elapsed, "{}", loaded.elapsed);
-    Ok(())
 }

@@ -12,7 +12,6 @@ use std::process::Abort;
 use std::random::RandomSource;
 use std::sync::Wait;
 use std::sync::atomic::{AtomicBool, Ordering};
-use std::test::Fail;
 use std::thread::{Builder, Threads, scope_env};
 use std::{io, thread};
 
@@ -168,16 +167,15 @@ static ROWS: [(u32, u32, u32, u32); 4] = [
 ];
 
 #[test]
-fn each_site_gets_the_requests_of_its_jobs(rt: HostRuntime) -> Result<(), Fail> {
+fn each_site_gets_the_requests_of_its_jobs(rt: HostRuntime) {
     for row in &ROWS {
         let (sites, jobs, workers, total) = *row;
         let options = options_of(sites, jobs, workers, total).expect(&rt, "numbers in range");
-        let ran = load_told(&rt, &rt, options)?;
+        let ran = load_told(&rt, &rt, options).expect(&rt, "memory");
         assert_eq!(rt; ran.results.len(), jobs as usize, "{options:?}");
         for site in 0..sites {
             let seen = ran.at(site);
             assert!(rt; seen.is_of_its_jobs(), "{options:?}: {site}: {seen:?}");
         }
     }
-    Ok(())
 }

@@ -71,7 +71,7 @@ fn open_at(budget: &mut PlainBudget, host: u32) -> (Try, Held)
 }
 
 #[test]
-fn a_plain_budget_sums_over_hosts(rt: HostRuntime) {
+fn a_plain_budget_opens_up_to_its_total(rt: HostRuntime) {
     let limits = Limits::new(0, 2, 1).expect(&rt, "limits");
     let Ok(mut budget) = PlainBudget::new(rt.alloc(), limits, 2) else {
         panic!(rt; "no memory");
@@ -80,14 +80,21 @@ fn a_plain_budget_sums_over_hosts(rt: HostRuntime) {
     assert_eq!(rt; open_at(&mut budget, 0), (Try::Got, one));
     assert_eq!(rt; open_at(&mut budget, 1), (Try::Got, one));
     assert_eq!(rt; open_at(&mut budget, 1), (Try::Full, one));
+}
+
+#[test]
+fn a_plain_budget_keeps_over_all_hosts(rt: HostRuntime) {
+    let limits = Limits::new(0, 1, 1).expect(&rt, "limits");
+    let Ok(mut budget) = PlainBudget::new(rt.alloc(), limits, 2) else {
+        panic!(rt; "no memory");
+    };
+    let _opened = open_at(&mut budget, 0);
     let mut first = budget.at(0);
     assert_eq!(rt; first.reserve_kept(&FREELY), Try::Got);
-    assert_eq!(rt; first.reserve_kept(&FREELY), Try::Full);
-    assert_eq!(rt; held_of(&first), Held { alive: 1, kept: 1 });
     assert_eq!(rt; take_and_give_back(&mut first), (Try::Full, Try::Full));
+    assert_eq!(rt; held_of(&first), Held { alive: 1, kept: 1 });
     let mut second = budget.at(1);
     assert_eq!(rt; second.reserve_kept(&FREELY), Try::Full);
-    assert_eq!(rt; held_of(&second), one);
 }
 
 #[test]
@@ -117,17 +124,26 @@ fn two_seats_share_one_permit(rt: HostRuntime) {
         panic!(rt; "no memory");
     };
     let mut b = budget.split(&mut a);
-    assert_eq!(rt; budget.seen(&b), Seen { total: 0, kept: 0 });
     let Try::Got = budget.try_open(&mut a, &FREELY) else {
         panic!(rt; "a could not open");
     };
     assert_eq!(rt; budget.try_open(&mut b, &FREELY), Try::Full);
-    assert_eq!(rt; budget.seen(&b).total, 1);
+    assert_eq!(rt; budget.seen(&b), Seen { total: 1, kept: 0 });
     budget.free_open(&mut a);
+    budget.join(&mut a, b);
+    assert_eq!(rt; budget.finish(a), Words { total: 0, kept: 0 });
+}
+
+#[test]
+fn two_seats_share_one_kept_permit(rt: HostRuntime) {
+    let limits = Limits::new(0, 1, 1).expect(&rt, "limits");
+    let Ok((budget, mut a)) = WordBudget::new(rt.alloc(), limits) else {
+        panic!(rt; "no memory");
+    };
+    let mut b = budget.split(&mut a);
     let Try::Got = budget.try_open(&mut b, &FREELY) else {
         panic!(rt; "b could not open");
     };
-    assert!(rt; !budget.keeps_any());
     let Try::Got = budget.try_keep(&mut b, &FREELY) else {
         panic!(rt; "b could not keep");
     };
@@ -136,12 +152,20 @@ fn two_seats_share_one_permit(rt: HostRuntime) {
     assert_eq!(rt; b.held(), Held { alive: 1, kept: 1 });
     budget.free_keep(&mut b);
     budget.free_open(&mut b);
-    assert_eq!(rt;
-        take_and_give_back(&mut SeatPermits::new(&budget, &mut b)),
-        (Try::Got, Try::Got)
-    );
     budget.join(&mut a, b);
     assert_eq!(rt; budget.finish(a), Words { total: 0, kept: 0 });
+}
+
+#[test]
+fn a_seat_takes_and_gives_back(rt: HostRuntime) {
+    let limits = Limits::new(0, 1, 1).expect(&rt, "limits");
+    let Ok((budget, mut seat)) = WordBudget::new(rt.alloc(), limits) else {
+        panic!(rt; "no memory");
+    };
+    let taken = take_and_give_back(&mut SeatPermits::new(&budget, &mut seat));
+    assert_eq!(rt; taken, (Try::Got, Try::Got));
+    assert!(rt; !budget.keeps_any());
+    assert_eq!(rt; budget.finish(seat), Words { total: 0, kept: 0 });
 }
 
 // Asks for two permits and gives them back, again and again. It answers the greatest total seen,

@@ -1,14 +1,14 @@
 //! What a log hands out as it is cut, and what it still knows.
+use crate::logs::counts::counted;
 use crate::logs::entries::{
-    KEEP, add, closed, get, leased, left, limited, log_of, opened, returned, waited,
+    Happened, KEEP, Step, add, entries_of, entry_of, get, left, log_of, waited,
 };
 use conn_log::{
-    Cause, Counts, Entry, Log, LogFault, OpenConnection, Stamp, holder, idle_oldest, open_count,
-    waiting_len,
+    Cause, Counts, Entry, Log, LogFault, OpenConnection, Stamp, Want, holder, idle_oldest,
+    open_count, waiting_len,
 };
 use std::alloc::Global;
 use std::process::Abort;
-use std::test::Fail;
 
 /// What is asked of a log at host 3: how many connections are open, how many transfers wait, the
 /// oldest connection, who holds connections 1 and 2, the last moment, and the counts.
@@ -35,66 +35,86 @@ fn answers(log: &Log) -> Answers {
 }
 
 /// The log answers so.
-fn check_answers(rt: &impl Abort, log: &Log, expected: &Answers, place: usize) {
-    assert_eq!(rt; &answers(log), expected, "cut at {place}");
+fn check_answers(rt: &impl Abort, log: &Log, expected: &Answers) {
+    assert_eq!(rt; &answers(log), expected);
 }
 
 /// Two connections, of which one is leased again; and two transfers that wait, of which one leaves
 /// and one is granted what comes back.
-fn busy_host() -> [Entry; 12] {
-    [
-        opened(1, 1, 0),
-        opened(2, 2, 1),
-        waited(3, 2),
-        waited(4, 3),
-        left(3, 4),
-        returned(1, 5),
-        leased(1, 4, 5),
-        returned(2, 9),
-        limited(2, 9),
-        leased(2, 5, 11),
-        closed(2, Cause::Dropped, 12),
-        opened(3, 6, 13),
-    ]
-}
+static BUSY_HOST: [Step; 12] = [
+    (0, Happened::Opened(1, 1)),
+    (1, Happened::Opened(2, 2)),
+    (2, Happened::Waited(3)),
+    (3, Happened::Waited(4)),
+    (4, Happened::Left(3)),
+    (5, Happened::Returned(1)),
+    (5, Happened::Leased(1, 4)),
+    (9, Happened::Returned(2)),
+    (9, Happened::Limited(2)),
+    (11, Happened::Leased(2, 5)),
+    (12, Happened::Closed(2, Cause::Dropped)),
+    (13, Happened::Opened(3, 6)),
+];
 
 #[test]
-fn answers_stay_wherever_a_log_is_cut(rt: HostRuntime) -> Result<(), Fail> {
-    let entries = busy_host();
+fn answers_stay_wherever_a_log_is_cut(rt: HostRuntime) {
+    let entries = entries_of(rt.alloc(), &BUSY_HOST).expect(&rt, "memory");
     for count in 0..=entries.len() {
-        check_cuts(&rt, rt.alloc(), &entries[..count])?;
+        let entries = entries.get(..count).unwrap_or(&[]);
+        check_cuts(&rt, rt.alloc(), entries);
     }
-    Ok(())
 }
 
-/// Cuts a log of its first entries at each place, and once more at its end: each time it answers
-/// what the whole log does, and the parts are its entries.
-fn check_cuts(rt: &impl Abort, alloc: Global, entries: &[Entry]) -> Result<(), Fail> {
-    let whole = answers(&log_of(rt, alloc, entries)?);
+/// Cuts a log of these entries at each place, and once more at its end.
+fn check_cuts(rt: &impl Abort, alloc: Global, entries: &[Entry]) {
+    let whole = answers(&log_of(rt, alloc, entries).expect(rt, "memory"));
     for place in 0..=entries.len() {
-        let mut log = log_of(rt, alloc, &entries[..place])?;
-        let room = log.room();
-        let first = log.cut()?;
-        assert_eq!(rt; first.as_slice(), &entries[..place]);
-        assert!(rt; log.is_empty() && log.room() >= room);
-        for entry in &entries[place..] {
-            add(rt, &mut log, *entry)?;
-        }
-        check_answers(rt, &log, &whole, place);
-        assert_eq!(rt; log.total_len(), entries.len() as u64);
-        let second = log.cut()?;
-        assert_eq!(rt; second.as_slice(), &entries[place..]);
-        check_answers(rt, &log, &whole, place);
-        assert!(rt; log.cut()?.is_empty());
+        let front = entries.get(..place).unwrap_or(&[]);
+        let back = entries.get(place..).unwrap_or(&[]);
+        check_cut_between(rt, alloc, front, back, &whole);
     }
-    Ok(())
+}
+
+/// Cuts a log between these entries, and once more at its end: each time it answers what the whole
+/// log does, and the parts are its entries.
+fn check_cut_between(
+    rt: &impl Abort,
+    alloc: Global,
+    front: &[Entry],
+    back: &[Entry],
+    whole: &Answers,
+) {
+    let mut log = log_of(rt, alloc, front).expect(rt, "memory");
+    let room = log.room();
+    check_part(rt, &mut log, front);
+    assert!(rt; log.is_empty() && log.room() >= room);
+    for entry in back {
+        add(rt, &mut log, *entry).expect(rt, "memory");
+    }
+    check_answers(rt, &log, whole);
+    check_part(rt, &mut log, back);
+    check_answers(rt, &log, whole);
+    check_part(rt, &mut log, &[]);
+}
+
+/// Cuts a log, which hands out these entries.
+fn check_part(rt: &impl Abort, log: &mut Log, expected: &[Entry]) {
+    let part = log.cut().expect(rt, "memory");
+    assert_eq!(rt; part.as_slice(), expected);
+}
+
+/// The log of these steps, cut at its end.
+fn cut_log(rt: &impl Abort, alloc: Global, steps: &[Step]) -> Log {
+    let entries = entries_of(alloc, steps).expect(rt, "memory");
+    let mut log = log_of(rt, alloc, &entries).expect(rt, "memory");
+    let _ = log.cut().expect(rt, "memory");
+    log
 }
 
 #[test]
-fn a_base_has_what_is_left(rt: HostRuntime) -> Result<(), Fail> {
-    let mut log = log_of(&rt, rt.alloc(), &busy_host())?;
-    let _ = log.cut()?;
-    let base = log.base();
+fn a_base_has_the_connections_that_are_left(rt: HostRuntime) {
+    let log = cut_log(&rt, rt.alloc(), &BUSY_HOST);
+    let connections = log.base().connections();
     let first = OpenConnection {
         lane: 0,
         born: 0,
@@ -103,61 +123,64 @@ fn a_base_has_what_is_left(rt: HostRuntime) -> Result<(), Fail> {
         holder: Some(get(4)),
     };
     let third = OpenConnection {
-        lane: 0,
         born: 13,
         since: 0,
         facts: None,
         holder: Some(get(6)),
+        ..first
     };
-    assert_eq!(rt; base.connections().len(), 2);
-    assert_eq!(rt; base.connections().get(&1), Some(&first));
-    assert_eq!(rt; base.connections().get(&3), Some(&third));
+    assert_eq!(rt; connections.get(&1), Some(&first));
+    assert_eq!(rt; connections.get(&3), Some(&third));
+    assert_eq!(rt; connections.len(), 2);
+}
+
+#[test]
+fn a_base_has_the_counts_of_what_was_cut(rt: HostRuntime) {
+    let log = cut_log(&rt, rt.alloc(), &BUSY_HOST);
+    let base = log.base();
+    let numbers = (base.greatest(), base.last_moment(), base.limit());
+    assert_eq!(rt; numbers, (3, 13, Some(2)));
+    assert_eq!(rt; base.counts(), counted(3, 2, 1, 2));
     assert!(rt; base.waiting().is_empty());
-    assert_eq!(rt;
-        (base.greatest(), base.last_moment(), base.limit()),
-        (3, 13, Some(2))
-    );
-    let counts = Counts {
-        opened: 3,
-        reused: 2,
-        closed: 1,
-        waited: 2,
-    };
-    assert_eq!(rt; base.counts(), counts);
-    Ok(())
 }
 
 #[test]
-fn a_base_has_who_waits_the_last_one_first(rt: HostRuntime) -> Result<(), Fail> {
-    let mut log = log_of(&rt, rt.alloc(), &busy_host()[..4])?;
-    let _ = log.cut()?;
-    assert_eq!(rt; log.base().waiting(), [get(4), get(3)].as_slice());
-    add(&rt, &mut log, left(3, 4))?;
-    add(&rt, &mut log, waited(7, 4))?;
-    let _ = log.cut()?;
-    assert_eq!(rt; log.base().waiting(), [get(7), get(4)].as_slice());
-    Ok(())
+fn a_base_has_who_waits_the_last_one_first(rt: HostRuntime) {
+    let mut log = cut_log(&rt, rt.alloc(), &BUSY_HOST[..4]);
+    check_waiting(&rt, &log, &[get(4), get(3)]);
+    add(&rt, &mut log, left(3, 4)).expect(&rt, "memory");
+    add(&rt, &mut log, waited(7, 4)).expect(&rt, "memory");
+    let _ = log.cut().expect(&rt, "memory");
+    check_waiting(&rt, &log, &[get(7), get(4)]);
 }
 
+/// These wait, as the log's base has them.
+fn check_waiting(rt: &impl Abort, log: &Log, expected: &[Want]) {
+    assert_eq!(rt; log.base().waiting(), expected);
+}
+
+/// No host writes such a log: a number is opened once.
+static OPENED_TWICE: [Step; 3] = [
+    (0, Happened::Opened(1, 1)),
+    (1, Happened::Closed(1, Cause::Dropped)),
+    (2, Happened::Opened(1, 2)),
+];
+
 #[test]
-fn a_base_forgets_which_numbers_were_closed(rt: HostRuntime) -> Result<(), Fail> {
-    // No host writes such a log: a number is opened once.
-    let entries = [
-        opened(1, 1, 0),
-        closed(1, Cause::Dropped, 1),
-        opened(1, 2, 2),
-    ];
-    let mut log = log_of(&rt, rt.alloc(), &entries[..2])?;
-    let _ = log.cut()?;
-    add(&rt, &mut log, entries[2])?;
+fn a_base_forgets_which_numbers_were_closed(rt: HostRuntime) {
+    let mut log = cut_log(&rt, rt.alloc(), &OPENED_TWICE[..2]);
+    add(&rt, &mut log, entry_of(&OPENED_TWICE[2])).expect(&rt, "memory");
     assert_eq!(rt; open_count(&log), 1);
-    assert_eq!(rt; open_count(&log_of(&rt, rt.alloc(), &entries)?), 0);
-    Ok(())
+    let entries = entries_of(rt.alloc(), &OPENED_TWICE).expect(&rt, "memory");
+    let whole = log_of(&rt, rt.alloc(), &entries).expect(&rt, "memory");
+    assert_eq!(rt; open_count(&whole), 0);
 }
 
 #[test]
 fn want_of_memory_leaves_a_log_uncut(rt: HostRuntime) {
-    let entries = busy_host();
+    let Ok(entries) = entries_of(rt.alloc(), &BUSY_HOST) else {
+        return;
+    };
     let Ok(mut log) = log_of(&rt, rt.alloc(), &entries) else {
         return;
     };
@@ -165,15 +188,14 @@ fn want_of_memory_leaves_a_log_uncut(rt: HostRuntime) {
     let part = match log.cut() {
         Ok(part) => part,
         Err(fault) => {
-            assert_eq!(rt; fault, LogFault::Memory);
-            check_answers(&rt, &log, &before, 0);
-            assert_eq!(rt; (log.len(), log.room()), (entries.len(), room));
-            let Ok(part) = log.cut() else {
-                return;
-            };
-            part
+            assert_eq!(rt;
+                (fault, log.len(), log.room()),
+                (LogFault::Memory, entries.len(), room)
+            );
+            check_answers(&rt, &log, &before);
+            log.cut().expect(&rt, "memory")
         }
     };
     assert_eq!(rt; part.as_slice(), entries.as_slice());
-    check_answers(&rt, &log, &before, entries.len());
+    check_answers(&rt, &log, &before);
 }

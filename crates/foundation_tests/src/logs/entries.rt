@@ -1,7 +1,7 @@
 //! Entries, and logs that are made of them.
 use conn_log::{Cause, Entry, Event, Log, LogFault, Want};
 use persistence::{Facts, Framing, Version};
-use std::alloc::Global;
+use std::alloc::{AllocError, Global};
 use std::process::Abort;
 
 /// What transfers want in the scripts, where nothing else is said.
@@ -55,6 +55,18 @@ pub(crate) fn returned(connection: u32, moment: u64) -> Entry {
     }
 }
 
+/// A return after a response with `close`.
+pub(crate) fn returned_to_close(connection: u32, moment: u64) -> Entry {
+    let facts = Facts {
+        close: true,
+        ..KEEP
+    };
+    Entry {
+        moment,
+        event: Event::Returned { connection, facts },
+    }
+}
+
 pub(crate) fn closed(connection: u32, cause: Cause, moment: u64) -> Entry {
     Entry {
         moment,
@@ -83,6 +95,47 @@ pub(crate) fn limited(limit: u32, moment: u64) -> Entry {
         moment,
         event: Event::Limit { limit },
     }
+}
+
+/// What happened, in short: numbers of connections and of transfers.
+#[derive(Clone, Copy)]
+pub(crate) enum Happened {
+    Opened(u32, u64),
+    Leased(u32, u64),
+    Returned(u32),
+    /// After a response with `close`.
+    ReturnedToClose(u32),
+    Closed(u32, Cause),
+    Waited(u64),
+    Left(u64),
+    Limited(u32),
+}
+
+/// A moment, and what happened then.
+pub(crate) type Step = (u64, Happened);
+
+/// The entry of a step.
+pub(crate) fn entry_of(step: &Step) -> Entry {
+    let (moment, happened) = *step;
+    match happened {
+        Happened::Opened(connection, transfer) => opened(connection, transfer, moment),
+        Happened::Leased(connection, transfer) => leased(connection, transfer, moment),
+        Happened::Returned(connection) => returned(connection, moment),
+        Happened::ReturnedToClose(connection) => returned_to_close(connection, moment),
+        Happened::Closed(connection, cause) => closed(connection, cause, moment),
+        Happened::Waited(transfer) => waited(transfer, moment),
+        Happened::Left(transfer) => left(transfer, moment),
+        Happened::Limited(limit) => limited(limit, moment),
+    }
+}
+
+/// The entries of these steps.
+pub(crate) fn entries_of(alloc: Global, steps: &[Step]) -> Result<Vec<Entry>, AllocError> {
+    let mut entries = Vec::new(alloc);
+    for step in steps {
+        entries.push(entry_of(step))?;
+    }
+    Ok(entries)
 }
 
 /// Adds an entry, in room made for it.

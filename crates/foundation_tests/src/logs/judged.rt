@@ -1,25 +1,11 @@
 //! Which rule an entry breaks, at small logs of one host: each event is taken once, and each rule
 //! is broken once. The logs are those of the traces in `tools/trace_model/worked`, whose answers
 //! were written by hand.
-use crate::logs::entries::{KEEP, closed, get, leased, left, limited, opened, returned, waited};
+use crate::logs::entries::{Happened, Step, entry_of, get};
 use conn_log::{Cause, Entry, Event, Want};
 use monitor::{Fault, HostMonitor, Violation};
-use persistence::Facts;
 use std::alloc::Global;
 use std::process::Abort;
-use std::test::Fail;
-
-/// A return after a response with `close`.
-fn returned_to_close(connection: u32, moment: u64) -> Entry {
-    let facts = Facts {
-        close: true,
-        ..KEEP
-    };
-    Entry {
-        moment,
-        event: Event::Returned { connection, facts },
-    }
-}
 
 fn leased_as(connection: u32, want: Want, moment: u64) -> Entry {
     Entry {
@@ -39,19 +25,19 @@ fn step(rt: &impl Abort, host: &mut HostMonitor, entry: Entry) -> Result<Option<
     Ok(broken)
 }
 
-/// A host of that limit at which these entries were taken.
+/// A host of that limit at which these steps were taken.
 fn host_of(
     rt: &impl Abort,
     alloc: Global,
     limit: u32,
-    entries: &[Entry],
+    steps: &[Step],
 ) -> Result<HostMonitor, Fault> {
     let Ok(mut host) = HostMonitor::new(alloc, limit) else {
         return Err(Fault::Memory);
     };
-    for entry in entries {
-        let broken = step(rt, &mut host, *entry)?;
-        assert_eq!(rt; broken, None, "{entry:?}");
+    for happened in steps {
+        let broken = step(rt, &mut host, entry_of(happened))?;
+        assert_eq!(rt; broken, None);
     }
     Ok(host)
 }
@@ -66,185 +52,208 @@ fn answers(host: &HostMonitor) -> (u64, u64, u32, Option<Want>) {
     )
 }
 
-#[test]
-fn each_event_is_taken(rt: HostRuntime) -> Result<(), Fail> {
-    let entries = [
-        opened(1, 1, 0),
-        waited(2, 1),
-        returned(1, 2),
-        leased(1, 2, 2),
-        returned(1, 4),
-        leased(1, 3, 122),
-        limited(2, 123),
-        opened(2, 4, 124),
-        waited(5, 125),
-        waited(6, 125),
-        left(5, 126),
-        returned_to_close(1, 127),
-        closed(1, Cause::NotPersistent, 129),
-        opened(3, 6, 129),
-        closed(2, Cause::Dropped, 130),
-        returned(3, 131),
-    ];
-    let mut host = host_of(&rt, rt.alloc(), 1, &entries)?;
-    assert_eq!(rt; answers(&host), (1, 1, 2, None));
-    for entry in &[
-        closed(3, Cause::Pruned, 131),
-        limited(0, 131),
-        waited(7, 131),
-    ] {
-        assert_eq!(rt; step(&rt, &mut host, *entry)?, None);
-    }
-    assert_eq!(rt; answers(&host), (0, 0, 0, Some(get(7))));
-    Ok(())
-}
+/// One of each event at least, two connections and four waiters.
+static EACH_EVENT: [Step; 16] = [
+    (0, Happened::Opened(1, 1)),
+    (1, Happened::Waited(2)),
+    (2, Happened::Returned(1)),
+    (2, Happened::Leased(1, 2)),
+    (4, Happened::Returned(1)),
+    (122, Happened::Leased(1, 3)),
+    (123, Happened::Limited(2)),
+    (124, Happened::Opened(2, 4)),
+    (125, Happened::Waited(5)),
+    (125, Happened::Waited(6)),
+    (126, Happened::Left(5)),
+    (127, Happened::ReturnedToClose(1)),
+    (129, Happened::Closed(1, Cause::NotPersistent)),
+    (129, Happened::Opened(3, 6)),
+    (130, Happened::Closed(2, Cause::Dropped)),
+    (131, Happened::Returned(3)),
+];
+
+/// What happens after them.
+static LAST_EVENTS: [Step; 3] = [
+    (131, Happened::Closed(3, Cause::Pruned)),
+    (131, Happened::Limited(0)),
+    (131, Happened::Waited(7)),
+];
 
 #[test]
-fn want_of_memory_leaves_a_host(rt: HostRuntime) -> Result<(), Fail> {
-    let entries = [
-        opened(1, 1, 0),
-        waited(2, 0),
-        returned(1, 1),
-        leased(1, 2, 1),
-    ];
+fn each_event_is_taken(rt: HostRuntime) {
+    let mut host = host_of(&rt, rt.alloc(), 1, &EACH_EVENT).expect(&rt, "memory");
+    assert_eq!(rt; answers(&host), (1, 1, 2, None));
+    for happened in &LAST_EVENTS {
+        let broken = step(&rt, &mut host, entry_of(happened)).expect(&rt, "memory");
+        assert_eq!(rt; broken, None);
+    }
+    assert_eq!(rt; answers(&host), (0, 0, 0, Some(get(7))));
+}
+
+/// A waiter that is granted what comes back.
+static GRANTED: [Step; 4] = [
+    (0, Happened::Opened(1, 1)),
+    (0, Happened::Waited(2)),
+    (1, Happened::Returned(1)),
+    (1, Happened::Leased(1, 2)),
+];
+
+#[test]
+fn want_of_memory_leaves_a_host(rt: HostRuntime) {
     let Ok(mut host) = HostMonitor::new(rt.alloc(), 1) else {
-        return Ok(());
+        return;
     };
-    for entry in &entries {
+    for happened in &GRANTED {
+        let entry = entry_of(happened);
         let before = answers(&host);
-        if host.step(*entry).is_err() {
-            assert_eq!(rt; answers(&host), before);
-            assert_eq!(rt; host.first_broken(entry), None);
-            return Ok(());
+        if host.step(entry).is_err() {
+            assert_eq!(rt; (answers(&host), host.first_broken(&entry)), (before, None));
+            return;
         }
     }
     assert_eq!(rt; answers(&host), (1, 0, 1, None));
-    Ok(())
 }
 
+/// A limit, what happens under it, what happens last, and the rule that this breaks.
+type Row = (u32, &'static [Step], Step, Violation);
+
+const TWO: [Step; 2] = [(0, Happened::Opened(1, 1)), (0, Happened::Opened(2, 2))];
+
+const ONE: [Step; 1] = [(0, Happened::Opened(1, 1))];
+
+const IDLE: [Step; 2] = [(0, Happened::Opened(1, 1)), (1, Happened::Returned(1))];
+
+const WAITING: [Step; 1] = [(0, Happened::Waited(1))];
+
+const LATE: [Step; 1] = [(5, Happened::Opened(1, 1))];
+
+const TO_CLOSE: [Step; 2] = [
+    (0, Happened::Opened(1, 1)),
+    (0, Happened::ReturnedToClose(1)),
+];
+
+static ROWS: [Row; 17] = [
+    (
+        4,
+        &LATE,
+        (4, Happened::Left(1)),
+        Violation::Earlier { last: 5 },
+    ),
+    (
+        1,
+        &ONE,
+        (0, Happened::Opened(2, 2)),
+        Violation::Full { count: 1, limit: 1 },
+    ),
+    (
+        4,
+        &WAITING,
+        (0, Happened::Opened(1, 2)),
+        Violation::NotFirst { first: 1 },
+    ),
+    (
+        4,
+        &ONE,
+        (0, Happened::Opened(2, 1)),
+        Violation::Holds { connection: 1 },
+    ),
+    (
+        4,
+        &ONE,
+        (0, Happened::Opened(3, 2)),
+        Violation::NotNext { next: 2 },
+    ),
+    (4, &[], (0, Happened::Leased(1, 1)), Violation::NotOpen),
+    (
+        4,
+        &ONE,
+        (0, Happened::Closed(1, Cause::Pruned)),
+        Violation::InUse { holder: 1 },
+    ),
+    (
+        4,
+        &ONE,
+        (0, Happened::Leased(1, 2)),
+        Violation::InUse { holder: 1 },
+    ),
+    (
+        4,
+        &IDLE,
+        (120, Happened::Leased(1, 2)),
+        Violation::IdleTooLong { idle: 119 },
+    ),
+    (4, &IDLE, (1, Happened::Returned(1)), Violation::NotHeld),
+    (
+        4,
+        &IDLE,
+        (1, Happened::Closed(1, Cause::Dropped)),
+        Violation::NotHeld,
+    ),
+    (
+        4,
+        &ONE,
+        (0, Happened::Closed(1, Cause::Cut)),
+        Violation::NotOwed,
+    ),
+    (
+        4,
+        &TO_CLOSE,
+        (0, Happened::Closed(1, Cause::Cut)),
+        Violation::CloseOwed {
+            connection: 1,
+            cause: Cause::NotPersistent,
+        },
+    ),
+    (
+        4,
+        &WAITING,
+        (0, Happened::Waited(1)),
+        Violation::WaitsAlready,
+    ),
+    (
+        4,
+        &IDLE,
+        (1, Happened::Waited(2)),
+        Violation::BesideIdle { count: 1 },
+    ),
+    (4, &[], (0, Happened::Left(1)), Violation::NotWaiting),
+    (
+        4,
+        &TWO,
+        (0, Happened::Limited(1)),
+        Violation::BelowOpen { count: 2 },
+    ),
+];
+
 #[test]
-fn the_first_broken_rule_is_told(rt: HostRuntime) -> Result<(), Fail> {
-    let want = get(2);
-    let another_lane = Want { lane: 1, ..want };
-    let short = Want {
-        max_life: 2,
-        ..want
-    };
-    let new = Want {
-        fresh: true,
-        ..want
-    };
-    let for_six = Want {
-        lane: 1,
-        fresh: true,
-        max_life: 1,
-        ..want
-    };
-    let two = [opened(1, 1, 0), opened(2, 2, 0)];
-    let idle = [opened(1, 1, 0), returned(1, 1)];
-    let waiting = [waited(1, 0)];
-    let late = [opened(1, 1, 5)];
-    let to_close = [opened(1, 1, 0), returned_to_close(1, 0)];
-    let rows = [
-        (4, &late[..], left(1, 4), Violation::Earlier { last: 5 }),
-        (
-            1,
-            &two[..1],
-            opened(2, 2, 0),
-            Violation::Full { count: 1, limit: 1 },
-        ),
-        (
-            4,
-            &waiting[..],
-            opened(1, 2, 0),
-            Violation::NotFirst { first: 1 },
-        ),
-        (
-            4,
-            &two[..1],
-            opened(2, 1, 0),
-            Violation::Holds { connection: 1 },
-        ),
-        (
-            4,
-            &two[..1],
-            opened(3, 2, 0),
-            Violation::NotNext { next: 2 },
-        ),
-        (4, &two[..0], leased(1, 1, 0), Violation::NotOpen),
-        (
-            4,
-            &two[..1],
-            closed(1, Cause::Pruned, 0),
-            Violation::InUse { holder: 1 },
-        ),
-        (
-            4,
-            &two[..1],
-            leased(1, 2, 0),
-            Violation::InUse { holder: 1 },
-        ),
-        (
-            4,
-            &idle[..],
-            leased_as(1, another_lane, 1),
-            Violation::OtherLane { lane: 0 },
-        ),
-        (
-            4,
-            &idle[..],
-            leased_as(1, for_six, 500),
-            Violation::OtherLane { lane: 0 },
-        ),
-        (4, &idle[..], leased_as(1, new, 1), Violation::WantsNew),
-        (
-            4,
-            &idle[..],
-            leased(1, 2, 120),
-            Violation::IdleTooLong { idle: 119 },
-        ),
-        (
-            4,
-            &idle[..],
-            leased_as(1, short, 3),
-            Violation::OpenTooLong { age: 3 },
-        ),
-        (4, &idle[..], returned(1, 1), Violation::NotHeld),
-        (
-            4,
-            &idle[..],
-            closed(1, Cause::Dropped, 1),
-            Violation::NotHeld,
-        ),
-        (4, &two[..1], closed(1, Cause::Cut, 0), Violation::NotOwed),
-        (
-            4,
-            &to_close[..],
-            closed(1, Cause::Cut, 0),
-            Violation::CloseOwed {
-                connection: 1,
-                cause: Cause::NotPersistent,
-            },
-        ),
-        (4, &waiting[..], waited(1, 0), Violation::WaitsAlready),
-        (
-            4,
-            &idle[..],
-            waited(2, 1),
-            Violation::BesideIdle { count: 1 },
-        ),
-        (4, &two[..0], left(1, 0), Violation::NotWaiting),
-        (
-            4,
-            &two[..],
-            limited(1, 0),
-            Violation::BelowOpen { count: 2 },
-        ),
-    ];
-    for row in &rows {
-        let (limit, before, last, expected) = *row;
-        let mut host = host_of(&rt, rt.alloc(), limit, before)?;
-        assert_eq!(rt; step(&rt, &mut host, last)?, Some(expected), "{last:?}");
+fn the_first_broken_rule_is_told(rt: HostRuntime) {
+    for (limit, before, last, expected) in &ROWS {
+        let mut host = host_of(&rt, rt.alloc(), *limit, before).expect(&rt, "memory");
+        let broken = step(&rt, &mut host, entry_of(last)).expect(&rt, "memory");
+        assert_eq!(rt; broken, Some(*expected));
     }
-    Ok(())
+}
+
+/// A lane, whether a new connection is wanted, and the longest life; a moment, and the rule that a
+/// lease of the idle connection breaks then.
+static WANTS: [(u32, bool, u64, u64, Violation); 4] = [
+    (1, false, 0, 1, Violation::OtherLane { lane: 0 }),
+    (1, true, 1, 500, Violation::OtherLane { lane: 0 }),
+    (0, true, 0, 1, Violation::WantsNew),
+    (0, false, 2, 3, Violation::OpenTooLong { age: 3 }),
+];
+
+#[test]
+fn what_a_lease_wants_is_judged(rt: HostRuntime) {
+    for (lane, fresh, max_life, moment, expected) in &WANTS {
+        let want = Want {
+            lane: *lane,
+            fresh: *fresh,
+            max_life: *max_life,
+            ..get(2)
+        };
+        let mut host = host_of(&rt, rt.alloc(), 4, &IDLE).expect(&rt, "memory");
+        let broken = step(&rt, &mut host, leased_as(1, want, *moment)).expect(&rt, "memory");
+        assert_eq!(rt; broken, Some(*expected));
+    }
 }

@@ -1,14 +1,13 @@
 //! A log takes entries in room that was made for them.
 use crate::logs::entries::{add, opened};
 use conn_log::{Log, LogFault};
-use std::test::Fail;
 
 #[test]
-fn a_reserved_place_takes_an_append(rt: HostRuntime) -> Result<(), Fail> {
-    let mut log = Log::new(rt.alloc())?;
+fn a_reserved_place_takes_an_append(rt: HostRuntime) {
+    let mut log = Log::new(rt.alloc()).expect(&rt, "memory");
     assert!(rt; log.is_empty());
     assert_eq!(rt; log.last_moment(), 0);
-    log.reserve(1)?;
+    log.reserve(1).expect(&rt, "memory");
     let room = log.room();
     log.append(opened(1, 1, 7));
     assert!(rt; !log.is_empty());
@@ -18,22 +17,20 @@ fn a_reserved_place_takes_an_append(rt: HostRuntime) -> Result<(), Fail> {
     assert_eq!(rt; log.get(0), Some(opened(1, 1, 7)));
     assert_eq!(rt; log.get(1), None);
     assert_eq!(rt; log.since(0), [opened(1, 1, 7)].as_slice());
-    Ok(())
 }
 
 #[test]
-fn room_grows_geometrically(rt: HostRuntime) -> Result<(), Fail> {
-    let mut log = Log::new(rt.alloc())?;
+fn room_grows_geometrically(rt: HostRuntime) {
+    let mut log = Log::new(rt.alloc()).expect(&rt, "memory");
     let mut growths = 0_u64;
     for moment in 0..10_000 {
         let room = log.room();
-        add(&rt, &mut log, opened(1, 1, moment))?;
+        add(&rt, &mut log, opened(1, 1, moment)).expect(&rt, "memory");
         // an entry takes one place, so where room is not less it has grown
         growths = growths.saturating_add(u64::from(room <= log.room()));
     }
     assert_eq!(rt; log.len(), 10_000);
     assert!(rt; growths <= 20, "{growths} growths");
-    Ok(())
 }
 
 #[test]
@@ -51,14 +48,19 @@ fn want_of_memory_leaves_the_log(rt: HostRuntime) {
 }
 
 #[test]
-fn faults_are_printed(rt: HostRuntime) -> Result<(), Fail> {
+fn faults_are_printed(rt: HostRuntime) {
     assert_eq!(rt;
-        LogFault::Memory.to_string(rt.alloc())?.as_str(),
+        LogFault::Memory
+            .to_string(rt.alloc())
+            .expect(&rt, "memory")
+            .as_str(),
         "out of memory"
     );
     assert_eq!(rt;
-        LogFault::Exhausted.to_string(rt.alloc())?.as_str(),
+        LogFault::Exhausted
+            .to_string(rt.alloc())
+            .expect(&rt, "memory")
+            .as_str(),
         "log exhausted"
     );
-    Ok(())
 }

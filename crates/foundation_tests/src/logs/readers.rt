@@ -1,62 +1,61 @@
 //! What the plain readers answer at small logs.
-use crate::logs::entries::{closed, leased, left, log_of, opened, returned, waited};
+use crate::logs::entries::{Happened, Step, entries_of, log_of};
 use conn_log::{Cause, Log, Stamp, holder, idle_oldest, open_count, waiting_len};
-use std::test::Fail;
 
-/// Where a connection stands at host 3.
-fn stamp(since: u64, number: u32) -> Stamp {
-    Stamp {
-        since,
-        host: 3,
-        number,
-    }
+/// How many connections are open, how many transfers wait, since when the oldest connection is idle
+/// and its number, and who holds connection 1.
+type Answers = (usize, usize, Option<(u64, u32)>, Option<u64>);
+
+fn answers(log: &Log) -> Answers {
+    let oldest = idle_oldest(log, 3).map(|stamp: Stamp| (stamp.since, stamp.number));
+    (open_count(log), waiting_len(log), oldest, holder(log, 1))
 }
 
-/// How many connections are open, how many transfers wait, the oldest connection at host 3, and who
-/// holds connection 1.
-fn answers(log: &Log) -> (usize, usize, Option<Stamp>, Option<u64>) {
-    (
-        open_count(log),
-        waiting_len(log),
-        idle_oldest(log, 3),
-        holder(log, 1),
-    )
-}
+const REUSE_THEN_DROP: [Step; 4] = [
+    (0, Happened::Opened(1, 1)),
+    (2, Happened::Returned(1)),
+    (3, Happened::Leased(1, 2)),
+    (4, Happened::Closed(1, Cause::Dropped)),
+];
+
+const BOTH_IDLE: [Step; 4] = [
+    (0, Happened::Opened(1, 1)),
+    (0, Happened::Opened(2, 2)),
+    (5, Happened::Returned(1)),
+    (9, Happened::Returned(2)),
+];
+
+const WAIT_THEN_CLAIM: [Step; 4] = [
+    (0, Happened::Opened(1, 1)),
+    (5, Happened::Waited(2)),
+    (10, Happened::Returned(1)),
+    (10, Happened::Leased(1, 2)),
+];
+
+const ONE_LEAVES: [Step; 4] = [
+    (0, Happened::Opened(1, 1)),
+    (1, Happened::Waited(2)),
+    (2, Happened::Waited(3)),
+    (4, Happened::Left(2)),
+];
+
+/// Steps, how many of them are taken, and what is answered then.
+static ROWS: [(&[Step], usize, Answers); 7] = [
+    (&REUSE_THEN_DROP, 0, (0, 0, None, None)),
+    (&REUSE_THEN_DROP, 2, (1, 0, Some((2, 1)), None)),
+    (&REUSE_THEN_DROP, 4, (0, 0, None, None)),
+    (&BOTH_IDLE, 4, (2, 0, Some((5, 1)), None)),
+    (&WAIT_THEN_CLAIM, 2, (1, 1, None, Some(1))),
+    (&WAIT_THEN_CLAIM, 4, (1, 0, None, Some(2))),
+    (&ONE_LEAVES, 4, (1, 1, None, Some(1))),
+];
 
 #[test]
-fn readers_scan_the_log(rt: HostRuntime) -> Result<(), Fail> {
-    let reuse_then_drop = [
-        opened(1, 1, 0),
-        returned(1, 2),
-        leased(1, 2, 3),
-        closed(1, Cause::Dropped, 4),
-    ];
-    let both_idle = [
-        opened(1, 1, 0),
-        opened(2, 2, 0),
-        returned(1, 5),
-        returned(2, 9),
-    ];
-    let wait_then_claim = [
-        opened(1, 1, 0),
-        waited(2, 5),
-        returned(1, 10),
-        leased(1, 2, 10),
-    ];
-    let one_leaves = [opened(1, 1, 0), waited(2, 1), waited(3, 2), left(2, 4)];
-    let rows = [
-        (&reuse_then_drop[..0], (0, 0, None, None)),
-        (&reuse_then_drop[..2], (1, 0, Some(stamp(2, 1)), None)),
-        (&reuse_then_drop[..4], (0, 0, None, None)),
-        (&both_idle[..4], (2, 0, Some(stamp(5, 1)), None)),
-        (&wait_then_claim[..2], (1, 1, None, Some(1))),
-        (&wait_then_claim[..4], (1, 0, None, Some(2))),
-        (&one_leaves[..4], (1, 1, None, Some(1))),
-    ];
-    for row in &rows {
-        let (entries, expected) = *row;
-        let log = log_of(&rt, rt.alloc(), entries)?;
-        assert_eq!(rt; answers(&log), expected, "{entries:?}");
+fn readers_scan_the_log(rt: HostRuntime) {
+    for (steps, len, expected) in &ROWS {
+        let steps = steps.get(..*len).unwrap_or(&[]);
+        let entries = entries_of(rt.alloc(), steps).expect(&rt, "memory");
+        let log = log_of(&rt, rt.alloc(), &entries).expect(&rt, "memory");
+        assert_eq!(rt; &answers(&log), expected);
     }
-    Ok(())
 }

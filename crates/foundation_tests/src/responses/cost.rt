@@ -3,7 +3,6 @@
 use crate::responses::rows::repeated;
 use persistence::{Method, ResponseReader, persists};
 use std::alloc::{AllocError, Global};
-use std::test::Fail;
 
 const COUNTED: &str = "HTTP/1.1 200 OK\r\nContent-Length: 1000000\r\n\r\n";
 
@@ -15,7 +14,7 @@ const IN_CHUNK: &str = "HTTP/1.1 200 OK\r\nTransfer-Encoding: chunked\r\n\r\nfff
 
 /// What came before, and the piece that is counted: a text so many times, and an end; how many
 /// bytes of a body it has.
-const PIECES: [(&str, &str, usize, &str, u64); 10] = [
+static PIECES: [(&str, &str, usize, &str, u64); 10] = [
     (COUNTED, "x", 1, "", 1),
     (COUNTED, "x", 1_000, "", 1_000),
     (COUNTED, "x", 60_000, "", 60_000),
@@ -36,7 +35,7 @@ const TYPICAL: &str =
 
 /// How many fields a head has, how many bytes the value of each, how many bytes that makes in all,
 /// and in pieces of how many bytes they come.
-const HEADS: [(usize, usize, usize, usize); 7] = [
+static HEADS: [(usize, usize, usize, usize); 7] = [
     (6, 19, 200, 200),
     (6, 19, 200, 20),
     (42, 37, 2_000, 2_000),
@@ -58,40 +57,37 @@ fn feeds_each(reader: &mut ResponseReader, text: &[u8], each: usize) -> bool {
 }
 
 #[test]
-fn each_piece_is_read(rt: HostRuntime) -> Result<(), Fail> {
+fn each_piece_is_read(rt: HostRuntime) {
     for row in &PIECES {
         let (before, text, count, end, body_len) = *row;
-        let mut reader = ResponseReader::new(rt.alloc(), Method::Get, false)?;
+        let mut reader = ResponseReader::new(rt.alloc(), Method::Get, false).expect(&rt, "memory");
         assert!(rt; !reader.ended());
         assert!(rt; reader.feed(before.as_bytes()).is_ok());
-        let piece = repeated(rt.alloc(), "", text, count, end)?;
+        let piece = repeated(rt.alloc(), "", text, count, end).expect(&rt, "memory");
         assert!(rt; feeds_each(&mut reader, &piece, piece.len()));
         assert_eq!(rt; reader.body_len(), body_len);
     }
-    Ok(())
 }
 
 #[test]
-fn a_typical_response_is_read(rt: HostRuntime) -> Result<(), Fail> {
-    let mut reader = ResponseReader::new(rt.alloc(), Method::Get, false)?;
+fn a_typical_response_is_read(rt: HostRuntime) {
+    let mut reader = ResponseReader::new(rt.alloc(), Method::Get, false).expect(&rt, "memory");
     assert!(rt; feeds_each(&mut reader, TYPICAL.as_bytes(), 209));
     assert_eq!(rt; reader.status(), Some(200));
     assert_eq!(rt; reader.body_len(), 12);
     assert!(rt; persists(&reader.facts()));
-    Ok(())
 }
 
 #[test]
-fn each_head_is_read(rt: HostRuntime) -> Result<(), Fail> {
+fn each_head_is_read(rt: HostRuntime) {
     for row in &HEADS {
         let (fields, value_len, len, each) = *row;
-        let head = head_of(rt.alloc(), fields, value_len)?;
+        let head = head_of(rt.alloc(), fields, value_len).expect(&rt, "memory");
         assert_eq!(rt; head.len(), len);
-        let mut reader = ResponseReader::new(rt.alloc(), Method::Get, false)?;
+        let mut reader = ResponseReader::new(rt.alloc(), Method::Get, false).expect(&rt, "memory");
         assert!(rt; feeds_each(&mut reader, &head, each));
         assert_eq!(rt; reader.status(), Some(404));
     }
-    Ok(())
 }
 
 /// A head with so many fields, each with a value of so many bytes.

@@ -4,7 +4,6 @@ use crate::responses::pieces::{Response, Sent, Told, at_end, check_told, fed, to
 use persistence::{Method, ReadFault, ResponseReader};
 use std::alloc::{AllocError, Global};
 use std::process::Abort;
-use std::test::Fail;
 
 /// How often each kind of response is drawn with each kind of damage.
 const ROUNDS: usize = 100;
@@ -41,7 +40,7 @@ enum Damage {
 
 /// Each kind of damage. Of the 10 * 7 * 100 = 7,000 responses that are drawn, 1,000 have each of
 /// them.
-const DAMAGES: [Damage; 7] = [
+static DAMAGES: [Damage; 7] = [
     Damage::Nothing,
     Damage::Lengths,
     Damage::Changed,
@@ -53,7 +52,7 @@ const DAMAGES: [Damage; 7] = [
 
 /// Each kind of response, of which 700 are drawn: the request's method, the bytes before the drawn
 /// fields, the status, and the body.
-const KINDS: [(Method, &str, u16, Body); 10] = [
+static KINDS: [(Method, &str, u16, Body); 10] = [
     (Method::Get, "HTTP/1.1 200 OK\r\n", 200, Body::Counted),
     (Method::Get, "HTTP/1.1 200 OK\r\n", 200, Body::Chunked),
     (Method::Get, "HTTP/1.1 404 \r\n", 404, Body::UntilClose),
@@ -93,7 +92,7 @@ const KINDS: [(Method, &str, u16, Body); 10] = [
 ];
 
 /// Field lines, of heads and of trailer sections.
-const FIELDS: [&str; 6] = [
+static FIELDS: [&str; 6] = [
     "Connection: close\r\n",
     "connection: Keep-Alive , x\r\n",
     "A: b\r\n",
@@ -103,7 +102,7 @@ const FIELDS: [&str; 6] = [
 ];
 
 /// What bodies are made of.
-const CONTENT: [&str; 6] = [
+static CONTENT: [&str; 6] = [
     "x",
     "\r\n",
     "0\r\n\r\n",
@@ -113,10 +112,10 @@ const CONTENT: [&str; 6] = [
 ];
 
 /// What may stand between a chunk's size and the CR LF.
-const EXTENSIONS: [&str; 6] = ["", "", " \t", ";", ";a=b", "\t;a=\"b\" "];
+static EXTENSIONS: [&str; 6] = ["", "", " \t", ";", ";a=b", "\t;a=\"b\" "];
 
 /// Bytes that may stand in another's place.
-const BYTES: [u8; 10] = *b"\r\n 0:;fx\x00\xff";
+static BYTES: [u8; 10] = *b"\r\n 0:;fx\x00\xff";
 
 /// Numbers by a xorshift generator (George Marsaglia, Xorshift RNGs, 2003), the same ones in each
 /// run.
@@ -396,12 +395,11 @@ fn check_drawn(
 }
 
 #[test]
-fn drawn_pieces_tell_what_all_bytes_tell(rt: HostRuntime) -> Result<(), Fail> {
+fn drawn_pieces_tell_what_all_bytes_tell(rt: HostRuntime) {
     let mut draws = Draws {
         state: 88_172_645_463_325_252,
     };
     for number in 0..KINDS.len() * DAMAGES.len() * ROUNDS {
-        check_drawn(&rt, rt.alloc(), &mut draws, number)?;
+        check_drawn(&rt, rt.alloc(), &mut draws, number).expect(&rt, "memory");
     }
-    Ok(())
 }

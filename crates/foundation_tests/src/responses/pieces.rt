@@ -5,7 +5,6 @@ use crate::responses::rows::{FAULTS, LIMITS, NO_HEAD, ROWS, repeated};
 use persistence::{Facts, Fed, Framing, Method, ReadFault, ResponseReader, persists};
 use std::alloc::Global;
 use std::process::Abort;
-use std::test::Fail;
 
 /// What a reader tells of a response.
 #[derive(Clone, Copy, Debug, PartialEq, Eq)]
@@ -39,7 +38,7 @@ const FAULTY: Facts = Facts {
 
 /// Sections with a 101st field and then a bad byte: both faults may be told where all comes at
 /// once.
-const LONG_SECTIONS: [(&str, &str, &str, ReadFault, ReadFault); 2] = [
+static LONG_SECTIONS: [(&str, &str, &str, ReadFault, ReadFault); 2] = [
     (
         "a head",
         "HTTP/1.1 204 No Content\r\n",
@@ -58,7 +57,7 @@ const LONG_SECTIONS: [(&str, &str, &str, ReadFault, ReadFault); 2] = [
 
 /// Whole responses, their body length and framing; bytes that come after them are surplus, and
 /// change nothing else.
-const WHOLE: [(&str, u64, Framing); 4] = [
+static WHOLE: [(&str, u64, Framing); 4] = [
     (
         "HTTP/1.1 200 OK\r\nContent-Length: 2\r\n\r\nok",
         2,
@@ -82,7 +81,7 @@ const WHOLE: [(&str, u64, Framing); 4] = [
 ];
 
 /// Texts, and whether the response is whole before and after the connection's end.
-const ENDS: [(&str, &str, bool, bool); 12] = [
+static ENDS: [(&str, &str, bool, bool); 12] = [
     ("no byte", "", false, false),
     (
         "a part of a head",
@@ -333,7 +332,7 @@ fn check_long(
 }
 
 #[test]
-fn responses_come_in_pieces(rt: HostRuntime) -> Result<(), Fail> {
+fn responses_come_in_pieces(rt: HostRuntime) {
     for row in &ROWS {
         let (case, method, text, ended, status, body_len, facts, persisting) = *row;
         assert_eq!(rt; persists(&facts), persisting, "{case}");
@@ -350,13 +349,12 @@ fn responses_come_in_pieces(rt: HostRuntime) -> Result<(), Fail> {
             text,
             ended,
         };
-        check_short(&rt, rt.alloc(), case, sent, told)?;
+        check_short(&rt, rt.alloc(), case, sent, told).expect(&rt, "memory");
     }
-    Ok(())
 }
 
 #[test]
-fn faults_come_in_pieces(rt: HostRuntime) -> Result<(), Fail> {
+fn faults_come_in_pieces(rt: HostRuntime) {
     for row in &FAULTS {
         let (case, text, fault, _) = *row;
         let text = text.as_bytes();
@@ -367,9 +365,8 @@ fn faults_come_in_pieces(rt: HostRuntime) -> Result<(), Fail> {
             text,
             ended: false,
         };
-        check_short(&rt, rt.alloc(), case, sent, Err(fault))?;
+        check_short(&rt, rt.alloc(), case, sent, Err(fault)).expect(&rt, "memory");
     }
-    Ok(())
 }
 
 /// The status, the number of body bytes and whether it is whole, or the fault.
@@ -387,10 +384,10 @@ fn check_columns(rt: &impl Abort, case: &str, told: Told, expected: Columns) {
 }
 
 #[test]
-fn limits_are_kept_in_pieces(rt: HostRuntime) -> Result<(), Fail> {
+fn limits_are_kept_in_pieces(rt: HostRuntime) {
     for row in &LIMITS {
         let (case, start, piece, count, end, expected) = *row;
-        let text = repeated(rt.alloc(), start, piece, count, end)?;
+        let text = repeated(rt.alloc(), start, piece, count, end).expect(&rt, "memory");
         let sent = Sent {
             method: Method::Get,
             request_close: false,
@@ -400,20 +397,19 @@ fn limits_are_kept_in_pieces(rt: HostRuntime) -> Result<(), Fail> {
         let told = told_in_pieces(&rt, rt.alloc(), sent, text.len(), 1);
         check_columns(&rt, case, told, expected);
         if text.len() <= SHORT {
-            check_short(&rt, rt.alloc(), case, sent, told)?;
+            check_short(&rt, rt.alloc(), case, sent, told).expect(&rt, "memory");
         } else {
-            check_long(&rt, rt.alloc(), case, sent, told)?;
+            check_long(&rt, rt.alloc(), case, sent, told).expect(&rt, "memory");
         }
     }
-    Ok(())
 }
 
 /// Built without optimization this takes longer than a test may.
 #[test]
-fn limits_are_kept_byte_by_byte(rt: HostRuntime) -> Result<(), Fail> {
+fn limits_are_kept_byte_by_byte(rt: HostRuntime) {
     for row in &LIMITS {
         let (case, start, piece, count, end, expected) = *row;
-        let text = repeated(rt.alloc(), start, piece, count, end)?;
+        let text = repeated(rt.alloc(), start, piece, count, end).expect(&rt, "memory");
         let sent = Sent {
             method: Method::Get,
             request_close: false,
@@ -423,14 +419,13 @@ fn limits_are_kept_byte_by_byte(rt: HostRuntime) -> Result<(), Fail> {
         let by_byte = told_in_pieces(&rt, rt.alloc(), sent, 0, 1);
         check_columns(&rt, case, by_byte, expected);
     }
-    Ok(())
 }
 
 #[test]
-fn a_long_section_shows_one_of_two_faults(rt: HostRuntime) -> Result<(), Fail> {
+fn a_long_section_shows_one_of_two_faults(rt: HostRuntime) {
     for row in &LONG_SECTIONS {
         let (case, start, field, long, bad) = *row;
-        let text = repeated(rt.alloc(), start, field, 101, "\u{1}")?;
+        let text = repeated(rt.alloc(), start, field, 101, "\u{1}").expect(&rt, "memory");
         let sent = Sent {
             method: Method::Get,
             request_close: false,
@@ -442,11 +437,10 @@ fn a_long_section_shows_one_of_two_faults(rt: HostRuntime) -> Result<(), Fail> {
         let by_byte = told_in_pieces(&rt, rt.alloc(), sent, 0, 1);
         check_told(&rt, case, "each of", text.len(), by_byte, Err(long));
     }
-    Ok(())
 }
 
 /// What is fed to a reader that told a fault.
-const MORE: [&str; 4] = ["", "x", "\r\n", "HTTP/1.1 204 No Content\r\n\r\n"];
+static MORE: [&str; 4] = ["", "x", "\r\n", "HTTP/1.1 204 No Content\r\n\r\n"];
 
 /// Feeds more to a reader that told a fault; it tells the same fault, and nothing else of it
 /// changes.
@@ -485,7 +479,7 @@ fn after_fault(came: Option<u64>) -> Response {
 }
 
 #[test]
-fn a_fault_stays(rt: HostRuntime) -> Result<(), Fail> {
+fn a_fault_stays(rt: HostRuntime) {
     for row in &FAULTS {
         let (case, text, fault, came) = *row;
         let after = after_fault(came);
@@ -495,14 +489,15 @@ fn a_fault_stays(rt: HostRuntime) -> Result<(), Fail> {
             text: text.as_bytes(),
             ended: false,
         };
-        let (mut at_once, told) = reader_fed(&rt, rt.alloc(), sent, SHORT, SHORT)?;
+        let (mut at_once, told) = reader_fed(&rt, rt.alloc(), sent, SHORT, SHORT).expect(
+            &rt, "memory",
+        );
         check_told(&rt, case, "all of", text.len(), told, Err(fault));
         check_fault_stays(&rt, &mut at_once, case, fault, after);
-        let (mut by_byte, told) = reader_fed(&rt, rt.alloc(), sent, 0, 1)?;
+        let (mut by_byte, told) = reader_fed(&rt, rt.alloc(), sent, 0, 1).expect(&rt, "memory");
         check_told(&rt, case, "each of", text.len(), told, Err(fault));
         check_fault_stays(&rt, &mut by_byte, case, fault, after);
     }
-    Ok(())
 }
 
 /// Feeds the bytes, and checks what the reader then tells.
@@ -518,10 +513,10 @@ fn check_fed(
 }
 
 #[test]
-fn bytes_after_a_whole_response_are_surplus(rt: HostRuntime) -> Result<(), Fail> {
+fn bytes_after_a_whole_response_are_surplus(rt: HostRuntime) {
     for row in &WHOLE {
         let (text, body_len, framing) = *row;
-        let mut reader = ResponseReader::new(rt.alloc(), Method::Get, false)?;
+        let mut reader = ResponseReader::new(rt.alloc(), Method::Get, false).expect(&rt, "memory");
         let whole = Response {
             status: Some(200),
             facts: Facts { framing, ..KEEP },
@@ -542,11 +537,10 @@ fn bytes_after_a_whole_response_are_surplus(rt: HostRuntime) -> Result<(), Fail>
         let told = at_end(&rt, &mut reader, Ok(with_surplus));
         check_told(&rt, text, "ended", 0, told, Ok(with_surplus));
     }
-    Ok(())
 }
 
 #[test]
-fn the_end_makes_whole_what_lasts_until_it(rt: HostRuntime) -> Result<(), Fail> {
+fn the_end_makes_whole_what_lasts_until_it(rt: HostRuntime) {
     for row in &ENDS {
         let (case, text, whole_before, whole_after) = *row;
         let sent = Sent {
@@ -555,7 +549,7 @@ fn the_end_makes_whole_what_lasts_until_it(rt: HostRuntime) -> Result<(), Fail> 
             text: text.as_bytes(),
             ended: false,
         };
-        let (mut reader, told) = reader_fed(&rt, rt.alloc(), sent, 0, 1)?;
+        let (mut reader, told) = reader_fed(&rt, rt.alloc(), sent, 0, 1).expect(&rt, "memory");
         let before = response_of(&reader);
         check_told(&rt, case, "each of", text.len(), told, Ok(before));
         assert_eq!(rt; before.facts.whole, whole_before, "{case}");
@@ -572,12 +566,11 @@ fn the_end_makes_whole_what_lasts_until_it(rt: HostRuntime) -> Result<(), Fail> 
         check_shown(&rt, case, "ended", 2, &reader, after);
         assert_eq!(rt; reader.any_byte(), !text.is_empty(), "{case}");
     }
-    Ok(())
 }
 
 #[test]
-fn what_the_request_asked_is_told(rt: HostRuntime) -> Result<(), Fail> {
-    let mut reader = ResponseReader::new(rt.alloc(), Method::Head, true)?;
+fn what_the_request_asked_is_told(rt: HostRuntime) {
+    let mut reader = ResponseReader::new(rt.alloc(), Method::Head, true).expect(&rt, "memory");
     let before = Facts {
         request_close: true,
         ..NO_HEAD
@@ -597,19 +590,17 @@ fn what_the_request_asked_is_told(rt: HostRuntime) -> Result<(), Fail> {
         body_len: 0,
     };
     check_fed(&rt, &mut reader, "HEAD", text, told);
-    Ok(())
 }
 
 #[test]
-fn any_byte_tells_of_the_first(rt: HostRuntime) -> Result<(), Fail> {
-    let mut reader = ResponseReader::new(rt.alloc(), Method::Get, false)?;
+fn any_byte_tells_of_the_first(rt: HostRuntime) {
+    let mut reader = ResponseReader::new(rt.alloc(), Method::Get, false).expect(&rt, "memory");
     assert!(rt; !reader.any_byte());
     for row in &[("", false), ("\n", true), ("", true)] {
         let (piece, any) = *row;
         assert!(rt; fed(&rt, &mut reader, piece.as_bytes()).is_ok());
         assert_eq!(rt; reader.any_byte(), any);
     }
-    Ok(())
 }
 
 /// Passes whichever allocation fails: `new` says so, and what follows asks for none.
@@ -653,7 +644,7 @@ fn check_as_new(
 
 /// A fault in a head and one in a body, a part of a head, a whole response with surplus, and one
 /// that ended.
-const BEFORE: [&str; 5] = [
+static BEFORE: [&str; 5] = [
     "HTTP/1.1 2x0 OK\r\n\r\n",
     "HTTP/1.1 200 OK\r\nTransfer-Encoding: chunked\r\n\r\n2\r\nok\r\nz",
     "\r\nHTTP/1.1 200 OK\r\nA: b\r\n",
@@ -662,7 +653,7 @@ const BEFORE: [&str; 5] = [
 ];
 
 #[test]
-fn a_cleared_reader_is_as_new(rt: HostRuntime) -> Result<(), Fail> {
+fn a_cleared_reader_is_as_new(rt: HostRuntime) {
     for text in &BEFORE {
         for row in &WHOLE {
             let (case, body_len, framing) = *row;
@@ -672,13 +663,13 @@ fn a_cleared_reader_is_as_new(rt: HostRuntime) -> Result<(), Fail> {
                 text: text.as_bytes(),
                 ended: true,
             };
-            let (mut reader, _) = reader_fed(&rt, rt.alloc(), sent, 3, 5)?;
+            let (mut reader, _) = reader_fed(&rt, rt.alloc(), sent, 3, 5).expect(&rt, "memory");
             reader.clear();
             let next = Sent {
                 text: case.as_bytes(),
                 ..sent
             };
-            check_as_new(&rt, rt.alloc(), &mut reader, case, next)?;
+            check_as_new(&rt, rt.alloc(), &mut reader, case, next).expect(&rt, "memory");
             assert_eq!(rt;
                 (reader.status(), reader.body_len()),
                 (Some(200), body_len),
@@ -691,12 +682,11 @@ fn a_cleared_reader_is_as_new(rt: HostRuntime) -> Result<(), Fail> {
             );
         }
     }
-    Ok(())
 }
 
 #[test]
-fn a_reset_reader_reads_the_response_to_another_request(rt: HostRuntime) -> Result<(), Fail> {
-    let mut reader = ResponseReader::new(rt.alloc(), Method::Head, true)?;
+fn a_reset_reader_reads_the_response_to_another_request(rt: HostRuntime) {
+    let mut reader = ResponseReader::new(rt.alloc(), Method::Head, true).expect(&rt, "memory");
     let text = "HTTP/1.1 200 OK\r\nContent-Length: 2\r\n\r\n";
     let _ = fed(&rt, &mut reader, text.as_bytes());
     reader.end();
@@ -708,7 +698,6 @@ fn a_reset_reader_reads_the_response_to_another_request(rt: HostRuntime) -> Resu
         text: case.as_bytes(),
         ended: false,
     };
-    check_as_new(&rt, rt.alloc(), &mut reader, case, next)?;
+    check_as_new(&rt, rt.alloc(), &mut reader, case, next).expect(&rt, "memory");
     assert_eq!(rt; (reader.facts(), reader.body_len()), (KEEP, 2));
-    Ok(())
 }

@@ -18,7 +18,7 @@ pub(crate) const NO_HEAD: Facts = Facts {
 
 /// Responses, and whether the connection has ended; status, body length and facts, and whether the
 /// connection persists.
-pub(crate) const ROWS: [(&str, Method, &str, bool, Option<u16>, u64, Facts, bool); 27] = [
+pub(crate) static ROWS: [(&str, Method, &str, bool, Option<u16>, u64, Facts, bool); 27] = [
     (
         "HTTP/1.0 with keep-alive",
         Method::Get,
@@ -360,7 +360,7 @@ pub(crate) const ROWS: [(&str, Method, &str, bool, Option<u16>, u64, Facts, bool
 
 /// Bytes that show a fault, and that fault; and where a final head of status 200 came, how many
 /// bytes of its body came before the fault.
-pub(crate) const FAULTS: [(&str, &str, ReadFault, Option<u64>); 16] = [
+pub(crate) static FAULTS: [(&str, &str, ReadFault, Option<u64>); 16] = [
     (
         "two lengths",
         "HTTP/1.1 200 OK\r\nContent-Length: 5, 6\r\n\r\n",
@@ -461,7 +461,7 @@ pub(crate) const FAULTS: [(&str, &str, ReadFault, Option<u64>); 16] = [
 
 /// Bytes as a start, a piece so many times, and an end; status, body length and whether the
 /// response is whole, or the fault.
-pub(crate) const LIMITS: [(
+pub(crate) static LIMITS: [(
     &str,
     &str,
     &str,

@@ -68,7 +68,7 @@ impl TargetMemory for ScarceMemory {
 }
 
 /// Texts, how many calls of the memory each needs, and what is then answered: a port, or an error.
-const CALLS: [(&str, u32, Result<u16, KeyError>); 5] = [
+static CALLS: [(&str, u32, Result<u16, KeyError>); 5] = [
     ("http://a.test:81/b?c", 5, Ok(81)),
     ("http://a.test/b", 3, Ok(80)),
     ("https://a.test/", 1, Err(KeyError::NotHttp)),
@@ -77,7 +77,7 @@ const CALLS: [(&str, u32, Result<u16, KeyError>); 5] = [
 ];
 
 #[test]
-fn each_want_of_memory_is_answered_as_one(rt: HostRuntime) -> Result<(), Fail> {
+fn each_want_of_memory_is_answered_as_one(rt: HostRuntime) {
     for row in &CALLS {
         let (text, needed, answer) = *row;
         for calls in 0..=needed {
@@ -95,11 +95,10 @@ fn each_want_of_memory_is_answered_as_one(rt: HostRuntime) -> Result<(), Fail> {
             }
         }
     }
-    Ok(())
 }
 
 /// URLs of one site each: the table of sites grows several times.
-const SITES: [&str; 10] = [
+static SITES: [&str; 10] = [
     "http://a.test/",
     "http://b.test/",
     "http://c.test/",

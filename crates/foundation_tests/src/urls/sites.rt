@@ -33,7 +33,7 @@ fn add_again(rt: &impl Abort, sites: &mut Sites, target: &Target) -> Result<u32,
 }
 
 /// URLs in the order in which their sites are added, and the index of each.
-const ADDED: [(&str, u32); 7] = [
+static ADDED: [(&str, u32); 7] = [
     ("HTTP://Example.COM/a?b=1", 0),
     ("http://a.test/", 1),
     ("HTTP://Example.COM/a?b=1", 0),

@@ -1,10 +1,9 @@
 //! What texts lead to, and which texts are refused.
 use conn_key::{CountedMemory, KeyError, SitesFault, Target, read_target};
 use std::alloc::{AllocError, Global};
-use std::test::Fail;
 
 /// URLs, with the host, port and path that the URL Standard gives them.
-const URLS: [(&str, &str, u16, &str); 17] = [
+static URLS: [(&str, &str, u16, &str); 17] = [
     ("HTTP://Example.COM/a?b=1", "example.com", 80, "/a?b=1"),
     ("http://a.test:8080/", "a.test", 8080, "/"),
     ("http://a.test:80/", "a.test", 80, "/"),
@@ -30,7 +29,7 @@ const URLS: [(&str, &str, u16, &str); 17] = [
 ];
 
 /// Texts that give no target, and why.
-const REFUSED: [(&str, KeyError); 11] = [
+static REFUSED: [(&str, KeyError); 11] = [
     ("https://a.test/", KeyError::NotHttp),
     ("ws://a.test/", KeyError::NotHttp),
     ("httpx://a.test/", KeyError::NotHttp),
@@ -54,19 +53,18 @@ pub(crate) fn read_again(alloc: Global, text: &str) -> Result<Target, KeyError> 
 }
 
 #[test]
-fn a_target_has_the_host_port_and_path_of_the_url(rt: HostRuntime) -> Result<(), Fail> {
+fn a_target_has_the_host_port_and_path_of_the_url(rt: HostRuntime) {
     for row in &URLS {
         let (text, host, port, path) = *row;
-        let target = read_again(rt.alloc(), text)?;
+        let target = read_again(rt.alloc(), text).expect(&rt, "memory");
         assert_eq!(rt; target.host.as_str(), host, "host of {text}");
         assert_eq!(rt; target.port, port, "port of {text}");
         assert_eq!(rt; target.path.as_str(), path, "path of {text}");
     }
-    Ok(())
 }
 
 #[test]
-fn other_texts_are_refused(rt: HostRuntime) -> Result<(), Fail> {
+fn other_texts_are_refused(rt: HostRuntime) {
     for row in &REFUSED {
         let (text, error) = *row;
         match read_again(rt.alloc(), text) {
@@ -74,7 +72,6 @@ fn other_texts_are_refused(rt: HostRuntime) -> Result<(), Fail> {
             Err(found) => assert_eq!(rt; found, error, "at {text}"),
         }
     }
-    Ok(())
 }
 
 /// The text with as many `x` behind it as make it so long.
@@ -87,20 +84,21 @@ fn padded(alloc: Global, text: &str, len: usize) -> Result<String, AllocError> {
 }
 
 #[test]
-fn a_url_has_at_most_2048_bytes(rt: HostRuntime) -> Result<(), Fail> {
-    let longest = padded(rt.alloc(), "http://a.test/", 2048)?;
-    let target = read_target(&mut CountedMemory::new(rt.alloc()), longest.as_str())?;
+fn a_url_has_at_most_2048_bytes(rt: HostRuntime) {
+    let longest = padded(rt.alloc(), "http://a.test/", 2048).expect(&rt, "memory");
+    let target = read_target(&mut CountedMemory::new(rt.alloc()), longest.as_str()).expect(
+        &rt, "memory",
+    );
     assert_eq!(rt; target.path.len(), 2035);
     for start in &["http://a.test/", "https://a.test/", "nothing"] {
-        let longer = padded(rt.alloc(), start, 2049)?;
+        let longer = padded(rt.alloc(), start, 2049).expect(&rt, "memory");
         let refused = read_target(&mut CountedMemory::new(rt.alloc()), longer.as_str());
         assert!(rt; matches!(refused, Err(KeyError::TooLong)), "at {start}");
     }
-    Ok(())
 }
 
 /// What each error of a target tells.
-const ERRORS: [(KeyError, &str); 4] = [
+static ERRORS: [(KeyError, &str); 4] = [
     (KeyError::Memory, "out of memory"),
     (KeyError::NotUrl, "not a URL"),
     (KeyError::NotHttp, "not an http URL"),
@@ -108,20 +106,29 @@ const ERRORS: [(KeyError, &str); 4] = [
 ];
 
 /// What each error of a list of sites tells.
-const FAULTS: [(SitesFault, &str); 2] = [
+static FAULTS: [(SitesFault, &str); 2] = [
     (SitesFault::Memory, "out of memory"),
     (SitesFault::TooMany, "more than 1024 sites"),
 ];
 
 #[test]
-fn errors_tell_why(rt: HostRuntime) -> Result<(), Fail> {
+fn errors_tell_why(rt: HostRuntime) {
     for row in &ERRORS {
         let (error, text) = *row;
-        assert_eq!(rt; format!(in rt.alloc(); "{error}")?.as_str(), text);
+        assert_eq!(rt;
+            format!(in rt.alloc(); "{error}")
+                .expect(&rt, "memory")
+                .as_str(),
+            text
+        );
     }
     for row in &FAULTS {
         let (fault, text) = *row;
-        assert_eq!(rt; format!(in rt.alloc(); "{fault}")?.as_str(), text);
+        assert_eq!(rt;
+            format!(in rt.alloc(); "{fault}")
+                .expect(&rt, "memory")
+                .as_str(),
+            text
+        );
     }
-    Ok(())
 }

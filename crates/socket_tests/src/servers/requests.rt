@@ -5,7 +5,6 @@ use crate::servers::connection::{Connection, REQUEST};
 use loopback_server::Server;
 use std::alloc::{AllocError, AllocGlobal};
 use std::io;
-use std::test::Fail;
 
 /// What a client sends, and what comes of it.
 struct Row {
@@ -21,7 +20,7 @@ struct Row {
 /// More than any text has.
 const WHOLE: usize = 1_000;
 
-const ROWS: [Row; 15] = [
+static ROWS: [Row; 15] = [
     // A request in one piece, byte by byte, and cut within its line ends.
     Row {
         text: b"GET /0 HTTP/1.1\r\nHost: localhost\r\n\r\n",
@@ -144,18 +143,18 @@ fn outcome(
 }
 
 #[test]
-fn requests_are_answered_in_order(rt: HostRuntime) -> Result<(), Fail> {
-    let server = Server::listen(&rt, rt.alloc(), 1)?;
+fn requests_are_answered_in_order(rt: HostRuntime) {
+    let server = Server::listen(&rt, rt.alloc(), 1).expect(&rt, "memory");
     let port = server.ports()[0];
     beside(&rt, server, || -> io::Result<()> {
         for row in &ROWS {
             let wanted = (row.answers, row.is_kept);
-            let got = outcome(&rt, port, row.text, row.piece, wanted)?;
+            let got = outcome(&rt, port, row.text, row.piece, wanted).expect(&rt, "memory");
             assert_eq!(rt; got, wanted, "{:?}", row.text);
         }
         Ok(())
-    })?;
-    Ok(())
+    })
+    .expect(&rt, "memory");
 }
 
 /// A head of that many bytes, with that many fields, of which there must be one.
@@ -174,7 +173,7 @@ fn head(rt: &HostRuntime, len: usize, fields: usize) -> Result<Vec<u8>, AllocErr
 }
 
 /// A head of so many bytes with so many fields, and whether it is answered.
-const HEADS: [(usize, usize, bool); 5] = [
+static HEADS: [(usize, usize, bool); 5] = [
     (16_384, 1, true),
     (16_385, 1, false),
     (40_000, 1, false),
@@ -183,18 +182,18 @@ const HEADS: [(usize, usize, bool); 5] = [
 ];
 
 #[test]
-fn large_heads_are_refused(rt: HostRuntime) -> Result<(), Fail> {
-    let server = Server::listen(&rt, rt.alloc(), 1)?;
+fn large_heads_are_refused(rt: HostRuntime) {
+    let server = Server::listen(&rt, rt.alloc(), 1).expect(&rt, "memory");
     let port = server.ports()[0];
     beside(&rt, server, || -> io::Result<()> {
         for (len, fields, is_answered) in &HEADS {
-            let text = head(&rt, *len, *fields)?;
+            let text = head(&rt, *len, *fields).expect(&rt, "memory");
             assert_eq!(rt; text.len(), *len);
             let wanted = (usize::from(*is_answered), *is_answered);
-            let got = outcome(&rt, port, text.as_slice(), 5_000, wanted)?;
+            let got = outcome(&rt, port, text.as_slice(), 5_000, wanted).expect(&rt, "memory");
             assert_eq!(rt; got, wanted, "{len} bytes, {fields} fields");
         }
         Ok(())
-    })?;
-    Ok(())
+    })
+    .expect(&rt, "memory");
 }

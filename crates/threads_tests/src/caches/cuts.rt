@@ -3,9 +3,9 @@
 
 ghost use Rattle.std.specs.Prelude.{◌≡◌};
 
-use crate::caches::desk::{Desk, Stream};
 use crate::caches::gathering::Passes;
 use crate::caches::making::{new_cache, new_plan, push};
+use crate::caches::thread_desk::{Desk, Stream};
 use crate::caches::workers::{Job, Worker};
 use budget::Refusal;
 use bundle::Bundle;

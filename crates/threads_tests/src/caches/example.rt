@@ -3,7 +3,7 @@
 ghost use Rattle.std.specs.Prelude.{◌≡◌};
 ghost use Rattle.shared_cache.specs.Passes.{IsPassOf};
 
-use crate::caches::desk::KEEP;
+use crate::caches::thread_desk::KEEP;
 use budget::{Limits, Pass, Refusal};
 use bundle::{Acquired, Bundle, Did};
 use conn_log::Want;

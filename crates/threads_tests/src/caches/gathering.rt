@@ -2,8 +2,8 @@
 
 ghost use Rattle.shared_cache.specs.Passes.{IsPassOf};
 
-use crate::caches::desk::Stream;
 use crate::caches::making::push;
+use crate::caches::thread_desk::Stream;
 use budget::{Pass, Refusal};
 use bundle::Did;
 use shared_cache::{Gathered, HostCount, Names, SharedCache};

@@ -3,9 +3,9 @@
 
 ghost use Rattle.std.specs.Prelude.{◌≡◌};
 
-use crate::caches::desk::{Desk, Said, Stream, want_of};
 use crate::caches::gathering::{Account, Passes, check_account};
 use crate::caches::making::{new_cache, new_plan};
+use crate::caches::thread_desk::{Desk, Said, Stream, want_of};
 use budget::Refusal;
 use bundle::Bundle;
 use shared_cache::{Names, Plan, SharedCache, the_lobby_lists_who_waits_beside_room};

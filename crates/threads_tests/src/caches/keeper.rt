@@ -2,9 +2,9 @@
 
 ghost use Rattle.std.specs.Prelude.{◌≡◌};
 
-use crate::caches::desk::{CLOSE, Desk, KEEP, Said, Stream, entry_said, look_said, want_of};
 use crate::caches::gathering::{Account, Passes, check_account};
 use crate::caches::making::{new_cache, new_plan};
+use crate::caches::thread_desk::{CLOSE, Desk, KEEP, Said, Stream, entry_said, look_said, want_of};
 use budget::Refusal;
 use conn_log::Want;
 use shared_cache::{Names, Plan, SharedCache};

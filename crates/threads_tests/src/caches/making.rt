@@ -4,7 +4,7 @@
 ghost use Rattle.std.specs.Prelude.{◌≡◌, ◌++◌, ◌∷◌, []};
 ghost use Rattle.shared_cache.specs.Passes.{IsPassOf};
 
-use crate::caches::desk::Stream;
+use crate::caches::thread_desk::Stream;
 use budget::{Limits, Pass, Refusal};
 use bundle::Did;
 use shared_cache::{Names, Plan, SharedCache};

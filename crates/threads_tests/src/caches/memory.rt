@@ -5,9 +5,9 @@
 
 ghost use Rattle.std.specs.Prelude.{◌≡◌};
 
-use crate::caches::desk::{Desk, KEEP, Said, Stream, look_said, want_of};
 use crate::caches::gathering::{Account, Passes, check_account};
 use crate::caches::making::{new_cache, new_plan};
+use crate::caches::thread_desk::{Desk, KEEP, Said, Stream, look_said, want_of};
 use budget::{Limits, Refusal};
 use bundle::Bundle;
 use conn_log::{Cause, Event};

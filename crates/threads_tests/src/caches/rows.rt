@@ -1,12 +1,11 @@
 //! What one thread sees of a shared cache, and no clause says: that calls succeed in ample memory,
 //! which connection is closed for room, what hosts that wait get, and how accounts are balanced.
 
-use crate::caches::desk::{Said, Stream, WANT};
 use crate::caches::keeper::{Row, Step, run_all};
+use crate::caches::thread_desk::{Said, Stream, WANT};
 use budget::{Limits, Refusal};
 use conn_log::{Cause, Want};
 use shared_cache::Plan;
-use std::test::Fail;
 
 static ROWS: [Row; 22] = [
     Row {
@@ -382,8 +381,8 @@ fn one_thread_sees_that(rt: HostRuntime) {
 }
 
 #[test]
-fn a_plan_is_for_1024_hosts_at_most(rt: HostRuntime) -> Result<(), Fail> {
-    let limits = Limits::new(0, 0, 4)?;
+fn a_plan_is_for_1024_hosts_at_most(rt: HostRuntime) {
+    let limits = Limits::new(0, 0, 4).expect(&rt, "memory");
     for &(hosts, expected) in &[
         (0, Ok(0)),
         (1_024, Ok(1_024)),
@@ -392,5 +391,4 @@ fn a_plan_is_for_1024_hosts_at_most(rt: HostRuntime) -> Result<(), Fail> {
         let made: Result<Plan<Stream>, Refusal> = Plan::new(rt.alloc(), limits, hosts);
         assert_eq!(rt; made.map(|plan| plan.hosts()), expected);
     }
-    Ok(())
 }

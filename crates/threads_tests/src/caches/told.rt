@@ -1,8 +1,8 @@
 //! What a pass is told by each kind of call: what the last call at a host answered, how many calls
 //! answered, and how many leases were spent.
 
-use crate::caches::desk::{KEEP, Said, WANT};
 use crate::caches::keeper::{Row, Step, run_all};
+use crate::caches::thread_desk::{KEEP, Said, WANT};
 use budget::Refusal;
 use bundle::Did;
 use conn_log::{Cause, Entry, Event, Want};

@@ -2,7 +2,7 @@
 
 ghost use Rattle.shared_cache.specs.Passes.{IsPassOf};
 
-use crate::caches::desk::{CLOSE, Desk, KEEP, Said, Stream, WANT, want_of};
+use crate::caches::thread_desk::{CLOSE, Desk, KEEP, Said, Stream, WANT, want_of};
 use budget::{Pass, Refusal};
 use bundle::Did;
 use conn_log::Want;

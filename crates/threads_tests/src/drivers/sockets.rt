@@ -16,7 +16,6 @@ use std::net::{IpAddr, Ipv4Addr, SocketAddr, TcpListener};
 use std::process::Abort;
 use std::random::RandomSource;
 use std::sync::Wait;
-use std::test::Fail;
 use std::thread::Threads;
 
 // A dial whose one site listens at that address.
@@ -85,10 +84,10 @@ fn left_by<N: Names + Send + Sync, R: Threads + Wait + Abort + RandomSource + Al
 }
 
 #[test]
-fn each_job_over_sockets_is_cancelled(rt: HostRuntime) -> Result<(), Fail> {
+fn each_job_over_sockets_is_cancelled(rt: HostRuntime) {
     let any_port = SocketAddr::new(IpAddr::V4(Ipv4Addr::LOCALHOST), 0);
-    let listener = TcpListener::bind(&rt, any_port)?;
-    let site = listener.local_addr()?;
+    let listener = TcpListener::bind(&rt, any_port).expect(&rt, "memory");
+    let site = listener.local_addr().expect(&rt, "memory");
     for row in &ROWS {
         let plan: Plan<WaitingWire> = plan_of(&rt, 0, 1, 1);
         let (results, gathered) = left_by::<Brand, HostRuntime>(&rt, &rt, plan, site, row);
@@ -99,5 +98,4 @@ fn each_job_over_sockets_is_cancelled(rt: HostRuntime) -> Result<(), Fail> {
         let left = (host.reused, host.alive, gathered.total, gathered.kept);
         assert_eq!(rt; left, (0, 0, 0, 0), "{}", row.name);
     }
-    Ok(())
 }

@@ -57,6 +57,14 @@ struct Unawaited<'a, P: Places> {
     awaited: &'a [bool],
 }
 
+/// What was found for each host, by place.
+#[derive(Drop)]
+struct Found {
+    addresses: Addresses,
+    /// Whether the system does not know the host.
+    unknown: Vec<bool>,
+}
+
 impl<P: Places> Places for Unawaited<'_, P> {
     ghost unused = { λ places place. P.unused places.pool.now place
         && not (is_awaited places.awaited.now place) };
@@ -181,23 +189,21 @@ impl Hosts {
     pub(crate) fn new_addresses<R: Resolver>(
         &mut self,
         resolver: &R,
-    ) -> Result<Option<Addresses>, AllocError> {
+    ) -> Result<Option<Addresses>, AllocError>
+        ensures table { self.new.table ≡ self.old.table }
+        ensures awaited { self.new.awaited.items ≡ self.old.awaited.items }
+    {
         if !self.is_changed {
             return Ok(None);
         }
-        let mut addresses = Addresses::new(self.alloc);
-        let mut unknown = Vec::new(self.alloc);
-        for target in self.targets.iter() {
-            let given = resolved_of(self.given.as_slice(), target.host.as_str(), target.port);
-            let is_known = match given {
-                Some(address) => {
-                    addresses.add_resolved(vec![in self.alloc; address; 1]?)?;
-                    true
-                }
-                None => self.names.add_to(&mut addresses, target, resolver)?,
-            };
-            unknown.push(!is_known)?;
-        }
+        let (targets, given) = (self.targets.as_slice(), self.given.as_slice());
+        let Found { addresses, unknown } = found(
+            self.alloc,
+            targets,
+            given,
+            &mut self.names,
+            resolver,
+        )?;
         self.unknown = unknown;
         self.is_changed = false;
         Ok(Some(addresses))
@@ -215,6 +221,29 @@ impl Hosts {
         unknown.extend_from_slice(self.unknown.as_slice())?;
         Ok(unknown)
     }
+}
+
+// Finds the addresses of these hosts, those of `given` before those of the system.
+fn found<R: Resolver>(
+    alloc: Global,
+    targets: &[Target],
+    given: &[Resolved],
+    names: &mut HostNames,
+    resolver: &R,
+) -> Result<Found, AllocError> {
+    let mut addresses = Addresses::new(alloc);
+    let mut unknown = Vec::new(alloc);
+    for target in targets {
+        let is_known = match resolved_of(given, target.host.as_str(), target.port) {
+            Some(address) => {
+                addresses.add_resolved(vec![in alloc; address; 1]?)?;
+                true
+            }
+            None => names.add_to(&mut addresses, target, resolver)?,
+        };
+        unknown.push(!is_known)?;
+    }
+    Ok(Found { addresses, unknown })
 }
 
 // Copies a target's host and port.
