@@ -2,6 +2,7 @@
 //! each time that nothing else has to be done.
 ghost use Rattle.std.specs.Prelude.{◌≡◌};
 
+use crate::checks::check_eq;
 use crate::desk::{KEEP, want_of};
 use host_state::{Returned, State};
 
@@ -37,5 +38,5 @@ fn what_came_back_last_is_leased_at_once(rt: HostRuntime) {
             leased += 1;
         }
     }
-    assert_eq!(rt; leased, ROUNDS);
+    check_eq(&rt, leased, ROUNDS);
 }

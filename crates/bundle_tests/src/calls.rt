@@ -3,6 +3,7 @@
 
 ghost use Rattle.std.specs.Prelude.{◌≡◌, IsSome, None, Some};
 
+use crate::checks::check_eq;
 use crate::desk::{
     Desk, Stream, WANT, asked, give_back, lease_of, leased, leave, still, stray, stream_of,
     stream_under, ticket_of, waits, want_of,
@@ -347,18 +348,20 @@ fn put_stream(lease: &mut Lease<Stream>, stream: Stream)
 fn a_lease_lends_its_stream(rt: HostRuntime) {
     let mut desk = Desk::of_host(rt.alloc(), 1, 1).expect(&rt, "memory");
     let mut lease = lease_of(&rt, asked(&rt, &mut desk, want_of(1), 0));
-    assert_eq!(rt; stream_of(&mut lease), None);
+    check_eq(&rt, stream_of(&mut lease), None);
     lease.attach(Stream(1));
     put_stream(&mut lease, Stream(9));
-    assert_eq!(rt; stream_of(&mut lease), Some(Stream(9)));
-    assert_eq!(rt;
+    check_eq(&rt, stream_of(&mut lease), Some(Stream(9)));
+    check_eq(
+        &rt,
         (lease.site(), lease.number(), lease.want(), lease.reused()),
-        (7, 1, want_of(1), false)
+        (7, 1, want_of(1), false),
     );
     give_back(&rt, &mut desk, lease, 5);
     let again = leased(&rt, &mut desk, 2, 6);
-    assert_eq!(rt;
+    check_eq(
+        &rt,
         stream_under(&rt, &mut desk, again, 6),
-        (1, Some(Stream(9)))
+        (1, Some(Stream(9))),
     );
 }

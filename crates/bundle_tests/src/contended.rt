@@ -4,6 +4,7 @@ ghost use Rattle.std.specs.Prelude.{◌≡◌};
 ghost use Rattle.bundle.specs.Lease.{IsMadeAt};
 ghost use Rattle.bundle.specs.Replies.{IfBack, IfGot, GivesLease};
 
+use crate::checks::check_eq;
 use crate::desk::{
     KEEP, Stream, accept, again_of, attach_new, booked, booking_of, lease_of, spent, ticket_of,
     told_at_turn, want_of, with_stream,
@@ -283,13 +284,17 @@ fn an_acquire_is_tried_again(rt: HostRuntime) {
     let booking = again_of(&rt, got);
     let booking = again_of(&rt, host.retry(&rt, booking, 1));
     let booking = again_of(&rt, host.retry_at_last(&rt, booking, 2));
-    assert_eq!(rt; (host.bundle.log().len(), host.lobby.first()), (0, None));
-    assert_eq!(rt; host.told(), (0, 0));
+    check_eq(
+        &rt,
+        (host.bundle.log().len(), host.lobby.first()),
+        (0, None),
+    );
+    check_eq(&rt, host.told(), (0, 0));
     host.answer(Try::Got);
     let lease = lease_of(&rt, host.retry(&rt, booking, 3));
-    assert_eq!(rt; (lease.moment(), host.held().alive), (3, 1));
-    assert_eq!(rt; host.abandon(&rt, lease, 4), true);
-    assert_eq!(rt; host.held(), Held { alive: 0, kept: 0 });
+    check_eq(&rt, (lease.moment(), host.held().alive), (3, 1));
+    check_eq(&rt, host.abandon(&rt, lease, 4), true);
+    check_eq(&rt, host.held(), Held { alive: 0, kept: 0 });
 }
 
 #[test]
@@ -305,13 +310,17 @@ fn a_give_back_comes_again(rt: HostRuntime) {
             Back::Again(lease) => lease,
             _back => panic!(rt; "it does not come again"),
         };
-        assert_eq!(rt; (host.bundle.log().len(), lease.has_stream()), (1, true));
-        assert_eq!(rt; host.told(), (1, 0));
+        check_eq(
+            &rt,
+            (host.bundle.log().len(), lease.has_stream()),
+            (1, true),
+        );
+        check_eq(&rt, host.told(), (1, 0));
         host.answer(Try::Got);
         let back = host.give_back(&rt, lease, 2, close_if_full);
-        assert_eq!(rt; spent(&rt, back), false);
-        assert_eq!(rt; host.held(), Held { alive: 1, kept: 1 });
-        assert_eq!(rt; host.told(), (2, 1));
+        check_eq(&rt, spent(&rt, back), false);
+        check_eq(&rt, host.held(), Held { alive: 1, kept: 1 });
+        check_eq(&rt, host.told(), (2, 1));
     }
 }
 
@@ -324,25 +333,30 @@ fn a_turn_and_a_new_limit_come_again(rt: HostRuntime) {
     host.answer(Try::Contended);
     let turn = told_at_turn(host.serve_queued(1));
     let first_in_lobby = host.lobby.first();
-    assert_eq!(rt; (turn, first_in_lobby), (Some(Try::Contended), Some(0)));
+    check_eq(&rt, (turn, first_in_lobby), (Some(Try::Contended), Some(0)));
     host.answer(Try::Got);
     let turn = told_at_turn(host.serve_queued(2));
-    assert_eq!(rt; (turn, host.lobby.first()), (Some(Try::Got), None));
+    check_eq(&rt, (turn, host.lobby.first()), (Some(Try::Got), None));
     let got = host.acquire(2, 3);
     let second = ticket_of(&rt, got.expect(&rt, "an answer"));
     host.answer(Try::Contended);
     let changed = host.set_host_limit(2, 4);
-    assert_eq!(rt; (changed, host.bundle.log().len()), (Ok(Changed::Again), 3));
-    assert_eq!(rt; host.told(), (2, 0));
-    host.answer(Try::Got);
-    assert_eq!(rt;
-        host.set_host_limit(2, 5),
-        Ok(Changed::Done { freed: false })
+    check_eq(
+        &rt,
+        (changed, host.bundle.log().len()),
+        (Ok(Changed::Again), 3),
     );
-    assert_eq!(rt; host.held(), Held { alive: 2, kept: 0 });
+    check_eq(&rt, host.told(), (2, 0));
+    host.answer(Try::Got);
+    check_eq(
+        &rt,
+        host.set_host_limit(2, 5),
+        Ok(Changed::Done { freed: false }),
+    );
+    check_eq(&rt, host.held(), Held { alive: 2, kept: 0 });
     host.withdraw(&rt, first, 9);
     host.withdraw(&rt, second, 9);
-    assert_eq!(rt; host.held(), Held { alive: 0, kept: 0 });
+    check_eq(&rt, host.held(), Held { alive: 0, kept: 0 });
 }
 
 #[test]
@@ -357,10 +371,10 @@ fn a_booking_is_tried_again_at_its_own_host(rt: HostRuntime) {
     }
     match host.acquire(1, 1) {
         Ok(_got) => panic!(rt; "its transfer is booked no more"),
-        Err(refusal) => assert_eq!(rt; refusal, Refusal::TransferBusy),
+        Err(refusal) => check_eq(&rt, refusal, Refusal::TransferBusy),
     }
     host.answer(Try::Got);
     let lease = lease_of(&rt, host.retry(&rt, booking, 2));
-    assert_eq!(rt; (lease.transfer(), lease.moment()), (1, 2));
-    assert_eq!(rt; host.abandon(&rt, lease, 3), true);
+    check_eq(&rt, (lease.transfer(), lease.moment()), (1, 2));
+    check_eq(&rt, host.abandon(&rt, lease, 3), true);
 }

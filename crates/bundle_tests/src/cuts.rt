@@ -2,6 +2,7 @@
 
 ghost use Rattle.std.specs.Prelude.{◌≡◌};
 
+use crate::checks::check_eq;
 use crate::desk::{Desk, KEEP, Stream, WANT, asked, drop_lease, give_back, lease_of, leased};
 use budget::Refusal;
 use conn_log::{Counts, Entry, Event, Want, holder, idle_oldest, open_count, waiting_len};
@@ -16,9 +17,9 @@ pub(crate) fn cut_at_last(rt: &impl Abort, desk: &mut Desk<Stream>) -> Vec<Entry
     match desk.cut() {
         Ok(part) => part,
         Err(refusal) => {
-            assert_eq!(rt; refusal, Refusal::Memory);
-            assert_eq!(rt; desk.bundle.log().len(), entries);
-            assert_eq!(rt; desk.bundle.look(), before);
+            check_eq(rt, refusal, Refusal::Memory);
+            check_eq(rt, desk.bundle.log().len(), entries);
+            check_eq(rt, desk.bundle.look(), before);
             desk.cut().expect(rt, "memory")
         }
     }
@@ -38,15 +39,15 @@ fn a_host_goes_on_after_a_cut(rt: HostRuntime) {
             facts: KEEP,
         },
     };
-    assert_eq!(rt; (part.len(), part.get(1).copied()), (2, Some(returned)));
-    assert_eq!(rt; desk.bundle.log().len(), 0);
+    check_eq(&rt, (part.len(), part.get(1).copied()), (2, Some(returned)));
+    check_eq(&rt, desk.bundle.log().len(), 0);
     let want = Want {
         transfer: 2,
         max_age: 118,
         ..WANT
     };
     let lease = lease_of(&rt, asked(&rt, &mut desk, want, 6));
-    assert_eq!(rt; (lease.number(), lease.reused()), (1, true));
+    check_eq(&rt, (lease.number(), lease.reused()), (1, true));
     let log = desk.bundle.log();
     let counts = Counts {
         opened: 1,
@@ -54,11 +55,12 @@ fn a_host_goes_on_after_a_cut(rt: HostRuntime) {
         closed: 0,
         waited: 0,
     };
-    assert_eq!(rt;
+    check_eq(
+        &rt,
         (open_count(log), waiting_len(log), log.counts()),
-        (1, 0, counts)
+        (1, 0, counts),
     );
-    assert_eq!(rt; (holder(log, 1), idle_oldest(log, 7)), (Some(2), None));
+    check_eq(&rt, (holder(log, 1), idle_oldest(log, 7)), (Some(2), None));
     let leased = Entry {
         moment: 6,
         event: Event::Leased {
@@ -67,7 +69,7 @@ fn a_host_goes_on_after_a_cut(rt: HostRuntime) {
         },
     };
     let part = cut_at_last(&rt, &mut desk);
-    assert_eq!(rt; (part.len(), part.first().copied()), (1, Some(leased)));
+    check_eq(&rt, (part.len(), part.first().copied()), (1, Some(leased)));
     assert!(rt; cut_at_last(&rt, &mut desk).is_empty());
     drop_lease(&rt, &mut desk, lease, 6);
 }

@@ -3,6 +3,7 @@
 
 ghost use Rattle.std.specs.Prelude.{◌≡◌};
 
+use crate::checks::check_eq;
 use crate::desk::{Desk, KEEP, accept, asked, lease_of, spent, want_of};
 use bundle::Lease;
 use conn_log::Want;
@@ -46,7 +47,7 @@ fn give_back<'a>(rt: &impl Abort, desk: &mut Desk<Counted<'a>>, lease: Lease<Cou
 
 // So many streams were dropped.
 fn check_ends(rt: &impl Abort, ends: &Cell<u32>, expected: u32) {
-    assert_eq!(rt; ends.get(), expected);
+    check_eq(rt, ends.get(), expected);
 }
 
 #[test]
@@ -65,16 +66,16 @@ fn each_closing_drops_one_stream(rt: HostRuntime) {
     let again = leased(&rt, &mut desk, want_of(4), 4, &ends);
     give_back(&rt, &mut desk, again, 5);
     check_ends(&rt, &ends, 1);
-    assert_eq!(rt; desk.set_host_limit(2, 6).is_ok(), true);
+    check_eq(&rt, desk.set_host_limit(2, 6).is_ok(), true);
     let fresh = Want {
         fresh: true,
         ..want_of(5)
     };
     let fresh = leased(&rt, &mut desk, fresh, 7, &ends);
     check_ends(&rt, &ends, 2);
-    assert_eq!(rt; desk.set_host_limit(1, 8).is_ok(), true);
+    check_eq(&rt, desk.set_host_limit(1, 8).is_ok(), true);
     check_ends(&rt, &ends, 3);
     give_back(&rt, &mut desk, fresh, 9);
-    assert_eq!(rt; desk.prune(20, 10, 0), 1);
+    check_eq(&rt, desk.prune(20, 10, 0), 1);
     check_ends(&rt, &ends, 4);
 }

@@ -5,6 +5,7 @@ ghost use Rattle.std.specs.Prelude.{◌≡◌, ◌++◌, ◌∷◌, []};
 ghost use Rattle.bundle.specs.Lease.{IsMadeAt};
 ghost use Rattle.bundle.specs.Replies.{GivesLease, IfBack};
 
+use crate::checks::check_eq;
 use crate::desk::{Desk, KEEP, Stream, attach_new, stream_of, told, told_at_turn, want_of};
 use budget::{Refusal, Try};
 use bundle::{Back, Booking, Changed, Claimed, Did, Got, Lease, Shortage, Snapshot, Ticket};
@@ -255,8 +256,8 @@ impl Keeper {
             Got::Wait(ticket) => {
                 let site = self.desk.bundle.host();
                 let found = (ticket.site(), ticket.transfer(), ticket.moment());
-                assert_eq!(rt; found, (site, want.transfer, now));
-                assert_eq!(rt; ticket.want(), want);
+                check_eq(rt, found, (site, want.transfer, now));
+                check_eq(rt, ticket.want(), want);
                 keep(rt, &mut self.tickets, ticket);
                 Said::Waits
             }
@@ -265,8 +266,8 @@ impl Keeper {
                 keep(rt, &mut self.shortages, short);
                 let site = self.desk.bundle.host();
                 let found = (booking.site(), booking.transfer());
-                assert_eq!(rt; found, (site, want.transfer));
-                assert_eq!(rt; booking.want(), want);
+                check_eq(rt, found, (site, want.transfer));
+                check_eq(rt, booking.want(), want);
                 keep(rt, &mut self.bookings, booking);
                 Said::NoRoom
             }
@@ -425,9 +426,9 @@ fn place_of_ticket(tickets: &[Ticket], transfer: u64) -> usize {
 // A lease has to be of the host, and for that want.
 fn check_lease(rt: &impl Abort, lease: &Lease<Stream>, site: u32, want: Want) {
     let lane = want.lane;
-    assert_eq!(rt; lease.key(), Key { site, lane });
-    assert_eq!(rt; (lease.site(), lease.transfer()), (site, want.transfer));
-    assert_eq!(rt; lease.want(), want);
+    check_eq(rt, lease.key(), Key { site, lane });
+    check_eq(rt, (lease.site(), lease.transfer()), (site, want.transfer));
+    check_eq(rt, lease.want(), want);
 }
 
 // What a lease tells: a new connection has no stream, and another one that of its number.
@@ -436,10 +437,10 @@ fn lease_said(rt: &impl Abort, lease: &mut Lease<Stream>) -> Said
 {
     let (number, moment) = (lease.number(), lease.moment());
     if lease.reused() {
-        assert_eq!(rt; stream_of(lease), Some(Stream(number)));
+        check_eq(rt, stream_of(lease), Some(Stream(number)));
         return Said::Reused(number, moment);
     }
-    assert_eq!(rt; stream_of(lease), None);
+    check_eq(rt, stream_of(lease), None);
     Said::Opened(number, moment)
 }
 
@@ -475,7 +476,7 @@ fn look_said(counts: Snapshot) -> Said {
 fn oldest_said(rt: &impl Abort, host: u32, oldest: Option<Stamp>) -> Said {
     match oldest {
         Some(stamp) => {
-            assert_eq!(rt; stamp.host, host);
+            check_eq(rt, stamp.host, host);
             Said::Oldest(stamp.since, stamp.number)
         }
         None => Said::NoneIdle,

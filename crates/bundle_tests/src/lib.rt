@@ -8,6 +8,8 @@ mod budgets;
 #[cfg(test)]
 mod calls;
 #[cfg(test)]
+mod checks;
+#[cfg(test)]
 mod contended;
 #[cfg(test)]
 mod cuts;

@@ -6,6 +6,7 @@ ghost use Rattle.std.specs.Prelude.{◌≡◌, IfSome};
 ghost use Rattle.bundle.specs.Lease.{IsMadeAt};
 ghost use Rattle.bundle.specs.Replies.{GivesLease};
 
+use crate::checks::check_eq;
 use crate::cuts::cut_at_last;
 use crate::desk::{
     Desk, Stream, attach_new, booking_of, claimed, drop_lease, give_back, lease_of, leave,
@@ -22,7 +23,7 @@ fn new_at_last(rt: &impl Abort, alloc: Global, limits: (u32, u32, u32)) -> Desk<
     match Desk::new(alloc, limits, 1) {
         Ok(desk) => desk,
         Err(refusal) => {
-            assert_eq!(rt; refusal, Refusal::Memory);
+            check_eq(rt, refusal, Refusal::Memory);
             Desk::new(alloc, limits, 1).expect(rt, "memory")
         }
     }
@@ -34,11 +35,11 @@ fn want_of_memory_refuses_a_new_host(rt: HostRuntime) {
     let bundle = match made {
         Ok(bundle) => bundle,
         Err(refusal) => {
-            assert_eq!(rt; refusal, Refusal::Memory);
+            check_eq(&rt, refusal, Refusal::Memory);
             Bundle::new(rt.alloc(), 4, 7, 1).expect(&rt, "memory")
         }
     };
-    assert_eq!(rt; (bundle.host(), bundle.log().len()), (7, 0));
+    check_eq(&rt, (bundle.host(), bundle.log().len()), (7, 0));
 }
 
 #[test]
@@ -46,16 +47,20 @@ fn want_of_memory_refuses_a_new_pass(rt: HostRuntime) {
     let mut pass = match Pass::new(rt.alloc(), 8) {
         Ok(pass) => pass,
         Err(refusal) => {
-            assert_eq!(rt; refusal, Refusal::Memory);
+            check_eq(&rt, refusal, Refusal::Memory);
             Pass::new(rt.alloc(), 8).expect(&rt, "memory")
         }
     };
     // a seat takes no memory
     if let Ok(mut bundle) = Bundle::<Stream>::new(rt.alloc(), 4, 7, 1) {
         bundle.enrol(&mut pass);
-        assert_eq!(rt; (pass.is_enrolled(7), pass.is_enrolled(0)), (true, false));
+        check_eq(
+            &rt,
+            (pass.is_enrolled(7), pass.is_enrolled(0)),
+            (true, false),
+        );
     }
-    assert_eq!(rt; (pass.spent(7), pass.calls(7)), (0, 0));
+    check_eq(&rt, (pass.spent(7), pass.calls(7)), (0, 0));
     pass.discard();
 }
 
@@ -72,7 +77,7 @@ fn shown(rt: &impl Abort, desk: &Desk<Stream>) -> Shown {
 
 // A call was refused for want of memory, and changed nothing.
 fn check_refused(rt: &impl Abort, desk: &Desk<Stream>, refusal: Refusal, before: Shown) {
-    assert_eq!(rt; (refusal, shown(rt, desk)), (Refusal::Memory, before));
+    check_eq(rt, (refusal, shown(rt, desk)), (Refusal::Memory, before));
 }
 
 // What an acquire gives; where memory runs out it changes nothing, and comes again.
@@ -112,10 +117,10 @@ fn want_of_memory_refuses_an_acquire(rt: HostRuntime) {
         let lease = leased_at_last(&rt, &mut desk, transfer);
         give_back(&rt, &mut desk, lease, 0);
         let again = leased_at_last(&rt, &mut desk, transfer);
-        assert_eq!(rt; again.reused(), true);
+        check_eq(&rt, again.reused(), true);
         drop_lease(&rt, &mut desk, again, 0);
     }
-    assert_eq!(rt; desk.bundle.log().len(), 160);
+    check_eq(&rt, desk.bundle.log().len(), 160);
 }
 
 #[test]
@@ -132,7 +137,7 @@ fn want_of_memory_refuses_a_wait(rt: HostRuntime) {
     let served = claimed(&rt, &mut desk, first);
     leave(&rt, &mut desk, second, 0);
     drop_lease(&rt, &mut desk, served, 0);
-    assert_eq!(rt; desk.bundle.log().len(), 79);
+    check_eq(&rt, desk.bundle.log().len(), 79);
 }
 
 #[test]
@@ -144,20 +149,20 @@ fn want_of_memory_leaves_no_booking(rt: HostRuntime) {
         // another try and the last one take no memory, nor does a turn
         let booking = booking_of(&rt, desk.retry(&rt, booking, 0));
         let ticket = ticket_of(&rt, desk.retry_at_last(&rt, booking, 0));
-        assert_eq!(rt; desk.serve_queued(0).is_some(), true);
+        check_eq(&rt, desk.serve_queued(0).is_some(), true);
         leave(&rt, &mut desk, ticket, 0);
     }
     drop_lease(&rt, &mut desk, lease, 0);
-    assert_eq!(rt; desk.bundle.log().len(), 78);
+    check_eq(&rt, desk.bundle.log().len(), 78);
 }
 
 #[test]
 fn want_of_memory_refuses_a_cut(rt: HostRuntime) {
     let mut desk = new_at_last(&rt, rt.alloc(), (4, 0, 4));
     let lease = leased_at_last(&rt, &mut desk, 1);
-    assert_eq!(rt; cut_at_last(&rt, &mut desk).len(), 1);
+    check_eq(&rt, cut_at_last(&rt, &mut desk).len(), 1);
     drop_lease(&rt, &mut desk, lease, 0);
-    assert_eq!(rt; cut_at_last(&rt, &mut desk).len(), 1);
+    check_eq(&rt, cut_at_last(&rt, &mut desk).len(), 1);
 }
 
 // A limit that has to be changed; where memory runs out nothing is, and it comes again.
@@ -180,16 +185,16 @@ fn want_of_memory_refuses_a_new_limit(rt: HostRuntime) {
     let first = leased_at_last(&rt, &mut desk, 1);
     let second = waits_at_last(&rt, &mut desk, 2);
     let done = Changed::Done { freed: false };
-    assert_eq!(rt; limit_at_last(&rt, &mut desk, 2), done);
+    check_eq(&rt, limit_at_last(&rt, &mut desk, 2), done);
     let second = claimed(&rt, &mut desk, second);
     give_back(&rt, &mut desk, first, 0);
     let freed = Changed::Done { freed: true };
-    assert_eq!(rt; limit_at_last(&rt, &mut desk, 1), freed);
+    check_eq(&rt, limit_at_last(&rt, &mut desk, 1), freed);
     for limit in 2..40 {
-        assert_eq!(rt; limit_at_last(&rt, &mut desk, limit), done);
+        check_eq(&rt, limit_at_last(&rt, &mut desk, limit), done);
     }
     drop_lease(&rt, &mut desk, second, 0);
-    assert_eq!(rt; desk.bundle.log().len(), 46);
+    check_eq(&rt, desk.bundle.log().len(), 46);
 }
 
 // A lease of a new connection, with its stream, if there is memory for it.
@@ -204,7 +209,7 @@ fn leased_or_none(rt: &impl Abort, desk: &mut Desk<Stream>, transfer: u64) -> Op
             Some(lease)
         }
         Err(refusal) => {
-            assert_eq!(rt; refusal, Refusal::Memory);
+            check_eq(rt, refusal, Refusal::Memory);
             None
         }
     }
@@ -225,10 +230,10 @@ fn third_of(
 {
     let booking = booking_of(rt, desk.retry(rt, booking, 0));
     let ticket = ticket_of(rt, desk.retry_at_last(rt, booking, 0));
-    assert_eq!(rt; told_at_turn(desk.serve_queued(0)), Some(Try::Full));
+    check_eq(rt, told_at_turn(desk.serve_queued(0)), Some(Try::Full));
     give_back(rt, desk, first, 1);
     let third = claimed(rt, desk, ticket);
-    assert_eq!(rt; third.reused(), true);
+    check_eq(rt, third.reused(), true);
     third
 }
 
@@ -249,9 +254,9 @@ fn spend_all(
         host: 7,
         number: 2,
     };
-    assert_eq!(rt; desk.evict_oldest(oldest, short, 3), true);
+    check_eq(rt, desk.evict_oldest(oldest, short, 3), true);
     give_back(rt, desk, third, 4);
-    assert_eq!(rt; (desk.prune(9, 0, 0), desk.bundle.log().len()), (1, 9));
+    check_eq(rt, (desk.prune(9, 0, 0), desk.bundle.log().len()), (1, 9));
 }
 
 // From the first refusal on there may be no memory at all.
@@ -265,7 +270,7 @@ fn want_of_memory_for_good_spends_all(rt: HostRuntime) {
     };
     let Some(second) = leased_or_none(&rt, &mut desk, 2) else {
         give_back(&rt, &mut desk, first, 1);
-        assert_eq!(rt; desk.prune(9, 0, 0), 1);
+        check_eq(&rt, desk.prune(9, 0, 0), 1);
         return;
     };
     match desk.acquire(want_of(3), 0) {
@@ -276,10 +281,10 @@ fn want_of_memory_for_good_spends_all(rt: HostRuntime) {
         }
         Ok(_got) => panic!(rt; "there is room"),
         Err(refusal) => {
-            assert_eq!(rt; refusal, Refusal::Memory);
+            check_eq(&rt, refusal, Refusal::Memory);
             give_back(&rt, &mut desk, first, 1);
             give_back(&rt, &mut desk, second, 2);
-            assert_eq!(rt; desk.prune(9, 0, 0), 2);
+            check_eq(&rt, desk.prune(9, 0, 0), 2);
         }
     }
 }

@@ -3,6 +3,7 @@
 ghost use Rattle.std.specs.Prelude.{◌≡◌, is_some};
 ghost use Rattle.cache_trait.specs.Homes.{IsMadeBy};
 
+use crate::checks::check_eq;
 use crate::desk::{KEEP, check_log_of, closed, opened, returned, want_of};
 use budget::Limits;
 use bundle::{Acquired, Claimed, Lease, Ticket};
@@ -84,12 +85,13 @@ fn give_back<C: Cache<u32>>(
 // the other is granted the connection that is opened once the first is closed.
 fn share_one_connection<C: Cache<u32>>(rt: &impl Abort, cache: &mut C) {
     let lease = lease_for(rt, cache, 1, 0);
-    assert_eq!(rt; (lease.number(), lease.reused()), (1, false));
+    check_eq(rt, (lease.number(), lease.reused()), (1, false));
     give_back(rt, cache, lease, 7, 1);
     let lease = lease_for(rt, cache, 2, 2);
-    assert_eq!(rt;
+    check_eq(
+        rt,
         (lease.number(), lease.reused(), lease.has_stream()),
-        (1, true, true)
+        (1, true, true),
     );
     let ticket = ticket_for(rt, cache, 3, 3);
     let last = ticket_for(rt, cache, 4, 4);
@@ -101,9 +103,10 @@ fn share_one_connection<C: Cache<u32>>(rt: &impl Abort, cache: &mut C) {
         panic!(rt; "the lease is a stranger");
     }
     let lease = granted(rt, cache, ticket);
-    assert_eq!(rt;
+    check_eq(
+        rt,
         (lease.number(), lease.reused(), lease.has_stream()),
-        (2, false, false)
+        (2, false, false),
     );
     give_back(rt, cache, lease, 8, 7);
 }

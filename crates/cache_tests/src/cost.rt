@@ -5,6 +5,7 @@ ghost use Rattle.std.specs.Prelude.{◌≡◌, IsSome};
 ghost use Rattle.cache_trait.specs.Homes.{IsMadeBy};
 ghost use Rattle.cache.specs.PoolCalls.{home_of};
 
+use crate::checks::check_eq;
 use crate::desk::{KEEP, want_of};
 use budget::{GREATEST_LIMIT, Limits, Refusal};
 use bundle::{Acquired, Lease, Ticket};
@@ -135,9 +136,9 @@ fn new_one(transfer: u64) -> Want {
 fn a_warm_connection_is_used_often(rt: HostRuntime) {
     for &(hosts, idle) in &WARM {
         let mut pool = warm(rt.alloc(), hosts, idle, 0).expect(&rt, "memory");
-        assert_eq!(rt; uses_often(&mut pool, hosts / 2, 0, BEFORE), BEFORE);
+        check_eq(&rt, uses_often(&mut pool, hosts / 2, 0, BEFORE), BEFORE);
         let used = uses_often(&mut pool, hosts / 2, BEFORE, BEFORE + ROUNDS);
-        assert_eq!(rt; used, ROUNDS);
+        check_eq(&rt, used, ROUNDS);
     }
 }
 
@@ -145,9 +146,9 @@ fn a_warm_connection_is_used_often(rt: HostRuntime) {
 fn the_oldest_of_all_is_closed_often(rt: HostRuntime) {
     for &hosts in &FULL {
         let mut pool = warm(rt.alloc(), hosts, 1, hosts).expect(&rt, "memory");
-        assert_eq!(rt; opens_often(&mut pool, hosts, 0, BEFORE), BEFORE);
+        check_eq(&rt, opens_often(&mut pool, hosts, 0, BEFORE), BEFORE);
         let used = opens_often(&mut pool, hosts, BEFORE, BEFORE + ROUNDS);
-        assert_eq!(rt; used, ROUNDS);
+        check_eq(&rt, used, ROUNDS);
     }
 }
 
@@ -158,13 +159,14 @@ fn a_pool_is_cut_two_thousand_times(rt: HostRuntime) {
     for turn in 0..CUTS {
         let first = turn.saturating_mul(PAIRS);
         let used = uses_often(&mut pool, 0, first, first.saturating_add(PAIRS));
-        assert_eq!(rt; used, PAIRS);
+        check_eq(&rt, used, PAIRS);
         let part = pool.cut(0).expect(&rt, "memory");
-        assert_eq!(rt; part.len(), 10_000);
+        check_eq(&rt, part.len(), 10_000);
     }
     let counts = pool.log(0).expect(&rt, "a host").counts();
-    assert_eq!(rt;
+    check_eq(
+        &rt,
         (counts.opened, counts.reused, counts.closed),
-        (1, 10_000_000, 0)
+        (1, 10_000_000, 0),
     );
 }

@@ -1,6 +1,7 @@
 //! A pool whose logs are cut now and then, beside one whose logs are not: the same happens at both,
 //! and the parts are what happened.
 
+use crate::checks::check_eq;
 use crate::desk::Desk;
 use crate::drawn::{Draws, do_one};
 use cache::Pool;
@@ -120,5 +121,5 @@ fn what_happened_is_counted_and_let_go(rt: HostRuntime) {
         let part = pool.cut(site).expect(&rt, "memory");
         opened = opened.saturating_add(count_part(&part).opened);
     }
-    assert_eq!(rt; opened, 2);
+    check_eq(&rt, opened, 2);
 }

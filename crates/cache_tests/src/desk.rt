@@ -6,6 +6,7 @@ ghost use Rattle.std.specs.List.{All};
 ghost use Rattle.cache_trait.specs.Homes.{IsMadeBy, Gives, Claims};
 ghost use Rattle.cache.specs.PoolCalls.{home_of};
 
+use crate::checks::check_eq;
 use budget::{Limits, Refusal};
 use bundle::{Acquired, Claimed, Lease, Stray, Ticket};
 use cache::Pool;
@@ -139,7 +140,7 @@ impl Desk {
     /// The same, where nothing else is wanted and it is not refused.
     pub fn get(&mut self, rt: &impl Abort, transfer: u64, site: u32, now: u64) {
         let refused = self.ask(rt, want_of(transfer), site, now);
-        assert_eq!(rt; refused, None);
+        check_eq(rt, refused, None);
     }
 
     /// Gives back what the transfer has a lease of.

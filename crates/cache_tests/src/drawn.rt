@@ -1,5 +1,6 @@
 //! Many transfers at many hosts, in an order that is drawn.
 
+use crate::checks::check_eq;
 use crate::desk::{Desk, want_of};
 use cache::Pool;
 use conn_log::{Event, Log, Want};
@@ -61,7 +62,7 @@ fn ask_somewhere(rt: &impl Abort, desk: &mut Desk, draws: &mut Draws, hosts: u32
         max_age: 30,
         ..want_of(transfer)
     };
-    assert_eq!(rt; desk.ask(rt, want, site, transfer), None);
+    check_eq(rt, desk.ask(rt, want, site, transfer), None);
 }
 
 // A lease that is drawn is given back, or abandoned.

@@ -6,6 +6,8 @@ mod as_cache;
 #[cfg(test)]
 mod calls;
 #[cfg(test)]
+mod checks;
+#[cfg(test)]
 mod cost;
 #[cfg(test)]
 mod cuts;

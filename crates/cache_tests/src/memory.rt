@@ -2,6 +2,7 @@
 //! refusal says so and changes nothing, and the call succeeds when it comes again. In the others
 //! all memory may be refused from some moment on.
 
+use crate::checks::check_eq;
 use crate::desk::{Desk, want_of};
 use budget::Refusal;
 use bundle::Snapshot;
@@ -23,7 +24,7 @@ fn desk_at_last(
     match Desk::new(alloc, limits, hosts) {
         Ok(desk) => Ok(desk),
         Err(refusal) => {
-            assert_eq!(rt; refusal, Refusal::Memory);
+            check_eq(rt, refusal, Refusal::Memory);
             Desk::new(alloc, limits, hosts)
         }
     }
@@ -42,8 +43,8 @@ fn get_at_last(rt: &impl Abort, desk: &mut Desk, transfer: u64, site: u32) {
     let Some(refusal) = desk.ask(rt, want_of(transfer), site, 0) else {
         return;
     };
-    assert_eq!(rt; refusal, Refusal::Memory);
-    assert_eq!(rt; shown(rt, desk, site), before);
+    check_eq(rt, refusal, Refusal::Memory);
+    check_eq(rt, shown(rt, desk, site), before);
     desk.get(rt, transfer, site, 0);
 }
 
@@ -53,9 +54,9 @@ fn limit_at_last(rt: &impl Abort, desk: &mut Desk, site: u32, limit: u32) {
     let Err(refusal) = desk.set_host_limit(site, limit, 0) else {
         return;
     };
-    assert_eq!(rt; refusal, Refusal::Memory);
-    assert_eq!(rt; shown(rt, desk, site), before);
-    assert_eq!(rt; desk.set_host_limit(site, limit, 0), Ok(()));
+    check_eq(rt, refusal, Refusal::Memory);
+    check_eq(rt, shown(rt, desk, site), before);
+    check_eq(rt, desk.set_host_limit(site, limit, 0), Ok(()));
 }
 
 // The same of what a cut hands out.
@@ -64,8 +65,8 @@ fn cut_at_last(rt: &impl Abort, desk: &mut Desk, site: u32) -> Vec<Entry> {
     match desk.pool.cut(site) {
         Ok(part) => part,
         Err(refusal) => {
-            assert_eq!(rt; refusal, Refusal::Memory);
-            assert_eq!(rt; shown(rt, desk, site), before);
+            check_eq(rt, refusal, Refusal::Memory);
+            check_eq(rt, shown(rt, desk, site), before);
             desk.cut(rt, site)
         }
     }
@@ -86,12 +87,13 @@ fn want_of_memory_changes_no_pool(rt: HostRuntime) -> Result<(), Fail> {
         desk.abandon(&rt, third, 0);
         limit_at_last(&rt, &mut desk, 2, round as u32 + 2);
     }
-    assert_eq!(rt;
+    check_eq(
+        &rt,
         (desk.pool.spent(0), desk.pool.spent(1)),
-        (Some(2 * ROUNDS), Some(ROUNDS))
+        (Some(2 * ROUNDS), Some(ROUNDS)),
     );
     let part = cut_at_last(&rt, &mut desk, 2);
-    assert_eq!(rt; part.len() as u64, ROUNDS);
+    check_eq(&rt, part.len() as u64, ROUNDS);
     let _ = desk.close(&rt, 0);
     Ok(())
 }
@@ -111,7 +113,7 @@ fn ask_until_refused(rt: &impl Abort, desk: &mut Desk, sites: &[u32]) -> u64 {
     let mut answered: u64 = 0;
     for &site in sites {
         if let Some(refusal) = desk.ask(rt, want_of(answered), site, 0) {
-            assert_eq!(rt; refusal, Refusal::Memory);
+            check_eq(rt, refusal, Refusal::Memory);
             return answered;
         }
         answered = answered.saturating_add(1);
@@ -138,7 +140,7 @@ fn want_of_memory_for_good_keeps_each_promise(rt: HostRuntime) {
         desk.leave(&rt, transfer, 3);
     }
     let pruned = desk.prune(9, 0, 0);
-    assert_eq!(rt; pruned, if answered == 1 { 1 } else { 0 });
+    check_eq(&rt, pruned, if answered == 1 { 1 } else { 0 });
     let nothing = Snapshot {
         alive: 0,
         idle: 0,
@@ -147,8 +149,8 @@ fn want_of_memory_for_good_keeps_each_promise(rt: HostRuntime) {
         queued: false,
     };
     let (entries, seen) = shown(&rt, &desk, 0);
-    assert_eq!(rt; seen, Ok(nothing));
-    assert_eq!(rt; ENTRIES.get(answered as usize).copied(), Some(entries));
+    check_eq(&rt, seen, Ok(nothing));
+    check_eq(&rt, ENTRIES.get(answered as usize).copied(), Some(entries));
     let _ = desk.close(&rt, 9);
 }
 
@@ -211,9 +213,9 @@ fn serve_all(rt: &impl Abort, alloc: Global, row: &Serving) {
         }
         desk.back(rt, transfer, transfer.saturating_add(1));
     }
-    assert_eq!(rt; u64::from(desk.prune(9, 0, 0)), answered.min(1));
+    check_eq(rt, u64::from(desk.prune(9, 0, 0)), answered.min(1));
     let causes = row.causes.get(answered as usize).copied().unwrap_or(&[]);
-    assert_eq!(rt; causes.len() as u64, answered);
+    check_eq(rt, causes.len() as u64, answered);
     for (&site, &cause) in EACH_HOST.iter().zip(causes) {
         let has_waited = u64::from(site) >= row.at_once;
         check_closed(rt, &desk, site, 3 + has_waited as usize, cause);

@@ -1,5 +1,6 @@
 //! What a crawl writes: `get` of many URLs at once, of a file, and of bad ones.
 
+use crate::checks::check_eq;
 use crate::running::{ROW, Row, Text, check, check_stopped};
 use cli::NetworkFault;
 use std::sync::atomic::Ordering;
@@ -294,7 +295,7 @@ fn a_crawl_looks_a_name_up_once(rt: HostRuntime) {
         ..ROW
     };
     let (network, _) = check(&rt, &row);
-    assert_eq!(rt; network.lookups.load(Ordering::SeqCst), 2);
+    check_eq(&rt, network.lookups.load(Ordering::SeqCst), 2);
 }
 
 /// Words that are refused, and how the message begins.

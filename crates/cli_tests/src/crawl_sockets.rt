@@ -2,6 +2,7 @@
 
 ghost use Rattle.std.specs.Prelude.{⊤};
 
+use crate::checks::check_eq;
 use crate::networks::found_for;
 use crate::running::words_of;
 use cli::{
@@ -157,7 +158,7 @@ fn each_url_of_a_file_has_its_line(rt: HostRuntime) {
         get(&rt, &rt, "get --file - --parallel 8", file.as_str())
     })
     .expect(&rt, "memory");
-    assert_eq!(rt; (status, lookups), (0, 0));
+    check_eq(&rt, (status, lookups), (0, 0));
     let text = str::from_utf8(output.as_slice()).unwrap_or("");
     let mut opened: u64 = 0;
     for url in file.as_str().lines() {
@@ -174,7 +175,7 @@ fn each_url_of_a_file_has_its_line(rt: HostRuntime) {
         assert!(rt; is_new != is_reused, "{url}");
         opened = opened.saturating_add(is_new as u64);
     }
-    assert_eq!(rt; text.lines().count() as u64, URLS);
+    check_eq(&rt, text.lines().count() as u64, URLS);
     assert!(rt; opened <= 2 * PARALLEL);
 }
 

@@ -1,5 +1,6 @@
 //! What `get` writes, and which of its words are refused.
 
+use crate::checks::check_eq;
 use crate::loads::FakeLoader;
 use crate::networks::FakeNetwork;
 use crate::running::{ROW, Row, Text, check, check_stopped, check_words, run, words_of};
@@ -141,11 +142,12 @@ fn sites_and_seconds_are_handed_on(rt: HostRuntime) {
         ..ROW
     };
     let (network, _) = check(&rt, &row);
-    assert_eq!(rt;
+    check_eq(
+        &rt,
         (network.openings, network.sites, network.timeout),
-        (1, 2, 7)
+        (1, 2, 7),
     );
-    assert_eq!(rt; (network.closings, network.fetches), (1, 3));
+    check_eq(&rt, (network.closings, network.fetches), (1, 3));
     let row = Row {
         name: "1,024 URLs",
         output: Text::Start("200 1 new http://127.0.0.1/\n"),
@@ -153,9 +155,10 @@ fn sites_and_seconds_are_handed_on(rt: HostRuntime) {
     };
     let words = many_urls(rt.alloc(), 1_024).expect(&rt, "memory");
     let (network, _) = check_words(&rt, words, &row);
-    assert_eq!(rt;
+    check_eq(
+        &rt,
         (network.openings, network.sites, network.timeout),
-        (1, 1, 30)
+        (1, 1, 30),
     );
 }
 
@@ -334,7 +337,7 @@ fn words_are_refused(rt: HostRuntime) {
     };
     let words = many_urls(rt.alloc(), 1_025).expect(&rt, "memory");
     let (network, _) = check_words(&rt, words, &row);
-    assert_eq!(rt; network.openings, 0);
+    check_eq(&rt, network.openings, 0);
 }
 
 /// Why the network can't be opened, and what is told of it.
@@ -356,7 +359,7 @@ fn a_network_that_cannot_be_opened(rt: HostRuntime) {
             ..ROW
         };
         let (network, _) = check(&rt, &row);
-        assert_eq!(rt; (network.closings, network.fetches), (0, 0));
+        check_eq(&rt, (network.closings, network.fetches), (0, 0));
     }
 }
 
@@ -395,6 +398,6 @@ fn want_of_memory_leaves_a_front_of_the_lines(rt: HostRuntime) {
     if status == 0 {
         assert!(rt; writer.rest.is_empty());
     } else {
-        assert_eq!(rt; status, 4);
+        check_eq(&rt, status, 4);
     }
 }

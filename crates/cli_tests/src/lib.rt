@@ -4,6 +4,8 @@
 #[cfg(test)]
 mod audits;
 #[cfg(test)]
+mod checks;
+#[cfg(test)]
 mod crawl_rows;
 #[cfg(test)]
 mod crawl_sockets;

@@ -1,5 +1,6 @@
 //! The longest script, the most sites, and how faults are printed.
 
+use crate::checks::check_eq;
 use script_run::run_bytes;
 use script_text::{FaultKind, ScriptFault};
 use std::alloc::{AllocError, Global};
@@ -22,7 +23,7 @@ fn sites_have_a_limit(rt: HostRuntime) {
     let mut out = Vec::new(rt.alloc());
     assert!(rt; run_bytes(rt.alloc(), script.as_bytes(), &mut out) == Ok(()));
     let transcript = "opened 1023.1 for 1 at 0\nopened 6.1 for 1 at 0\nrefused bad-site\n";
-    assert_eq!(rt; out.as_slice(), transcript.as_bytes());
+    check_eq(&rt, out.as_slice(), transcript.as_bytes());
     let script = many_sites(rt.alloc(), 1_025, "").expect(&rt, "memory");
     let fault = ScriptFault {
         line: 1_026,
@@ -65,6 +66,6 @@ fn faults_have_their_texts(rt: HostRuntime) {
     for &(kind, text) in &TEXTS {
         let fault = ScriptFault { line: 3, kind };
         let shown = fault.to_string(rt.alloc()).expect(&rt, "memory");
-        assert_eq!(rt; shown.as_str(), text);
+        check_eq(&rt, shown.as_str(), text);
     }
 }

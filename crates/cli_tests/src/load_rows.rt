@@ -1,5 +1,6 @@
 //! The numbers of a load, its jobs, and what the program writes of it.
 
+use crate::checks::check_eq;
 use crate::loads::FakeLoader;
 use crate::networks::FakeNetwork;
 use crate::running::{ROW, Row, Text, check, check_stopped, run, words_of};
@@ -294,9 +295,9 @@ fn want_of_memory_is_told(rt: HostRuntime) {
         &mut output,
     );
     if status == 0 {
-        assert_eq!(rt; output.as_slice(), b"all\n".as_slice());
+        check_eq(&rt, output.as_slice(), b"all\n".as_slice());
     } else {
-        assert_eq!(rt; status, 4);
+        check_eq(&rt, status, 4);
         assert!(rt; output.is_empty());
     }
 }
@@ -320,15 +321,15 @@ static JOBS: [(u32, u16, &str); 11] = [
 fn jobs_go_round_the_sites(rt: HostRuntime) {
     let ports: [u16; 3] = [8001, 65_535, 1];
     let jobs = load_jobs(rt.alloc(), 11, ports.as_slice()).expect(&rt, "memory");
-    assert_eq!(rt; jobs.len(), 11);
+    check_eq(&rt, jobs.len(), 11);
     let mut number: u64 = 0;
     for (job, &(site, port, path)) in jobs.iter().zip(JOBS.iter()) {
         let (target, want) = (&job.target, &job.want);
         assert!(rt; target.path.as_str() == path && target.host.as_str() == "127.0.0.1");
         assert!(rt; job.method == Method::Get && !want.fresh && !want.forbid_reuse);
-        assert_eq!(rt; (job.site, target.port), (site, port));
-        assert_eq!(rt; (want.transfer, want.max_age), (number, 118));
-        assert_eq!(rt; (want.max_life, want.lane), (0, 0));
+        check_eq(&rt, (job.site, target.port), (site, port));
+        check_eq(&rt, (want.transfer, want.max_age), (number, 118));
+        check_eq(&rt, (want.max_life, want.lane), (0, 0));
         number = number.saturating_add(1);
     }
 }

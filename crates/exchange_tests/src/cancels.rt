@@ -1,5 +1,6 @@
 //! What a cancel does, by where its exchange stands.
 
+use crate::checks::check_eq;
 use crate::driving::{
     BEFORE, KEEP, NOW, OK, cache_of, cache_with_other, cancel_after, check_log, close, closed,
     dial_of, leased, left, opened, prepared, returned, run_keeping, waited, want_of, wire_of,
@@ -26,14 +27,14 @@ fn a_cancel_abandons_a_lease(rt: HostRuntime) {
         }
         let mut cache = cache_of(&rt);
         let waits_on = cancel_after(&rt, 1, &mut cache, &mut dial);
-        assert_eq!(rt; waits_on, stage);
+        check_eq(&rt, waits_on, stage);
         // its dial gives up what it has begun
         let given_up = if stage == Stage::Dialling {
             Some(1)
         } else {
             None
         };
-        assert_eq!(rt; dial.last_given_up(), given_up);
+        check_eq(&rt, dial.last_given_up(), given_up);
         check_log(
             &rt,
             &cache,
@@ -49,12 +50,12 @@ fn a_cancel_changes_nothing_where_nothing_is_out(rt: HostRuntime) {
     let mut cache = cache_of(&rt);
     let _ = cancel_after(&rt, 0, &mut cache, &mut dial);
     check_log(&rt, &cache, &[]);
-    assert_eq!(rt; dial.left(), 1);
+    check_eq(&rt, dial.left(), 1);
     let _ = close(&rt, cache);
     // and where the first poll was ready
     let mut cache = cache_of(&rt);
     let _ = cancel_after(&rt, 1, &mut cache, &mut dial);
-    assert_eq!(rt; dial.last_given_up(), None);
+    check_eq(&rt, dial.last_given_up(), None);
     check_log(
         &rt,
         &cache,
@@ -68,8 +69,8 @@ fn a_cancel_ends_a_wait(rt: HostRuntime) {
     let mut dial = MemoryDial::new(rt.alloc());
     let mut cache = cache_with_other(&rt, 1, wire_of(&rt, OK));
     let waits_on = cancel_after(&rt, 1, &mut cache, &mut dial);
-    assert_eq!(rt; waits_on, Stage::Grant);
-    assert_eq!(rt; dial.last_given_up(), None);
+    check_eq(&rt, waits_on, Stage::Grant);
+    check_eq(&rt, dial.last_given_up(), None);
     check_log(
         &rt,
         &cache,
@@ -88,7 +89,7 @@ fn a_cancel_closes_what_was_granted(rt: HostRuntime) {
     let mut cache = cache_with_other(&rt, 1, wire_of(&rt, OK));
     cache.release_after(1);
     let waits_on = cancel_after(&rt, 1, &mut cache, &mut dial);
-    assert_eq!(rt; waits_on, Stage::Grant);
+    check_eq(&rt, waits_on, Stage::Grant);
     check_log(
         &rt,
         &cache,
@@ -109,8 +110,8 @@ fn a_close_before_the_first_poll_cancels(rt: HostRuntime) {
     let mut cache = cache_of(&rt);
     let parts = prepared(&rt);
     let (done, _, _) = run_keeping(&rt, parts, &mut cache, &mut dial, Stage::Turn, 0);
-    assert_eq!(rt; done, Done::Bad(Fault::Cancelled));
-    assert_eq!(rt; dial.left(), 1);
+    check_eq(&rt, done, Done::Bad(Fault::Cancelled));
+    check_eq(&rt, dial.left(), 1);
     check_log(&rt, &cache, &[]);
     let _ = close(&rt, cache);
 }

@@ -6,6 +6,7 @@ ghost use Rattle.exchange.specs.Slabs.{AreKept};
 ghost use Rattle.exchange.specs.Worlds.{world_of};
 ghost use Rattle.exchange_memory.specs.Memory.{IsUntouched, HappenedTo};
 
+use crate::checks::check_eq;
 use crate::driving::{MOST_POLLS, NOW, OK, pool_of, prepared_at, want_of, wire_of};
 use cache::Pool;
 use exchange::{Done, Fault, Slab};
@@ -204,7 +205,7 @@ fn join_all<R: Abort + AllocGlobal>(rt: &R, slab: &mut Slab<MemoryWire>, pool: &
 {
     for transfer in 0..TRANSFERS {
         let joined = join(rt, slab, pool, transfer);
-        assert_eq!(rt; joined, Some(transfer as usize));
+        check_eq(rt, joined, Some(transfer as usize));
     }
 }
 
@@ -223,18 +224,18 @@ fn close_at<R: Abort + AllocGlobal>(
 {
     let _ = slab.take_spent();
     let closed = slab.close_at(row.place, pool, dial, &CLOCK);
-    assert_eq!(rt; slab.take_spent(), row.has_spent);
+    check_eq(rt, slab.take_spent(), row.has_spent);
     assert!(rt; !slab.take_spent());
     if let Some((done, parts)) = closed {
-        assert_eq!(rt; done, Done::Bad(Fault::Cancelled));
-        assert_eq!(rt; parts.transfer(), row.place as u64);
+        check_eq(rt, done, Done::Bad(Fault::Cancelled));
+        check_eq(rt, parts.transfer(), row.place as u64);
     } else {
-        assert_eq!(rt; row.place, TRANSFERS as usize);
+        check_eq(rt, row.place, TRANSFERS as usize);
     }
-    assert_eq!(rt; slab.transfer_at(row.place), None);
+    check_eq(rt, slab.transfer_at(row.place), None);
     let joined = join(rt, slab, pool, 9);
-    assert_eq!(rt; joined, Some(row.place));
-    assert_eq!(rt; slab.transfer_at(row.place), Some(9));
+    check_eq(rt, joined, Some(row.place));
+    check_eq(rt, slab.transfer_at(row.place), Some(9));
 }
 
 // Which transfers end behind the row's close, in their order.
@@ -256,6 +257,6 @@ fn ends_of<R: Abort + AllocGlobal + RandomSource>(rt: &R, row: &Row) -> String {
 fn others_go_on_in_their_order_behind_a_close(rt: HostRuntime) {
     for row in &ROWS {
         let text = ends_of(&rt, row);
-        assert_eq!(rt; text.as_str(), row.ends);
+        check_eq(&rt, text.as_str(), row.ends);
     }
 }

@@ -1,5 +1,6 @@
 //! What a dial in memory counts.
 
+use crate::checks::check_eq;
 use crate::driving::{NOW, OK, abandon, dial_of, new_lease_of, pool_of, prepared, wire_of};
 use exchange::{Dial, Dialled, Exchange, Turned};
 use exchange_memory::{FixedClock, Halt, MemoryDial};
@@ -13,8 +14,8 @@ fn a_turn_fails(rt: HostRuntime) {
     let mut exchange = Exchange::new(prepared(&rt), &mut pool, &mut dial, &clock);
     let turned = [exchange.turn(), exchange.turn(), exchange.turn()];
     let _ = exchange.cancel(NOW);
-    assert_eq!(rt; turned, [Turned::Done, Turned::Fault, Turned::Done]);
-    assert_eq!(rt; dial.turn_failures(), 1);
+    check_eq(&rt, turned, [Turned::Done, Turned::Fault, Turned::Done]);
+    check_eq(&rt, dial.turn_failures(), 1);
 }
 
 #[test]

@@ -1,5 +1,6 @@
 //! An exchange that an executor drives, and transfers that are polled in turn over one pool.
 
+use crate::checks::check_eq;
 use crate::driving::{
     GOOD, KEEP, NOW, OK, check_pool, dial_of, dial_of_two_answers, leased, opened, poll_once,
     pool_of, prepared, prepared_at, returned, waited, want_of, wire_of,
@@ -24,7 +25,7 @@ fn an_executor_drives_an_exchange(rt: HostRuntime) -> Result<(), Fail> {
     let driven = block_on(&rt, Polled::new(&mut exchange));
     let (done, _, _, _) = exchange.close(NOW);
     driven?;
-    assert_eq!(rt; done, Done::Good(GOOD));
+    check_eq(&rt, done, Done::Good(GOOD));
     check_pool(
         &rt,
         &pool,
@@ -52,11 +53,11 @@ fn two_transfers_take_turns_at_a_connection(rt: HostRuntime) {
         reused: true,
         ..GOOD
     };
-    assert_eq!(rt; (one, two), (Done::Good(GOOD), Done::Good(reused)));
-    assert_eq!(rt; stages, (Stage::Reading, Stage::Grant));
+    check_eq(&rt, (one, two), (Done::Good(GOOD), Done::Good(reused)));
+    check_eq(&rt, stages, (Stage::Reading, Stage::Grant));
     // whether each poll was ready, and spent a lease
-    assert_eq!(rt; (begun, waiting), ((false, false), (false, false)));
-    assert_eq!(rt; (ended, granted), ((true, true), (true, true)));
+    check_eq(&rt, (begun, waiting), ((false, false), (false, false)));
+    check_eq(&rt, (ended, granted), ((true, true), (true, true)));
     check_pool(
         &rt,
         &pool,

@@ -6,6 +6,7 @@ ghost use Rattle.cache.specs.PoolCalls.{home_of};
 ghost use Rattle.exchange.specs.Answers.{IsUnused};
 ghost use Rattle.exchange.specs.Owning.{Owns, IsReady};
 
+use crate::checks::check_eq;
 use budget::Limits;
 use bundle::{Acquired, Lease};
 use cache::Pool;
@@ -266,7 +267,7 @@ pub(crate) fn run_keeping<R: Abort + AllocGlobal + RandomSource>(
         if polled.is_ready() {
             break;
         }
-        assert_eq!(rt; exchange.waits_on(), stage);
+        check_eq(rt, exchange.waits_on(), stage);
         pending = pending.saturating_add(1);
     }
     let (done, parts, _, _) = exchange.close(NOW);
@@ -297,7 +298,7 @@ pub(crate) fn run_at_once<R: Abort + AllocGlobal + RandomSource>(
     requires unused { IsUnused parts }
 {
     let (done, pending) = run(rt, parts, cache, dial, Stage::Turn);
-    assert_eq!(rt; pending, 0);
+    check_eq(rt, pending, 0);
     done
 }
 
@@ -409,13 +410,13 @@ pub(crate) fn check_front<R: Abort>(rt: &R, pool: &Pool<MemoryWire>, entries: &[
 pub(crate) fn check_last<R: Abort>(rt: &R, cache: &FakeCache<MemoryWire>, entry: Entry) {
     let log = cache.pool().log(0).expect(rt, "a host");
     assert!(rt; log.len() > 0);
-    assert_eq!(rt; log.get(log.len() - 1), Some(entry));
+    check_eq(rt, log.get(log.len() - 1), Some(entry));
 }
 
 /// No lease and no ticket is out; what is left is the pool.
 pub(crate) fn close<R: Abort>(rt: &R, cache: FakeCache<MemoryWire>) -> Pool<MemoryWire> {
     let out = (cache.leases(), cache.tickets());
     let pool = cache.close();
-    assert_eq!(rt; out, (0, 0));
+    check_eq(rt, out, (0, 0));
     pool
 }

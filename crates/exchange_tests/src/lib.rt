@@ -4,6 +4,8 @@
 #[cfg(test)]
 mod cancels;
 #[cfg(test)]
+mod checks;
+#[cfg(test)]
 mod closes;
 #[cfg(test)]
 mod dials;

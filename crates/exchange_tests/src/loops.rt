@@ -3,6 +3,7 @@
 ghost use Rattle.std.specs.Prelude.{◌<◌, length};
 ghost use Rattle.std.specs.List.{All};
 
+use crate::checks::check_eq;
 use crate::driving::{OK, dial_of, job_at, pool_of, want_of, wire_of};
 use exchange::{Clock, Done, Job, Prepared, Ready};
 use exchange_memory::{Halt, MemoryDial, MemoryWire};
@@ -275,13 +276,14 @@ fn run_by<R: Abort + AllocGlobal + RandomSource + Wait, T: Timer>(
 fn two_places_share_one_connection(rt: HostRuntime) {
     let mut dial = dial_for(&rt, 4);
     let (end, report) = run_of(&rt, 4, MANY, false, &mut dial);
-    assert_eq!(rt; end, RunEnd::Complete);
-    assert_eq!(rt;
+    check_eq(&rt, end, RunEnd::Complete);
+    check_eq(
+        &rt,
         report.text.as_str(),
         "0: 200, 2 bytes, new\n\
          1: 200, 2 bytes, reused\n\
          2: 200, 2 bytes, reused\n\
-         3: 200, 2 bytes, reused\n"
+         3: 200, 2 bytes, reused\n",
     );
 }
 
@@ -289,16 +291,16 @@ fn two_places_share_one_connection(rt: HostRuntime) {
 fn a_run_that_is_stopped_cancels_what_is_under_way(rt: HostRuntime) {
     let mut dial = dial_for(&rt, 4);
     let (end, report) = run_of(&rt, 4, 1, false, &mut dial);
-    assert_eq!(rt; end, RunEnd::Stopped);
-    assert_eq!(rt; report.text.as_str(), "1: Cancelled\n0: Cancelled\n");
+    check_eq(&rt, end, RunEnd::Stopped);
+    check_eq(&rt, report.text.as_str(), "1: Cancelled\n0: Cancelled\n");
 }
 
 #[test]
 fn a_run_that_is_broken_off_cancels_what_is_under_way(rt: HostRuntime) {
     let mut dial = dial_for(&rt, 4);
     let (end, report) = run_of(&rt, 4, 1, true, &mut dial);
-    assert_eq!(rt; end, RunEnd::BrokenOff);
-    assert_eq!(rt; report.text.as_str(), "1: Cancelled\n0: Cancelled\n");
+    check_eq(&rt, end, RunEnd::BrokenOff);
+    check_eq(&rt, report.text.as_str(), "1: Cancelled\n0: Cancelled\n");
 }
 
 // Two ends, and the worse of them.
@@ -315,8 +317,8 @@ static WORSE: [(RunEnd, RunEnd, RunEnd); 7] = [
 #[test]
 fn the_worse_of_two_ends(rt: HostRuntime) {
     for (one, other, worse) in &WORSE {
-        assert_eq!(rt; one.or_worse(*other), *worse);
-        assert_eq!(rt; other.or_worse(*one), *worse);
+        check_eq(&rt, one.or_worse(*other), *worse);
+        check_eq(&rt, other.or_worse(*one), *worse);
     }
 }
 
@@ -325,8 +327,8 @@ fn a_turn_that_fails_ends_a_run(rt: HostRuntime) {
     let mut dial = dial_for(&rt, 4);
     dial.fail_turn(1);
     let (end, report) = run_of(&rt, 4, MANY, false, &mut dial);
-    assert_eq!(rt; end, RunEnd::TurnFailed);
-    assert_eq!(rt; report.text.as_str(), "1: Cancelled\n0: Cancelled\n");
+    check_eq(&rt, end, RunEnd::TurnFailed);
+    check_eq(&rt, report.text.as_str(), "1: Cancelled\n0: Cancelled\n");
 }
 
 /// The job that is over its limit, and the report of four jobs.
@@ -375,8 +377,8 @@ fn a_job_over_its_limit_is_cancelled(rt: HostRuntime) {
             limit: 100_000,
         };
         let (end, report) = run_by(&rt, 4, &timer, &mut dial);
-        assert_eq!(rt; end, RunEnd::Complete);
-        assert_eq!(rt; report.text.as_str(), *lines);
+        check_eq(&rt, end, RunEnd::Complete);
+        check_eq(&rt, report.text.as_str(), *lines);
         assert!(rt; report.is_ordered, "{number}");
     }
 }

@@ -8,6 +8,7 @@ ghost use Rattle.exchange.specs.Slabs.{AreKept};
 ghost use Rattle.exchange.specs.Worlds.{world_of as known_of};
 ghost use Rattle.exchange_memory.specs.Memory.{IsUntouched, HappenedTo};
 
+use crate::checks::check_eq;
 use crate::driving::KEEP;
 use budget::{Limits, Refusal};
 use bundle::Acquired;
@@ -91,7 +92,7 @@ fn pool_with_ended<R: Abort + AllocGlobal>(rt: &R) -> Option<Pool<MemoryWire>> {
         }
         Ok(Acquired::Wait(_ticket)) => panic!(rt; "it has to wait"),
         Err(refusal) => {
-            assert_eq!(rt; refusal, Refusal::Memory);
+            check_eq(rt, refusal, Refusal::Memory);
             None
         }
     }
@@ -127,7 +128,7 @@ fn ended_over<R: Abort>(rt: &R, world: (Prepared, MemoryDial, Solo, Pool<MemoryW
     let (done, _, _, _) = exchange.close(7);
     let out = (cache.leases(), cache.tickets());
     let _ = cache.close();
-    assert_eq!(rt; out, (0, 0));
+    check_eq(rt, out, (0, 0));
     done
 }
 
@@ -138,8 +139,8 @@ fn want_of_memory_for_good_ends_an_exchange(rt: HostRuntime) {
         return;
     };
     match ended_over(&rt, world) {
-        Done::Good(answer) => assert_eq!(rt; (answer.status, answer.body_len), (200, 2)),
-        Done::Bad(fault) => assert_eq!(rt; fault, Fault::Refused(Refusal::Memory)),
+        Done::Good(answer) => check_eq(&rt, (answer.status, answer.body_len), (200, 2)),
+        Done::Bad(fault) => check_eq(&rt, fault, Fault::Refused(Refusal::Memory)),
     }
 }
 
@@ -158,8 +159,8 @@ fn want_of_memory_for_good_ends_a_retry(rt: HostRuntime) {
                 retried,
                 ..
             },
-        ) => assert_eq!(rt; (body_len, reused, retried), (2, false, true)),
-        Done::Bad(fault) => assert_eq!(rt; fault, Fault::Refused(Refusal::Memory)),
+        ) => check_eq(&rt, (body_len, reused, retried), (2, false, true)),
+        Done::Bad(fault) => check_eq(&rt, fault, Fault::Refused(Refusal::Memory)),
     }
 }
 
@@ -171,7 +172,7 @@ fn want_of_memory_for_good_ends_a_cancel(rt: HostRuntime) {
     };
     match ended_over(&rt, world) {
         Done::Bad(Fault::Cancelled) => {}
-        done => assert_eq!(rt; done, Done::Bad(Fault::Refused(Refusal::Memory))),
+        done => check_eq(&rt, done, Done::Bad(Fault::Refused(Refusal::Memory))),
     }
 }
 
@@ -217,11 +218,11 @@ fn joins<R: Abort>(
     let count = slab.len();
     match slab.join(parts, pool, &FixedClock { now: 7 }) {
         Ok(place) => {
-            assert_eq!(rt; place, count);
+            check_eq(rt, place, count);
             true
         }
         Err(parts) => {
-            assert_eq!(rt; (parts.transfer(), slab.len()), (WANT.transfer, count));
+            check_eq(rt, (parts.transfer(), slab.len()), (WANT.transfer, count));
             false
         }
     }
@@ -291,7 +292,7 @@ fn want_of_memory_ends_no_runner(rt: HostRuntime) {
             continue;
         };
         match ran.done {
-            Done::Good(answer) => assert_eq!(rt; (answer.status, answer.body_len), (200, 2)),
+            Done::Good(answer) => check_eq(&rt, (answer.status, answer.body_len), (200, 2)),
             Done::Bad(fault) => {
                 assert!(rt; fault == Fault::Refused(Refusal::Memory) || fault == Fault::Dial)
             }

@@ -1,5 +1,6 @@
 //! The moments of a transfer, and why its connection failed.
 
+use crate::checks::check_eq;
 use crate::driving::{NOW, OK, dial_of, pool_of, pool_with_idle, prepared, wire_of};
 use exchange::{Clock, Phases, Reason, Transfer};
 use exchange_memory::{Halt, MemoryDial, MemoryWire};
@@ -196,6 +197,6 @@ static REASONS: [(Reason, &str); 4] = [
 fn a_reason_has_its_words(rt: HostRuntime) {
     for (reason, words) in &REASONS {
         let text = format!(in rt.alloc(); "{reason}").expect(&rt, "memory");
-        assert_eq!(rt; text.as_str(), *words);
+        check_eq(&rt, text.as_str(), *words);
     }
 }

@@ -6,6 +6,7 @@ ghost use Rattle.exchange.specs.Slabs.{AreKept};
 ghost use Rattle.exchange.specs.Worlds.{world_of};
 ghost use Rattle.exchange_memory.specs.Memory.{IsUntouched, HappenedTo};
 
+use crate::checks::check_eq;
 use crate::driving::{MOST_POLLS, NOW, OK, pool_of, prepared_at, want_of, wire_of};
 use cache::Pool;
 use conn_log::Want;
@@ -279,6 +280,6 @@ fn transcript_of<R: Abort + AllocGlobal + RandomSource>(rt: &R, row: &Row) -> St
 fn rounds_poll_what_the_dial_tells_of(rt: HostRuntime) {
     for row in &ROWS {
         let text = transcript_of(&rt, row);
-        assert_eq!(rt; text.as_str(), row.transcript);
+        check_eq(&rt, text.as_str(), row.transcript);
     }
 }

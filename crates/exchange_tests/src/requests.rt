@@ -1,5 +1,6 @@
 //! The bytes of requests: what a wire gets, and what it answers at each call.
 
+use crate::checks::check_eq;
 use crate::driving::{
     GOOD, KEEP, MOST_POLLS, NOW, OK, abandon, cache_of, check_last, check_log, close, closed,
     dial_of, job_at, lease_of, opened, prepared, prepared_at, returned, run_at_once, run_keeping,
@@ -59,7 +60,7 @@ fn a_request_has_its_text(rt: HostRuntime) {
             ..want_of(1)
         };
         let parts = prepared_at(&rt, 0, method, url, want);
-        assert_eq!(rt; parts.text(), text);
+        check_eq(&rt, parts.text(), text);
     }
 }
 
@@ -67,8 +68,8 @@ fn a_request_has_its_text(rt: HostRuntime) {
 fn check_sent<R: Abort>(rt: &R, pool: &mut Pool<MemoryWire>, text: &[u8]) {
     let mut lease = lease_of(rt, pool, 2, NOW);
     let wire = lease.stream_mut().expect(rt, "the wire");
-    assert_eq!(rt; wire.sent(), text);
-    assert_eq!(rt; (wire.unread(), wire.failures()), (0, 0));
+    check_eq(rt, wire.sent(), text);
+    check_eq(rt, (wire.unread(), wire.failures()), (0, 0));
     abandon(pool, lease);
 }
 
@@ -88,7 +89,7 @@ fn the_wire_gets_the_request(rt: HostRuntime) {
             site: 0,
             facts: KEEP,
         };
-        assert_eq!(rt; cache.last_return(), Some(back));
+        check_eq(&rt, cache.last_return(), Some(back));
         check_log(
             &rt,
             &cache,
@@ -121,12 +122,12 @@ fn what_was_prepared_serves_another_job(rt: HostRuntime) {
         Stage::Turn,
         MOST_POLLS,
     );
-    assert_eq!(rt; (done, pending), (Done::Good(GOOD), 0));
+    check_eq(&rt, (done, pending), (Done::Good(GOOD), 0));
     let parts = match parts.again(&job) {
         Ok(parts) => parts,
         Err(_) => panic!(rt; "no memory"),
     };
-    assert_eq!(rt; parts.text(), text);
+    check_eq(&rt, parts.text(), text);
     let done = run_at_once(&rt, parts, &mut cache, &mut dial);
     let facts = Facts {
         request_close: true,
@@ -138,7 +139,7 @@ fn what_was_prepared_serves_another_job(rt: HostRuntime) {
         facts,
         ..GOOD
     };
-    assert_eq!(rt; done, Done::Good(answer));
+    check_eq(&rt, done, Done::Good(answer));
     check_last(&rt, &cache, closed(2, Cause::Forbidden, NOW));
     let _ = close(&rt, cache);
 }
@@ -152,9 +153,9 @@ fn a_wire_carries_two_requests(rt: HostRuntime) {
     let mut dial = dial_of(&rt, wire);
     let mut cache = cache_of(&rt);
     for &reused in &[false, true] {
-        assert_eq!(rt; (cache.leases(), cache.tickets()), (0, 0));
+        check_eq(&rt, (cache.leases(), cache.tickets()), (0, 0));
         let done = run_at_once(&rt, prepared(&rt), &mut cache, &mut dial);
-        assert_eq!(rt; done, Done::Good(Answer { reused, ..GOOD }));
+        check_eq(&rt, done, Done::Good(Answer { reused, ..GOOD }));
     }
     let requests = b"GET / HTTP/1.1\r\nHost: example.com\r\n\r\n\
         GET / HTTP/1.1\r\nHost: example.com\r\n\r\n";
@@ -166,7 +167,7 @@ fn check_calls<R: Abort>(rt: &R, wire: &mut MemoryWire, expected: (Read, Written
     let mut buffer = [0; 4];
     let read = wire.read(&mut buffer);
     let written = wire.write(b"GET ");
-    assert_eq!(rt; (read, written, wire.failures()), expected);
+    check_eq(rt, (read, written, wire.failures()), expected);
     buffer
 }
 

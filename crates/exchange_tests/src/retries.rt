@@ -4,6 +4,7 @@ ghost use Rattle.std.specs.Prelude.{◌≡◌};
 ghost use Rattle.cache.specs.PoolCalls.{home_of};
 ghost use Rattle.exchange.specs.Owning.{Owns, IsReady};
 
+use crate::checks::check_eq;
 use crate::driving::{
     BEFORE, GOOD, KEEP, NOW, OK, WANT, check_pool, closed, dial_of, leased, left, opened,
     poll_once, pool_with_idle, prepared, prepared_at, returned, waited, want_of, wire_of,
@@ -80,11 +81,12 @@ fn ended<R: Abort + AllocGlobal + RandomSource>(
     let _over = poll_once(&solo, &mut second, &mut pool, &mut dial);
     let (two, _) = second.close(NOW, &mut pool, &mut dial);
     // whether each poll was ready, and spent a lease
-    assert_eq!(rt;
+    check_eq(
+        rt,
         (reading, waiting, again),
-        ((false, false), (false, false), (false, true))
+        ((false, false), (false, false), (false, true)),
     );
-    assert_eq!(rt; stage, Stage::Grant);
+    check_eq(rt, stage, Stage::Grant);
     ([one, two], parts.retried(), pool)
 }
 

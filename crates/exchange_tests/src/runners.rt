@@ -1,5 +1,6 @@
 //! Jobs that a runner runs over a pool, and what stops them.
 
+use crate::checks::check_eq;
 use crate::driving::{
     GOOD, KEEP, NOW, OK, WANT, cache_with_other, check_pool, close, closed, dial_of,
     dial_of_two_answers, job_at, leased, opened, pool_of, returned, want_of, wire_of,
@@ -95,12 +96,12 @@ fn a_runner_runs_two_jobs_over_one_connection(rt: HostRuntime) {
             retried: false,
             stop: None,
         };
-        assert_eq!(rt; ran, Ok(good));
+        check_eq(&rt, ran, Ok(good));
     }
     let begun = control.begun.load(Ordering::SeqCst);
     let polls = control.polls.load(Ordering::SeqCst);
     let pending = control.pending.load(Ordering::SeqCst);
-    assert_eq!(rt; (begun, polls, pending), (2, 3, 1));
+    check_eq(&rt, (begun, polls, pending), (2, 3, 1));
     check_pool(
         &rt,
         &pool,
@@ -179,7 +180,7 @@ fn check_stop<R: Abort + AllocGlobal + RandomSource>(rt: &R, row: &Row) {
         retried: false,
         stop: Some(row.stop),
     };
-    assert_eq!(rt; ran, Ok(cancelled));
+    check_eq(rt, ran, Ok(cancelled));
     if row.has_begun {
         let entries = [opened(1, WANT, NOW), closed(1, Cause::Dropped, NOW)];
         check_pool(rt, &pool, &entries);
@@ -208,6 +209,6 @@ fn a_job_waits_for_a_grant(rt: HostRuntime) {
         retried: false,
         stop: None,
     };
-    assert_eq!(rt; ran, Ok(good));
-    assert_eq!(rt; control.waits.load(Ordering::SeqCst), 2);
+    check_eq(&rt, ran, Ok(good));
+    check_eq(&rt, control.waits.load(Ordering::SeqCst), 2);
 }

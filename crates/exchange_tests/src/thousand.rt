@@ -6,6 +6,7 @@ ghost use Rattle.exchange.specs.Answers.{IsUnused};
 ghost use Rattle.exchange.specs.Slabs.{AreKept};
 ghost use Rattle.exchange.specs.Worlds.{world_of};
 
+use crate::checks::check_eq;
 use crate::drawn::{DrawnDial, DrawnWire};
 use crate::driving::{prepared_at, want_of};
 use budget::Limits;
@@ -50,7 +51,7 @@ impl Ends {
     fn count<R: Abort>(&mut self, rt: &R, done: Done, transfer: u64) {
         match done {
             Done::Good(answer) => {
-                assert_eq!(rt; (answer.status, answer.body_len), (200, transfer));
+                check_eq(rt, (answer.status, answer.body_len), (200, transfer));
                 self.good = self.good.saturating_add(1);
             }
             Done::Bad(fault) => {
@@ -87,9 +88,10 @@ fn check_accounts<R: Abort>(rt: &R, pool: &Pool<DrawnWire>) {
         let (opened, leased, closed) = logged(rt, pool.log(site).expect(rt, "a host"));
         let open = opened.saturating_sub(closed);
         let spent = pool.spent(site).expect(rt, "a host");
-        assert_eq!(rt;
+        check_eq(
+            rt,
             (counts.leased, counts.waiting, open, spent),
-            (0, 0, counts.idle as u64, opened.saturating_add(leased))
+            (0, 0, counts.idle as u64, opened.saturating_add(leased)),
         );
     }
 }
@@ -147,8 +149,8 @@ fn a_thousand_go_on_at_once(rt: HostRuntime) {
     }
     let left = slab.len();
     slab.close(&mut pool, &mut dial, &clock);
-    assert_eq!(rt; left, 0);
-    assert_eq!(rt; ends.good.saturating_add(ends.bad), TRANSFERS);
+    check_eq(&rt, left, 0);
+    check_eq(&rt, ends.good.saturating_add(ends.bad), TRANSFERS);
     assert!(rt;
         ends.good > 800 && ends.bad > 10,
         "{} and {}",

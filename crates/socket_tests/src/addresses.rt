@@ -1,5 +1,6 @@
 //! Which addresses hosts have, and in which order they are tried.
 
+use crate::checks::check_eq;
 use crate::leases::{abandon, lease_at, pool_of};
 use crate::peer::{Peer, addresses_of, target_of};
 use exchange::{Dial, Dialled, Reason};
@@ -28,15 +29,16 @@ fn a_host_is_localhost_or_an_address(rt: HostRuntime) {
         let mut addresses = Addresses::new(rt.alloc());
         let target = target_of(&rt, host, 80).expect(&rt, "a target");
         let added = addresses.add(&target);
-        assert_eq!(rt;
+        check_eq(
+            &rt,
             added,
             if known {
                 Ok(())
             } else {
                 Err(AddressFault::OtherName)
-            }
+            },
         );
-        assert_eq!(rt; addresses.len(), known as usize);
+        check_eq(&rt, addresses.len(), known as usize);
     }
 }
 
@@ -72,9 +74,9 @@ fn the_next_address_is_tried(rt: HostRuntime) {
     // Nobody listens at 127.0.0.1, which is tried first.
     let addresses = addresses_of(&rt, "localhost", port).expect(&rt, "an address");
     let mut dial = WaitingDial::new(&rt, rt.alloc(), addresses).expect(&rt, "a dial");
-    assert_eq!(rt; is_opened(&rt, &mut dial, 0), Some(true));
-    assert_eq!(rt; (dial.opened(), dial.failures()), (1, 0));
-    assert_eq!(rt; dial.reason(), None);
+    check_eq(&rt, is_opened(&rt, &mut dial, 0), Some(true));
+    check_eq(&rt, (dial.opened(), dial.failures()), (1, 0));
+    check_eq(&rt, dial.reason(), None);
 }
 
 #[test]
@@ -87,9 +89,9 @@ fn a_refused_connection_is_counted(rt: HostRuntime) {
     let list = vec![in rt.alloc(); address].expect(&rt, "memory");
     addresses.add_resolved(list).expect(&rt, "an address");
     let mut dial = WaitingDial::new(&rt, rt.alloc(), addresses).expect(&rt, "a dial");
-    assert_eq!(rt; is_opened(&rt, &mut dial, 0), Some(false));
-    assert_eq!(rt; (dial.opened(), dial.failures()), (0, 1));
-    assert_eq!(rt; dial.reason(), Some(Reason::Refused));
+    check_eq(&rt, is_opened(&rt, &mut dial, 0), Some(false));
+    check_eq(&rt, (dial.opened(), dial.failures()), (0, 1));
+    check_eq(&rt, dial.reason(), Some(Reason::Refused));
 }
 
 // A server, and its port.
@@ -107,10 +109,10 @@ fn each_site_has_its_own_addresses(rt: HostRuntime) {
     let target = target_of(&rt, "127.0.0.1", other).expect(&rt, "a target");
     addresses.add(&target).expect(&rt, "an address");
     let mut dial = WaitingDial::new(&rt, rt.alloc(), addresses).expect(&rt, "a dial");
-    assert_eq!(rt; is_opened(&rt, &mut dial, 1), Some(true));
+    check_eq(&rt, is_opened(&rt, &mut dial, 1), Some(true));
     let connected = (first.is_connected(), second.is_connected());
-    assert_eq!(rt; (dial.opened(), connected), (1, (false, true)));
+    check_eq(&rt, (dial.opened(), connected), (1, (false, true)));
     // There is no third site.
-    assert_eq!(rt; is_opened(&rt, &mut dial, 2), Some(false));
-    assert_eq!(rt; dial.reason(), None);
+    check_eq(&rt, is_opened(&rt, &mut dial, 2), Some(false));
+    check_eq(&rt, dial.reason(), None);
 }

@@ -5,6 +5,7 @@ ghost use Rattle.std.specs.Prelude.{◌≡◌, None};
 ghost use Rattle.cache_trait.specs.Homes.{IsMadeBy};
 ghost use Rattle.cache.specs.PoolCalls.{home_of};
 
+use crate::checks::check_eq;
 use crate::leases::{abandon, lease_at, pool_of};
 use crate::peer::addresses_of;
 use bundle::Lease;
@@ -48,7 +49,7 @@ fn refused_connections_leave_no_descriptor(rt: HostRuntime) {
         assert!(rt; matches!(dialled, Dialled::Fault));
     }
     let then = lowest_free(&rt).expect(&rt, "a descriptor");
-    assert_eq!(rt; (dial.failures(), then), (100, free));
+    check_eq(&rt, (dial.failures(), then), (100, free));
 }
 
 // Dials one connection after another, until one is not open at once: its lease. Those that are open
@@ -93,11 +94,11 @@ fn what_is_given_up_is_closed(rt: HostRuntime) {
     assert!(rt; matches!(dial.dial(&other), Dialled::NotYet));
     dial.give_up(&other);
     let then = lowest_free(&rt).expect(&rt, "a descriptor");
-    assert_eq!(rt; then, free);
+    check_eq(&rt, then, free);
     // The other one goes on.
     assert!(rt; matches!(dial.dial(&lease), Dialled::NotYet));
     let then = lowest_free(&rt).expect(&rt, "a descriptor");
-    assert_eq!(rt; then, free);
+    check_eq(&rt, then, free);
     abandon(&mut pool, other);
     abandon(&mut pool, lease);
     drop(listener);

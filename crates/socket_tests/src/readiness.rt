@@ -5,6 +5,7 @@ ghost use Rattle.exchange.specs.Answers.{IsUnused};
 ghost use Rattle.exchange.specs.Slabs.{AreKept};
 ghost use Rattle.exchange.specs.Worlds.{world_of};
 
+use crate::checks::check_eq;
 use crate::leases::{abandon, lease_at, pool_of};
 use crate::peer::{Behaviour, Peer};
 use crate::requests::{peer_of, prepared};
@@ -105,10 +106,10 @@ fn an_alarm_ends_a_turn_of_who_sleeps(rt: HostRuntime) {
     alarm.fall_asleep();
     alarm.ring();
     let is_rung = alarm.wake_up();
-    assert_eq!(rt; (awake, asleep), (Ready::Nothing, Ready::At(NOWHERE)));
-    assert_eq!(rt; (after, once), (Ready::Nothing, Ready::Nothing));
-    assert_eq!(rt; woken, Ready::Nothing);
-    assert_eq!(rt; (was_rung, is_rung), (false, true));
+    check_eq(&rt, (awake, asleep), (Ready::Nothing, Ready::At(NOWHERE)));
+    check_eq(&rt, (after, once), (Ready::Nothing, Ready::Nothing));
+    check_eq(&rt, woken, Ready::Nothing);
+    check_eq(&rt, (was_rung, is_rung), (false, true));
 }
 
 #[test]
@@ -125,9 +126,9 @@ fn the_first_read_after_a_write_asks_nobody(rt: HostRuntime) {
     let ready = told(&mut dial);
     let after = wire.read(&mut buffer);
     let rest = wire.read(&mut buffer);
-    assert_eq!(rt; (written, before), (Written::Took(9), Read::NotYet));
-    assert_eq!(rt; ready, Ready::At(PLACE));
-    assert_eq!(rt; (after, rest), (Read::Bytes(40), Read::NotYet));
+    check_eq(&rt, (written, before), (Written::Took(9), Read::NotYet));
+    check_eq(&rt, ready, Ready::At(PLACE));
+    check_eq(&rt, (after, rest), (Read::Bytes(40), Read::NotYet));
 }
 
 // Writes until the send buffer is full; whether it is.
@@ -153,13 +154,13 @@ fn a_full_send_buffer_is_told_of_once_it_has_room(rt: HostRuntime) {
     assert!(rt; fills(&mut wire));
     pass_turns(&mut dial);
     assert!(rt; peer.drains() > 0);
-    assert_eq!(rt; told(&mut dial), Ready::At(PLACE));
+    check_eq(&rt, told(&mut dial), Ready::At(PLACE));
     assert!(rt; matches!(wire.write(b"more"), Written::Took(4)));
     // and what came before the write that found no room is read
     peer.answers().expect(&rt, "a connection");
-    assert_eq!(rt; told(&mut dial), Ready::At(PLACE));
+    check_eq(&rt, told(&mut dial), Ready::At(PLACE));
     let mut buffer = [0u8; 100];
-    assert_eq!(rt; wire.read(&mut buffer), Read::Bytes(40));
+    check_eq(&rt, wire.read(&mut buffer), Read::Bytes(40));
 }
 
 // Polls until none is due; how the one that ended, if it did, has ended.
@@ -280,7 +281,7 @@ fn an_answer_and_its_end_are_told_of_once(rt: HostRuntime) {
         let Some(Done::Good(answer)) = done else {
             panic!(rt; "no answer: {done:?}");
         };
-        assert_eq!(rt; (answer.status, answer.body_len), (200, 2));
+        check_eq(&rt, (answer.status, answer.body_len), (200, 2));
         assert!(rt; turns < 5, "{turns} turns");
     }
 }

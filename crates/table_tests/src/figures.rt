@@ -1,6 +1,7 @@
 //! What workers of a load count: outcomes, intervals, and joined figures. The JSON of `load_texts.rt`
 //! has the figures of six jobs.
 
+use crate::checks::check_eq;
 use exchange::{Answer, Done, Fault};
 use load_figures::{
     Connections, Figures, HostRun, LoadReport, LoadRun, Outcome, fails_above, outcome_of,
@@ -258,8 +259,8 @@ fn two_intervals_become_one_past_the_last(rt: HostRuntime) {
             two_hosts(alloc).expect(&rt, "memory"),
             &figures,
         ).expect(&rt, "memory");
-        assert_eq!(rt; report.interval_us, row.interval_us);
-        assert_eq!(rt; report.intervals.len(), row.len);
+        check_eq(&rt, report.interval_us, row.interval_us);
+        check_eq(&rt, report.intervals.len(), row.len);
         for (place, requests) in row.requests {
             let interval = report.intervals.get(*place).copied();
             let told = interval.map(|interval| interval.requests);
@@ -310,6 +311,6 @@ fn an_allocation_failure_refuses_figures_alone(rt: HostRuntime) -> Result<(), Fa
         Err(_) => Figures::new(alloc, 1)?,
     };
     figures.count(0, &Done::Good(ANSWER), Outcome::Good, 7, 7);
-    assert_eq!(rt; figures.all().good, 1);
+    check_eq(&rt, figures.all().good, 1);
     Ok(())
 }

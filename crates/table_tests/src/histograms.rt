@@ -1,5 +1,6 @@
 //! Percentiles, sums and means of small histograms.
 
+use crate::checks::check_eq;
 use histogram::{BUCKETS, Histogram, bucket_of, highest_of, lowest_of};
 use std::alloc::AllocGlobal;
 use std::process::Abort;
@@ -87,9 +88,9 @@ fn percentiles_are_those_of_hdr_histogram(rt: HostRuntime) {
                 "{thousandths}"
             );
         }
-        assert_eq!(rt; histogram.mean(), Some(row.mean));
-        assert_eq!(rt; histogram.greatest(), Some(row.greatest));
-        assert_eq!(rt; histogram.len(), row.values.len() as u64);
+        check_eq(&rt, histogram.mean(), Some(row.mean));
+        check_eq(&rt, histogram.greatest(), Some(row.greatest));
+        check_eq(&rt, histogram.len(), row.values.len() as u64);
     }
 }
 
@@ -98,18 +99,18 @@ fn workers_histograms_add_up(rt: HostRuntime) {
     let mut sum = histogram_of(&rt, &[5, 310]);
     let other = histogram_of(&rt, &[311, 5010]);
     assert!(rt; sum.add(&other).is_ok());
-    assert_eq!(rt; sum.total(), 5636);
-    assert_eq!(rt; sum.value_at(500), Some(311));
-    assert_eq!(rt; sum.counts()[bucket_of(310)], 2);
+    check_eq(&rt, sum.total(), 5636);
+    check_eq(&rt, sum.value_at(500), Some(311));
+    check_eq(&rt, sum.counts()[bucket_of(310)], 2);
 }
 
 #[test]
 fn an_empty_histogram_has_no_percentile(rt: HostRuntime) {
     let histogram = Histogram::new(rt.alloc()).expect(&rt, "memory");
     assert!(rt; histogram.is_empty());
-    assert_eq!(rt; histogram.value_at(500), None);
-    assert_eq!(rt; histogram.mean(), None);
-    assert_eq!(rt; histogram.greatest(), None);
+    check_eq(&rt, histogram.value_at(500), None);
+    check_eq(&rt, histogram.mean(), None);
+    check_eq(&rt, histogram.greatest(), None);
 }
 
 /// Passes whichever allocation fails: a histogram that was made takes no more memory.
@@ -120,5 +121,5 @@ fn an_allocation_failure_refuses_a_histogram_alone(rt: HostRuntime) {
         Err(_) => Histogram::new(rt.alloc()).expect(&rt, "memory"),
     };
     assert!(rt; histogram.record(7).is_ok());
-    assert_eq!(rt; histogram.value_at(1000), Some(7));
+    check_eq(&rt, histogram.value_at(1000), Some(7));
 }

@@ -6,6 +6,8 @@
 #[cfg(test)]
 mod audits;
 #[cfg(test)]
+mod checks;
+#[cfg(test)]
 mod figures;
 #[cfg(test)]
 mod histograms;

@@ -1,5 +1,6 @@
 //! How many marks the pictures of loads have.
 
+use crate::checks::check_eq;
 use crate::figures::two_hosts;
 use crate::pictures::{check_marks, count};
 use load_figures::{Bucket, Figures, IntervalLatency, IntervalReport, Latencies, LoadReport};
@@ -115,7 +116,7 @@ fn each_interval_and_bucket_has_its_marks(rt: HostRuntime) {
 fn the_greatest_numbers_are_drawn(rt: HostRuntime) {
     let report = greatest(rt.alloc()).expect(&rt, "memory");
     let picture = picture_of(rt.alloc(), &report).expect(&rt, "memory");
-    assert_eq!(rt; count(&rt, picture.as_str(), "percentile\""), 4);
+    check_eq(&rt, count(&rt, picture.as_str(), "percentile\""), 4);
     assert!(rt; picture.as_str().contains("99.9% within"));
 }
 

@@ -1,5 +1,6 @@
 //! The summary of a load, and its JSON.
 
+use crate::checks::check_eq;
 use crate::figures::{six_jobs, two_hosts};
 use load_figures::{
     Connections, Figures, JobReport, Latencies, LoadReport, OptionValue, SaidOption, Summary,
@@ -139,7 +140,7 @@ fn the_summary_has_six_lines(rt: HostRuntime) {
         report.run.elapsed_us = row.elapsed_us;
         report.run.waited_us = row.waited_us;
         let text = Summary(&report).to_string(alloc).expect(&rt, "memory");
-        assert_eq!(rt; text.as_str(), row.text);
+        check_eq(&rt, text.as_str(), row.text);
     }
 }
 
@@ -222,7 +223,7 @@ fn json_has_null_where_no_job_was_done(rt: HostRuntime) {
         })
         .expect(&rt, "memory");
     let text = json_text(alloc, &report).expect(&rt, "memory");
-    assert_eq!(rt; text.as_str(), EMPTY);
+    check_eq(&rt, text.as_str(), EMPTY);
 }
 
 #[test]
@@ -235,5 +236,5 @@ fn json_has_what_workers_counted(rt: HostRuntime) {
     )
     .expect(&rt, "memory");
     let text = json_text(alloc, &report).expect(&rt, "memory");
-    assert_eq!(rt; text.as_str(), SIX);
+    check_eq(&rt, text.as_str(), SIX);
 }

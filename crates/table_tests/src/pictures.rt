@@ -1,5 +1,6 @@
 //! Escaped texts and elements of drawings; and how many marks the pictures of small logs have.
 
+use crate::checks::check_eq;
 use conn_log::{Cause, Entry, Event, Want};
 use drawing::{Anchor, Drawing, Point, Size, Style, add_escaped};
 use persistence::{Facts, Framing, Version};
@@ -28,7 +29,7 @@ fn texts_are_escaped(rt: HostRuntime) {
     for (text, escaped) in &ESCAPED {
         let mut out = String::new(rt.alloc());
         add_escaped(&mut out, text).expect(&rt, "memory");
-        assert_eq!(rt; out.as_str(), *escaped);
+        check_eq(&rt, out.as_str(), *escaped);
     }
 }
 
@@ -280,10 +281,11 @@ fn the_newest_events_are_shown(rt: HostRuntime) {
     for (connections, shown) in &SHOWN {
         let log = one_after_another(rt.alloc(), *connections).expect(&rt, "memory");
         let picture = drawn(rt.alloc(), &log).expect(&rt, "memory");
-        assert_eq!(rt; count(&rt, picture.as_str(), "connection\""), *shown);
-        assert_eq!(rt;
+        check_eq(&rt, count(&rt, picture.as_str(), "connection\""), *shown);
+        check_eq(
+            &rt,
             log.len() > MOST_EVENTS,
-            picture.as_str().contains("the newest 10000 of")
+            picture.as_str().contains("the newest 10000 of"),
         );
     }
 }
@@ -294,7 +296,7 @@ fn a_limit_takes_the_place_of_an_event(rt: HostRuntime) {
     let event = Event::Limit { limit: 1 };
     log.push(Entry { moment: 8, event }).expect(&rt, "memory");
     let picture = drawn(rt.alloc(), &log).expect(&rt, "memory");
-    assert_eq!(rt; count(&rt, picture.as_str(), "connection\""), 5_000);
+    check_eq(&rt, count(&rt, picture.as_str(), "connection\""), 5_000);
 }
 
 // Events of one moment stand side by side, and those of two hosts below each other.
@@ -302,7 +304,7 @@ fn a_limit_takes_the_place_of_an_event(rt: HostRuntime) {
 fn a_script_without_hosts_or_limits_has_a_picture(rt: HostRuntime) {
     let picture = picture_of(rt.alloc(), None, &[]).expect(&rt, "memory");
     assert!(rt; picture.as_str().contains(">0 events<"), "{picture}");
-    assert_eq!(rt; count(&rt, picture.as_str(), "host\""), 0);
+    check_eq(&rt, count(&rt, picture.as_str(), "host\""), 0);
 }
 
 // Under `rt try --test --fail-alloc N`: an allocation failure is told, and nothing else happens.

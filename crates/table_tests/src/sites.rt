@@ -2,6 +2,7 @@
 
 ghost use Rattle.std.specs.Prelude.{not, slice_get, true, unwrap_or};
 
+use crate::checks::check_eq;
 use site_table::{PlaceError, Places, SiteTable};
 use std::alloc::AllocError;
 
@@ -48,29 +49,29 @@ fn a_place_changes_its_host_only_while_unused(rt: HostRuntime) {
         let cache = InUse { places };
         assert_eq!(rt; table.place(key, &cache), *expected, "step {number}");
     }
-    assert_eq!(rt; table.host(0), Some("b:80"));
-    assert_eq!(rt; table.host(1), Some("e:80"));
-    assert_eq!(rt; table.host(3), None);
-    assert_eq!(rt; table.find("a:81"), Some(2));
-    assert_eq!(rt; table.find("d:80"), None);
-    assert_eq!(rt; table.len(), 3);
+    check_eq(&rt, table.host(0), Some("b:80"));
+    check_eq(&rt, table.host(1), Some("e:80"));
+    check_eq(&rt, table.host(3), None);
+    check_eq(&rt, table.find("a:81"), Some(2));
+    check_eq(&rt, table.find("d:80"), None);
+    check_eq(&rt, table.len(), 3);
     assert!(rt; !table.is_empty());
-    assert_eq!(rt; table.places(), 3);
+    check_eq(&rt, table.places(), 3);
 }
 
 #[test]
 fn a_cache_without_places_gives_none(rt: HostRuntime) {
     let mut table = SiteTable::new(rt.alloc(), 0);
     let cache = InUse { places: &[] };
-    assert_eq!(rt; table.place("a:80", &cache), Err(PlaceError::Full));
+    check_eq(&rt, table.place("a:80", &cache), Err(PlaceError::Full));
 }
 
 #[test]
 fn errors_say_why(rt: HostRuntime) {
     let full = format!(in rt.alloc(); "{}", PlaceError::Full).expect(&rt, "memory");
-    assert_eq!(rt; full.as_str(), "each place is in use");
+    check_eq(&rt, full.as_str(), "each place is in use");
     let memory = format!(in rt.alloc(); "{}", PlaceError::from(AllocError)).expect(&rt, "memory");
-    assert_eq!(rt; memory.as_str(), "out of memory");
+    check_eq(&rt, memory.as_str(), "out of memory");
 }
 
 /// Passes whichever allocation fails: the host is refused, the table is as it was, and the host is
@@ -83,10 +84,10 @@ fn an_allocation_failure_changes_no_place(rt: HostRuntime) {
     let keys = [("a:80", 0), ("b:80", 1), ("c:80", 0)];
     for (key, place) in &keys {
         if let Err(error) = table.place(key, &cache) {
-            assert_eq!(rt; error, PlaceError::Memory);
-            assert_eq!(rt; table.find(key), None);
-            assert_eq!(rt; table.place(key, &cache), Ok(*place));
+            check_eq(&rt, error, PlaceError::Memory);
+            check_eq(&rt, table.find(key), None);
+            check_eq(&rt, table.place(key, &cache), Ok(*place));
         }
-        assert_eq!(rt; table.find(key), Some(*place));
+        check_eq(&rt, table.find(key), Some(*place));
     }
 }

@@ -5,6 +5,8 @@
 #[cfg(test)]
 mod caches;
 #[cfg(test)]
+mod checks;
+#[cfg(test)]
 mod desks;
 #[cfg(test)]
 mod drivers;

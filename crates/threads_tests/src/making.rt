@@ -5,6 +5,7 @@ ghost use Rattle.std.specs.Prelude.{◌≡◌, ◌++◌, ◌∷◌, []};
 ghost use Rattle.std.specs.List.{All};
 ghost use Rattle.shared_cache.specs.Passes.{IsPassOf};
 
+use crate::checks::check_eq;
 use budget::{Limits, Pass, Refusal};
 use bundle::Did;
 use conn_log::Want;
@@ -54,7 +55,7 @@ pub(crate) fn want_of(transfer: u64) -> Want {
 
 // A refused call comes again only if memory ran out.
 fn check_memory<R: Abort>(rt: &R, refusal: Refusal) {
-    assert_eq!(rt; refusal, Refusal::Memory);
+    check_eq(rt, refusal, Refusal::Memory);
 }
 
 /// A plan of so many hosts, with so many connections at most at each and in all; 0 is no limit.

@@ -1,5 +1,6 @@
 //! Calls of a pool with slots, step by step.
 
+use crate::checks::check_eq;
 use budget::{Limits, Refusal};
 use conn_log::Want;
 use held_pool::{Got, HeldPool, SlotError};
@@ -57,29 +58,35 @@ fn close(held: HeldPool, left: u32) -> bool {
 fn a_connection_is_reused_with_its_token(rt: HostRuntime) {
     let mut held = pool_of(&rt);
     let (slot, got) = held.acquire(0, want_of(1), 0).expect(&rt, "a lease");
-    assert_eq!(rt; got, Got::New);
-    assert_eq!(rt;
+    check_eq(&rt, got, Got::New);
+    check_eq(
+        &rt,
         held.give_back_as(slot, facts_of(true), 1),
-        Err(SlotError::Unattached)
+        Err(SlotError::Unattached),
     );
-    assert_eq!(rt; held.attach(rt.alloc(), slot, 77), Ok(()));
-    assert_eq!(rt; held.attach(rt.alloc(), slot, 78), Err(SlotError::Attached));
-    assert_eq!(rt; held.claim(slot), Ok(Got::Reused(77)));
-    assert_eq!(rt; held.give_back_as(slot, facts_of(true), 1), Ok(()));
+    check_eq(&rt, held.attach(rt.alloc(), slot, 77), Ok(()));
+    check_eq(
+        &rt,
+        held.attach(rt.alloc(), slot, 78),
+        Err(SlotError::Attached),
+    );
+    check_eq(&rt, held.claim(slot), Ok(Got::Reused(77)));
+    check_eq(&rt, held.give_back_as(slot, facts_of(true), 1), Ok(()));
     // A second use of the slot is a stranger's.
-    assert_eq!(rt;
+    check_eq(
+        &rt,
         held.give_back_as(slot, facts_of(true), 1),
-        Err(SlotError::Stranger)
+        Err(SlotError::Stranger),
     );
-    assert_eq!(rt; held.abandon(slot, 1), Err(SlotError::Stranger));
-    assert_eq!(rt; held.claim(slot), Err(SlotError::Stranger));
+    check_eq(&rt, held.abandon(slot, 1), Err(SlotError::Stranger));
+    check_eq(&rt, held.claim(slot), Err(SlotError::Stranger));
     let (again, got) = held.acquire(0, want_of(2), 2).expect(&rt, "a lease");
-    assert_eq!(rt; got, Got::Reused(77));
+    check_eq(&rt, got, Got::Reused(77));
     assert!(rt; again != slot);
-    assert_eq!(rt; held.next_closed(), None);
-    assert_eq!(rt; held.give_back_as(again, facts_of(false), 3), Ok(()));
-    assert_eq!(rt; held.next_closed(), Some(77));
-    assert_eq!(rt; held.next_closed(), None);
+    check_eq(&rt, held.next_closed(), None);
+    check_eq(&rt, held.give_back_as(again, facts_of(false), 3), Ok(()));
+    check_eq(&rt, held.next_closed(), Some(77));
+    check_eq(&rt, held.next_closed(), None);
     assert!(rt; close(held, 0));
 }
 
@@ -87,23 +94,24 @@ fn a_connection_is_reused_with_its_token(rt: HostRuntime) {
 fn a_waiter_claims_what_came_back(rt: HostRuntime) {
     let mut held = pool_of(&rt);
     let (first, _) = held.acquire(0, want_of(1), 0).expect(&rt, "a lease");
-    assert_eq!(rt; held.attach(rt.alloc(), first, 5), Ok(()));
+    check_eq(&rt, held.attach(rt.alloc(), first, 5), Ok(()));
     let (waiter, got) = held.acquire(0, want_of(2), 0).expect(&rt, "a ticket");
-    assert_eq!(rt; got, Got::Wait);
+    check_eq(&rt, got, Got::Wait);
     let (other, got) = held.acquire(0, want_of(3), 0).expect(&rt, "a ticket");
-    assert_eq!(rt; got, Got::Wait);
-    assert_eq!(rt; held.claim(waiter), Ok(Got::Wait));
-    assert_eq!(rt;
+    check_eq(&rt, got, Got::Wait);
+    check_eq(&rt, held.claim(waiter), Ok(Got::Wait));
+    check_eq(
+        &rt,
         held.give_back_as(waiter, facts_of(true), 1),
-        Err(SlotError::Stranger)
+        Err(SlotError::Stranger),
     );
-    assert_eq!(rt; held.withdraw(first, 1), Err(SlotError::Stranger));
-    assert_eq!(rt; held.give_back_as(first, facts_of(true), 1), Ok(()));
-    assert_eq!(rt; held.claim(waiter), Ok(Got::Reused(5)));
-    assert_eq!(rt; held.withdraw(other, 2), Ok(()));
-    assert_eq!(rt; held.withdraw(other, 2), Err(SlotError::Stranger));
-    assert_eq!(rt; held.abandon(waiter, 2), Ok(()));
-    assert_eq!(rt; held.next_closed(), Some(5));
+    check_eq(&rt, held.withdraw(first, 1), Err(SlotError::Stranger));
+    check_eq(&rt, held.give_back_as(first, facts_of(true), 1), Ok(()));
+    check_eq(&rt, held.claim(waiter), Ok(Got::Reused(5)));
+    check_eq(&rt, held.withdraw(other, 2), Ok(()));
+    check_eq(&rt, held.withdraw(other, 2), Err(SlotError::Stranger));
+    check_eq(&rt, held.abandon(waiter, 2), Ok(()));
+    check_eq(&rt, held.next_closed(), Some(5));
     assert!(rt; close(held, 0));
 }
 
@@ -111,20 +119,25 @@ fn a_waiter_claims_what_came_back(rt: HostRuntime) {
 fn refusals_are_the_pools(rt: HostRuntime) {
     let mut held = pool_of(&rt);
     let (slot, _) = held.acquire(0, want_of(1), 0).expect(&rt, "a lease");
-    assert_eq!(rt; held.acquire(2, want_of(2), 0), Err(Refusal::BadSite));
-    assert_eq!(rt; held.acquire(0, want_of(1), 0), Err(Refusal::TransferBusy));
-    assert_eq!(rt;
+    check_eq(&rt, held.acquire(2, want_of(2), 0), Err(Refusal::BadSite));
+    check_eq(
+        &rt,
+        held.acquire(0, want_of(1), 0),
+        Err(Refusal::TransferBusy),
+    );
+    check_eq(
+        &rt,
         held.claim(Slot {
             index: 9,
-            generation: 1
+            generation: 1,
         }),
-        Err(SlotError::Stranger)
+        Err(SlotError::Stranger),
     );
-    assert_eq!(rt; held.set_host_limit(0, 2, 1), Ok(()));
-    assert_eq!(rt; held.attach(rt.alloc(), slot, 8), Ok(()));
-    assert_eq!(rt; held.look(0).map(|counts| counts.leased), Ok(1));
-    assert_eq!(rt; held.prune(9, 0, 0), 0);
-    assert_eq!(rt; held.hosts(), 2);
+    check_eq(&rt, held.set_host_limit(0, 2, 1), Ok(()));
+    check_eq(&rt, held.attach(rt.alloc(), slot, 8), Ok(()));
+    check_eq(&rt, held.look(0).map(|counts| counts.leased), Ok(1));
+    check_eq(&rt, held.prune(9, 0, 0), 0);
+    check_eq(&rt, held.hosts(), 2);
     // What is leased is abandoned, so that its token is told.
     assert!(rt; close(held, 1));
 }
@@ -135,27 +148,32 @@ const RESPONSE: &[u8] = b"HTTP/1.1 200 OK\r\nContent-Length: 2\r\n\r\nok";
 fn a_response_that_was_read_gives_its_lease_back(rt: HostRuntime) {
     let mut held = pool_of(&rt);
     let site = held.site("a.test:80").expect(&rt, "a site");
-    assert_eq!(rt; held.site("b.test:80"), Ok(1));
+    check_eq(&rt, held.site("b.test:80"), Ok(1));
     let (slot, _) = held.acquire(site, want_of(1), 0).expect(&rt, "a lease");
-    assert_eq!(rt; held.site("c.test:80"), Ok(1));
-    assert_eq!(rt; held.attach(rt.alloc(), slot, 4), Ok(()));
-    assert_eq!(rt; held.give_back(slot, 1), Err(SlotError::Unread));
+    check_eq(&rt, held.site("c.test:80"), Ok(1));
+    check_eq(&rt, held.attach(rt.alloc(), slot, 4), Ok(()));
+    check_eq(&rt, held.give_back(slot, 1), Err(SlotError::Unread));
     let (waiter, _) = held.acquire(site, want_of(2), 0).expect(&rt, "a ticket");
-    assert_eq!(rt; held.give_back(waiter, 1), Err(SlotError::Unread));
-    assert_eq!(rt; held.withdraw(waiter, 1), Ok(()));
-    assert_eq!(rt; held.feed(slot, RESPONSE), Err(FeedError::NoReader));
-    assert_eq!(rt;
+    check_eq(&rt, held.give_back(waiter, 1), Err(SlotError::Unread));
+    check_eq(&rt, held.withdraw(waiter, 1), Ok(()));
+    check_eq(&rt, held.feed(slot, RESPONSE), Err(FeedError::NoReader));
+    check_eq(
+        &rt,
         held.begin_response(rt.alloc(), slot, Method::Get, false),
-        Ok(())
+        Ok(()),
     );
-    assert_eq!(rt; held.feed(slot, RESPONSE), Ok(Fed::Whole));
-    assert_eq!(rt; held.response(slot).map(|told| told.persists), Some(true));
-    assert_eq!(rt; held.give_back(slot, 1), Ok(()));
-    assert_eq!(rt; held.feed(slot, RESPONSE), Err(FeedError::NoReader));
+    check_eq(&rt, held.feed(slot, RESPONSE), Ok(Fed::Whole));
+    check_eq(
+        &rt,
+        held.response(slot).map(|told| told.persists),
+        Some(true),
+    );
+    check_eq(&rt, held.give_back(slot, 1), Ok(()));
+    check_eq(&rt, held.feed(slot, RESPONSE), Err(FeedError::NoReader));
     assert!(rt; held.response(slot).is_none());
     assert!(rt; !held.end(slot));
-    assert_eq!(rt; held.give_back(slot, 1), Err(SlotError::Stranger));
-    assert_eq!(rt; held.look(site).map(|counts| counts.idle), Ok(1));
+    check_eq(&rt, held.give_back(slot, 1), Err(SlotError::Stranger));
+    check_eq(&rt, held.look(site).map(|counts| counts.idle), Ok(1));
     assert!(rt; close(held, 1));
 }
 
@@ -168,7 +186,7 @@ fn an_allocation_failure_changes_nothing(rt: HostRuntime) {
     let mut held = match made {
         Ok(held) => held,
         Err(refusal) => {
-            assert_eq!(rt; refusal, Refusal::Memory);
+            check_eq(&rt, refusal, Refusal::Memory);
             HeldPool::new(rt.alloc(), limits, 2).expect(&rt, "memory")
         }
     };
@@ -176,22 +194,22 @@ fn an_allocation_failure_changes_nothing(rt: HostRuntime) {
     let (slot, _) = match got {
         Ok(got) => got,
         Err(refusal) => {
-            assert_eq!(rt; refusal, Refusal::Memory);
+            check_eq(&rt, refusal, Refusal::Memory);
             held.acquire(0, want_of(1), 0).expect(&rt, "memory")
         }
     };
     if held.attach(rt.alloc(), slot, 6).is_err() {
-        assert_eq!(rt; held.attach(rt.alloc(), slot, 6), Ok(()));
+        check_eq(&rt, held.attach(rt.alloc(), slot, 6), Ok(()));
     }
     if held
         .begin_response(rt.alloc(), slot, Method::Get, false)
         .is_err()
     {
         let again = held.begin_response(rt.alloc(), slot, Method::Get, false);
-        assert_eq!(rt; again, Ok(()));
+        check_eq(&rt, again, Ok(()));
     }
-    assert_eq!(rt; held.feed(slot, RESPONSE), Ok(Fed::Whole));
-    assert_eq!(rt; held.give_back(slot, 1), Ok(()));
+    check_eq(&rt, held.feed(slot, RESPONSE), Ok(Fed::Whole));
+    check_eq(&rt, held.give_back(slot, 1), Ok(()));
     assert!(rt; close(held, 1));
 }
 
@@ -199,23 +217,23 @@ fn an_allocation_failure_changes_nothing(rt: HostRuntime) {
 fn waiters_are_told_in_their_order(rt: HostRuntime) {
     let mut held = pool_of(&rt);
     let (first, _) = held.acquire(0, want_of(1), 0).expect(&rt, "a lease");
-    assert_eq!(rt; held.attach(rt.alloc(), first, 5), Ok(()));
+    check_eq(&rt, held.attach(rt.alloc(), first, 5), Ok(()));
     let (second, _) = held.acquire(0, want_of(2), 0).expect(&rt, "a ticket");
     let (third, _) = held.acquire(0, want_of(3), 0).expect(&rt, "a ticket");
     let (fourth, _) = held.acquire(0, want_of(4), 0).expect(&rt, "a ticket");
-    assert_eq!(rt; held.granted(), None);
-    assert_eq!(rt; held.give_back_as(first, facts_of(true), 1), Ok(()));
-    assert_eq!(rt; held.granted(), Some(second));
-    assert_eq!(rt; held.granted(), None);
-    assert_eq!(rt; held.claim(second), Ok(Got::Reused(5)));
+    check_eq(&rt, held.granted(), None);
+    check_eq(&rt, held.give_back_as(first, facts_of(true), 1), Ok(()));
+    check_eq(&rt, held.granted(), Some(second));
+    check_eq(&rt, held.granted(), None);
+    check_eq(&rt, held.claim(second), Ok(Got::Reused(5)));
     // One that withdraws, or claims by itself, is not told.
-    assert_eq!(rt; held.withdraw(third, 1), Ok(()));
-    assert_eq!(rt; held.granted(), None);
-    assert_eq!(rt; held.abandon(second, 2), Ok(()));
-    assert_eq!(rt; held.claim(fourth), Ok(Got::New));
-    assert_eq!(rt; held.granted(), None);
-    assert_eq!(rt; held.abandon(fourth, 2), Ok(()));
-    assert_eq!(rt; held.next_closed(), Some(5));
+    check_eq(&rt, held.withdraw(third, 1), Ok(()));
+    check_eq(&rt, held.granted(), None);
+    check_eq(&rt, held.abandon(second, 2), Ok(()));
+    check_eq(&rt, held.claim(fourth), Ok(Got::New));
+    check_eq(&rt, held.granted(), None);
+    check_eq(&rt, held.abandon(fourth, 2), Ok(()));
+    check_eq(&rt, held.next_closed(), Some(5));
     assert!(rt; close(held, 0));
 }
 
@@ -227,21 +245,21 @@ fn waiters_of_each_site_are_told(rt: HostRuntime) {
     let (second, _) = held.acquire(0, want_of(2), 0).expect(&rt, "a lease");
     // The total is at its limit: the others wait for turns.
     let (third, got) = held.acquire(1, want_of(3), 0).expect(&rt, "a ticket");
-    assert_eq!(rt; got, Got::Wait);
+    check_eq(&rt, got, Got::Wait);
     let (fourth, got) = held.acquire(2, want_of(4), 0).expect(&rt, "a ticket");
-    assert_eq!(rt; got, Got::Wait);
-    assert_eq!(rt; held.abandon(first, 1), Ok(()));
-    assert_eq!(rt; held.abandon(second, 1), Ok(()));
+    check_eq(&rt, got, Got::Wait);
+    check_eq(&rt, held.abandon(first, 1), Ok(()));
+    check_eq(&rt, held.abandon(second, 1), Ok(()));
     // Each of them is told once.
     assert!(rt; held.granted().is_some());
     assert!(rt; held.granted().is_some());
     assert!(rt; held.granted().is_none());
     assert!(rt; held.claim(third) == Ok(Got::New));
     assert!(rt; held.claim(fourth) == Ok(Got::New));
-    assert_eq!(rt; held.counts(0).expect(&rt, "counts").opened, 2);
+    check_eq(&rt, held.counts(0).expect(&rt, "counts").opened, 2);
     assert!(rt; held.counts(3).is_err());
     let part = held.cut(0).expect(&rt, "memory");
-    assert_eq!(rt; part.len(), 4);
-    assert_eq!(rt; held.counts(0).expect(&rt, "counts").closed, 2);
+    check_eq(&rt, part.len(), 4);
+    check_eq(&rt, held.counts(0).expect(&rt, "counts").closed, 2);
     assert!(rt; close(held, 0));
 }

@@ -1,5 +1,6 @@
 //! Readers of responses by slot.
 
+use crate::checks::check_eq;
 use persistence::{Fed, Method, ReadFault};
 use slot_readers::{FeedError, SlotReaders};
 use slot_table::Slot;
@@ -21,30 +22,36 @@ fn each_slot_has_its_own_reader(rt: HostRuntime) {
         generation: 2,
     };
     let mut readers = SlotReaders::new(rt.alloc());
-    assert_eq!(rt; readers.feed(one, RESPONSE), Err(FeedError::NoReader));
+    check_eq(&rt, readers.feed(one, RESPONSE), Err(FeedError::NoReader));
     readers
         .begin(rt.alloc(), one, Method::Get, false)
         .expect(&rt, "memory");
     readers
         .begin(rt.alloc(), other, Method::Get, false)
         .expect(&rt, "memory");
-    assert_eq!(rt; readers.feed(one, RESPONSE), Ok(Fed::Whole));
-    assert_eq!(rt; readers.feed(other, b"HTTP/1.1 2"), Ok(Fed::More));
-    assert_eq!(rt; readers.response(one).map(|told| told.persists), Some(true));
-    assert_eq!(rt;
+    check_eq(&rt, readers.feed(one, RESPONSE), Ok(Fed::Whole));
+    check_eq(&rt, readers.feed(other, b"HTTP/1.1 2"), Ok(Fed::More));
+    check_eq(
+        &rt,
+        readers.response(one).map(|told| told.persists),
+        Some(true),
+    );
+    check_eq(
+        &rt,
         readers.response(other).map(|told| told.persists),
-        Some(false)
+        Some(false),
     );
     assert!(rt; readers.end(other));
-    assert_eq!(rt; readers.feed(other, b"0"), Err(FeedError::Ended));
+    check_eq(&rt, readers.feed(other, b"0"), Err(FeedError::Ended));
     // The reader is used again for another slot of its index.
     readers
         .begin(rt.alloc(), later, Method::Get, true)
         .expect(&rt, "memory");
-    assert_eq!(rt; readers.response(one), None);
-    assert_eq!(rt;
+    check_eq(&rt, readers.response(one), None);
+    check_eq(
+        &rt,
         readers.feed(later, b"FTP"),
-        Err(FeedError::Fault(ReadFault::BadHead))
+        Err(FeedError::Fault(ReadFault::BadHead)),
     );
     assert!(rt; !readers.end(one));
 }

@@ -1,5 +1,6 @@
 //! Slots of a table, and tokens that were dropped.
 
+use crate::checks::check_eq;
 use closed_tokens::ClosedTokens;
 use slot_table::{Slot, SlotTable};
 use std::alloc::AllocError;
@@ -22,16 +23,16 @@ fn a_slot_names_its_value_until_that_is_taken_out(rt: HostRuntime) {
     let mut table = SlotTable::new(rt.alloc());
     let first = put(&mut table, 7).expect(&rt, "memory");
     let second = put(&mut table, 8).expect(&rt, "memory");
-    assert_eq!(rt; table.get(first), Some(&7));
-    assert_eq!(rt; table.take(first), Some(7));
-    assert_eq!(rt; table.take(first), None);
-    assert_eq!(rt; table.get(second), Some(&8));
+    check_eq(&rt, table.get(first), Some(&7));
+    check_eq(&rt, table.take(first), Some(7));
+    check_eq(&rt, table.take(first), None);
+    check_eq(&rt, table.get(second), Some(&8));
     // The place is used again, under another slot.
     let third = put(&mut table, 9).expect(&rt, "memory");
-    assert_eq!(rt; third.index, first.index);
-    assert_eq!(rt; third.generation, 2);
-    assert_eq!(rt; table.get(first), None);
-    assert_eq!(rt; table.get(third), Some(&9));
+    check_eq(&rt, third.index, first.index);
+    check_eq(&rt, third.generation, 2);
+    check_eq(&rt, table.get(first), None);
+    check_eq(&rt, table.get(third), Some(&9));
     end(table);
 }
 
@@ -41,12 +42,12 @@ fn tokens_are_told_once_each(rt: HostRuntime) {
     let first = closed.token(rt.alloc(), 1).expect(&rt, "memory");
     let second = closed.token(rt.alloc(), 2).expect(&rt, "memory");
     let third = closed.token(rt.alloc(), 3).expect(&rt, "memory");
-    assert_eq!(rt; closed.next(), None);
+    check_eq(&rt, closed.next(), None);
     drop(second);
     drop(first);
-    assert_eq!(rt; closed.next(), Some(1));
+    check_eq(&rt, closed.next(), Some(1));
     drop(third);
-    assert_eq!(rt; closed.next(), Some(2));
-    assert_eq!(rt; closed.next(), Some(3));
-    assert_eq!(rt; closed.next(), None);
+    check_eq(&rt, closed.next(), Some(2));
+    check_eq(&rt, closed.next(), Some(3));
+    check_eq(&rt, closed.next(), None);
 }

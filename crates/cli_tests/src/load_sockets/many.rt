@@ -1,5 +1,6 @@
 //! Loads with many jobs at once over polled sockets, beside a server that counts requests.
 
+use crate::checks::check_eq;
 use budget::Limits;
 use conn_key::Target;
 use conn_log::Want;
@@ -244,6 +245,6 @@ fn jobs_of_a_silent_peer_are_cancelled(rt: HostRuntime) {
     };
     let loaded = load_at(&rt, &rt, &[port], &row).expect(&rt, "memory");
     let all = loaded.figures.all();
-    assert_eq!(rt; (all.good, all.failed, all.stopped), (0, 8, 0));
+    check_eq(&rt, (all.good, all.failed, all.stopped), (0, 8, 0));
     assert!(rt; 2_000_000 <= loaded.elapsed, "{}", loaded.elapsed);
 }

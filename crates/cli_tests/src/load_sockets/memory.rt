@@ -1,5 +1,6 @@
 //! A load where memory is short. The test passes whichever allocation fails.
 
+use crate::checks::check_eq;
 use crate::load_sockets::account::account_of;
 use crate::load_sockets::running::run_words;
 use cli::LoadOptions;
@@ -24,7 +25,7 @@ fn want_of_memory_is_told(rt: HostRuntime) {
         let account = account_of(report, options.sites).expect(&rt, "a report");
         account.check(&rt, &options);
     } else {
-        assert_eq!(rt; ran.status, 4);
+        check_eq(&rt, ran.status, 4);
         assert!(rt; ran.output.is_empty());
     }
 }

@@ -1,5 +1,6 @@
 //! Traces of loads: an audit finds each lawful.
 
+use crate::checks::check_eq;
 use crate::load_sockets::running::run_words;
 use std::fs;
 use std::str::from_utf8;
@@ -53,7 +54,11 @@ fn traces_are_lawful(rt: HostRuntime) {
 fn a_trace_without_a_file_is_told(rt: HostRuntime) {
     let text = "load --trace no-such-folder/load.trace";
     let ran = run_words(&rt, &rt, text).expect(&rt, "memory");
-    assert_eq!(rt; ran.status, 4);
+    check_eq(&rt, ran.status, 4);
     assert!(rt; ran.output.is_empty());
-    assert_eq!(rt; ran.errors.as_slice(), b"run: cannot write\n".as_slice());
+    check_eq(
+        &rt,
+        ran.errors.as_slice(),
+        b"run: cannot write\n".as_slice(),
+    );
 }

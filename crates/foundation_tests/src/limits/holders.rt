@@ -1,3 +1,4 @@
+use crate::checks::check_eq;
 use budget::Holders;
 
 #[test]
@@ -14,5 +15,5 @@ fn a_lease_that_was_handed_out_again_comes_back_once(rt: HostRuntime) {
     let taken_back = holders.load();
     holders.clear();
     let left = holders.load();
-    assert_eq!(rt; (held, taken_back, left), (1, 1, 0));
+    check_eq(&rt, (held, taken_back, left), (1, 1, 0));
 }

@@ -2,6 +2,7 @@
 //! of these tests passes whichever allocation fails: the refusal says so, and the call succeeds when
 //! it comes again.
 
+use crate::checks::check_eq;
 use crate::limits::permits::held_of;
 use budget::{
     BudgetSeat, Held, Holders, Limits, Link, Lobby, Pass, PlainBudget, Refusal, Seen, Tally,
@@ -12,7 +13,7 @@ use std::process::Abort;
 
 // What is refused, is refused for want of memory.
 fn check_memory(rt: &impl Abort, refusal: Refusal) {
-    assert_eq!(rt; refusal, Refusal::Memory);
+    check_eq(rt, refusal, Refusal::Memory);
 }
 
 // The limits of the budgets here.
@@ -29,7 +30,7 @@ fn check_plain_budget<R: Abort + AllocGlobal>(rt: &R) {
             PlainBudget::new(rt.alloc(), limits, 9).expect(rt, "memory")
         }
     };
-    assert_eq!(rt; held_of(&budget.at(8)), Held { alive: 0, kept: 0 });
+    check_eq(rt, held_of(&budget.at(8)), Held { alive: 0, kept: 0 });
 }
 
 fn check_lobby<R: Abort + AllocGlobal>(rt: &R) {
@@ -40,7 +41,7 @@ fn check_lobby<R: Abort + AllocGlobal>(rt: &R) {
             Lobby::new(rt.alloc(), 9).expect(rt, "memory")
         }
     };
-    assert_eq!(rt; lobby.first(), None);
+    check_eq(rt, lobby.first(), None);
 }
 
 fn check_pass<R: Abort + AllocGlobal>(rt: &R) {
@@ -51,7 +52,7 @@ fn check_pass<R: Abort + AllocGlobal>(rt: &R) {
             Pass::<u32>::new(rt.alloc(), 9).expect(rt, "memory")
         }
     };
-    assert_eq!(rt; pass.hosts(), 9);
+    check_eq(rt, pass.hosts(), 9);
     pass.discard();
 }
 
@@ -74,7 +75,7 @@ fn check_words<R: Abort + AllocGlobal>(rt: &R) {
             WordBudget::new(rt.alloc(), limits).expect(rt, "memory")
         }
     };
-    assert_eq!(rt; budget.seen(&seat), Seen { total: 0, kept: 0 });
+    check_eq(rt, budget.seen(&seat), Seen { total: 0, kept: 0 });
 }
 
 fn check_link<R: Abort + AllocGlobal>(rt: &R) {
@@ -95,7 +96,7 @@ fn check_tally<R: Abort + AllocGlobal>(rt: &R) {
             Tally::new(rt.alloc()).expect(rt, "memory")
         }
     };
-    assert_eq!(rt; tally.load(), 0);
+    check_eq(rt, tally.load(), 0);
 }
 
 // A lease that is marked, and cleared, takes no memory.
@@ -111,7 +112,7 @@ fn check_holders<R: Abort + AllocGlobal>(rt: &R) {
     let lease = holders.split(1, 10);
     holders.join(lease);
     holders.clear();
-    assert_eq!(rt; holders.load(), 0);
+    check_eq(rt, holders.load(), 0);
 }
 
 #[test]

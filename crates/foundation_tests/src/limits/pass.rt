@@ -1,3 +1,4 @@
+use crate::checks::check_eq;
 use budget::{Pass, Tally};
 
 #[test]
@@ -10,21 +11,22 @@ fn a_pass_counts_each_host_for_itself(rt: HostRuntime) {
     };
     pass.enrol(0, near.seat_pass());
     pass.enrol(2, far.seat_pass());
-    assert_eq!(rt;
+    check_eq(
+        &rt,
         (
             pass.is_enrolled(0),
             pass.is_enrolled(1),
-            pass.is_enrolled(2)
+            pass.is_enrolled(2),
         ),
-        (true, false, true)
+        (true, false, true),
     );
     near.start();
     let lease = near.split();
     pass.spend(0, &near, lease, 8);
     pass.tell(2, &far, 10);
-    assert_eq!(rt; (pass.hosts(), near.load(), far.load()), (3, 1, 0));
-    assert_eq!(rt; (pass.spent(0), pass.spent(2)), (1, 0));
-    assert_eq!(rt; (pass.last(0), pass.last(2)), (Some(8), Some(10)));
-    assert_eq!(rt; (pass.calls(0), pass.calls(2)), (1, 1));
+    check_eq(&rt, (pass.hosts(), near.load(), far.load()), (3, 1, 0));
+    check_eq(&rt, (pass.spent(0), pass.spent(2)), (1, 0));
+    check_eq(&rt, (pass.last(0), pass.last(2)), (Some(8), Some(10)));
+    check_eq(&rt, (pass.calls(0), pass.calls(2)), (1, 1));
     pass.discard();
 }

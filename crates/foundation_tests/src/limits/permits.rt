@@ -4,6 +4,7 @@ ghost use Rattle.std.specs.Prelude.{◌≡◌, ◌<◌, ◌+◌, length};
 ghost use Rattle.std.specs.Thread.{IsSync};
 ghost use Rattle.budget.specs.Words.{whole};
 
+use crate::checks::check_eq;
 use budget::{
     BudgetSeat, Held, Limits, LimitsFault, Lobby, Permits, PlainBudget, SeatPermits, Seen, Try,
     WordBudget, Words,
@@ -25,12 +26,17 @@ fn limits_are_kept_as_numbers_from_1_to_65535(rt: HostRuntime) {
     ];
     for &((host, total, connects), kept) in &good {
         let limits = Limits::new(host, total, connects).expect(&rt, "limits");
-        assert_eq!(rt; (limits.host(), limits.total(), limits.connects()), kept);
+        check_eq(
+            &rt,
+            (limits.host(), limits.total(), limits.connects()),
+            kept,
+        );
     }
     for &(host, total, connects) in &[(0, 0, 0), (65_536, 1, 1), (1, 65_536, 1), (1, 1, 65_536)] {
-        assert_eq!(rt;
+        check_eq(
+            &rt,
             Limits::new(host, total, connects),
-            Err(LimitsFault::BadLimit)
+            Err(LimitsFault::BadLimit),
         );
     }
 }
@@ -77,9 +83,9 @@ fn a_plain_budget_opens_up_to_its_total(rt: HostRuntime) {
         panic!(rt; "no memory");
     };
     let one = Held { alive: 1, kept: 0 };
-    assert_eq!(rt; open_at(&mut budget, 0), (Try::Got, one));
-    assert_eq!(rt; open_at(&mut budget, 1), (Try::Got, one));
-    assert_eq!(rt; open_at(&mut budget, 1), (Try::Full, one));
+    check_eq(&rt, open_at(&mut budget, 0), (Try::Got, one));
+    check_eq(&rt, open_at(&mut budget, 1), (Try::Got, one));
+    check_eq(&rt, open_at(&mut budget, 1), (Try::Full, one));
 }
 
 #[test]
@@ -90,11 +96,11 @@ fn a_plain_budget_keeps_over_all_hosts(rt: HostRuntime) {
     };
     let _opened = open_at(&mut budget, 0);
     let mut first = budget.at(0);
-    assert_eq!(rt; first.reserve_kept(&FREELY), Try::Got);
-    assert_eq!(rt; take_and_give_back(&mut first), (Try::Full, Try::Full));
-    assert_eq!(rt; held_of(&first), Held { alive: 1, kept: 1 });
+    check_eq(&rt, first.reserve_kept(&FREELY), Try::Got);
+    check_eq(&rt, take_and_give_back(&mut first), (Try::Full, Try::Full));
+    check_eq(&rt, held_of(&first), Held { alive: 1, kept: 1 });
     let mut second = budget.at(1);
-    assert_eq!(rt; second.reserve_kept(&FREELY), Try::Full);
+    check_eq(&rt, second.reserve_kept(&FREELY), Try::Full);
 }
 
 #[test]
@@ -102,19 +108,19 @@ fn hosts_take_turns(rt: HostRuntime) {
     let Ok(mut lobby) = Lobby::new(rt.alloc(), 3) else {
         panic!(rt; "no memory");
     };
-    assert_eq!(rt; lobby.first(), None);
+    check_eq(&rt, lobby.first(), None);
     lobby.rotate();
     lobby.enlist(2);
     lobby.enlist(0);
     lobby.enlist(1);
-    assert_eq!(rt; lobby.first(), Some(2));
+    check_eq(&rt, lobby.first(), Some(2));
     lobby.rotate();
-    assert_eq!(rt; lobby.first(), Some(0));
+    check_eq(&rt, lobby.first(), Some(0));
     lobby.delist(0);
     assert!(rt; !lobby.listed(0) && lobby.listed(1) && lobby.listed(2));
-    assert_eq!(rt; lobby.first(), Some(1));
+    check_eq(&rt, lobby.first(), Some(1));
     lobby.rotate();
-    assert_eq!(rt; lobby.first(), Some(2));
+    check_eq(&rt, lobby.first(), Some(2));
 }
 
 #[test]
@@ -127,11 +133,11 @@ fn two_seats_share_one_permit(rt: HostRuntime) {
     let Try::Got = budget.try_open(&mut a, &FREELY) else {
         panic!(rt; "a could not open");
     };
-    assert_eq!(rt; budget.try_open(&mut b, &FREELY), Try::Full);
-    assert_eq!(rt; budget.seen(&b), Seen { total: 1, kept: 0 });
+    check_eq(&rt, budget.try_open(&mut b, &FREELY), Try::Full);
+    check_eq(&rt, budget.seen(&b), Seen { total: 1, kept: 0 });
     budget.free_open(&mut a);
     budget.join(&mut a, b);
-    assert_eq!(rt; budget.finish(a), Words { total: 0, kept: 0 });
+    check_eq(&rt, budget.finish(a), Words { total: 0, kept: 0 });
 }
 
 #[test]
@@ -148,12 +154,12 @@ fn two_seats_share_one_kept_permit(rt: HostRuntime) {
         panic!(rt; "b could not keep");
     };
     assert!(rt; budget.keeps_any());
-    assert_eq!(rt; budget.try_keep(&mut a, &FREELY), Try::Full);
-    assert_eq!(rt; b.held(), Held { alive: 1, kept: 1 });
+    check_eq(&rt, budget.try_keep(&mut a, &FREELY), Try::Full);
+    check_eq(&rt, b.held(), Held { alive: 1, kept: 1 });
     budget.free_keep(&mut b);
     budget.free_open(&mut b);
     budget.join(&mut a, b);
-    assert_eq!(rt; budget.finish(a), Words { total: 0, kept: 0 });
+    check_eq(&rt, budget.finish(a), Words { total: 0, kept: 0 });
 }
 
 #[test]
@@ -163,9 +169,9 @@ fn a_seat_takes_and_gives_back(rt: HostRuntime) {
         panic!(rt; "no memory");
     };
     let taken = take_and_give_back(&mut SeatPermits::new(&budget, &mut seat));
-    assert_eq!(rt; taken, (Try::Got, Try::Got));
+    check_eq(&rt, taken, (Try::Got, Try::Got));
     assert!(rt; !budget.keeps_any());
-    assert_eq!(rt; budget.finish(seat), Words { total: 0, kept: 0 });
+    check_eq(&rt, budget.finish(seat), Words { total: 0, kept: 0 });
 }
 
 // Asks for two permits and gives them back, again and again. It answers the greatest total seen,
@@ -262,5 +268,5 @@ fn four_threads_are_never_above_the_limit(rt: HostRuntime) {
     };
     let (most, got, words) = hammer_by_four(&rt, budget, seat);
     assert!(rt; 0 < most && most <= 3 && 0 < got);
-    assert_eq!(rt; words, Words { total: 0, kept: 0 });
+    check_eq(&rt, words, Words { total: 0, kept: 0 });
 }

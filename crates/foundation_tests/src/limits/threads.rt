@@ -2,6 +2,7 @@
 ghost use Rattle.std.specs.Prelude.{◌≡◌, ◌<◌, true, false, None, IfSome};
 ghost use Rattle.budget.specs.Marks.{mark_at};
 
+use crate::checks::check_eq;
 use budget::{HolderSeat, Holders, Link, Lobby, LobbySeat, MarkSeat, PassSeat, Tally};
 use std::marker::{Brand, Model, PhantomData};
 use std::sync::{Mutex, Wait};
@@ -107,7 +108,7 @@ fn two_threads_spend_what_a_tally_counted(rt: HostRuntime) {
     let one = tally.seat_pass();
     let two = tally.seat_pass();
     let counts = spend_by_two::<Brand, _>(&rt, tally, one, two);
-    assert_eq!(rt; counts, (2_000, 1_000, 1_000));
+    check_eq(&rt, counts, (2_000, 1_000, 1_000));
 }
 
 #[derive(Drop)]
@@ -237,7 +238,7 @@ fn two_threads_bring_two_leases_back(rt: HostRuntime) {
     let two = holders.split(2, 20);
     let held = holders.load();
     let left = bring_back_by_two::<Brand, _>(&rt, holders, one, two);
-    assert_eq!(rt; (held, left), (2, 0));
+    check_eq(&rt, (held, left), (2, 0));
 }
 
 // The Lobby's list with its seat, as they lie under one lock.
@@ -363,5 +364,5 @@ fn two_hosts_are_listed_where_they_are_marked(rt: HostRuntime) {
     let two = link.seat_host(&mut seat);
     link.load(&mut seat, &mut one);
     let agreed = come_and_go_by_two::<Brand, _>(&rt, &link, lobby, seat, one, two);
-    assert_eq!(rt; agreed, (true, true));
+    check_eq(&rt, agreed, (true, true));
 }

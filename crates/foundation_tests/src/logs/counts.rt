@@ -1,4 +1,5 @@
 //! What the counts of small logs are.
+use crate::checks::check_eq;
 use crate::logs::entries::{Happened, Step, entries_of, log_of};
 use conn_log::{Cause, Counts};
 
@@ -55,6 +56,10 @@ fn a_log_counts_what_happened(rt: HostRuntime) {
         let log = log_of(&rt, rt.alloc(), &entries).expect(&rt, "memory");
         let [opened, reused, closed, waited] = *numbers;
         let expected = counted(opened, reused, closed, waited);
-        assert_eq!(rt; (log.counts(), Counts::of(&entries)), (expected, expected));
+        check_eq(
+            &rt,
+            (log.counts(), Counts::of(&entries)),
+            (expected, expected),
+        );
     }
 }

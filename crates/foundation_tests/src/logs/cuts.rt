@@ -1,4 +1,5 @@
 //! What a log hands out as it is cut, and what it still knows.
+use crate::checks::check_eq;
 use crate::logs::counts::counted;
 use crate::logs::entries::{
     Happened, KEEP, Step, add, entries_of, entry_of, get, left, log_of, waited,
@@ -36,7 +37,7 @@ fn answers(log: &Log) -> Answers {
 
 /// The log answers so.
 fn check_answers(rt: &impl Abort, log: &Log, expected: &Answers) {
-    assert_eq!(rt; &answers(log), expected);
+    check_eq(rt, &answers(log), expected);
 }
 
 /// Two connections, of which one is leased again; and two transfers that wait, of which one leaves
@@ -100,7 +101,7 @@ fn check_cut_between(
 /// Cuts a log, which hands out these entries.
 fn check_part(rt: &impl Abort, log: &mut Log, expected: &[Entry]) {
     let part = log.cut().expect(rt, "memory");
-    assert_eq!(rt; part.as_slice(), expected);
+    check_eq(rt, part.as_slice(), expected);
 }
 
 /// The log of these steps, cut at its end.
@@ -129,9 +130,9 @@ fn a_base_has_the_connections_that_are_left(rt: HostRuntime) {
         holder: Some(get(6)),
         ..first
     };
-    assert_eq!(rt; connections.get(&1), Some(&first));
-    assert_eq!(rt; connections.get(&3), Some(&third));
-    assert_eq!(rt; connections.len(), 2);
+    check_eq(&rt, connections.get(&1), Some(&first));
+    check_eq(&rt, connections.get(&3), Some(&third));
+    check_eq(&rt, connections.len(), 2);
 }
 
 #[test]
@@ -139,8 +140,8 @@ fn a_base_has_the_counts_of_what_was_cut(rt: HostRuntime) {
     let log = cut_log(&rt, rt.alloc(), &BUSY_HOST);
     let base = log.base();
     let numbers = (base.greatest(), base.last_moment(), base.limit());
-    assert_eq!(rt; numbers, (3, 13, Some(2)));
-    assert_eq!(rt; base.counts(), counted(3, 2, 1, 2));
+    check_eq(&rt, numbers, (3, 13, Some(2)));
+    check_eq(&rt, base.counts(), counted(3, 2, 1, 2));
     assert!(rt; base.waiting().is_empty());
 }
 
@@ -156,7 +157,7 @@ fn a_base_has_who_waits_the_last_one_first(rt: HostRuntime) {
 
 /// These wait, as the log's base has them.
 fn check_waiting(rt: &impl Abort, log: &Log, expected: &[Want]) {
-    assert_eq!(rt; log.base().waiting(), expected);
+    check_eq(rt, log.base().waiting(), expected);
 }
 
 /// No host writes such a log: a number is opened once.
@@ -170,10 +171,10 @@ static OPENED_TWICE: [Step; 3] = [
 fn a_base_forgets_which_numbers_were_closed(rt: HostRuntime) {
     let mut log = cut_log(&rt, rt.alloc(), &OPENED_TWICE[..2]);
     add(&rt, &mut log, entry_of(&OPENED_TWICE[2])).expect(&rt, "memory");
-    assert_eq!(rt; open_count(&log), 1);
+    check_eq(&rt, open_count(&log), 1);
     let entries = entries_of(rt.alloc(), &OPENED_TWICE).expect(&rt, "memory");
     let whole = log_of(&rt, rt.alloc(), &entries).expect(&rt, "memory");
-    assert_eq!(rt; open_count(&whole), 0);
+    check_eq(&rt, open_count(&whole), 0);
 }
 
 #[test]
@@ -188,14 +189,15 @@ fn want_of_memory_leaves_a_log_uncut(rt: HostRuntime) {
     let part = match log.cut() {
         Ok(part) => part,
         Err(fault) => {
-            assert_eq!(rt;
+            check_eq(
+                &rt,
                 (fault, log.len(), log.room()),
-                (LogFault::Memory, entries.len(), room)
+                (LogFault::Memory, entries.len(), room),
             );
             check_answers(&rt, &log, &before);
             log.cut().expect(&rt, "memory")
         }
     };
-    assert_eq!(rt; part.as_slice(), entries.as_slice());
+    check_eq(&rt, part.as_slice(), entries.as_slice());
     check_answers(&rt, &log, &before);
 }

@@ -1,6 +1,7 @@
 //! Which rule an entry breaks, at small logs of one host: each event is taken once, and each rule
 //! is broken once. The logs are those of the traces in `tools/trace_model/worked`, whose answers
 //! were written by hand.
+use crate::checks::check_eq;
 use crate::logs::entries::{Happened, Step, entry_of, get};
 use conn_log::{Cause, Entry, Event, Want};
 use monitor::{Fault, HostMonitor, Violation};
@@ -37,7 +38,7 @@ fn host_of(
     };
     for happened in steps {
         let broken = step(rt, &mut host, entry_of(happened))?;
-        assert_eq!(rt; broken, None);
+        check_eq(rt, broken, None);
     }
     Ok(host)
 }
@@ -82,12 +83,12 @@ static LAST_EVENTS: [Step; 3] = [
 #[test]
 fn each_event_is_taken(rt: HostRuntime) {
     let mut host = host_of(&rt, rt.alloc(), 1, &EACH_EVENT).expect(&rt, "memory");
-    assert_eq!(rt; answers(&host), (1, 1, 2, None));
+    check_eq(&rt, answers(&host), (1, 1, 2, None));
     for happened in &LAST_EVENTS {
         let broken = step(&rt, &mut host, entry_of(happened)).expect(&rt, "memory");
-        assert_eq!(rt; broken, None);
+        check_eq(&rt, broken, None);
     }
-    assert_eq!(rt; answers(&host), (0, 0, 0, Some(get(7))));
+    check_eq(&rt, answers(&host), (0, 0, 0, Some(get(7))));
 }
 
 /// A waiter that is granted what comes back.
@@ -107,11 +108,15 @@ fn want_of_memory_leaves_a_host(rt: HostRuntime) {
         let entry = entry_of(happened);
         let before = answers(&host);
         if host.step(entry).is_err() {
-            assert_eq!(rt; (answers(&host), host.first_broken(&entry)), (before, None));
+            check_eq(
+                &rt,
+                (answers(&host), host.first_broken(&entry)),
+                (before, None),
+            );
             return;
         }
     }
-    assert_eq!(rt; answers(&host), (1, 0, 1, None));
+    check_eq(&rt, answers(&host), (1, 0, 1, None));
 }
 
 /// A limit, what happens under it, what happens last, and the rule that this breaks.
@@ -230,7 +235,7 @@ fn the_first_broken_rule_is_told(rt: HostRuntime) {
     for (limit, before, last, expected) in &ROWS {
         let mut host = host_of(&rt, rt.alloc(), *limit, before).expect(&rt, "memory");
         let broken = step(&rt, &mut host, entry_of(last)).expect(&rt, "memory");
-        assert_eq!(rt; broken, Some(*expected));
+        check_eq(&rt, broken, Some(*expected));
     }
 }
 
@@ -254,6 +259,6 @@ fn what_a_lease_wants_is_judged(rt: HostRuntime) {
         };
         let mut host = host_of(&rt, rt.alloc(), 4, &IDLE).expect(&rt, "memory");
         let broken = step(&rt, &mut host, leased_as(1, want, *moment)).expect(&rt, "memory");
-        assert_eq!(rt; broken, Some(*expected));
+        check_eq(&rt, broken, Some(*expected));
     }
 }

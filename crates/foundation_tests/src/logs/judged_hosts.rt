@@ -1,5 +1,6 @@
 //! Several hosts under one total limit: each entry is judged at its host, and what is unsettled at
 //! rest is told in its order.
+use crate::checks::check_eq;
 use crate::logs::entries::{Happened, Step, closed, entry_of, leased, limited, waited};
 use budget::Limits;
 use conn_log::Cause;
@@ -102,7 +103,7 @@ fn what_is_unsettled_is_told_in_order(rt: HostRuntime) {
     for (hosts, steps, len, expected) in &ROWS {
         let steps = steps.get(..*len).unwrap_or(&[]);
         let monitor = monitor_of(&rt, rt.alloc(), *hosts, steps).expect(&rt, "memory");
-        assert_eq!(rt; monitor.first_unrest(), *expected);
+        check_eq(&rt, monitor.first_unrest(), *expected);
     }
 }
 
@@ -117,16 +118,25 @@ static IDLE_AT_ONE: [(u32, Step); 3] = [
 fn an_entry_is_judged_at_its_host(rt: HostRuntime) {
     let mut monitor = monitor_of(&rt, rt.alloc(), 2, &IDLE_AT_ONE).expect(&rt, "memory");
     let broken = Violation::BesideIdle { count: 1 };
-    assert_eq!(rt; monitor.step(1, waited(2, 3)), Err(Fault::Broken(broken)));
+    check_eq(
+        &rt,
+        monitor.step(1, waited(2, 3)),
+        Err(Fault::Broken(broken)),
+    );
     let broken = Violation::Earlier { last: 5 };
-    assert_eq!(rt; monitor.step(0, limited(1, 4)), Err(Fault::Broken(broken)));
-    assert_eq!(rt; (monitor.len(), monitor.host(1).idle_len()), (2, 1));
+    check_eq(
+        &rt,
+        monitor.step(0, limited(1, 4)),
+        Err(Fault::Broken(broken)),
+    );
+    check_eq(&rt, (monitor.len(), monitor.host(1).idle_len()), (2, 1));
     monitor.step(1, leased(1, 3, 3)).expect(&rt, "memory");
     monitor
         .step(0, closed(1, Cause::Dropped, 5))
         .expect(&rt, "memory");
-    assert_eq!(rt;
+    check_eq(
+        &rt,
         (monitor.host(0).open_len(), monitor.first_unrest()),
-        (0, None)
+        (0, None),
     );
 }

@@ -1,4 +1,5 @@
 //! A log takes entries in room that was made for them.
+use crate::checks::check_eq;
 use crate::logs::entries::{add, opened};
 use conn_log::{Log, LogFault};
 
@@ -6,17 +7,17 @@ use conn_log::{Log, LogFault};
 fn a_reserved_place_takes_an_append(rt: HostRuntime) {
     let mut log = Log::new(rt.alloc()).expect(&rt, "memory");
     assert!(rt; log.is_empty());
-    assert_eq!(rt; log.last_moment(), 0);
+    check_eq(&rt, log.last_moment(), 0);
     log.reserve(1).expect(&rt, "memory");
     let room = log.room();
     log.append(opened(1, 1, 7));
     assert!(rt; !log.is_empty());
-    assert_eq!(rt; log.len(), 1);
-    assert_eq!(rt; log.room() + 1, room);
-    assert_eq!(rt; log.last_moment(), 7);
-    assert_eq!(rt; log.get(0), Some(opened(1, 1, 7)));
-    assert_eq!(rt; log.get(1), None);
-    assert_eq!(rt; log.since(0), [opened(1, 1, 7)].as_slice());
+    check_eq(&rt, log.len(), 1);
+    check_eq(&rt, log.room() + 1, room);
+    check_eq(&rt, log.last_moment(), 7);
+    check_eq(&rt, log.get(0), Some(opened(1, 1, 7)));
+    check_eq(&rt, log.get(1), None);
+    check_eq(&rt, log.since(0), [opened(1, 1, 7)].as_slice());
 }
 
 #[test]
@@ -29,7 +30,7 @@ fn room_grows_geometrically(rt: HostRuntime) {
         // an entry takes one place, so where room is not less it has grown
         growths = growths.saturating_add(u64::from(room <= log.room()));
     }
-    assert_eq!(rt; log.len(), 10_000);
+    check_eq(&rt, log.len(), 10_000);
     assert!(rt; growths <= 20, "{growths} growths");
 }
 
@@ -38,29 +39,31 @@ fn want_of_memory_leaves_the_log(rt: HostRuntime) {
     let Ok(mut log) = Log::new(rt.alloc()) else {
         return;
     };
-    assert_eq!(rt; add(&rt, &mut log, opened(1, 1, 7)), Ok(()));
+    check_eq(&rt, add(&rt, &mut log, opened(1, 1, 7)), Ok(()));
     let room = log.room();
     match log.reserve(100) {
         Ok(()) => assert!(rt; log.room() >= 100),
-        Err(fault) => assert_eq!(rt; (fault, log.room()), (LogFault::Memory, room)),
+        Err(fault) => check_eq(&rt, (fault, log.room()), (LogFault::Memory, room)),
     }
-    assert_eq!(rt; log.since(0), [opened(1, 1, 7)].as_slice());
+    check_eq(&rt, log.since(0), [opened(1, 1, 7)].as_slice());
 }
 
 #[test]
 fn faults_are_printed(rt: HostRuntime) {
-    assert_eq!(rt;
+    check_eq(
+        &rt,
         LogFault::Memory
             .to_string(rt.alloc())
             .expect(&rt, "memory")
             .as_str(),
-        "out of memory"
+        "out of memory",
     );
-    assert_eq!(rt;
+    check_eq(
+        &rt,
         LogFault::Exhausted
             .to_string(rt.alloc())
             .expect(&rt, "memory")
             .as_str(),
-        "log exhausted"
+        "log exhausted",
     );
 }

@@ -1,4 +1,5 @@
 //! What the plain readers answer at small logs.
+use crate::checks::check_eq;
 use crate::logs::entries::{Happened, Step, entries_of, log_of};
 use conn_log::{Cause, Log, Stamp, holder, idle_oldest, open_count, waiting_len};
 
@@ -56,6 +57,6 @@ fn readers_scan_the_log(rt: HostRuntime) {
         let steps = steps.get(..*len).unwrap_or(&[]);
         let entries = entries_of(rt.alloc(), steps).expect(&rt, "memory");
         let log = log_of(&rt, rt.alloc(), &entries).expect(&rt, "memory");
-        assert_eq!(rt; &answers(&log), expected);
+        check_eq(&rt, &answers(&log), expected);
     }
 }

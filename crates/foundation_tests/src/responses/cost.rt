@@ -1,5 +1,6 @@
 //! What reading costs: valgrind's callgrind counts the instructions of each call of `feeds_each`,
 //! in the order of the tables (docs/measurements.md).
+use crate::checks::check_eq;
 use crate::responses::rows::repeated;
 use persistence::{Method, ResponseReader, persists};
 use std::alloc::{AllocError, Global};
@@ -65,7 +66,7 @@ fn each_piece_is_read(rt: HostRuntime) {
         assert!(rt; reader.feed(before.as_bytes()).is_ok());
         let piece = repeated(rt.alloc(), "", text, count, end).expect(&rt, "memory");
         assert!(rt; feeds_each(&mut reader, &piece, piece.len()));
-        assert_eq!(rt; reader.body_len(), body_len);
+        check_eq(&rt, reader.body_len(), body_len);
     }
 }
 
@@ -73,8 +74,8 @@ fn each_piece_is_read(rt: HostRuntime) {
 fn a_typical_response_is_read(rt: HostRuntime) {
     let mut reader = ResponseReader::new(rt.alloc(), Method::Get, false).expect(&rt, "memory");
     assert!(rt; feeds_each(&mut reader, TYPICAL.as_bytes(), 209));
-    assert_eq!(rt; reader.status(), Some(200));
-    assert_eq!(rt; reader.body_len(), 12);
+    check_eq(&rt, reader.status(), Some(200));
+    check_eq(&rt, reader.body_len(), 12);
     assert!(rt; persists(&reader.facts()));
 }
 
@@ -83,10 +84,10 @@ fn each_head_is_read(rt: HostRuntime) {
     for row in &HEADS {
         let (fields, value_len, len, each) = *row;
         let head = head_of(rt.alloc(), fields, value_len).expect(&rt, "memory");
-        assert_eq!(rt; head.len(), len);
+        check_eq(&rt, head.len(), len);
         let mut reader = ResponseReader::new(rt.alloc(), Method::Get, false).expect(&rt, "memory");
         assert!(rt; feeds_each(&mut reader, &head, each));
-        assert_eq!(rt; reader.status(), Some(404));
+        check_eq(&rt, reader.status(), Some(404));
     }
 }
 

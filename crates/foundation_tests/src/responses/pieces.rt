@@ -1,5 +1,6 @@
 //! What a reader tells of responses written out, of faulty ones and at each limit: fed all at once,
 //! byte by byte, and cut into two pieces at each place.
+use crate::checks::check_eq;
 use crate::responses::facts::KEEP;
 use crate::responses::rows::{FAULTS, LIMITS, NO_HEAD, ROWS, repeated};
 use persistence::{Facts, Fed, Framing, Method, ReadFault, ResponseReader, persists};
@@ -166,11 +167,11 @@ pub(crate) fn fed(rt: &impl Abort, reader: &mut ResponseReader, piece: &[u8]) ->
     assert!(rt; !reader.ended());
     match reader.feed(piece) {
         Ok(found) => {
-            assert_eq!(rt; matches!(found, Fed::Whole), reader.facts().whole);
+            check_eq(rt, matches!(found, Fed::Whole), reader.facts().whole);
             Ok(response_of(reader))
         }
         Err(fault) => {
-            assert_eq!(rt; reader.facts().framing, Framing::Faulty);
+            check_eq(rt, reader.facts().framing, Framing::Faulty);
             assert!(rt; !reader.facts().whole);
             Err(fault)
         }
@@ -185,7 +186,7 @@ pub(crate) fn at_end(rt: &impl Abort, reader: &mut ResponseReader, told: Told) -
     match told {
         Ok(_) => Ok(response_of(reader)),
         Err(fault) => {
-            assert_eq!(rt; response_of(reader), before);
+            check_eq(rt, response_of(reader), before);
             Err(fault)
         }
     }
@@ -576,8 +577,8 @@ fn what_the_request_asked_is_told(rt: HostRuntime) {
         ..NO_HEAD
     };
     assert!(rt; !reader.ended());
-    assert_eq!(rt; reader.facts(), before);
-    assert_eq!(rt; (reader.status(), reader.body_len()), (None, 0));
+    check_eq(&rt, reader.facts(), before);
+    check_eq(&rt, (reader.status(), reader.body_len()), (None, 0));
     let text = b"HTTP/1.1 200 OK\r\nContent-Length: 2\r\n\r\n";
     let facts = Facts {
         request_close: true,
@@ -599,7 +600,7 @@ fn any_byte_tells_of_the_first(rt: HostRuntime) {
     for row in &[("", false), ("\n", true), ("", true)] {
         let (piece, any) = *row;
         assert!(rt; fed(&rt, &mut reader, piece.as_bytes()).is_ok());
-        assert_eq!(rt; reader.any_byte(), any);
+        check_eq(&rt, reader.any_byte(), any);
     }
 }
 
@@ -613,9 +614,9 @@ fn want_of_memory_refuses_a_reader(rt: HostRuntime) {
                 assert!(rt; fed(&rt, &mut reader, piece).is_ok());
             }
             assert!(rt; reader.facts().whole);
-            assert_eq!(rt; reader.body_len(), body_len);
+            check_eq(&rt, reader.body_len(), body_len);
         }
-        Err(fault) => assert_eq!(rt; fault, ReadFault::Memory),
+        Err(fault) => check_eq(&rt, fault, ReadFault::Memory),
     }
 }
 
@@ -699,5 +700,5 @@ fn a_reset_reader_reads_the_response_to_another_request(rt: HostRuntime) {
         ended: false,
     };
     check_as_new(&rt, rt.alloc(), &mut reader, case, next).expect(&rt, "memory");
-    assert_eq!(rt; (reader.facts(), reader.body_len()), (KEEP, 2));
+    check_eq(&rt, (reader.facts(), reader.body_len()), (KEEP, 2));
 }

@@ -3,6 +3,7 @@
 ghost use Rattle.std.specs.Prelude.{◌≡◌, ◌≤◌, true};
 ghost use Rattle.conn_key.specs.Wants.{Rises};
 
+use crate::checks::check_eq;
 use conn_key::{CountedMemory, KeyError, Sites, SitesFault, TargetMemory, read_target};
 use std::alloc::AllocError;
 use std::test::Fail;
@@ -118,7 +119,7 @@ fn want_of_memory_refuses_a_site(rt: HostRuntime) -> Result<(), Fail> {
     let mut sites = match Sites::new(rt.alloc()) {
         Ok(sites) => sites,
         Err(fault) => {
-            assert_eq!(rt; fault, SitesFault::Memory);
+            check_eq(&rt, fault, SitesFault::Memory);
             Sites::new(rt.alloc())?
         }
     };
@@ -127,7 +128,7 @@ fn want_of_memory_refuses_a_site(rt: HostRuntime) -> Result<(), Fail> {
         let target = match read_target(&mut memory, url) {
             Ok(target) => target,
             Err(error) => {
-                assert_eq!(rt; error, KeyError::Memory);
+                check_eq(&rt, error, KeyError::Memory);
                 read_target(&mut memory, url)?
             }
         };
@@ -135,13 +136,17 @@ fn want_of_memory_refuses_a_site(rt: HostRuntime) -> Result<(), Fail> {
         let site = match sites.add(&target) {
             Ok(site) => site,
             Err(fault) => {
-                assert_eq!(rt; fault, SitesFault::Memory);
-                assert_eq!(rt; (sites.len(), sites.find(&target)), (before, None));
+                check_eq(&rt, fault, SitesFault::Memory);
+                check_eq(&rt, (sites.len(), sites.find(&target)), (before, None));
                 sites.add(&target)?
             }
         };
-        assert_eq!(rt; (site as usize, sites.find(&target)), (before, Some(site)));
+        check_eq(
+            &rt,
+            (site as usize, sites.find(&target)),
+            (before, Some(site)),
+        );
     }
-    assert_eq!(rt; sites.len(), SITES.len());
+    check_eq(&rt, sites.len(), SITES.len());
     Ok(())
 }

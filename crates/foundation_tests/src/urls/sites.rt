@@ -1,5 +1,6 @@
 //! Sites in the order in which they were added, and what finding one costs: valgrind's callgrind
 //! counts the instructions of `finds_each` (docs/measurements.md).
+use crate::checks::check_eq;
 use crate::urls::targets::read_again;
 use conn_key::{CountedMemory, Key, Sites, SitesFault, Target, read_target};
 use std::alloc::Global;
@@ -14,8 +15,12 @@ fn a_key_is_ordered_by_site_and_then_lane(rt: HostRuntime) -> Result<(), Fail> {
     assert!(rt; key < Key { site: 1, lane: 3 });
     let mut named = HashMap::new(rt.alloc());
     named.insert(key, "here")?;
-    assert_eq!(rt; named.get(&Key { site: 1, lane: 2 }).copied(), Some("here"));
-    assert_eq!(rt; named.get(&Key { site: 2, lane: 1 }).copied(), None);
+    check_eq(
+        &rt,
+        named.get(&Key { site: 1, lane: 2 }).copied(),
+        Some("here"),
+    );
+    check_eq(&rt, named.get(&Key { site: 2, lane: 1 }).copied(), None);
     Ok(())
 }
 
@@ -24,8 +29,8 @@ fn add_again(rt: &impl Abort, sites: &mut Sites, target: &Target) -> Result<u32,
     let len = sites.len();
     match sites.add(target) {
         Err(SitesFault::Memory) => {
-            assert_eq!(rt; sites.len(), len);
-            assert_eq!(rt; sites.find(target), None);
+            check_eq(rt, sites.len(), len);
+            check_eq(rt, sites.find(target), None);
             sites.add(target)
         }
         added => added,
@@ -67,11 +72,11 @@ fn check_added(
 
 /// Checks what is there once all are added.
 fn check_all_added(rt: &impl Abort, sites: &Sites) -> Result<(), Fail> {
-    assert_eq!(rt; sites.len(), 4);
+    check_eq(rt, sites.len(), 4);
     assert!(rt; !sites.is_empty());
     let site = sites.get(2).ok_or("no third site")?;
-    assert_eq!(rt; site.host(), "a.test");
-    assert_eq!(rt; site.port(), 81);
+    check_eq(rt, site.host(), "a.test");
+    check_eq(rt, site.port(), 81);
     assert!(rt; sites.get(4).is_none());
     Ok(())
 }
@@ -86,7 +91,7 @@ fn a_site_is_a_host_and_a_port(rt: HostRuntime) -> Result<(), Fail> {
     }
     check_all_added(&rt, &sites)?;
     let other = read_again(rt.alloc(), "http://b.test/")?;
-    assert_eq!(rt; sites.find(&other), None);
+    check_eq(&rt, sites.find(&other), None);
     Ok(())
 }
 
@@ -133,9 +138,9 @@ fn each_of_8_sites_is_found(rt: HostRuntime) -> Result<(), Fail> {
 
 /// Checks that the target's site, which is new, is refused by 1,024 that are there.
 fn check_refused(rt: &impl Abort, sites: &mut Sites, target: &Target) {
-    assert_eq!(rt; sites.add(target), Err(SitesFault::TooMany));
-    assert_eq!(rt; sites.find(target), None);
-    assert_eq!(rt; sites.len(), 1024);
+    check_eq(rt, sites.add(target), Err(SitesFault::TooMany));
+    check_eq(rt, sites.find(target), None);
+    check_eq(rt, sites.len(), 1024);
 }
 
 #[test]

@@ -1,4 +1,5 @@
 //! What texts lead to, and which texts are refused.
+use crate::checks::check_eq;
 use conn_key::{CountedMemory, KeyError, SitesFault, Target, read_target};
 use std::alloc::{AllocError, Global};
 
@@ -89,7 +90,7 @@ fn a_url_has_at_most_2048_bytes(rt: HostRuntime) {
     let target = read_target(&mut CountedMemory::new(rt.alloc()), longest.as_str()).expect(
         &rt, "memory",
     );
-    assert_eq!(rt; target.path.len(), 2035);
+    check_eq(&rt, target.path.len(), 2035);
     for start in &["http://a.test/", "https://a.test/", "nothing"] {
         let longer = padded(rt.alloc(), start, 2049).expect(&rt, "memory");
         let refused = read_target(&mut CountedMemory::new(rt.alloc()), longer.as_str());
@@ -115,20 +116,22 @@ static FAULTS: [(SitesFault, &str); 2] = [
 fn errors_tell_why(rt: HostRuntime) {
     for row in &ERRORS {
         let (error, text) = *row;
-        assert_eq!(rt;
+        check_eq(
+            &rt,
             format!(in rt.alloc(); "{error}")
                 .expect(&rt, "memory")
                 .as_str(),
-            text
+            text,
         );
     }
     for row in &FAULTS {
         let (fault, text) = *row;
-        assert_eq!(rt;
+        check_eq(
+            &rt,
             format!(in rt.alloc(); "{fault}")
                 .expect(&rt, "memory")
                 .as_str(),
-            text
+            text,
         );
     }
 }

@@ -3,6 +3,7 @@
 ghost use Rattle.std.specs.Prelude.{◌<◌, length};
 ghost use Rattle.std.specs.List.{All};
 
+use crate::checks::check_eq;
 use crate::servers::beside::beside;
 use budget::Limits;
 use cache::Pool;
@@ -206,9 +207,9 @@ fn each_job_has_one_result_and_connections_are_kept(rt: HostRuntime) -> Result<(
     beside(&rt, server, || -> io::Result<()> {
         for &reused in &REUSED {
             let (end, counts) = run_over(&rt, &jobs, &mut pool, &mut dial)?;
-            assert_eq!(rt; end, RunEnd::Complete);
-            assert_eq!(rt; counts.good, [1; JOBS]);
-            assert_eq!(rt; counts.reused, reused);
+            check_eq(&rt, end, RunEnd::Complete);
+            check_eq(&rt, counts.good, [1; JOBS]);
+            check_eq(&rt, counts.reused, reused);
         }
         Ok(())
     })?;

@@ -1,5 +1,6 @@
 //! How connections and the server end.
 
+use crate::checks::check_eq;
 use crate::servers::beside::beside;
 use crate::servers::connection::{Connection, REQUEST};
 use loopback_server::Server;
@@ -15,7 +16,7 @@ fn what_a_peer_asked_before_its_end_is_answered(rt: HostRuntime) {
         client.send(REQUEST, 100).expect(&rt, "memory");
         client.send(b"GET /", 100).expect(&rt, "memory");
         client.end().expect(&rt, "memory");
-        assert_eq!(rt; client.answers(2), 1);
+        check_eq(&rt, client.answers(2), 1);
         assert!(rt; client.is_ended());
         Ok(())
     })
@@ -29,7 +30,7 @@ fn the_server_ends_with_its_connections(rt: HostRuntime) {
     let client = beside(&rt, server, || -> io::Result<Connection> {
         let client = Connection::connect(&rt, port).expect(&rt, "memory");
         client.send(REQUEST, 100).expect(&rt, "memory");
-        assert_eq!(rt; client.answers(1), 1);
+        check_eq(&rt, client.answers(1), 1);
         Ok(client)
     })
     .expect(&rt, "memory");

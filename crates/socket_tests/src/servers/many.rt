@@ -1,5 +1,6 @@
 //! Many connections at once, and many requests on one of them.
 
+use crate::checks::check_eq;
 use crate::servers::beside::beside;
 use crate::servers::connection::{Connection, REQUEST};
 use loopback_server::Server;
@@ -20,7 +21,7 @@ fn many_connections_are_answered(rt: HostRuntime) -> Result<(), Fail> {
     let server = Server::listen(&rt, rt.alloc(), SITES)?;
     let mut ports = Vec::new(rt.alloc());
     ports.extend_from_slice(server.ports())?;
-    assert_eq!(rt; ports.len(), 8);
+    check_eq(&rt, ports.len(), 8);
     beside(&rt, server, || -> io::Result<()> {
         let mut clients = Vec::new(rt.alloc());
         for _ in 0..EACH {
@@ -33,7 +34,7 @@ fn many_connections_are_answered(rt: HostRuntime) -> Result<(), Fail> {
                 client.send(REQUEST, 20)?;
             }
             for client in clients.iter() {
-                assert_eq!(rt; client.answers(1), 1);
+                check_eq(&rt, client.answers(1), 1);
             }
         }
         Ok(())
@@ -75,7 +76,7 @@ fn a_peer_that_reads_late_gets_all(rt: HostRuntime) -> Result<(), Fail> {
             },
         );
         sent?;
-        assert_eq!(rt; answers, UNREAD);
+        check_eq(&rt, answers, UNREAD);
         Ok(())
     })?;
     Ok(())

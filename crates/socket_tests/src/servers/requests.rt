@@ -1,5 +1,6 @@
 //! What comes back for the bytes that a client sends.
 
+use crate::checks::check_eq;
 use crate::servers::beside::beside;
 use crate::servers::connection::{Connection, REQUEST};
 use loopback_server::Server;
@@ -188,7 +189,7 @@ fn large_heads_are_refused(rt: HostRuntime) {
     beside(&rt, server, || -> io::Result<()> {
         for (len, fields, is_answered) in &HEADS {
             let text = head(&rt, *len, *fields).expect(&rt, "memory");
-            assert_eq!(rt; text.len(), *len);
+            check_eq(&rt, text.len(), *len);
             let wanted = (usize::from(*is_answered), *is_answered);
             let got = outcome(&rt, port, text.as_slice(), 5_000, wanted).expect(&rt, "memory");
             assert_eq!(rt; got, wanted, "{len} bytes, {fields} fields");

@@ -7,6 +7,7 @@ use crate::caches::gathering::Passes;
 use crate::caches::making::{new_cache, new_plan, push};
 use crate::caches::thread_desk::{Desk, Stream};
 use crate::caches::workers::{Job, Worker};
+use crate::checks::check_eq;
 use budget::Refusal;
 use bundle::Bundle;
 use cache_report::count_part;
@@ -126,7 +127,7 @@ fn drawn(turn: u64) -> Job {
 
 // The account of each host is what the parts of its log count.
 fn check_hosts(rt: &impl Abort, hosts: &[HostCount], parts: &[Parts]) {
-    assert_eq!(rt; hosts.len(), parts.len());
+    check_eq(rt, hosts.len(), parts.len());
     for (host, parts) in hosts.iter().zip(parts) {
         let Counts {
             opened,
@@ -135,7 +136,7 @@ fn check_hosts(rt: &impl Abort, hosts: &[HostCount], parts: &[Parts]) {
             waited,
         } = parts.counts;
         let counted = (host.opened, host.reused, host.closed, host.waited);
-        assert_eq!(rt; counted, (opened, reused, closed, waited));
+        check_eq(rt, counted, (opened, reused, closed, waited));
     }
 }
 
@@ -152,7 +153,7 @@ fn parts_add_up_beside_a_cache_that_is_not_cut(rt: HostRuntime) {
     for (parts, whole) in cut.iter().zip(&uncut) {
         let (parts, whole) = (&parts.entries, &whole.entries);
         assert!(rt; !whole.is_empty());
-        assert_eq!(rt; parts.len(), whole.len());
+        check_eq(&rt, parts.len(), whole.len());
         assert!(rt; parts == whole);
     }
 }

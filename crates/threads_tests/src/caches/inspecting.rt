@@ -6,6 +6,7 @@ ghost use Rattle.std.specs.Prelude.{◌≡◌};
 use crate::caches::gathering::{Account, Passes, check_account};
 use crate::caches::making::{new_cache, new_plan};
 use crate::caches::thread_desk::{Desk, Said, Stream, want_of};
+use crate::checks::check_eq;
 use budget::Refusal;
 use bundle::Bundle;
 use shared_cache::{Names, Plan, SharedCache, the_lobby_lists_who_waits_beside_room};
@@ -66,7 +67,7 @@ fn acquire_meanwhile<N: Names>(
     );
     let said = desk.acquire(rt, cache, 1, want_of(1), 0);
     signals.answered.store(true, Ordering::SeqCst);
-    assert_eq!(rt; said, Said::Opened(1, 0));
+    check_eq(rt, said, Said::Opened(1, 0));
     desk.abandon(rt, cache, 1, 0);
 }
 
@@ -90,7 +91,7 @@ fn both<N: Names + Send + Sync, R: Threads + Wait + Abort + Sync>(
         || look_on(rt, shared, at),
         || acquire_meanwhile(rt, shared, at, &mut desk),
     );
-    assert_eq!(rt; looked, Ok(true));
+    check_eq(rt, looked, Ok(true));
     let mut passes = Passes::new(alloc);
     passes.put_by(rt, desk.close(rt));
     let gathered = passes.gathered(rt, alloc, cache);

@@ -5,6 +5,7 @@ ghost use Rattle.std.specs.Prelude.{◌≡◌, ◌++◌, ◌∷◌, []};
 ghost use Rattle.shared_cache.specs.Passes.{IsPassOf};
 
 use crate::caches::thread_desk::Stream;
+use crate::checks::check_eq;
 use budget::{Limits, Pass, Refusal};
 use bundle::Did;
 use shared_cache::{Names, Plan, SharedCache};
@@ -25,7 +26,7 @@ pub(crate) fn new_plan(
     match made {
         Ok(plan) => plan,
         Err(refusal) => {
-            assert_eq!(rt; refusal, Refusal::Memory);
+            check_eq(rt, refusal, Refusal::Memory);
             Plan::new(alloc, limits, hosts).expect(rt, "a plan")
         }
     }
@@ -42,7 +43,7 @@ pub(crate) fn new_cache<N: Names>(
     match SharedCache::new(alloc, plan) {
         Ok(cache) => cache,
         Err((plan, refusal)) => {
-            assert_eq!(rt; refusal, Refusal::Memory);
+            check_eq(rt, refusal, Refusal::Memory);
             match SharedCache::new(alloc, plan) {
                 Ok(cache) => cache,
                 Err((_plan, refusal)) => panic!(rt; "no cache: {refusal}"),
@@ -62,7 +63,7 @@ pub(crate) fn new_pass<N: Names>(
     match cache.pass(rt, alloc) {
         Ok(pass) => pass,
         Err(refusal) => {
-            assert_eq!(rt; refusal, Refusal::Memory);
+            check_eq(rt, refusal, Refusal::Memory);
             match cache.pass(rt, alloc) {
                 Ok(pass) => pass,
                 Err(refusal) => panic!(rt; "no pass: {refusal}"),

@@ -8,6 +8,7 @@ ghost use Rattle.std.specs.Prelude.{◌≡◌};
 use crate::caches::gathering::{Account, Passes, check_account};
 use crate::caches::making::{new_cache, new_plan};
 use crate::caches::thread_desk::{Desk, KEEP, Said, Stream, look_said, want_of};
+use crate::checks::check_eq;
 use budget::{Limits, Refusal};
 use bundle::Bundle;
 use conn_log::{Cause, Event};
@@ -44,11 +45,11 @@ fn check_unchanged<N: Names>(
     site: u32,
     before: Shown,
 ) {
-    assert_eq!(rt; shown(rt, cache, desk, site), before);
+    check_eq(rt, shown(rt, cache, desk, site), before);
 }
 
 fn check_said(rt: &impl Abort, said: Said, expected: Said) {
-    assert_eq!(rt; said, expected);
+    check_eq(rt, said, expected);
 }
 
 // What the transfer is answered at host 0. Where memory runs out nothing changes, and it asks
@@ -94,7 +95,7 @@ fn cut_at_last<N: Names>(
     match cache.cut(rt, 1) {
         Ok(part) => part.len(),
         Err(refusal) => {
-            assert_eq!(rt; refusal, Refusal::Memory);
+            check_eq(rt, refusal, Refusal::Memory);
             check_unchanged(rt, cache, desk, 1, before);
             cache.cut(rt, 1).expect(rt, "memory").len()
         }
@@ -116,7 +117,7 @@ fn use_often<N: Names>(
         desk.back(rt, cache, second, KEEP, 0);
         let limit = round as u32 + 2;
         check_said(rt, limited_at_last(rt, cache, desk, limit), Said::Done);
-        assert_eq!(rt; cut_at_last(rt, cache, desk), 1);
+        check_eq(rt, cut_at_last(rt, cache, desk), 1);
     }
 }
 
@@ -336,7 +337,7 @@ fn serve_all<N: Names, R: Wait + Abort>(rt: &R, alloc: Global, plan: Plan<Stream
     let pruned = Said::Number(answered.min(1));
     check_said(rt, desk.prune(rt, &cache, 9, 0, 0), pruned);
     let causes = row.causes.get(answered as usize).copied().unwrap_or(&[]);
-    assert_eq!(rt; causes.len(), answered as usize);
+    check_eq(rt, causes.len(), answered as usize);
     check_closings(rt, &cache, causes);
     desk.close(rt).discard();
 }

@@ -3,6 +3,7 @@
 
 use crate::caches::keeper::{Row, Step, run_all};
 use crate::caches::thread_desk::{Said, Stream, WANT};
+use crate::checks::check_eq;
 use budget::{Limits, Refusal};
 use conn_log::{Cause, Want};
 use shared_cache::Plan;
@@ -389,6 +390,6 @@ fn a_plan_is_for_1024_hosts_at_most(rt: HostRuntime) {
         (1_025, Err(Refusal::BadSite)),
     ] {
         let made: Result<Plan<Stream>, Refusal> = Plan::new(rt.alloc(), limits, hosts);
-        assert_eq!(rt; made.map(|plan| plan.hosts()), expected);
+        check_eq(&rt, made.map(|plan| plan.hosts()), expected);
     }
 }

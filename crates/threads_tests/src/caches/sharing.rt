@@ -7,6 +7,7 @@ use crate::caches::gathering::Passes;
 use crate::caches::making::{new_cache, new_plan, push};
 use crate::caches::thread_desk::{Desk, Stream};
 use crate::caches::workers::{Job, Seen, Worker};
+use crate::checks::check_eq;
 use shared_cache::{Gathered, HostCount, Names, Plan, SharedCache};
 use std::alloc::Global;
 use std::marker::Brand;
@@ -95,10 +96,10 @@ fn balanced<R: Threads + Wait + Abort + Sync>(
     let plan = new_plan(rt, alloc, limits, hosts);
     let (gathered, seen) = share::<Brand, R>(rt, alloc, plan, jobs);
     let all = sum_of(&gathered.hosts);
-    assert_eq!(rt; (gathered.total, gathered.kept), (all.alive, all.alive));
-    assert_eq!(rt; all.opened, all.closed.saturating_add(all.alive));
-    assert_eq!(rt; all.opened.saturating_add(all.reused), seen.starts);
-    assert_eq!(rt; all.waited, seen.waits);
+    check_eq(rt, (gathered.total, gathered.kept), (all.alive, all.alive));
+    check_eq(rt, all.opened, all.closed.saturating_add(all.alive));
+    check_eq(rt, all.opened.saturating_add(all.reused), seen.starts);
+    check_eq(rt, all.waited, seen.waits);
     (all, seen)
 }
 
@@ -146,7 +147,7 @@ fn two_threads_lease_a_hundred_times_each(rt: HostRuntime) {
         },
     ];
     let (all, seen) = balanced(&rt, rt.alloc(), (0, 0, 4), 2, &jobs);
-    assert_eq!(rt; (seen.starts, all.closed, all.waited), (200, 0, 0));
+    check_eq(&rt, (seen.starts, all.closed, all.waited), (200, 0, 0));
 }
 
 #[test]
@@ -162,7 +163,7 @@ fn limits_change_while_four_threads_work(rt: HostRuntime) {
         },
     ];
     let (_all, seen) = balanced(&rt, rt.alloc(), (2, 6, 4), 2, &jobs);
-    assert_eq!(rt; seen.begun(), 4_000);
+    check_eq(&rt, seen.begun(), 4_000);
     // no limit is never refused
     assert!(rt; seen.changes > 0);
 }
@@ -176,7 +177,7 @@ fn four_threads_share_three_connections(rt: HostRuntime) {
         drawn(15_000, 5_000, 16),
     ];
     let (all, seen) = balanced(&rt, rt.alloc(), (0, 3, 2), 16, &jobs);
-    assert_eq!(rt; seen.begun(), 20_000);
+    check_eq(&rt, seen.begun(), 20_000);
     assert!(rt; all.alive <= 2);
     // a thread that has three waits, even where it runs alone
     assert!(rt; seen.left > 0 && seen.withdrawn > 0, "{seen:?}");

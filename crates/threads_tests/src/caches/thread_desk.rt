@@ -6,6 +6,7 @@ ghost use Rattle.shared_cache.specs.Calls.{IsMadeBy, IsTicketOf};
 ghost use Rattle.shared_cache.specs.Passes.{IsPassOf};
 
 use crate::caches::making::{new_pass, push};
+use crate::checks::check_eq;
 use budget::{Pass, Refusal};
 use bundle::{Acquired, Bundle, Claimed, Did, Lease, Snapshot, Ticket};
 use conn_log::{Cause, Entry, Event, Want};
@@ -161,7 +162,7 @@ impl<N: Names> Desk<N> {
             Ok(Acquired::Lease(lease)) => self.keep(rt, lease, site, want),
             Ok(Acquired::Wait(ticket)) => {
                 let found = (ticket.site(), ticket.want());
-                assert_eq!(rt; found, (site, want));
+                check_eq(rt, found, (site, want));
                 self.keep_ticket(rt, ticket);
                 Said::Waits
             }
@@ -336,7 +337,7 @@ impl<N: Names> Desk<N> {
         requires { IsMadeBy N.names lease }
     {
         let mut lease = lease;
-        assert_eq!(rt; (lease.site(), lease.want()), (site, want));
+        check_eq(rt, (lease.site(), lease.want()), (site, want));
         let said = lease_said(rt, &mut lease);
         attach_new(&mut lease);
         push(rt, &mut self.leases, lease);
@@ -437,10 +438,10 @@ fn lease_said(rt: &impl Abort, lease: &mut Lease<Stream>) -> Said
 {
     let (site, number, moment) = (lease.site(), lease.number(), lease.moment());
     if lease.reused() {
-        assert_eq!(rt; stream_of(lease), Some(Stream { site, number }));
+        check_eq(rt, stream_of(lease), Some(Stream { site, number }));
         return Said::Reused(number, moment);
     }
-    assert_eq!(rt; stream_of(lease), None);
+    check_eq(rt, stream_of(lease), None);
     Said::Opened(number, moment)
 }
 

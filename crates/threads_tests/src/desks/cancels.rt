@@ -4,6 +4,7 @@
 ghost use Rattle.std.specs.Prelude.{◌≡◌};
 ghost use Rattle.cache_trait.specs.Homes.{IsMadeBy};
 
+use crate::checks::check_eq;
 use crate::desks::connections::{
     NOW, OK, OPENED, RETURNED, check_log, dial_of, gathered, last_at_first, wire_of,
 };
@@ -200,10 +201,10 @@ fn cancel_alone<N: Names, R: Wait + Abort + AllocGlobal + RandomSource>(
         let mut cx = solo.begin();
         let polled = exchange.poll(&mut cx);
         cx.end(&polled);
-        assert_eq!(rt; polled.is_ready(), standing == Standing::Ready);
+        check_eq(rt, polled.is_ready(), standing == Standing::Ready);
     }
     if let Standing::Leased(stage) = standing {
-        assert_eq!(rt; exchange.waits_on(), stage);
+        check_eq(rt, exchange.waits_on(), stage);
     }
     let _ = exchange.cancel(CANCELLED);
 }
@@ -224,7 +225,7 @@ fn cancel_waiting<N: Names, R: Wait + Abort + AllocGlobal + RandomSource>(
     let mut cx = solo.begin();
     let polled = exchange.poll(&mut cx);
     cx.end(&polled);
-    assert_eq!(rt; exchange.waits_on(), Stage::Grant);
+    check_eq(rt, exchange.waits_on(), Stage::Grant);
     if gives_up_before {
         give_up(rt, other, lease, GIVEN_UP);
         let _ = exchange.cancel(CANCELLED);

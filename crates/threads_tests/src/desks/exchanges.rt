@@ -2,6 +2,7 @@
 
 ghost use Rattle.std.specs.Prelude.{◌≡◌};
 
+use crate::checks::check_eq;
 use crate::desks::connections::{
     OK, OPENED, RETURNED, check_log, dial_of, gathered, last_at_first, wire_of,
 };
@@ -28,17 +29,21 @@ fn one_exchange<N: Names, R: Wait + Abort + AllocGlobal + RandomSource>(
     let cache = cache_of::<MemoryWire, N, R>(rt, plan);
     let mut desk = Desk::new(&cache, rt, pass_of(rt, &cache));
     let mut dial = dial_of(rt, wire_of(rt, OK));
-    assert_eq!(rt; run(rt, &mut desk, &mut dial), Done::Good(ANSWER));
+    check_eq(rt, run(rt, &mut desk, &mut dial), Done::Good(ANSWER));
     check_log(rt, &cache, 0, &[OPENED, RETURNED], "an exchange");
-    assert_eq!(rt; last_at_first(rt, desk.pass()), Some(Did::Wrote(RETURNED)));
+    check_eq(
+        rt,
+        last_at_first(rt, desk.pass()),
+        Some(Did::Wrote(RETURNED)),
+    );
     let pass = desk.into_pass();
-    assert_eq!(rt; pass.hosts(), 2);
+    check_eq(rt, pass.hosts(), 2);
     let calls = (pass.calls(0), pass.calls(1));
     let spent = (pass.spent(0), pass.spent(1));
-    assert_eq!(rt; (calls, spent), ((2, 0), (1, 0)));
+    check_eq(rt, (calls, spent), ((2, 0), (1, 0)));
     let other = pass_of(rt, &cache);
     let gathered = gathered(rt, cache, pass, other);
-    assert_eq!(rt; (gathered.total, gathered.kept), (1, 1));
+    check_eq(rt, (gathered.total, gathered.kept), (1, 1));
 }
 
 #[test]

@@ -1,5 +1,6 @@
 //! Jobs that the gate cancels: nothing that they held is left.
 
+use crate::checks::check_eq;
 use crate::drivers::gates::{StopsAt, StopsWaiting};
 use crate::drivers::jobs::{JOBS, SETUP, Setup};
 use crate::drivers::logs::check_cancelled_logs;
@@ -97,15 +98,16 @@ fn each_job_is_cancelled(rt: HostRuntime) {
 // Job 0 has to be answered and job 1 cancelled, which was granted so many connections.
 fn check_waiting<R: Abort>(rt: &R, whole: &Whole, opened: u64, name: &str) {
     let results = whole.results(rt, 2, name);
-    assert_eq!(rt; (results.len(), whole.hosts.len()), (2, 2));
+    check_eq(rt, (results.len(), whole.hosts.len()), (2, 2));
     let is_good = matches!(results[0], Done::Good(_));
     let is_cancelled = results[1] == Done::Bad(Fault::Cancelled);
     assert!(rt; is_good && is_cancelled, "{name}: {results:?}");
     let (first, second) = (whole.hosts[0], whole.hosts[1]);
-    assert_eq!(rt; (first.opened, first.closed, first.waited), (1, 1, 0));
-    assert_eq!(rt;
+    check_eq(rt, (first.opened, first.closed, first.waited), (1, 1, 0));
+    check_eq(
+        rt,
         (second.opened, second.closed, second.waited),
-        (opened, opened, 1)
+        (opened, opened, 1),
     );
 }
 

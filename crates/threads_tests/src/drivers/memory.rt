@@ -1,6 +1,7 @@
 //! A run where memory is short. The test passes whichever allocation fails: the run says so, and
 //! loses nothing.
 
+use crate::checks::check_eq;
 use crate::drivers::jobs::{SETUP, Setup};
 use crate::drivers::whole::whole_run;
 use crate::making::plan_of;
@@ -24,11 +25,11 @@ fn want_of_memory_loses_nothing(rt: HostRuntime) {
     let whole = whole_run::<Brand, NoGate, HostRuntime>(&rt, plan, &setup, &NoGate);
     match &whole.ended {
         Ok(results) => {
-            assert_eq!(rt; (results.len(), whole.passes), (200, 2));
+            check_eq(&rt, (results.len(), whole.passes), (200, 2));
             assert!(rt; results.iter().all(is_good_or_refused), "{results:?}");
         }
         Err(fault) => {
-            assert_eq!(rt; *fault, DriverFault::Memory);
+            check_eq(&rt, *fault, DriverFault::Memory);
             assert!(rt; whole.passes <= 2);
         }
     }

@@ -1,6 +1,7 @@
 //! Workers go on at once: a job may begin only once another one has ended, whichever is drawn
 //! first.
 
+use crate::checks::check_eq;
 use crate::drivers::gates::{InOrder, Moment};
 use crate::drivers::jobs::{SETUP, Setup};
 use crate::drivers::whole::{check_good, whole_run};
@@ -33,6 +34,6 @@ fn one_begins_once_another_has_ended(rt: HostRuntime) {
             gate.end.came_in_time(),
             "{then} begins before {first} has ended, as where memory for a thread is short"
         );
-        assert_eq!(rt; whole.all.opened, 3);
+        check_eq(&rt, whole.all.opened, 3);
     }
 }

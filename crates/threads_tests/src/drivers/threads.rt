@@ -1,5 +1,6 @@
 //! How many workers a run may have, and the fault of one of them, which ends it.
 
+use crate::checks::check_eq;
 use crate::drivers::jobs::{SETUP, Setup};
 use crate::drivers::peers::Peer;
 use crate::drivers::whole::{check_good, whole_run};
@@ -46,6 +47,6 @@ fn a_failed_turn_ends_all(rt: HostRuntime) {
         let whole = whole_run::<Brand, NoGate, HostRuntime>(&rt, plan, &setup, &NoGate);
         let refusal = (Some(DriverFault::Poll), workers as usize);
         assert_eq!(rt; whole.refusal(), refusal, "{workers}");
-        assert_eq!(rt; whole.all.reused, 0);
+        check_eq(&rt, whole.all.reused, 0);
     }
 }

@@ -4,6 +4,7 @@ ghost use Rattle.std.specs.Prelude.{◌≡◌, ◌<◌, vec_len, IfOk, IfErr};
 ghost use Rattle.std.specs.List.{All};
 ghost use Rattle.shared_cache.specs.Passes.{IsPassOf};
 
+use crate::checks::check_eq;
 use crate::drivers::jobs::{Setup, dials_of, jobs_of};
 use crate::drivers::logs::{HostLog, logs_of};
 use crate::drivers::peers::PeerWire;
@@ -84,8 +85,8 @@ pub(crate) fn whole_run<
     put_by::<N>(rt, &mut passes, pass);
     let gathered = gathered_of(rt, cache, passes);
     let all = totals(&gathered.hosts);
-    assert_eq!(rt; (gathered.total, gathered.kept, all.alive), (0, 0, 0));
-    assert_eq!(rt; all.opened, all.closed);
+    check_eq(rt, (gathered.total, gathered.kept, all.alive), (0, 0, 0));
+    check_eq(rt, all.opened, all.closed);
     Whole {
         ended,
         passes: number,
@@ -145,7 +146,7 @@ fn gathered_of<N: Names, R: Abort + AllocGlobal>(
     match cache.gather(rt.alloc(), passes) {
         Ok(_gathered) => panic!(rt; "gathered without a pass"),
         Err((cache, passes, refusal)) => {
-            assert_eq!(rt; refusal, Refusal::PassesMissing);
+            check_eq(rt, refusal, Refusal::PassesMissing);
             let mut passes = passes;
             put_by::<N>(rt, &mut passes, held_back);
             gathered_with(rt, cache, passes)

@@ -3,6 +3,7 @@
 ghost use Rattle.std.specs.Prelude.{◌≡◌};
 ghost use Rattle.shared_cache.specs.Passes.{IsPassOf};
 
+use crate::checks::check_eq;
 use crate::making::{KEEP, cache_of, gathered_with, pass_of, plan_of, want_of};
 use crate::reports::rows::{NEW, REUSED};
 use budget::Pass;
@@ -62,11 +63,12 @@ fn the_report_of_a_gathered_cache(rt: HostRuntime) {
     let plan = plan_of(&rt, 6, 20, 2);
     let gathered = gathered_after_two::<Brand, HostRuntime>(&rt, plan);
     let text = report(rt.alloc(), &gathered, &[NEW, REUSED]).expect(&rt, "memory");
-    assert_eq!(rt;
+    check_eq(
+        &rt,
         text.as_str(),
         "host       0       1       1       0       0       1\n\
         host       1       0       0       0       0       0\n\
         all        2       1       1       0       0       1\n\
-        jobs       2       0       1       0       4\n"
+        jobs       2       0       1       0       4\n",
     );
 }

@@ -1,5 +1,6 @@
 //! Want of memory. The test passes whichever allocation fails.
 
+use crate::checks::check_eq;
 use crate::reports::rows::FIVE;
 use budget::Refusal;
 use cache_report::report_of;
@@ -11,9 +12,9 @@ fn want_of_memory_refuses_a_report(rt: HostRuntime) {
     let text = match report_of(rt.alloc(), hosts, results) {
         Ok(text) => text,
         Err(refusal) => {
-            assert_eq!(rt; refusal, Refusal::Memory);
+            check_eq(&rt, refusal, Refusal::Memory);
             report_of(rt.alloc(), hosts, results).expect(&rt, "memory")
         }
     };
-    assert_eq!(rt; text.as_str(), expected);
+    check_eq(&rt, text.as_str(), expected);
 }

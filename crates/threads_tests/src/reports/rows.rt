@@ -1,6 +1,7 @@
 //! Reports, byte for byte. The texts are what another program's formatting to eight places gives of
 //! these numbers.
 
+use crate::checks::check_eq;
 use crate::making::ANSWER;
 use budget::Refusal;
 use cache_report::report_of;
@@ -154,6 +155,6 @@ fn reports_have_these_bytes(rt: HostRuntime) {
     for row in &ROWS {
         let (hosts, results, expected) = *row;
         let text = report_of(rt.alloc(), hosts, results).expect(&rt, "memory");
-        assert_eq!(rt; text.as_str(), expected);
+        check_eq(&rt, text.as_str(), expected);
     }
 }

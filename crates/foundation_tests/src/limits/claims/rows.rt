@@ -5,6 +5,7 @@ ghost use Rattle.std.specs.Prelude.{◌≡◌, ◌+◌, ◌^◌, ◌<◌, ◌++�
 ghost use Rattle.budget.specs.Words.{whole};
 ghost use Rattle.job_counter.specs.Draws.{first_seat};
 
+use crate::checks::check_eq;
 use job_counter::{Claim, ClaimSeat};
 use std::alloc::Global;
 use std::process::Abort;
@@ -50,7 +51,7 @@ fn check_drawn(rt: &impl Abort, claim: &Claim, seat: &mut ClaimSeat, jobs: u64)
     requires whole { seat.old.share ≡ whole }
     ensures { seat.new ≡ seat.old }
 {
-    assert_eq!(rt; claim.load(seat), jobs);
+    check_eq(rt, claim.load(seat), jobs);
 }
 
 #[test]

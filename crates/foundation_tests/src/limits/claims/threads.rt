@@ -4,6 +4,7 @@ ghost use Rattle.std.specs.Prelude.{◌≡◌, ◌+◌, ◌^◌, ◌<◌, []};
 ghost use Rattle.std.specs.Thread.{IsSync};
 ghost use Rattle.job_counter.specs.Draws.{AreFirst, new_seat};
 
+use crate::checks::check_eq;
 use job_counter::{Claim, ClaimSeat};
 use std::alloc::Global;
 use std::process::Abort;
@@ -114,19 +115,19 @@ fn draw_by_four<R: Threads + Wait + Abort + Sync>(rt: &R, alloc: Global, jobs: u
     let Hand { seat: all, numbers } = together(rt, shared, first, second);
     claim.join(&mut seat, all);
     let count = claim.load(&mut seat);
-    assert_eq!(rt; count, jobs);
+    check_eq(rt, count, jobs);
     numbers
 }
 
 #[test]
 fn four_threads_draw_each_job_once(rt: HostRuntime) {
     let mut numbers = draw_by_four(&rt, rt.alloc(), JOBS);
-    assert_eq!(rt; numbers.len() as u64, JOBS);
+    check_eq(&rt, numbers.len() as u64, JOBS);
     if numbers.sort().is_err() {
         panic!(rt; "no memory");
     }
     for place in 0..numbers.len() {
-        assert_eq!(rt; numbers[place], place as u64);
+        check_eq(&rt, numbers[place], place as u64);
     }
 }
 
