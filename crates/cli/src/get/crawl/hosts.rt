@@ -197,7 +197,7 @@ impl Hosts {
             return Ok(None);
         }
         let (targets, given) = (self.targets.as_slice(), self.given.as_slice());
-        let Found { addresses, unknown } = found(
+        let Found { addresses, unknown } = addresses_of(
             self.alloc,
             targets,
             given,
@@ -224,7 +224,7 @@ impl Hosts {
 }
 
 // Finds the addresses of these hosts, those of `given` before those of the system.
-fn found<R: Resolver>(
+fn addresses_of<R: Resolver>(
     alloc: Global,
     targets: &[Target],
     given: &[Resolved],
