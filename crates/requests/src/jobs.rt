@@ -34,15 +34,22 @@ pub(crate) fn job_of(site: u32, transfer: u64, target: Target) -> Job {
 /// Memory ran out.
 pub(crate) fn jobs_at(alloc: Global, count: u32, ports: &[u16]) -> Result<Vec<Job>, AllocError> {
     let mut jobs = Vec::new(alloc);
-    for (number, (site, port)) in (0..count).zip(ports.iter().enumerate().cycle()) {
-        let target = Target {
-            host: String::from_str(alloc, "127.0.0.1")?,
-            port: *port,
-            path: format!(in alloc; "/{number}")?,
-        };
+    if ports.is_empty() {
+        return Ok(jobs);
+    }
+    for number in 0..count {
+        let site = number as usize % ports.len();
+        let target = target_of(alloc, ports[site], number)?;
         jobs.push(job_of(site as u32, number as u64, target))?;
     }
     Ok(jobs)
+}
+
+// The path of that number at that port of 127.0.0.1.
+fn target_of(alloc: Global, port: u16, number: u32) -> Result<Target, AllocError> {
+    let host = String::from_str(alloc, "127.0.0.1")?;
+    let path = format!(in alloc; "/{number}")?;
+    Ok(Target { host, port, path })
 }
 
 /// Prints how a job ended, as `curlpool get` does for a URL. `None` if printing failed.
