@@ -12,6 +12,7 @@ use crate::keeper::{Row, Said, Step, run};
 use budget::Refusal;
 use bundle::Lease;
 use conn_log::{Cause, Want};
+use std::test::Fail;
 
 // What transfer 2 wants that a connection of lane 0 does not fit 9 seconds after it was opened.
 const OTHER_LANE: Want = Want {
@@ -345,23 +346,22 @@ fn put_stream(lease: &mut Lease<Stream>, stream: Stream)
 }
 
 #[test]
-fn a_lease_lends_its_stream(rt: HostRuntime) {
-    let mut desk = Desk::of_host(rt.alloc(), 1, 1).expect(&rt, "memory");
+fn a_lease_lends_its_stream(rt: HostRuntime) -> Result<(), Fail> {
+    let mut desk = Desk::of_host(rt.alloc(), 1, 1)?;
     let mut lease = lease_of(&rt, asked(&rt, &mut desk, want_of(1), 0));
-    check_eq(&rt, stream_of(&mut lease), None);
+    assert_eq!(rt; stream_of(&mut lease), None);
     lease.attach(Stream(1));
     put_stream(&mut lease, Stream(9));
-    check_eq(&rt, stream_of(&mut lease), Some(Stream(9)));
-    check_eq(
-        &rt,
+    assert_eq!(rt; stream_of(&mut lease), Some(Stream(9)));
+    assert_eq!(rt;
         (lease.site(), lease.number(), lease.want(), lease.reused()),
-        (7, 1, want_of(1), false),
+        (7, 1, want_of(1), false)
     );
     give_back(&rt, &mut desk, lease, 5);
     let again = leased(&rt, &mut desk, 2, 6);
-    check_eq(
-        &rt,
+    assert_eq!(rt;
         stream_under(&rt, &mut desk, again, 6),
-        (1, Some(Stream(9))),
+        (1, Some(Stream(9)))
     );
+    Ok(())
 }

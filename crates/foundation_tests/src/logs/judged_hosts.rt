@@ -117,6 +117,7 @@ static IDLE_AT_ONE: [(u32, Step); 3] = [
 #[test]
 fn an_entry_is_judged_at_its_host(rt: HostRuntime) {
     let mut monitor = monitor_of(&rt, rt.alloc(), 2, &IDLE_AT_ONE).expect(&rt, "memory");
+    assert_eq!(rt; monitor.len(), 2);
     let broken = Violation::BesideIdle { count: 1 };
     check_eq(
         &rt,
@@ -129,7 +130,7 @@ fn an_entry_is_judged_at_its_host(rt: HostRuntime) {
         monitor.step(0, limited(1, 4)),
         Err(Fault::Broken(broken)),
     );
-    check_eq(&rt, (monitor.len(), monitor.host(1).idle_len()), (2, 1));
+    check_eq(&rt, monitor.host(1).idle_len(), 1);
     monitor.step(1, leased(1, 3, 3)).expect(&rt, "memory");
     monitor
         .step(0, closed(1, Cause::Dropped, 5))

@@ -98,7 +98,7 @@ fn each_job_is_cancelled(rt: HostRuntime) {
 // Job 0 has to be answered and job 1 cancelled, which was granted so many connections.
 fn check_waiting<R: Abort>(rt: &R, whole: &Whole, opened: u64, name: &str) {
     let results = whole.results(rt, 2, name);
-    check_eq(rt, (results.len(), whole.hosts.len()), (2, 2));
+    assert_eq!(rt; (results.len(), whole.hosts.len()), (2, 2));
     let is_good = matches!(results[0], Done::Good(_));
     let is_cancelled = results[1] == Done::Bad(Fault::Cancelled);
     assert!(rt; is_good && is_cancelled, "{name}: {results:?}");
