@@ -2,7 +2,8 @@
 //! Traces and answers are those of `tools/trace_model/worked`, whose answers were written by hand.
 use audit::{Audit, AuditFault, FindingLines, LawfulLine};
 use script_text::first_line;
-use std::alloc::Global;
+use std::alloc::{AllocError, Global};
+use std::process::Abort;
 
 /// Reads the lines of a trace up to its first violation.
 fn read_lines(audit: &mut Audit, trace: &[u8]) -> Result<(), AuditFault> {
@@ -19,24 +20,29 @@ fn read_lines(audit: &mut Audit, trace: &[u8]) -> Result<(), AuditFault> {
 }
 
 /// The answer to a trace: its first violation, or that it is lawful, or why it can't be read on.
-fn answer_to(alloc: Global, trace: &str) -> Result<String, AuditFault> {
-    let mut audit = Audit::new(alloc)?;
-    let read = read_lines(&mut audit, trace.as_bytes());
-    if read == Err(AuditFault::Memory) {
-        return Err(AuditFault::Memory);
+fn answer_to(rt: &impl Abort, alloc: Global, trace: &str) -> String {
+    let mut audit = Audit::new(alloc).expect(rt, "memory");
+    match read_lines(&mut audit, trace.as_bytes()) {
+        Ok(()) => told(alloc, &audit).expect(rt, "memory"),
+        Err(fault) => fault_told(alloc, audit.line(), fault).expect(rt, "memory"),
     }
-    if let Err(fault) = read {
-        let line = audit.line();
-        return Ok(format!(in alloc; "line {line}: {fault}\n")?);
-    }
+}
+
+/// The first violation that was found, or that the trace is lawful.
+fn told(alloc: Global, audit: &Audit) -> Result<String, AllocError> {
     match audit.findings().first() {
         Some(finding) => {
             let name = "trace";
             let lines = FindingLines { name, finding };
-            Ok(format!(in alloc; "{lines}")?)
+            format!(in alloc; "{lines}")
         }
-        None => Ok(format!(in alloc; "{}", LawfulLine(&audit))?),
+        None => format!(in alloc; "{}", LawfulLine(audit)),
     }
+}
+
+/// Why a trace can't be read on.
+fn fault_told(alloc: Global, line: u64, fault: AuditFault) -> Result<String, AllocError> {
+    format!(in alloc; "line {line}: {fault}\n")
 }
 
 /// A trace and its answer. It begins with limits and a site.
@@ -524,7 +530,7 @@ fn each_trace_of_one_host_has_its_answer(rt: HostRuntime) {
         let trace = format!(in rt.alloc();
             "limits {limits}\nsite http://a.test/\n{begins}{lines}"
         ).expect(&rt, "memory");
-        let answer = answer_to(rt.alloc(), trace.as_str()).expect(&rt, "memory");
+        let answer = answer_to(&rt, rt.alloc(), trace.as_str());
         assert_eq!(rt; answer.as_str(), row.answer, "{trace}");
     }
 }
@@ -533,7 +539,7 @@ fn each_trace_of_one_host_has_its_answer(rt: HostRuntime) {
 fn each_whole_trace_has_its_answer(rt: HostRuntime) {
     for row in &WHOLE {
         let (trace, expected) = *row;
-        let answer = answer_to(rt.alloc(), trace).expect(&rt, "memory");
+        let answer = answer_to(&rt, rt.alloc(), trace);
         assert_eq!(rt; answer.as_str(), expected, "{trace}");
     }
 }

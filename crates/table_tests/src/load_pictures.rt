@@ -124,7 +124,8 @@ fn the_greatest_numbers_are_drawn(rt: HostRuntime) {
 fn greatest(alloc: Global) -> Result<LoadReport, AllocError> {
     let mut report = report_of(alloc, &ROWS[1])?;
     report.interval_us = u64::MAX;
-    report.jobs.latencies = Some(Latencies {
+    let jobs = &mut report.jobs;
+    jobs.latencies = Some(Latencies {
         p50: 0,
         p90: 1,
         p99: u64::MAX,
