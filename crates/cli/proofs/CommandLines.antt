@@ -1,6 +1,6 @@
 -- What words ask for that clap refuses.
 use Rattle.std.proofs.Common.{◌≡◌, ℕ, ◌≤◌, arith, Bool, true, false, List, [], Option, Some, None, refl, sym, ◌∙◌, ap, ap₂, subst, inl, inr}
-use Rattle.std.specs.Prelude.{◌⊎◌, ◌||◌, codes, if◌then◌else◌, unwrap_or}
+use Rattle.std.specs.Prelude.{◌⊎◌, codes, if◌then◌else◌, unwrap_or}
 use Rattle.std.specs.Option.{option_map}
 use Rattle.std.specs.Str.{bytes_eq}
 use Rattle.clap.specs.Words.{Kinds, IsAmong, Row, Text, kind_of, subcommand_name_of, subcommand_rows_of}
@@ -112,10 +112,6 @@ asks-no-file faults said before after requests.NoMemory asks none = refl
 -- words that could not be had for want of memory
 pub lack-memory : (words : Words) → words ≡ NoMemory → HasClass (word_faults words) manners.Memory
 lack-memory words is = subst (λ w. HasClass (word_faults w) manners.Memory) (sym is) (kinds.OutOfMemory, inl refl, refl)
-
--- neither of two
-pub or-false : {a b c : Bool} → a ≡ (b || c) → b ≡ false → c ≡ false → a ≡ false
-or-false {a} {b} {c} is first second = is ∙ ap (λ x. x || c) first ∙ second
 
 -- what the rows of a subcommand say, where its name is get, or load, or audit, or none of them
 abbrev said_if : Bool → Bool → Bool → List Row → Said

@@ -46,6 +46,10 @@ flag_rule name = record (new_rule name) { long = Some name; action = Some SetTru
 abbrev pub value_rule : Text → Rule
 value_rule name = record (new_rule name) { long = Some name; value_names = 1 }
 
+-- an option of one value, which may be repeated
+abbrev pub list_rule : Text → Rule
+list_rule name = record (value_rule name) { action = Some Append }
+
 -- script has a flag and an option of one value, and may be given a file
 abbrev pub script_app : App
 script_app = with_rule (with_rule (with_rule (new_app (codes "script")) (flag_rule (codes "trace"))) (value_rule (codes "picture"))) (new_rule (codes "FILE"))
@@ -54,12 +58,9 @@ script_app = with_rule (with_rule (with_rule (new_app (codes "script")) (flag_ru
 abbrev pub url_rule : Rule
 url_rule = record (new_rule (codes "URL")) { range = Some (record { start_inclusive = 1; end_inclusive = usize_max }) }
 
-abbrev pub resolve_rule : Rule
-resolve_rule = record (value_rule (codes "resolve")) { action = Some Append }
-
 abbrev pub with_crawl_limits : App → App
 with_crawl_limits app = with_rule (with_rule (with_rule (with_rule (with_rule (with_rule app (value_rule (codes "file"))) (value_rule (codes "parallel"))) (value_rule (codes "host-limit"))) (value_rule (codes "total")))
-    (value_rule (codes "max-life"))) resolve_rule
+    (value_rule (codes "max-life"))) (list_rule (codes "resolve"))
 
 abbrev pub with_crawl_flags : App → App
 with_crawl_flags app = with_rule (with_rule (with_rule (with_rule app (flag_rule (codes "fresh"))) (flag_rule (codes "skip-bad"))) (flag_rule (codes "fail"))) (flag_rule (codes "json"))
@@ -67,10 +68,7 @@ with_crawl_flags app = with_rule (with_rule (with_rule (with_rule app (flag_rule
 abbrev pub get_app : App
 get_app = with_rule (with_crawl_flags (with_crawl_limits (with_rule (with_rule (with_rule (new_app (codes "get")) (flag_rule (codes "head"))) (value_rule (codes "max-age"))) (value_rule (codes "timeout"))))) url_rule
 
--- load has seven options of one value each; and options that may be repeated, others of one value, and flags
-abbrev pub list_rule : Text → Rule
-list_rule name = record (value_rule name) { action = Some Append }
-
+-- load has eight options of one value each; and options that may be repeated, others of one value, and flags
 abbrev pub with_lists : App → App
 with_lists app = with_rule (with_rule app (list_rule (codes "url"))) (list_rule (codes "resolve"))
 

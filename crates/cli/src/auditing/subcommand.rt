@@ -5,12 +5,14 @@ ghost use Rattle.clap.specs.Words.{app_of};
 ghost use Rattle.clap.specs.declared.builder.command.Command.TheViews.{out-Command};
 ghost use Rattle.cli.specs.CommandLine.{audit_app};
 
-use crate::command_line::flags::with_flag;
+use crate::command_line::flags::{described, with_file, with_flag};
 use crate::command_line::help::AUDITS;
-use clap::{Arg, Command};
+use clap::Command;
 use std::alloc::{AllocError, Global};
 
-/// What `--help` says of the options and the file.
+/// What `--help` says of the subcommand, its options and the file.
+const ABOUT: &str = "Tells whether what a connection pool did is lawful, by a trace of it";
+
 const ALL_HELP: &str = "Tells each violation, in place of the first alone";
 
 const JSON_HELP: &str = "Prints one JSON object";
@@ -32,10 +34,6 @@ pub fn audit_subcommand<'a>(alloc: Global) -> Result<Command<'a>, AllocError>
     let with_all = with_flag(alloc, bare, "all", ALL_HELP)?;
     let with_json = with_flag(alloc, with_all, "json", JSON_HELP)?;
     let with_state = with_flag(alloc, with_json, "state", STATE_HELP)?;
-    let file = Arg::new(alloc, "FILE").help(FILE_HELP);
-    let with_file = with_state.arg(file)?;
-    let audit = with_file
-        .about("Tells whether what a connection pool did is lawful, by a trace of it")
-        .after_help(AUDITS);
-    Ok(audit)
+    let with_file = with_file(alloc, with_state, FILE_HELP)?;
+    Ok(described(with_file, ABOUT, AUDITS))
 }

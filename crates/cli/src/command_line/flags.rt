@@ -1,7 +1,7 @@
-//! Flags of the subcommands.
+//! Flags and files of the subcommands, and what their help says.
 
-ghost use Rattle.std.specs.Prelude.{◌≡◌, false, IfOk};
-ghost use Rattle.clap.specs.Words.{app_of, with_rule};
+ghost use Rattle.std.specs.Prelude.{◌≡◌, false, IfOk, codes};
+ghost use Rattle.clap.specs.Words.{app_of, new_rule, with_rule};
 ghost use Rattle.clap.specs.declared.builder.command.Command.TheViews.{out-Command};
 ghost use Rattle.cli.specs.CommandLine.{flag_rule};
 
@@ -26,4 +26,32 @@ pub(crate) fn with_flag<'a>(
         .help(help);
     let longer = command.arg(flag)?;
     Ok(longer)
+}
+
+/// The command with a file that may be named.
+pub(crate) fn with_file<'a>(
+    alloc: Global,
+    command: Command<'a>,
+    help: &'a str,
+) -> Result<Command<'a>, AllocError>
+    ensures app { IfOk result (λ longer.
+        app_of longer ≡ with_rule (app_of command.entry) (new_rule (codes "FILE"))) }
+    ensures local { (out-Command command.entry).has_globals ≡ false
+        → IfOk result (λ longer. (out-Command longer).has_globals ≡ false) }
+{
+    let file = Arg::new(alloc, "FILE").help(help);
+    let longer = command.arg(file)?;
+    Ok(longer)
+}
+
+/// The command with what its help says before and after the arguments.
+pub(crate) fn described<'a>(
+    command: Command<'a>,
+    about: &'a str,
+    after_help: &'a str,
+) -> Command<'a>
+    ensures app { app_of result ≡ app_of command.entry }
+    ensures local { (out-Command result).has_globals ≡ (out-Command command.entry).has_globals }
+{
+    command.about(about).after_help(after_help)
 }

@@ -1,15 +1,15 @@
 //! The subcommand `get`.
 
 ghost use Rattle.std.specs.Prelude.{◌≡◌, false, IfOk};
-ghost use Rattle.clap.specs.Words.{app_of, rule_of, with_rule};
+ghost use Rattle.clap.specs.Words.{app_of, with_rule};
 ghost use Rattle.clap.specs.declared.builder.command.Command.TheViews.{out-Command};
-ghost use Rattle.cli.specs.CommandLine.{get_app, url_rule, resolve_rule};
+ghost use Rattle.cli.specs.CommandLine.{get_app, url_rule};
 ghost use Rattle.cli.specs.CommandLine.{with_crawl_limits, with_crawl_flags};
 
-use crate::command_line::flags::with_flag;
+use crate::command_line::flags::{described, with_flag};
 use crate::command_line::help::LINES;
-use crate::loading::subcommand::with_value;
-use clap::{Arg, ArgAction, Command};
+use crate::loading::subcommand::{with_list, with_value};
+use clap::{Arg, Command};
 use std::alloc::{AllocError, Global};
 
 /// What help calls the value of an option that is a number, or a number of seconds.
@@ -17,7 +17,9 @@ const NUMBER: &str = "NUMBER";
 
 const SECONDS: &str = "SECONDS";
 
-/// The texts of help for the options and URLs.
+/// The texts of help for the subcommand, its options and URLs.
+const ABOUT: &str = "Fetches URLs in turn, and tells how each transfer ended";
+
 const HEAD_HELP: &str = "Sends HEAD in place of GET";
 
 const MAX_AGE_HELP: &str = "Most seconds idle for reuse; 118 if left out";
@@ -62,20 +64,20 @@ pub fn get_subcommand<'a>(alloc: Global) -> Result<Command<'a>, AllocError>
     let with_timeout = with_value(alloc, with_age, "timeout", SECONDS, TIMEOUT_HELP)?;
     let with_limits = with_crawl_limits(alloc, with_timeout)?;
     let with_flags = with_crawl_flags(alloc, with_limits)?;
-    let urls = url_list(alloc);
-    let with_urls = with_flags.arg(urls)?;
-    let get = with_urls
-        .about("Fetches URLs in turn, and tells how each transfer ended")
-        .after_help(LINES);
-    Ok(get)
+    let with_urls = with_urls(alloc, with_flags)?;
+    Ok(described(with_urls, ABOUT, LINES))
 }
 
-/// The URLs.
-fn url_list<'a>(alloc: Global) -> Arg<'a>
-    ensures rule { rule_of result ≡ url_rule }
-    ensures local { result.global ≡ false }
+/// The command with the URLs.
+fn with_urls<'a>(alloc: Global, command: Command<'a>) -> Result<Command<'a>, AllocError>
+    ensures app { IfOk result (λ longer.
+        app_of longer ≡ with_rule (app_of command.entry) url_rule) }
+    ensures local { (out-Command command.entry).has_globals ≡ false
+        → IfOk result (λ longer. (out-Command longer).has_globals ≡ false) }
 {
-    Arg::new(alloc, "URL").num_args(1..).help(URL_HELP)
+    let urls = Arg::new(alloc, "URL").num_args(1..).help(URL_HELP);
+    let longer = command.arg(urls)?;
+    Ok(longer)
 }
 
 /// The command with the options of a crawl that have values.
@@ -89,8 +91,13 @@ fn with_crawl_limits<'a>(alloc: Global, command: Command<'a>) -> Result<Command<
     let with_host = with_value(alloc, with_parallel, "host-limit", NUMBER, HOST_LIMIT_HELP)?;
     let with_total = with_value(alloc, with_host, "total", NUMBER, TOTAL_HELP)?;
     let with_life = with_value(alloc, with_total, "max-life", SECONDS, MAX_LIFE_HELP)?;
-    let resolve = resolve_option(alloc);
-    let with_resolve = with_life.arg(resolve)?;
+    let with_resolve = with_list(
+        alloc,
+        with_life,
+        "resolve",
+        "HOST:PORT:ADDRESS",
+        RESOLVE_HELP,
+    )?;
     Ok(with_resolve)
 }
 
@@ -105,16 +112,4 @@ fn with_crawl_flags<'a>(alloc: Global, command: Command<'a>) -> Result<Command<'
     let with_fail = with_flag(alloc, with_skip, "fail", FAIL_HELP)?;
     let with_json = with_flag(alloc, with_fail, "json", JSON_HELP)?;
     Ok(with_json)
-}
-
-/// The option that gives the address of a host, any number of times.
-fn resolve_option<'a>(alloc: Global) -> Arg<'a>
-    ensures rule { rule_of result ≡ resolve_rule }
-    ensures local { result.global ≡ false }
-{
-    Arg::new(alloc, "resolve")
-        .long("resolve")
-        .action(ArgAction::Append)
-        .value_name("HOST:PORT:ADDRESS")
-        .help(RESOLVE_HELP)
 }

@@ -4,12 +4,16 @@ ghost use Rattle.std.specs.Prelude.{◌≡◌, false, IfOk};
 ghost use Rattle.clap.specs.Words.{app_of, with_rule};
 ghost use Rattle.clap.specs.declared.builder.command.Command.TheViews.{out-Command};
 ghost use Rattle.cli.specs.CommandLine.{list_rule, load_app, value_rule};
-ghost use Rattle.cli.specs.CommandLine.{with_lists, with_load_flags, with_times};
+ghost use Rattle.cli.specs.CommandLine.{with_lists, with_load_flags, with_numbers, with_times};
 
-use crate::command_line::flags::with_flag;
+use crate::command_line::flags::{described, with_flag};
 use crate::command_line::help::REPORT;
 use clap::{Arg, ArgAction, Command};
 use std::alloc::{AllocError, Global};
+
+/// What `--help` says of the subcommand.
+const ABOUT: &str =
+    "Sends requests by threads to a server of its own, and reports what came of them";
 
 /// What the value of an option is called that is a number.
 const NUMBER: &str = "NUMBER";
@@ -74,7 +78,20 @@ pub fn load_subcommand<'a>(alloc: Global) -> Result<Command<'a>, AllocError>
     ensures local { IfOk result (λ command. (out-Command command).has_globals ≡ false) }
 {
     let bare = Command::new(alloc, "load");
-    let with_sites = with_value(alloc, bare, "sites", NUMBER, SITES_HELP)?;
+    let with_numbers = with_numbers(alloc, bare)?;
+    let with_lists = with_lists(alloc, with_numbers)?;
+    let with_times = with_times(alloc, with_lists)?;
+    let with_flags = with_load_flags(alloc, with_times)?;
+    Ok(described(with_flags, ABOUT, REPORT))
+}
+
+/// The command with the options of a load of the program's own server.
+fn with_numbers<'a>(alloc: Global, command: Command<'a>) -> Result<Command<'a>, AllocError>
+    ensures app { IfOk result (λ longer. app_of longer ≡ with_numbers (app_of command.entry)) }
+    ensures local { (out-Command command.entry).has_globals ≡ false
+        → IfOk result (λ longer. (out-Command longer).has_globals ≡ false) }
+{
+    let with_sites = with_value(alloc, command, "sites", NUMBER, SITES_HELP)?;
     let with_jobs = with_value(alloc, with_sites, "jobs", NUMBER, JOBS_HELP)?;
     let with_workers = with_value(alloc, with_jobs, "workers", NUMBER, WORKERS_HELP)?;
     let with_host_limit = with_value(alloc, with_workers, "host-limit", NUMBER, HOST_LIMIT_HELP)?;
@@ -82,13 +99,7 @@ pub fn load_subcommand<'a>(alloc: Global) -> Result<Command<'a>, AllocError>
     let with_connects = with_value(alloc, with_total, "connects", NUMBER, CONNECTS_HELP)?;
     let with_trace = with_value(alloc, with_connects, "trace", "FILE", TRACE_HELP)?;
     let with_picture = with_value(alloc, with_trace, "picture", "FILE", PICTURE_HELP)?;
-    let with_lists = with_lists(alloc, with_picture)?;
-    let with_times = with_times(alloc, with_lists)?;
-    let with_flags = with_load_flags(alloc, with_times)?;
-    let load = with_flags
-        .about("Sends requests by threads to a server of its own, and reports what came of them")
-        .after_help(REPORT);
-    Ok(load)
+    Ok(with_picture)
 }
 
 /// The command with an option of that name, whose value is called so.
@@ -166,7 +177,7 @@ fn with_load_flags<'a>(alloc: Global, command: Command<'a>) -> Result<Command<'a
 }
 
 /// The command with an option of that name that may be repeated, whose value is called so.
-fn with_list<'a>(
+pub(crate) fn with_list<'a>(
     alloc: Global,
     command: Command<'a>,
     name: &'a str,

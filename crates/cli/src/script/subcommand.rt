@@ -5,13 +5,15 @@ ghost use Rattle.clap.specs.Words.{app_of};
 ghost use Rattle.clap.specs.declared.builder.command.Command.TheViews.{out-Command};
 ghost use Rattle.cli.specs.CommandLine.{script_app};
 
-use crate::command_line::flags::with_flag;
+use crate::command_line::flags::{described, with_file, with_flag};
 use crate::command_line::help::COMMANDS;
 use crate::loading::subcommand::with_value;
-use clap::{Arg, Command};
+use clap::Command;
 use std::alloc::{AllocError, Global};
 
-/// What `--help` says of the options and the file.
+/// What `--help` says of the subcommand, its options and the file.
+const ABOUT: &str = "Runs a script and writes its transcript";
+
 const TRACE_HELP: &str = "Writes a trace: each line of the script, and what it causes";
 
 const PICTURE_HELP: &str = "Draws what the script does into a file, as SVG";
@@ -30,10 +32,6 @@ pub fn script_subcommand<'a>(alloc: Global) -> Result<Command<'a>, AllocError>
     let bare = Command::new(alloc, "script");
     let with_trace = with_flag(alloc, bare, "trace", TRACE_HELP)?;
     let with_picture = with_value(alloc, with_trace, "picture", "FILE", PICTURE_HELP)?;
-    let file = Arg::new(alloc, "FILE").help(FILE_HELP);
-    let with_file = with_picture.arg(file)?;
-    let script = with_file
-        .about("Runs a script and writes its transcript")
-        .after_help(COMMANDS);
-    Ok(script)
+    let with_file = with_file(alloc, with_picture, FILE_HELP)?;
+    Ok(described(with_file, ABOUT, COMMANDS))
 }

@@ -1,5 +1,7 @@
 //! Loads of many jobs at once over the system's threads and sockets.
 
+ghost use Rattle.std.specs.Prelude.{◌≡◌, IfSome};
+
 use crate::loading::fault::{LoadFault, NO_THREAD, OUT_OF_MEMORY, POLL_FAILED};
 use crate::loading::measured::plan::MeasuredPlan;
 use crate::loading::measured::report::{outcome_of, report_of_load, write_picture};
@@ -14,7 +16,9 @@ use conn_key::Target;
 use exchange::Job;
 use load_run::{LoadError, LoadTimes, LoadedMany, ManyPlan, Rate, load_many};
 use loopback_server::Server;
+use script_run::FailureCounted;
 use std::alloc::{AllocError, AllocGlobal, Global};
+use std::fs::File;
 use std::random::RandomSource;
 use std::sync::Wait;
 use std::sync::atomic::{AtomicBool, Ordering};
@@ -87,7 +91,14 @@ fn add_own(alloc: Global, measured: &mut MeasuredPlan, ports: &[u16]) -> Result<
     Ok(())
 }
 
-// Carries out a load of these jobs.
+/// The files that a load writes, if they are named.
+#[derive(Drop)]
+struct LoadFiles {
+    traced: Option<FailureCounted<File>>,
+    pictured: Option<FailureCounted<File>>,
+}
+
+// Carries out a load of these jobs, once its files are made.
 fn load_sites<R: Threads + Wait + RandomSource + AllocGlobal + Sync>(
     rt: &R,
     system: &HostRuntime,
@@ -99,26 +110,35 @@ fn load_sites<R: Threads + Wait + RandomSource + AllocGlobal + Sync>(
 ) -> Result<LoadOutcome, LoadFault> {
     let traced = named_file(system, trace)?;
     let pictured = named_file(system, &measured.picture)?;
-    let sites = match LoadSites::of(system, alloc, &measured.jobs, &measured.resolved) {
-        Ok(sites) => sites,
-        Err(SiteFault::Memory) => return Err(OUT_OF_MEMORY),
-        Err(SiteFault::Unknown(host)) => return unknown(alloc, host),
-    };
+    let files = LoadFiles { traced, pictured };
+    match LoadSites::of(system, alloc, &measured.jobs, &measured.resolved) {
+        Ok(sites) => load_at(rt, system, alloc, options, measured, &sites, files, ports),
+        Err(SiteFault::Memory) => Err(OUT_OF_MEMORY),
+        Err(SiteFault::Unknown(host)) => unknown(alloc, host),
+    }
+}
+
+// Carries out the jobs at their sites, and writes the files.
+fn load_at<R: Threads + Wait + RandomSource + AllocGlobal + Sync>(
+    rt: &R,
+    system: &HostRuntime,
+    alloc: Global,
+    options: LoadOptions,
+    measured: &MeasuredPlan,
+    sites: &LoadSites<'_>,
+    files: LoadFiles,
+    ports: &[u16],
+) -> Result<LoadOutcome, LoadFault>
+    requires trace { IfSome files.traced (λ file. file.failures ≡ 0) }
+    requires picture { IfSome files.pictured (λ file. file.failures ≡ 0) }
+{
     let progress = ProgressLine::new(system, !measured.flags.quiet && !measured.flags.no_progress);
-    let keeps_logs = traced.is_some();
+    let keeps_logs = files.traced.is_some();
     let loaded = loaded_many(
-        rt, system, alloc, options, measured, &sites, keeps_logs, &progress,
+        rt, system, alloc, options, measured, sites, keeps_logs, &progress,
     );
     progress.erase();
-    let loaded = loaded?;
-    // There is a log for each site.
-    if loaded.logs.len() > MOST_HOSTS as usize {
-        return Err(LoadFault::Load(LoadError::Gather));
-    }
-    write_to(alloc, options, ports, &loaded.logs, traced)?;
-    let report = report_of_load(alloc, options, measured, &sites, &loaded)?;
-    write_picture(alloc, &report, pictured)?;
-    let outcome = outcome_of(alloc, measured, &report, &loaded)?;
+    let outcome = written(alloc, options, measured, sites, files, ports, &loaded?)?;
     if progress.is_interrupted() {
         return Ok(LoadOutcome {
             status: INTERRUPTED,
@@ -126,6 +146,30 @@ fn load_sites<R: Threads + Wait + RandomSource + AllocGlobal + Sync>(
         });
     }
     Ok(outcome)
+}
+
+// Writes the files of a load that was carried out, and tells its outcome.
+fn written(
+    alloc: Global,
+    options: LoadOptions,
+    measured: &MeasuredPlan,
+    sites: &LoadSites<'_>,
+    files: LoadFiles,
+    ports: &[u16],
+    loaded: &LoadedMany,
+) -> Result<LoadOutcome, LoadFault>
+    requires trace { IfSome files.traced (λ file. file.failures ≡ 0) }
+    requires picture { IfSome files.pictured (λ file. file.failures ≡ 0) }
+{
+    // There is a log for each site.
+    if loaded.logs.len() > MOST_HOSTS as usize {
+        return Err(LoadFault::Load(LoadError::Gather));
+    }
+    let LoadFiles { traced, pictured } = files;
+    write_to(alloc, options, ports, &loaded.logs, traced)?;
+    let report = report_of_load(alloc, options, measured, sites, loaded)?;
+    write_picture(alloc, &report, pictured)?;
+    outcome_of(alloc, measured, &report, loaded)
 }
 
 // The outcome if the system does not know a host.

@@ -1,6 +1,6 @@
-use Rattle.std.proofs.Common.{◌∙◌, ap, ap₂, codes}
+use Rattle.std.proofs.Common.{◌∙◌, ap, codes}
 use Rattle.clap.specs.Words.{App, with_rule}
-use Rattle.cli.specs.CommandLine.{value_rule}
+use Rattle.cli.specs.CommandLine.{list_rule, value_rule}
 use Rattle.cli.proofs.get.subcommand.with_crawl_limits.Goals as goal
 
 pub returns-clause-app : goal.returns-clause-app
@@ -11,4 +11,4 @@ returns-clause-app c =
     ∙ ap (λ (app : App). with_rule app (value_rule (codes "total"))) (c.in_ok-with_host.ensures.app
     ∙ ap (λ (app : App). with_rule app (value_rule (codes "host-limit"))) (c.in_ok-with_parallel.ensures.app
     ∙ ap (λ (app : App). with_rule app (value_rule (codes "parallel"))) c.in_ok-with_file.ensures.app))) in
-    c.in_ok-with_resolve.ensures.shape c.resolve_option-resolve.ensures.local ∙ ap₂ with_rule life c.resolve_option-resolve.ensures.rule
+    c.in_ok-with_resolve.ensures.app ∙ ap (λ (app : App). with_rule app (list_rule (codes "resolve"))) life
