@@ -15,6 +15,7 @@ use script_run::SystemFiles;
 use std::alloc::{AllocError, AllocGlobal, Global};
 use std::fmt::Write;
 use std::net::{IpAddr, Ipv4Addr, SocketAddr, TcpListener};
+use std::process::Abort;
 use std::random::RandomSource;
 use std::sync::Wait;
 use std::sync::atomic::{AtomicBool, AtomicU32, Ordering};
@@ -150,6 +151,12 @@ fn beside<R: Threads + Wait + Sync, T: Drop, F: FnOnce() -> io::Result<T>>(
     )
 }
 
+// Whether a text has the line of that URL, with this before it.
+fn has_line(rt: &impl Abort, alloc: Global, text: &str, before: &str, url: &str) -> bool {
+    let line = format!(in alloc; "{before} {url}\n").expect(rt, "memory");
+    text.contains(line.as_str())
+}
+
 #[test]
 fn each_url_of_a_file_has_its_line(rt: HostRuntime) {
     let server = Server::listen(&rt, rt.alloc(), 2).expect(&rt, "memory");
@@ -162,16 +169,8 @@ fn each_url_of_a_file_has_its_line(rt: HostRuntime) {
     let text = str::from_utf8(output.as_slice()).unwrap_or("");
     let mut opened: u64 = 0;
     for url in file.as_str().lines() {
-        let is_new = text.contains(
-            format!(in rt.alloc(); "200 2 new {url}\n")
-                .expect(&rt, "memory")
-                .as_str(),
-        );
-        let is_reused = text.contains(
-            format!(in rt.alloc(); "200 2 reused {url}\n")
-                .expect(&rt, "memory")
-                .as_str(),
-        );
+        let is_new = has_line(&rt, rt.alloc(), text, "200 2 new", url);
+        let is_reused = has_line(&rt, rt.alloc(), text, "200 2 reused", url);
         assert!(rt; is_new != is_reused, "{url}");
         opened = opened.saturating_add(is_new as u64);
     }
@@ -186,56 +185,62 @@ static WAYS: [(&str, bool); 3] = [
     ("get --parallel 4 --file -", true),
 ];
 
+// URLs at these two ports, a line each: of two names that the system knows, of one that it does not
+// know, and of an address.
+fn urls_at(alloc: Global, ports: &[u16]) -> Result<String, AllocError> {
+    let (port, other) = match ports {
+        [port, other, ..] => (*port, *other),
+        _ => (0, 0),
+    };
+    format!(in alloc;
+        "http://a.test:{port}/1\nhttp://gone.test:{port}/2\nhttp://a.test:{other}/3\n\
+         http://127.0.0.1:{port}/4\nhttp://b.test:{other}/5"
+    )
+}
+
+// The words that fetch these URLs that way, and the standard input.
+fn asked(
+    alloc: Global,
+    way: &str,
+    is_file: bool,
+    urls: &str,
+) -> Result<(String, String), AllocError> {
+    if is_file {
+        let input = String::from_str(alloc, urls)?;
+        return Ok((String::from_str(alloc, way)?, input));
+    }
+    let urls = urls.replace(alloc, "\n", " ")?;
+    let words = format!(in alloc; "{way} {urls}")?;
+    Ok((words, String::new(alloc)))
+}
+
+// Each URL was fetched over a connection of its own, but those of the name that is not known.
+fn check_fetched(rt: &impl Abort, alloc: Global, output: &[u8], urls: &str) {
+    let text = str::from_utf8(output).unwrap_or("");
+    for url in urls.lines() {
+        let is_unknown = url.contains("gone");
+        let failed = has_line(rt, alloc, text, "Dial", url);
+        let fetched = has_line(rt, alloc, text, "200 2 new", url);
+        check_eq(rt, (failed, fetched), (is_unknown, !is_unknown));
+    }
+}
+
 // The server listens on 127.0.0.1 alone, which is the second address of each name.
 #[test]
 fn a_name_leads_to_its_addresses(rt: HostRuntime) {
-    for row in &WAYS {
-        let (way, is_file) = *row;
-        let alloc = rt.alloc();
-        let server = Server::listen(&rt, alloc, 2).expect(&rt, "memory");
-        let (port, other) = match server.ports() {
-            [port, other, ..] => (*port, *other),
-            _ => (0, 0),
-        };
-        let urls = format!(in alloc;
-            "http://a.test:{port}/1 http://gone.test:{port}/2 http://a.test:{other}/3 \
-             http://127.0.0.1:{port}/4 http://b.test:{other}/5"
-        )
-        .expect(&rt, "memory");
-        let lines = urls
-            .as_str()
-            .replace(alloc, " ", "\n")
-            .expect(&rt, "memory");
-        let words = match is_file {
-            true => String::from_str(alloc, way).expect(&rt, "memory"),
-            false => format!(in alloc; "{way} {urls}").expect(&rt, "memory"),
-        };
-        let input = if is_file { lines.as_str() } else { "" };
-        let (status, output, lookups) = beside(
+    for (way, is_file) in &WAYS {
+        let server = Server::listen(&rt, rt.alloc(), 2).expect(&rt, "memory");
+        let urls = urls_at(rt.alloc(), server.ports()).expect(&rt, "memory");
+        let urls = urls.as_str();
+        let (words, input) = asked(rt.alloc(), way, *is_file, urls).expect(&rt, "memory");
+        let got = beside(
             &rt,
             server,
-            || get(&rt, &rt, words.as_str(), input),
-        ).expect(&rt, "memory");
+            || get(&rt, &rt, words.as_str(), input.as_str()),
+        );
+        let (status, output, lookups) = got.expect(&rt, "memory");
         assert_eq!(rt; (status, lookups), (4, 3), "{way}");
-        let text = str::from_utf8(output.as_slice()).unwrap_or("");
-        for url in lines.as_str().lines() {
-            let is_unknown = url.contains("gone");
-            let failed = text.contains(
-                format!(in alloc; "Dial {url}\n")
-                    .expect(&rt, "memory")
-                    .as_str(),
-            );
-            let fetched = text.contains(
-                format!(in alloc; "200 2 new {url}\n")
-                    .expect(&rt, "memory")
-                    .as_str(),
-            );
-            assert_eq!(rt;
-                (failed, fetched),
-                (is_unknown, !is_unknown),
-                "{way} {url}: {text}"
-            );
-        }
+        check_fetched(&rt, rt.alloc(), &output, urls);
     }
 }
 
