@@ -26,8 +26,8 @@ pub(crate) fn job_of(site: u32, transfer: u64, target: Target) -> Job {
     }
 }
 
-/// Makes `count` jobs, of which job k asks for the path `/k` of 127.0.0.1, at the port with the index
-/// k modulo the number of ports.
+/// Makes `count` jobs. Job k asks for the path `/k` of 127.0.0.1, at the port with the index k
+/// modulo the number of ports. Without ports there are none.
 ///
 /// # Errors
 ///

@@ -1,5 +1,5 @@
-//! What workers of a load count: outcomes, intervals, and joined figures. The JSON of `load_texts.rt`
-//! has the figures of six jobs.
+//! What workers of a load count: outcomes, intervals, and joined figures. The JSON of
+//! `load_texts.rt` has the figures of six jobs.
 
 use crate::checks::check_eq;
 use exchange::{Answer, Done, Fault};
