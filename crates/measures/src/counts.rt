@@ -1,8 +1,5 @@
 //! What was counted, or why nothing was.
 
-use budget::Refusal;
-use script_text::ScriptFault;
-
 /// What was counted.
 #[derive(Clone, Copy)]
 pub(crate) enum Counts {
@@ -34,19 +31,13 @@ impl Counts {
     }
 }
 
-/// Why nothing was counted, or a script ended.
+/// Why nothing was counted.
 #[derive(Clone, Copy)]
 pub(crate) enum MeasureError {
     /// The words are wrong.
     Words,
     /// Memory ran out.
     Memory,
-    /// What was counted, or a transcript, could not be written.
+    /// What was counted could not be written.
     Output,
-    /// The script has a fault.
-    Script(ScriptFault),
-    /// The cache could not be gathered at the script's end.
-    NotGathered(Refusal),
-    /// The account that the cache gave is not what its logs say.
-    Account,
 }

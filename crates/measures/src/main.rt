@@ -1,11 +1,10 @@
-//! A program that measures and tries: rounds over the parts of the product, as often and by as many
-//! threads as its words say, and scripts by a shared cache. It is not a part of the product.
+//! A program that measures: rounds over the parts of the product, as often and by as many threads
+//! as its words say. It is not a part of the product.
 #![tactic(auto)]
 
 mod counts;
 mod endless;
 mod limits;
-mod scripts;
 mod shared;
 mod transfers;
 mod words;
@@ -18,14 +17,11 @@ use std::process::ExitCode;
 use std::sync::Wait;
 use std::thread::Threads;
 
-/// Memory ran out, what was counted could not be written, or an account is wrong.
+/// Memory ran out, or what was counted could not be written.
 const FAILED: u8 = 1;
 
 /// The words are refused.
 const BAD_WORDS: u8 = 2;
-
-/// The script has a fault, as `curlpool script` ends.
-const BAD_SCRIPT: u8 = 3;
 
 /// The words that there are.
 const USAGE: &str = "one or more of:\n\
@@ -33,28 +29,25 @@ const USAGE: &str = "one or more of:\n\
     shared pair|close HOSTS ROUNDS\n\
     shared threads THREADS own|one ROUNDS\n\
     exchange transfers COUNT\n\
-    exchange waiting OTHERS ENDS\n\
-    script FILE (- is standard input, as is no word)";
+    exchange waiting OTHERS ENDS";
 
-/// What is measured, or run.
+/// What is measured.
 #[derive(Clone, Copy)]
 enum Subject {
     Limits,
     Shared,
     Exchange,
-    Script,
 }
 
 /// Each subject's word.
-static SUBJECTS: [(&str, Subject); 4] = [
+static SUBJECTS: [(&str, Subject); 3] = [
     ("limits", Subject::Limits),
     ("shared", Subject::Shared),
     ("exchange", Subject::Exchange),
-    ("script", Subject::Script),
 ];
 
-/// Measures what the next words ask for, and prints what was counted; or runs a script. Threads and
-/// locks are those of `rt`.
+/// Measures what the next words ask for, and prints what was counted. Threads and locks are those
+/// of `rt`.
 fn measure_next<R: Threads + Wait + Sync>(
     rt: &R,
     system: &HostRuntime,
@@ -64,7 +57,6 @@ fn measure_next<R: Threads + Wait + Sync>(
         Subject::Limits => limits::counted(rt, system.alloc(), words)?,
         Subject::Shared => shared::counted(rt, system.alloc(), words)?,
         Subject::Exchange => transfers::counted(system, system.alloc(), words)?,
-        Subject::Script => return scripts::run_next(rt, system, words),
     };
     counts.print(system)
 }
@@ -99,15 +91,6 @@ fn tell(rt: &HostRuntime, error: MeasureError) -> ExitCode {
         MeasureError::Words => tell_why(rt, USAGE, BAD_WORDS),
         MeasureError::Memory => tell_why(rt, "out of memory", FAILED),
         MeasureError::Output => tell_why(rt, "the output cannot be written", FAILED),
-        MeasureError::Account => tell_why(rt, "the account is not what the logs say", FAILED),
-        MeasureError::NotGathered(refusal) => {
-            let _ = eprintln!(rt; "measures: the cache is not gathered: {refusal}");
-            ExitCode::from(FAILED)
-        }
-        MeasureError::Script(fault) => {
-            let _ = eprintln!(rt; "{fault}");
-            ExitCode::from(BAD_SCRIPT)
-        }
     }
 }
 

@@ -1,4 +1,0 @@
-use Rattle.requests.proofs.many.done.Given as goal
-
-abbrev pub ghosts-carried : goal.ghosts-carried
-ghosts-carried g a = record { names = a.plan }

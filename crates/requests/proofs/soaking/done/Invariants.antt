@@ -1,5 +1,0 @@
-use Rattle.requests.proofs.soaking.done.Given as goal
-
--- the cache's names are those of its plan
-abbrev pub ghosts-soaked : goal.ghosts-soaked
-ghosts-soaked g a = record { names = a.plan }

@@ -1,0 +1,90 @@
+//! The command `load each`: threads send requests over one shared cache, and each request has a
+//! line.
+
+mod task;
+
+use crate::addresses::sites_at;
+use crate::jobs::{jobs_at, print_line};
+use crate::loading::task::{Task, task_of};
+use crate::statuses::{BAD_WORDS, status_of};
+use crate::tally::Tally;
+use budget::Limits;
+use bundle::MOST_HOSTS;
+use cache_report::totals;
+use exchange::Done;
+use load_run::{Loaded, load};
+use shared_cache::HostCount;
+use std::alloc::AllocGlobal;
+use std::io::Write;
+use std::random::RandomSource;
+use std::sync::Wait;
+use std::thread::Threads;
+
+/// Maximum number of idle connections.
+const KEPT: u32 = 65_535;
+
+/// Runs the command, prints its results, and returns the status.
+pub(crate) fn load_each<R: Threads + Wait + RandomSource + AllocGlobal + Sync>(
+    threads: &R,
+    rt: &HostRuntime,
+    words: &[String],
+) -> u8 {
+    let Some(task) = task_of(rt.alloc(), words) else {
+        return BAD_WORDS;
+    };
+    let Some(loaded) = loaded_by(threads, rt, &task) else {
+        return status_of(None);
+    };
+    status_of(print_loaded(rt, &loaded))
+}
+
+// Runs the jobs of the task. `None` if they could not begin.
+fn loaded_by<R: Threads + Wait + RandomSource + AllocGlobal + Sync>(
+    threads: &R,
+    rt: &HostRuntime,
+    task: &Task,
+) -> Option<Loaded> {
+    let alloc = rt.alloc();
+    let limits = Limits::new(0, task.total, KEPT).ok()?;
+    let sites = sites_at(alloc, &task.ports).ok()?;
+    if sites.is_empty() || sites.len() > MOST_HOSTS as usize {
+        return None;
+    }
+    let jobs = jobs_at(alloc, task.jobs, &task.ports).ok()?;
+    load(threads, rt, alloc, limits, &sites, &jobs, task.workers).ok()
+}
+
+// Prints a line for each job, with its path, and the sums. `None` if printing failed.
+fn print_loaded(rt: &HostRuntime, loaded: &Loaded) -> Option<bool> {
+    let mut tally = Tally::new();
+    for (number, done) in loaded.results.iter().enumerate() {
+        let path = format!(in rt.alloc(); "/{number}").ok()?;
+        print_line(rt, path.as_str(), done)?;
+        tally.add(done);
+    }
+    print_tally(rt, &tally, totals(&loaded.gathered.hosts))
+}
+
+// Prints the sums over all jobs and all hosts. `None` if printing failed.
+fn print_tally(rt: &HostRuntime, tally: &Tally, hosts: HostCount) -> Option<bool> {
+    let Tally {
+        good,
+        failed,
+        reused,
+        retried,
+        bytes,
+    } = *tally;
+    let HostCount {
+        opened,
+        closed,
+        alive,
+        ..
+    } = hosts;
+    let jobs = good.saturating_add(failed);
+    println!(rt;
+        "good {good} of {jobs} reused {reused} retried {retried} opened {opened} closed {closed} \
+            alive {alive} bytes {bytes}"
+    )
+    .ok()?;
+    Some(true)
+}
