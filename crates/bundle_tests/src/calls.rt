@@ -3,10 +3,9 @@
 
 ghost use Rattle.std.specs.Prelude.{◌≡◌, IsSome, None, Some};
 
-use crate::checks::check_eq;
 use crate::desk::{
-    Desk, Stream, WANT, asked, give_back, lease_of, leased, leave, still, stray, stream_of,
-    stream_under, ticket_of, waits, want_of,
+    Desk, Stream, asked, give_back, lease_of, leased, leave, still, stray, stream_of, stream_under,
+    ticket_of, waits, want_of,
 };
 use crate::keeper::{Row, Said, Step, run};
 use budget::Refusal;
@@ -14,59 +13,7 @@ use bundle::Lease;
 use conn_log::{Cause, Want};
 use std::test::Fail;
 
-// What transfer 2 wants that a connection of lane 0 does not fit 9 seconds after it was opened.
-const OTHER_LANE: Want = Want {
-    transfer: 2,
-    lane: 1,
-    ..WANT
-};
-
-const FRESH: Want = Want {
-    transfer: 2,
-    fresh: true,
-    ..WANT
-};
-
-const YOUNG: Want = Want {
-    transfer: 2,
-    max_life: 8,
-    ..WANT
-};
-
-const YOUNG_OF_OTHER_LANE: Want = Want { lane: 1, ..YOUNG };
-
-static CALLS: [Row; 13] = [
-    // both come back in one moment: the greater number is the newer one
-    (
-        "the first comes back first",
-        (2, 0, 65_535),
-        1,
-        &[
-            (Step::Get(1, 0), Said::Opened(1, 0)),
-            (Step::Get(2, 0), Said::Opened(2, 0)),
-            (Step::Back(1, 5), Said::Freed(false)),
-            (Step::Back(2, 5), Said::Freed(false)),
-            (Step::Get(3, 6), Said::Reused(2, 6)),
-            (Step::Drop(3, 6), Said::Freed(true)),
-            (Step::Get(4, 6), Said::Reused(1, 6)),
-            (Step::Drop(4, 6), Said::Freed(true)),
-        ],
-    ),
-    (
-        "the second comes back first",
-        (2, 0, 65_535),
-        1,
-        &[
-            (Step::Get(1, 0), Said::Opened(1, 0)),
-            (Step::Get(2, 0), Said::Opened(2, 0)),
-            (Step::Back(2, 5), Said::Freed(false)),
-            (Step::Back(1, 5), Said::Freed(false)),
-            (Step::Get(3, 6), Said::Reused(2, 6)),
-            (Step::Drop(3, 6), Said::Freed(true)),
-            (Step::Get(4, 6), Said::Reused(1, 6)),
-            (Step::Drop(4, 6), Said::Freed(true)),
-        ],
-    ),
+static CALLS: [Row; 5] = [
     (
         "the newest is reused, and an abandoned connection closed",
         (4, 0, 65_535),
@@ -130,23 +77,6 @@ static CALLS: [Row; 13] = [
         ],
     ),
     (
-        "who came first is served first, with a new connection",
-        (1, 0, 65_535),
-        1,
-        &[
-            (Step::Get(1, 0), Said::Opened(1, 0)),
-            (Step::Get(2, 1), Said::Waits),
-            (Step::Get(3, 2), Said::Waits),
-            (Step::Drop(1, 3), Said::Freed(false)),
-            (Step::Claim(3), Said::Still),
-            (Step::Claim(2), Said::Opened(2, 3)),
-            (Step::Drop(2, 4), Said::Freed(false)),
-            (Step::Claim(3), Said::Opened(3, 4)),
-            (Step::Drop(3, 5), Said::Freed(true)),
-            (Step::Look, Said::Look(0, 0, 0, 0, false)),
-        ],
-    ),
-    (
         "granted connections keep their own streams",
         (2, 0, 65_535),
         1,
@@ -163,145 +93,11 @@ static CALLS: [Row; 13] = [
             (Step::Drop(3, 4), Said::Freed(true)),
         ],
     ),
-    // what the second was granted is closed, and one is opened for the fourth
-    (
-        "tickets are withdrawn",
-        (1, 0, 65_535),
-        1,
-        &[
-            (Step::Get(1, 0), Said::Opened(1, 0)),
-            (Step::Get(2, 1), Said::Waits),
-            (Step::Get(3, 2), Said::Waits),
-            (Step::Get(4, 2), Said::Waits),
-            (Step::Leave(3, 3), Said::Freed(false)),
-            (Step::Back(1, 4), Said::Freed(false)),
-            (Step::Leave(2, 5), Said::Freed(false)),
-            (Step::Claim(4), Said::Opened(2, 5)),
-            (Step::Drop(4, 6), Said::Freed(true)),
-            (Step::Look, Said::Look(0, 0, 0, 0, false)),
-        ],
-    ),
-    (
-        "a connection of another lane makes room",
-        (1, 0, 65_535),
-        1,
-        &[
-            (Step::Get(1, 0), Said::Opened(1, 0)),
-            (Step::Back(1, 2), Said::Freed(false)),
-            (Step::Ask(OTHER_LANE, 3), Said::Opened(2, 3)),
-            (Step::Entry(2), Said::Closed(3, 1, Cause::HostRoom)),
-            (Step::Drop(2, 4), Said::Freed(true)),
-        ],
-    ),
-    (
-        "a connection that was passed on comes back",
-        (1, 0, 65_535),
-        1,
-        &[
-            (Step::Get(1, 0), Said::Opened(1, 0)),
-            (Step::Get(2, 1), Said::Waits),
-            (Step::Back(1, 2), Said::Freed(false)),
-            (Step::Claim(2), Said::Reused(1, 2)),
-            (Step::Back(2, 3), Said::Freed(false)),
-            (Step::Get(3, 4), Said::Reused(1, 4)),
-            (Step::Drop(3, 5), Said::Freed(true)),
-        ],
-    ),
-    (
-        "a connection that was opened for who waited comes back",
-        (1, 0, 65_535),
-        1,
-        &[
-            (Step::Get(1, 0), Said::Opened(1, 0)),
-            (Step::Get(2, 1), Said::Waits),
-            (Step::Drop(1, 2), Said::Freed(false)),
-            (Step::Claim(2), Said::Opened(2, 2)),
-            (Step::Back(2, 3), Said::Freed(false)),
-            (Step::Get(3, 4), Said::Reused(2, 4)),
-            (Step::Drop(3, 5), Said::Freed(true)),
-        ],
-    ),
-    (
-        "an abandoned connection is closed",
-        (4, 0, 65_535),
-        1,
-        &[
-            (Step::Get(1, 0), Said::Opened(1, 0)),
-            (Step::Drop(1, 2_000), Said::Freed(true)),
-            (Step::Length, Said::Length(2)),
-            (Step::Entry(1), Said::Closed(2_000, 1, Cause::Dropped)),
-        ],
-    ),
-];
-
-// Each of them, with the cause for which the connection is closed.
-static UNFIT: [Row; 4] = [
-    (
-        "another lane",
-        (1, 0, 65_535),
-        1,
-        &[
-            (Step::Get(1, 0), Said::Opened(1, 0)),
-            (Step::Ask(OTHER_LANE, 1), Said::Waits),
-            (Step::Back(1, 9), Said::Freed(false)),
-            (Step::Entry(3), Said::Closed(9, 1, Cause::HostRoom)),
-            (Step::Claim(2), Said::Opened(2, 9)),
-            (Step::Drop(2, 10), Said::Freed(true)),
-        ],
-    ),
-    (
-        "a fresh one",
-        (1, 0, 65_535),
-        1,
-        &[
-            (Step::Get(1, 0), Said::Opened(1, 0)),
-            (Step::Ask(FRESH, 1), Said::Waits),
-            (Step::Back(1, 9), Said::Freed(false)),
-            (Step::Entry(3), Said::Closed(9, 1, Cause::HostRoom)),
-            (Step::Claim(2), Said::Opened(2, 9)),
-            (Step::Drop(2, 10), Said::Freed(true)),
-        ],
-    ),
-    (
-        "a younger one",
-        (1, 0, 65_535),
-        1,
-        &[
-            (Step::Get(1, 0), Said::Opened(1, 0)),
-            (Step::Ask(YOUNG, 1), Said::Waits),
-            (Step::Back(1, 9), Said::Freed(false)),
-            (Step::Entry(3), Said::Closed(9, 1, Cause::TooOld)),
-            (Step::Claim(2), Said::Opened(2, 9)),
-            (Step::Drop(2, 10), Said::Freed(true)),
-        ],
-    ),
-    (
-        "a younger one of another lane",
-        (1, 0, 65_535),
-        1,
-        &[
-            (Step::Get(1, 0), Said::Opened(1, 0)),
-            (Step::Ask(YOUNG_OF_OTHER_LANE, 1), Said::Waits),
-            (Step::Back(1, 9), Said::Freed(false)),
-            (Step::Entry(3), Said::Closed(9, 1, Cause::HostRoom)),
-            (Step::Claim(2), Said::Opened(2, 9)),
-            (Step::Drop(2, 10), Said::Freed(true)),
-        ],
-    ),
 ];
 
 #[test]
 fn calls_are_answered_so(rt: HostRuntime) {
     for row in &CALLS {
-        let (name, limits, first, steps) = *row;
-        let desk = Desk::new(rt.alloc(), limits, first).expect(&rt, "memory");
-        run(&rt, rt.alloc(), desk, name, steps);
-    }
-}
-
-#[test]
-fn what_does_not_fit_the_first_that_waits_is_closed(rt: HostRuntime) {
-    for row in &UNFIT {
         let (name, limits, first, steps) = *row;
         let desk = Desk::new(rt.alloc(), limits, first).expect(&rt, "memory");
         run(&rt, rt.alloc(), desk, name, steps);

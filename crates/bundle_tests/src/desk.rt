@@ -10,7 +10,7 @@ use budget::{Limits, Lobby, Pass, Permits, PlainBudget, Refusal, Try};
 use bundle::{
     Back, Booking, Bundle, Changed, Claimed, Did, Got, Lease, Served, Shortage, Stray, Ticket,
 };
-use conn_log::{Entry, Event, Stamp, Want};
+use conn_log::{Entry, Stamp, Want};
 use persistence::{Facts, Framing, Version};
 use std::alloc::Global;
 use std::marker::Model;
@@ -551,18 +551,6 @@ pub(crate) fn stream_under(
     let stream = lease.stream_mut().map(|stream| *stream);
     drop_lease(rt, desk, lease, now);
     (number, stream)
-}
-
-/// The lease that a ticket has to give.
-pub(crate) fn claimed(rt: &impl Abort, desk: &mut Desk<Stream>, ticket: Ticket) -> Lease<Stream>
-    ensures made_here { result.tables ≡ desk.old.here }
-    ensures same { desk.new ≡ desk.old }
-{
-    match desk.claim(ticket) {
-        Ok(Claimed::Lease(lease)) => lease,
-        Ok(Claimed::Still(_ticket)) => panic!(rt; "the transfer still waits"),
-        Err(_stray) => panic!(rt; "the ticket is a stranger"),
-    }
 }
 
 /// What a ticket comes back in that has to be a stranger.

@@ -24,6 +24,4 @@ mod keeper;
 #[cfg(test)]
 mod limits;
 #[cfg(test)]
-mod memory;
-#[cfg(test)]
 mod passes;

@@ -6,27 +6,7 @@ use crate::keeper::{Row, Said, Step, run};
 use budget::{Refusal, Try};
 use conn_log::Cause;
 
-static ROWS: [Row; 9] = [
-    (
-        "a raised limit starts who waits",
-        (1, 0, 4),
-        1,
-        &[
-            (Step::Get(1, 0), Said::Opened(1, 0)),
-            (Step::Get(2, 1), Said::Waits),
-            (Step::Get(3, 2), Said::Waits),
-            (Step::Limit(2, 5), Said::Freed(false)),
-            (Step::Entry(3), Said::Limited(5, 2)),
-            (Step::Claim(2), Said::Opened(2, 5)),
-            (Step::Look, Said::Look(2, 0, 2, 1, false)),
-            (Step::Limit(1, 6), Said::Refused(Refusal::Busy(2))),
-            (Step::Length, Said::Length(5)),
-            (Step::Back(1, 7), Said::Freed(false)),
-            (Step::Claim(3), Said::Reused(1, 7)),
-            (Step::Drop(2, 8), Said::Freed(true)),
-            (Step::Drop(3, 8), Said::Freed(true)),
-        ],
-    ),
+static ROWS: [Row; 5] = [
     // 0 is none, and what was closed gave its place among the kept ones back
     (
         "a lowered limit closes the oldest first",
@@ -112,23 +92,6 @@ static ROWS: [Row; 9] = [
         ],
     ),
     (
-        "a raised limit starts all who wait",
-        (1, 0, 4),
-        1,
-        &[
-            (Step::Get(1, 0), Said::Opened(1, 0)),
-            (Step::Get(2, 1), Said::Waits),
-            (Step::Get(3, 2), Said::Waits),
-            (Step::Limit(0, 5), Said::Freed(false)),
-            (Step::Claim(2), Said::Opened(2, 5)),
-            (Step::Claim(3), Said::Opened(3, 5)),
-            (Step::Limit(2, 6), Said::Refused(Refusal::Busy(3))),
-            (Step::Drop(1, 7), Said::Freed(true)),
-            (Step::Drop(2, 7), Said::Freed(true)),
-            (Step::Drop(3, 7), Said::Freed(true)),
-        ],
-    ),
-    (
         "a queued host waits for its turn",
         (2, 1, 4),
         1,
@@ -142,36 +105,6 @@ static ROWS: [Row; 9] = [
             (Step::Serve(2), Said::Turn(Some(Try::Got))),
             (Step::Claim(1), Said::Opened(1, 2)),
             (Step::Drop(1, 3), Said::Freed(true)),
-        ],
-    ),
-    (
-        "a lease comes back after changes of the limit",
-        (3, 0, 4),
-        1,
-        &[
-            (Step::Get(1, 0), Said::Opened(1, 0)),
-            (Step::Get(2, 0), Said::Opened(2, 0)),
-            (Step::Back(2, 1), Said::Freed(false)),
-            (Step::Limit(1, 2), Said::Freed(true)),
-            (Step::Limit(2, 3), Said::Freed(false)),
-            (Step::Back(1, 4), Said::Freed(false)),
-            (Step::Get(3, 5), Said::Reused(1, 5)),
-            (Step::Drop(3, 6), Said::Freed(true)),
-            (Step::Look, Said::Look(0, 0, 0, 0, false)),
-        ],
-    ),
-    (
-        "a lease is abandoned after changes of the limit",
-        (3, 0, 4),
-        1,
-        &[
-            (Step::Get(1, 0), Said::Opened(1, 0)),
-            (Step::Get(2, 0), Said::Opened(2, 0)),
-            (Step::Back(2, 1), Said::Freed(false)),
-            (Step::Limit(1, 2), Said::Freed(true)),
-            (Step::Limit(2, 3), Said::Freed(false)),
-            (Step::Drop(1, 4), Said::Freed(true)),
-            (Step::Look, Said::Look(0, 0, 0, 0, false)),
         ],
     ),
 ];

@@ -1,11 +1,9 @@
-//! What no script shows of a pool (`worked_scripts` runs those): how many were pruned, and what is
-//! refused at a site that is not there.
+//! The most hosts of a pool, and its answers at a site that is not there. No script shows them.
 
 use crate::checks::check_eq;
-use crate::desk::{Desk, check_log, closed, limited, opened, returned, want_of};
+use crate::desk::{Desk, check_log, limited, opened, want_of};
 use budget::{Limits, Refusal};
 use cache::Pool;
-use conn_log::Cause;
 
 #[test]
 fn a_pool_has_1024_hosts_at_most(rt: HostRuntime) {
@@ -40,32 +38,4 @@ fn a_transfer_is_busy_and_a_site_is_bad(rt: HostRuntime) {
     check_eq(&rt, (desk.pool.hosts(), desk.pool.spent(0)), (1, Some(0)));
     let pool = desk.close(&rt, 2);
     check_eq(&rt, pool.spent(0), Some(1));
-}
-
-#[test]
-fn a_prune_is_of_all_hosts(rt: HostRuntime) {
-    let mut desk = Desk::new(rt.alloc(), (0, 0, 4), 3).expect(&rt, "memory");
-    for &(transfer, site) in &[(1, 0), (2, 1), (3, 2)] {
-        desk.get(&rt, transfer, site, 0);
-        desk.back(&rt, transfer, 5 * transfer);
-    }
-    check_eq(&rt, desk.prune(14, 3, 0), 2);
-    let pruned = closed(1, Cause::Pruned, 14);
-    check_log(
-        &rt,
-        &desk,
-        0,
-        &[opened(1, want_of(1), 0), returned(1, 5), pruned],
-    );
-    check_log(
-        &rt,
-        &desk,
-        1,
-        &[opened(1, want_of(2), 0), returned(1, 10), pruned],
-    );
-    check_log(&rt, &desk, 2, &[opened(1, want_of(3), 0), returned(1, 15)]);
-    // by the lifetime; that host's last moment is 15
-    check_eq(&rt, desk.prune(14, 118, 14), 1);
-    check_eq(&rt, desk.prune(100, 0, 0), 0);
-    desk.close(&rt, 16);
 }

@@ -25,11 +25,6 @@ const BEFORE: u64 = 20_000;
 
 const ROUNDS: u64 = 10_000;
 
-/// How often a log is cut, and how many pairs there are between two cuts, of two entries each.
-const CUTS: u64 = 2_000;
-
-const PAIRS: u64 = 5_000;
-
 /// The lease with a stream.
 fn with_stream(lease: Lease<()>) -> Lease<()>
     ensures site { result.site ≡ lease.site }
@@ -150,23 +145,4 @@ fn the_oldest_of_all_is_closed_often(rt: HostRuntime) {
         let used = opens_often(&mut pool, hosts, BEFORE, BEFORE + ROUNDS);
         check_eq(&rt, used, ROUNDS);
     }
-}
-
-#[test]
-fn a_pool_is_cut_two_thousand_times(rt: HostRuntime) {
-    let mut pool = warm(rt.alloc(), 1, 1, 0).expect(&rt, "memory");
-    let _first = pool.cut(0).expect(&rt, "memory");
-    for turn in 0..CUTS {
-        let first = turn.saturating_mul(PAIRS);
-        let used = uses_often(&mut pool, 0, first, first.saturating_add(PAIRS));
-        check_eq(&rt, used, PAIRS);
-        let part = pool.cut(0).expect(&rt, "memory");
-        check_eq(&rt, part.len(), 10_000);
-    }
-    let counts = pool.log(0).expect(&rt, "a host").counts();
-    check_eq(
-        &rt,
-        (counts.opened, counts.reused, counts.closed),
-        (1, 10_000_000, 0),
-    );
 }

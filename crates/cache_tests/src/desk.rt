@@ -192,11 +192,6 @@ impl Desk {
         pool
     }
 
-    /// Closes what is too old at all hosts; how many that were.
-    pub fn prune(&mut self, now: u64, max_age: u64, max_life: u64) -> u32 {
-        self.pool.prune(now, max_age, max_life)
-    }
-
     pub fn set_host_limit(&mut self, site: u32, limit: u32, now: u64) -> Result<(), Refusal> {
         self.pool.set_host_limit(site, limit, now)
     }

@@ -18,8 +18,6 @@ mod drawn;
 #[cfg(test)]
 mod example;
 #[cfg(test)]
-mod memory;
-#[cfg(test)]
 mod oldest_of_all;
 #[cfg(test)]
 mod slots;

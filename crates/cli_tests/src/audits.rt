@@ -1,6 +1,6 @@
-//! Audits: what the words say, what is told of traces, and traces that come piece by piece.
+//! Audits of traces that come piece by piece, and answers that cannot be written.
 
-use crate::running::{ROW, Row, Text, check_all, check_stopped};
+use crate::running::{ROW, Row, Text, check_stopped};
 use audit_run::{AuditStop, Telling, Verdict, audit_stream};
 use script_run::FailureCounted;
 use std::alloc::{AllocError, Global};
@@ -16,188 +16,12 @@ pub const BROKEN: &str = "limits 2 0 4\nsite http://a.test/\nget 1 0 0 at 0\n\
 const TOO_LATE: &str = "trace:8: leased 0.1 to 7 at 260: idle for 121 seconds, and transfer 7 \
     accepts 118\ntrace:6: here 0.1 came back\n";
 
-const TOO_LATE_IN_FILE: &str = "broken:8: leased 0.1 to 7 at 260: idle for 121 seconds, and \
-    transfer 7 accepts 118\nbroken:6: here 0.1 came back\n";
-
-const WITH_STATE: &str = "trace:8: leased 0.1 to 7 at 260: idle for 121 seconds, and transfer 7 \
-    accepts 118\ntrace:6: here 0.1 came back\ntrace:8: host 0: 0.1 idle since 139\n";
-
-const AS_JSON: &str = "{\"lawful\": false, \"events\": 3, \"hosts\": 1, \"open\": 1, \
-    \"violations\": [{\"line\": 8, \"rule\": \"idle-too-long\", \"text\": \"idle for 121 seconds, \
-    and transfer 7 accepts 118\", \"earlier\": 6}]}\n";
-
 /// A start that passes the host limit, of which three lines tell, and one beside.
 const NOT_TAKEN: &str = "limits 1 0 4\r\nsite http://a.test/\r\nget 1 0 0 at 0\r\n\
     opened 0.1 for 1 at 0\r\nget 2 0 0 at 0\r\nopened 0.2 for 2 at 0\r\nback 2 0 keep at 1\r\n\
     returned 0.2 by 2 at 1\r\nclosed 0.2 at 2\r\nclosed 0.2 at 3\r\n";
 
-const TOO_MANY: &str = "trace:6: opened 0.2 for 2 at 0: past the host limit: 1 open, limit 1\n\
-    trace:10: closed 0.2 at 3: 0.2 isn't open\n\
-    and 2 lines of connections that were not taken\n";
-
 const LAWFUL: &str = "limits 2 0 4\nsite http://a.test/\n";
-
-/// Words that ask for audits, and those that are refused.
-static ROWS: [Row; 21] = [
-    Row {
-        name: "a lawful trace",
-        words: "audit",
-        script: LAWFUL,
-        output: Text::Whole("lawful: 0 events, 1 host, 0 still open, waits not told\n"),
-        ..ROW
-    },
-    Row {
-        name: "a dash stands for standard input, and nobody is told how to end it",
-        words: "audit -",
-        is_typed: true,
-        script: "",
-        output: Text::Whole("lawful: 0 events, 0 hosts, 0 still open, waits not told\n"),
-        ..ROW
-    },
-    Row {
-        name: "a file is read in place of standard input",
-        words: "audit reuse",
-        script: BROKEN,
-        output: Text::Whole("lawful: 0 events, 1 host, 0 still open, waits not told\n"),
-        ..ROW
-    },
-    Row {
-        name: "a file is named as the words have it",
-        words: "audit broken",
-        output: Text::Whole(TOO_LATE_IN_FILE),
-        status: 1,
-        ..ROW
-    },
-    Row {
-        name: "a file that is not there cannot be read",
-        words: "audit --all gone",
-        errors: Text::Whole("line 0: cannot read\n"),
-        status: 3,
-        ..ROW
-    },
-    Row {
-        name: "the first violation alone",
-        words: "audit",
-        script: BROKEN,
-        output: Text::Whole(TOO_LATE),
-        status: 1,
-        ..ROW
-    },
-    Row {
-        name: "with what was open",
-        words: "audit --state",
-        script: BROKEN,
-        output: Text::Whole(WITH_STATE),
-        status: 1,
-        ..ROW
-    },
-    Row {
-        name: "as JSON",
-        words: "audit --json",
-        script: BROKEN,
-        output: Text::Whole(AS_JSON),
-        status: 1,
-        ..ROW
-    },
-    Row {
-        name: "a lawful trace as JSON",
-        words: "audit --json",
-        script: LAWFUL,
-        output: Text::Whole(
-            "{\"lawful\": true, \"events\": 0, \"hosts\": 1, \"open\": 0, \"violations\": []}\n",
-        ),
-        ..ROW
-    },
-    Row {
-        name: "all violations, and lines that are passed by",
-        words: "audit --all",
-        script: NOT_TAKEN,
-        output: Text::Whole(TOO_MANY),
-        status: 1,
-        ..ROW
-    },
-    Row {
-        name: "the violations before a line that cannot be read",
-        words: "audit --all",
-        script: "limits 1 0 1\nsite http://a.test/\nleft 1 host 0 at 0\nleft 1 host 1 at 0\n",
-        output: Text::Whole("trace:3: left 1 host 0 at 0: transfer 1 doesn't wait\n"),
-        errors: Text::Whole("line 4: no such site\n"),
-        status: 3,
-        ..ROW
-    },
-    Row {
-        name: "no JSON if a line cannot be read",
-        words: "audit --json --all",
-        script: "limits 1 0 1\nsite http://a.test/\nleft 1 host 0 at 0\nlook x\n",
-        errors: Text::Whole("line 4: wrong form\n"),
-        status: 3,
-        ..ROW
-    },
-    Row {
-        name: "a last line without an end keeps its CR",
-        words: "audit",
-        script: "limits 1 0 1\nsite http://a.test/\nlook 0\r",
-        errors: Text::Whole("line 3: wrong form\n"),
-        status: 3,
-        ..ROW
-    },
-    Row {
-        name: "a number that a start lacks",
-        words: "audit",
-        script: "limits 1 0 1\nsite http://a.test/\nopened 0.1 for 7 at 0\n",
-        errors: Text::Whole("line 3: transfer 7 asked for nothing\n"),
-        status: 3,
-        ..ROW
-    },
-    Row {
-        name: "help on audit is told by a word",
-        words: "help audit",
-        output: Text::Start("Tells whether what a connection pool did is lawful"),
-        ..ROW
-    },
-    Row {
-        name: "help on audit is told on standard output",
-        words: "audit --help",
-        output: Text::Start("Tells whether what a connection pool did is lawful"),
-        ..ROW
-    },
-    Row {
-        name: "a flag twice is refused",
-        words: "audit --all --all",
-        ..REFUSED
-    },
-    Row {
-        name: "a flag of another command is refused",
-        words: "audit --head",
-        ..REFUSED
-    },
-    Row {
-        name: "a flag before the command is refused",
-        words: "--all audit",
-        ..REFUSED
-    },
-    Row {
-        name: "a value of a flag is refused",
-        words: "audit --json=yes",
-        ..REFUSED
-    },
-    Row {
-        name: "two files are refused",
-        words: "audit a b",
-        ..REFUSED
-    },
-];
-
-const REFUSED: Row = Row {
-    errors: Text::Start("curlpool: "),
-    status: 2,
-    ..ROW
-};
-
-#[test]
-fn words_ask_for_audits(rt: HostRuntime) {
-    check_all(&rt, &ROWS);
-}
 
 // Words, and what stands before the write that fails.
 static FRONTS: [(&str, &str); 3] = [
@@ -359,17 +183,4 @@ fn lines_as_long_as_they_may_be(rt: HostRuntime) {
             "{comment}: {text}"
         );
     }
-}
-
-// Under `rt try --test --fail-alloc N`: the answer is a front of the one in ample memory.
-#[test]
-fn want_of_memory_leaves_a_front_of_the_answer(rt: HostRuntime) {
-    let (found, answer) = verdict_on(rt.alloc(), BROKEN.as_bytes(), 40, false);
-    match found {
-        Ok(verdict) => assert!(rt;
-            verdict == Verdict::Broken && answer.as_slice() == TOO_LATE.as_bytes()
-        ),
-        Err(stop) => assert!(rt; stop == AuditStop::Memory),
-    }
-    assert!(rt; TOO_LATE.as_bytes().starts_with(&answer));
 }

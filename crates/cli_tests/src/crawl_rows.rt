@@ -9,7 +9,7 @@ use std::sync::atomic::Ordering;
 const TURNED: &str = "200 3 new http://127.0.0.1/bb\n200 2 reused http://127.0.0.1/a\n";
 
 /// Words, what standard input gives, and the lines of the transfers.
-static LINES: [(&str, &str, &str); 13] = [
+static LINES: [(&str, &str, &str); 11] = [
     // lines come in the order in which transfers end
     (
         "get --parallel 2 http://127.0.0.1/a http://127.0.0.1/bb",
@@ -46,8 +46,6 @@ static LINES: [(&str, &str, &str); 13] = [
         "http://127.0.0.1/bb\n",
         "200 2 new http://127.0.0.1/a\n200 3 reused http://127.0.0.1/bb\n",
     ),
-    ("get --file -", "", ""),
-    ("get --file -", "# none\n", ""),
     ("get --file urls", "http://127.0.0.1/no\n", TURNED_IN_FILE),
     (
         "get --head --host-limit 0 --total=65535 --max-life 9 --fresh http://[::1]/a",
@@ -98,7 +96,7 @@ fn a_crawl_tells_of_responses(rt: HostRuntime) {
 }
 
 /// Words, what standard input gives, the lines, what is told of them, and the status.
-static FAULTS: [(&str, &str, &str, &str, u8); 13] = [
+static FAULTS: [(&str, &str, &str, &str, u8); 11] = [
     (
         "get --parallel 2 http://127.0.0.1/dial http://127.0.0.1/bb",
         "",
@@ -120,15 +118,6 @@ static FAULTS: [(&str, &str, &str, &str, u8); 13] = [
         "http://127.0.0.1/a\nhttp://127.0.0.1/\u{1b}[31m\n",
         "200 2 new http://127.0.0.1/a\nBadUrl http://127.0.0.1/\\x1b[31m\n",
         "run: 1 of 2 failed\n",
-        4,
-    ),
-    (
-        "get --skip-bad --json --file -",
-        "no URL\n",
-        "{\"url\": \"no URL\", \"status\": null, \"length\": null, \"reused\": null, \
-         \"retried\": null, \"fault\": \"BadUrl\", \"reason\": null, \"waited_us\": null, \
-         \"dialled_us\": null, \"first_byte_us\": null, \"whole_us\": null}\n",
-        "run: 1 of 1 failed\n",
         4,
     ),
     // what hangs does not hold up the next window
@@ -161,13 +150,6 @@ static FAULTS: [(&str, &str, &str, &str, u8); 13] = [
         "200 2 new http://127.0.0.1/a\n",
         "line 3: bad URL\n",
         2,
-    ),
-    (
-        "get --file gone http://127.0.0.1/a",
-        "",
-        "",
-        "run: cannot read\n",
-        4,
     ),
     (
         "get --json --parallel 1 http://127.0.0.1/cut",
@@ -296,77 +278,6 @@ fn a_crawl_looks_a_name_up_once(rt: HostRuntime) {
     };
     let (network, _) = check(&rt, &row);
     check_eq(&rt, network.lookups.load(Ordering::SeqCst), 2);
-}
-
-/// Words that are refused, and how the message begins.
-static REFUSED: [(&str, &str); 13] = [
-    (
-        "get --parallel 4",
-        "curlpool: the following required arguments were not provided:\n  <URL>...\n\nUsage: ",
-    ),
-    (
-        "get --parallel 0 http://localhost/",
-        "curlpool: --parallel 0: not a number from 1 to 256\n",
-    ),
-    (
-        "get --parallel 257 http://localhost/",
-        "curlpool: --parallel 257: not a number from 1 to 256\n",
-    ),
-    (
-        "get --host-limit 65536 http://localhost/",
-        "curlpool: --host-limit 65536: not a number from 0 to 65535\n",
-    ),
-    (
-        "get --total x http://localhost/",
-        "curlpool: --total x: not a number from 0 to 65535\n",
-    ),
-    (
-        "get --max-life -1 http://localhost/",
-        "curlpool: unexpected argument '-1' found",
-    ),
-    (
-        "get --max-life 18446744073709551616 http://localhost/",
-        "curlpool: --max-life 18446744073709551616: not a number from 0 to",
-    ),
-    (
-        "get --resolve a.test:80 http://a.test/",
-        "curlpool: --resolve a.test:80: not HOST:PORT:ADDRESS\n",
-    ),
-    (
-        "get --resolve a.test:0:127.0.0.1 http://a.test/",
-        "curlpool: --resolve a.test:0:127.0.0.1: not HOST:PORT:ADDRESS\n",
-    ),
-    (
-        "get --resolve a.test:80:b.test http://a.test/",
-        "curlpool: --resolve a.test:80:b.test: not HOST:PORT:ADDRESS\n",
-    ),
-    (
-        "get --file - --file - http://localhost/",
-        "curlpool: the argument '--file <FILE>' cannot be used multiple times\n",
-    ),
-    (
-        "get --json --json http://localhost/",
-        "curlpool: the argument '--json' cannot be used multiple times\n",
-    ),
-    (
-        "get --file - no-url",
-        "curlpool: no-url: not a URL; a URL begins with http://\n",
-    ),
-];
-
-#[test]
-fn words_of_a_crawl_are_refused(rt: HostRuntime) {
-    for &(words, start) in &REFUSED {
-        let row = Row {
-            name: words,
-            words,
-            errors: Text::Start(start),
-            status: 2,
-            ..ROW
-        };
-        let (network, _) = check(&rt, &row);
-        assert_eq!(rt; network.openings, 0, "{words}");
-    }
 }
 
 #[test]

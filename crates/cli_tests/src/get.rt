@@ -1,12 +1,8 @@
 //! What `get` writes, and which of its words are refused.
 
 use crate::checks::check_eq;
-use crate::loads::FakeLoader;
-use crate::networks::FakeNetwork;
-use crate::running::{ROW, Row, Text, check, check_stopped, check_words, run, words_of};
-use crate::streams::Expecting;
+use crate::running::{ROW, Row, Text, check, check_stopped, check_words};
 use cli::{NetworkFault, Words};
-use script_run::FailureCounted;
 use std::alloc::{AllocError, Global};
 use std::sync::atomic::Ordering;
 
@@ -21,12 +17,6 @@ fn many_urls(alloc: Global, count: u32) -> Result<Words, AllocError> {
     Ok(Words::Given(all))
 }
 
-/// Two transfers by HEAD, and their lines.
-const HEADS: (&str, &str) = (
-    "get http://[::1]/a?b#c --head http://u@[0:0::1]:80",
-    "200 0 new http://[::1]/a?b#c\n200 0 reused http://u@[0:0::1]:80\n",
-);
-
 /// Words, and the lines of their transfers.
 static LINES: [(&str, &str); 7] = [
     (
@@ -34,7 +24,10 @@ static LINES: [(&str, &str); 7] = [
         "200 1 new http://127.0.0.1/\n200 3 new http://LOCALHOST:80/ab\n\
         200 6 reused retried http://localhost/again\n200 1 new http://127.0.0.1:81/\n",
     ),
-    HEADS,
+    (
+        "get http://[::1]/a?b#c --head http://u@[0:0::1]:80",
+        "200 0 new http://[::1]/a?b#c\n200 0 reused http://u@[0:0::1]:80\n",
+    ),
     (
         "get --max-age 0 http://127.0.0.1/ http://127.1/",
         "200 1 new http://127.0.0.1/\n200 1 new http://127.1/\n",
@@ -234,87 +227,12 @@ fn names_are_looked_up_once(rt: HostRuntime) {
     }
 }
 
-/// Words that are refused, and how the message begins.
-static REFUSED: [(&str, &str); 23] = [
-    ("get", "curlpool: "),
-    ("get --head", "curlpool: "),
-    ("get --head --head http://localhost/", "curlpool: "),
-    (
-        "get --max-age 1 --max-age 1 http://localhost/",
-        "curlpool: ",
-    ),
-    ("get --max-age http://localhost/", "curlpool: "),
-    (
-        "get --max-age +1 http://localhost/",
-        "curlpool: --max-age +1: not a number",
-    ),
-    ("get --max-age= http://localhost/", "curlpool: "),
-    (
-        "get --max-age 18446744073709551616 http://localhost/",
-        "curlpool: --max-age 184",
-    ),
-    (
-        "get --timeout 0 http://localhost/",
-        "curlpool: --timeout 0: not a number from 1 to 3600\n",
-    ),
-    (
-        "get --timeout 3601 http://localhost/",
-        "curlpool: --timeout 3601: not a number",
-    ),
-    (
-        "get http://localhost/ localhost",
-        "curlpool: localhost: not a URL; a URL begins with http://\n",
-    ),
-    (
-        "get https://localhost/",
-        "curlpool: https://localhost/: not an http URL; a URL begins with http://\n",
-    ),
-    (
-        "get http://127.0.0.256/",
-        "curlpool: http://127.0.0.256/: not a URL\n",
-    ),
-    (
-        "get 127.0.0.1:8001/x",
-        "curlpool: 127.0.0.1:8001/x: not a URL; a URL begins with http://\n",
-    ),
-    (
-        "get -v http://localhost/",
-        "curlpool: unexpected argument '-v' found\n\nUsage: curlpool get ",
-    ),
-    (
-        "get --heads http://localhost/",
-        "curlpool: unexpected argument '--heads' found\n\n  \
-        tip: a similar argument exists: '--head'\n\nUsage: curlpool get ",
-    ),
-    (
-        "get --\u{1b}[31m http://localhost/",
-        "curlpool: unexpected argument '--\\x1b[31m' found\n\nUsage: curlpool get ",
-    ),
-    (
-        "get --timeout \u{1b}[31m http://localhost/",
-        "curlpool: --timeout \\x1b[31m: not a number",
-    ),
-    (
-        "get http://127.0.0.1/ok\n200 http://localhost/",
-        "curlpool: http://127.0.0.1/ok\\x0a200: a control character\n",
-    ),
-    (
-        "get http://localhost/ http://127.0.0.1/\u{0}",
-        "curlpool: http://127.0.0.1/\\x00: a control character\n",
-    ),
-    (
-        "get http://127.0.0.1/\u{7f}a\u{80}b\u{9f}",
-        "curlpool: http://127.0.0.1/\\x7fa\\u{80}b\\u{9f}: a control character\n",
-    ),
-    (
-        "get http://127.0.0.1/\u{202a}\u{202e}",
-        "curlpool: http://127.0.0.1/\\u{202a}\\u{202e}: a control character\n",
-    ),
-    (
-        "get http://127.0.0.1/\u{2066}\u{2069}",
-        "curlpool: http://127.0.0.1/\\u{2066}\\u{2069}: a control character\n",
-    ),
-];
+/// Words that are refused, with a NUL, which the system passes to no program, and how the message
+/// begins.
+static REFUSED: [(&str, &str); 1] = [(
+    "get http://localhost/ http://127.0.0.1/\u{0}",
+    "curlpool: http://127.0.0.1/\\x00: a control character\n",
+)];
 
 #[test]
 fn words_are_refused(rt: HostRuntime) {
@@ -373,31 +291,4 @@ fn a_line_that_cannot_be_written(rt: HostRuntime) {
         ..ROW
     };
     check_stopped(&rt, &row, "200 1 new http://[::1]/\n200 2 reu", false);
-}
-
-// Under `rt try --test --fail-alloc N`: a front of the lines is written, and the status tells.
-#[test]
-fn want_of_memory_leaves_a_front_of_the_lines(rt: HostRuntime) {
-    let (words, lines) = HEADS;
-    let Ok(words) = words_of(rt.alloc(), words) else {
-        return;
-    };
-    let mut writer = Expecting::new(lines, false);
-    let mut network = FakeNetwork::new(None);
-    let mut loader = FakeLoader::new(Ok(""));
-    let mut output = FailureCounted::new(&mut writer);
-    let (status, _) = run(
-        rt.alloc(),
-        words,
-        false,
-        "",
-        &mut network,
-        &mut loader,
-        &mut output,
-    );
-    if status == 0 {
-        assert!(rt; writer.rest.is_empty());
-    } else {
-        check_eq(&rt, status, 4);
-    }
 }

@@ -6,7 +6,7 @@ ghost use Rattle.script_run.specs.Streams.{CanCount};
 use crate::audits::BROKEN;
 use crate::loads::FakeLoader;
 use crate::networks::FakeNetwork;
-use crate::streams::{Expecting, REUSE};
+use crate::streams::Expecting;
 use cli::{CountedArgsAlloc, LoadFault, NetworkFault, Words, run_program};
 use script_run::{FailureCounted, ScriptFiles, Sink};
 use std::alloc::{AllocError, AllocGlobal, Global};
@@ -27,7 +27,6 @@ pub struct Row {
     pub name: &'static str,
     /// The words after the program's name, with spaces between them.
     pub words: &'static str,
-    pub is_typed: bool,
     /// What standard input gives.
     pub script: &'static str,
     /// Why the network can't be opened, if it can't.
@@ -43,7 +42,6 @@ pub struct Row {
 pub const ROW: Row = Row {
     name: "",
     words: "",
-    is_typed: false,
     script: "",
     network: None,
     load: Ok("all\n"),
@@ -55,12 +53,12 @@ pub const ROW: Row = Row {
 /// URLs, a line each.
 const URLS: &str = "http://127.0.0.1/f\nhttp://127.0.0.1/gg\n";
 
-// Files in memory: a script, a trace, and URLs. Files can be made of two names, one of which is
-// full.
+// Files in memory: a script that ends at a fault, and URLs. Files can be made of two names, one of
+// which is full.
 #[derive(Drop)]
-struct ThreeFiles;
+struct FilesInMemory;
 
-impl ScriptFiles for ThreeFiles {
+impl ScriptFiles for FilesInMemory {
     type File = &'static [u8];
 
     type Made = FailureCounted<FakeFile>;
@@ -69,7 +67,6 @@ impl ScriptFiles for ThreeFiles {
 
     fn open(&mut self, name: &str) -> Option<&'static [u8]> {
         match name {
-            "reuse" => Some(REUSE.as_bytes()),
             "broken" => Some(BROKEN.as_bytes()),
             "urls" => Some(URLS.as_bytes()),
             _ => None,
@@ -116,13 +113,11 @@ pub fn words_of(alloc: Global, text: &str) -> Result<Words, AllocError> {
     Ok(Words::Given(words))
 }
 
-/// What the program does with these words and that script on standard input, where `reuse`,
-/// `broken` and `urls` are the files that there are: its status, and what it writes on standard
-/// error.
+/// Runs the program with these words and that script on standard input, which is no terminal, next
+/// to the files `broken` and `urls`: its status, and its text on standard error.
 pub fn run<W: Sink>(
     alloc: Global,
     words: Words,
-    is_typed: bool,
     script: &str,
     network: &mut FakeNetwork,
     loader: &mut FakeLoader<'_>,
@@ -131,14 +126,14 @@ pub fn run<W: Sink>(
     requires { CanCount (W.sink output.old) }
 {
     let mut memory = CountedArgsAlloc::new(alloc);
-    let mut files = ThreeFiles;
+    let mut files = FilesInMemory;
     let mut input = script.as_bytes();
     let mut errors = Vec::new(alloc);
     let status = run_program(
         alloc,
         &mut memory,
         words,
-        is_typed,
+        false,
         &mut files,
         network,
         |alloc, plan| loader.load(alloc, plan),
@@ -171,7 +166,6 @@ pub fn check_words<R: Abort + AllocGlobal>(
     let (status, errors) = run(
         rt.alloc(),
         words,
-        row.is_typed,
         row.script,
         &mut network,
         &mut loader,
@@ -205,7 +199,6 @@ pub fn check_stopped<R: Abort + AllocGlobal>(
     let (status, errors) = run(
         rt.alloc(),
         words,
-        row.is_typed,
         row.script,
         &mut network,
         &mut loader,

@@ -1,4 +1,4 @@
-//! What readers and writers leave that fail, and want of memory.
+//! What readers and writers leave that fail.
 
 use script_run::{FailureCounted, run_script};
 use script_text::{FaultKind, ScriptFault};
@@ -13,16 +13,6 @@ pub const REUSE: &str =
 
 pub const REUSED: &str = "opened 0.1 for 1 at 0\nreturned 0.1 by 1 at 2\nleased 0.1 to 2 at 3\n\
     closed 0.1 dropped at 4\nhost 0 open 0 idle 0 leased 0 waiting 0 queued no\n";
-
-/// Transfers that wait, claim and leave; two tickets are left at the script's end.
-const WAITING: (&str, &str) = (
-    "limits 1 0 4\nsite http://a.test/\nget 1 0 0 at 0\nget 2 0 0 at 1\nget 3 0 0 at 2\n\
-        get 4 0 0 at 3\nclaim 2 0\nback 1 0 keep at 4\nclaim 2 0\nleave 3 0 at 5\ndrop 2 0 at 6\n\
-        get 5 0 0 at 7\n",
-    "opened 0.1 for 1 at 0\nwaits 2 host 0 at 1\nwaits 3 host 0 at 2\nwaits 4 host 0 at 3\n\
-        still waiting\nreturned 0.1 by 1 at 4\nleased 0.1 to 2 at 4\nclaimed 0.1\n\
-        left 3 host 0 at 5\nclosed 0.1 dropped at 6\nopened 0.2 for 4 at 6\nwaits 5 host 0 at 7\n",
-);
 
 // Gives a few bytes and then fails.
 #[derive(Drop)]
@@ -104,17 +94,5 @@ fn a_writer_that_fails_in_the_middle(rt: HostRuntime) {
         let mut writer = Expecting::new("opened 0.1 for 1 at 0\nreturned 0", takes_none);
         let result = run_onto(rt.alloc(), REUSE, &mut writer);
         assert!(rt; result == Err(fault) && writer.rest.is_empty());
-    }
-}
-
-// Under `rt try --test --fail-alloc N`: what is written is a front of the transcript.
-#[test]
-fn want_of_memory_leaves_a_front_of_the_transcript(rt: HostRuntime) {
-    for &(script, transcript) in &[(REUSE, REUSED), WAITING] {
-        let mut writer = Expecting::new(transcript, false);
-        match run_onto(rt.alloc(), script, &mut writer) {
-            Ok(()) => assert!(rt; writer.rest.is_empty()),
-            Err(fault) => assert!(rt; fault.kind == FaultKind::Memory),
-        }
     }
 }

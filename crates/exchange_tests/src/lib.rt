@@ -22,8 +22,6 @@ mod exchanges;
 #[cfg(test)]
 mod loops;
 #[cfg(test)]
-mod memory;
-#[cfg(test)]
 mod phases;
 #[cfg(test)]
 mod places;

@@ -2,7 +2,6 @@
 
 mod claims;
 mod holders;
-mod memory;
 mod pass;
 mod permits;
 mod threads;

@@ -1,5 +1,4 @@
 //! Tests of `conn_key`: targets and sites, and what finding a site costs.
 
-mod memory;
 mod sites;
 mod targets;

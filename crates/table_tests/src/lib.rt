@@ -1,10 +1,8 @@
 //! Tests of `histogram`, `load_figures` and `site_table`: worked rows, and what an allocation
-//! failure leaves; of `audit`: worked traces; and of `drawing`, `script_picture` and
-//! `load_picture`: how many marks pictures have.
+//! failure leaves; and of `drawing`, `script_picture` and `load_picture`: how many marks pictures
+//! have.
 #![tactic(auto)]
 
-#[cfg(test)]
-mod audits;
 #[cfg(test)]
 mod checks;
 #[cfg(test)]

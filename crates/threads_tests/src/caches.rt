@@ -1,4 +1,4 @@
-//! Tests of `shared_cache`: what no clause says, worked rows, threads, and want of memory.
+//! Tests of `shared_cache`: what no clause says, worked rows, and threads.
 
 mod cuts;
 mod example;
@@ -6,7 +6,6 @@ mod gathering;
 mod inspecting;
 mod keeper;
 mod making;
-mod memory;
 mod rows;
 mod sharing;
 mod thread_desk;

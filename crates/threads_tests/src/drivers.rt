@@ -7,7 +7,6 @@ mod gates;
 mod jobs;
 mod logs;
 mod many;
-mod memory;
 mod orders;
 mod peers;
 mod runs;

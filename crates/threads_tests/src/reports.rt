@@ -1,6 +1,4 @@
-//! Tests of `cache_report`: the bytes of reports, the report of a cache that was gathered, and
-//! allocation failure.
+//! Tests of `cache_report`: the bytes of reports, and the report of a cache that was gathered.
 
 mod gathering;
-mod memory;
 mod rows;

@@ -1,6 +1,5 @@
 //! Traces of loads: an audit finds each lawful.
 
-use crate::checks::check_eq;
 use crate::load_sockets::running::run_words;
 use std::fs;
 use std::str::from_utf8;
@@ -48,17 +47,4 @@ fn traces_are_lawful(rt: HostRuntime) {
     }
     let removed = fs::remove_file(&rt, FILE);
     assert!(rt; removed.is_ok());
-}
-
-#[test]
-fn a_trace_without_a_file_is_told(rt: HostRuntime) {
-    let text = "load --trace no-such-folder/load.trace";
-    let ran = run_words(&rt, &rt, text).expect(&rt, "memory");
-    check_eq(&rt, ran.status, 4);
-    assert!(rt; ran.output.is_empty());
-    check_eq(
-        &rt,
-        ran.errors.as_slice(),
-        b"run: cannot write\n".as_slice(),
-    );
 }

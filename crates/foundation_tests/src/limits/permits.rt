@@ -42,7 +42,7 @@ fn limits_are_kept_as_numbers_from_1_to_65535(rt: HostRuntime) {
 }
 
 // What a part holds.
-pub(crate) fn held_of<P: Permits<()>>(part: &P) -> Held
+fn held_of<P: Permits<()>>(part: &P) -> Held
     requires { P.stands part.now }
 {
     part.held()

@@ -5,8 +5,8 @@ use crate::logs::entries::{
     Happened, KEEP, Step, add, entries_of, entry_of, get, left, log_of, waited,
 };
 use conn_log::{
-    Cause, Counts, Entry, Log, LogFault, OpenConnection, Stamp, Want, holder, idle_oldest,
-    open_count, waiting_len,
+    Cause, Counts, Entry, Log, OpenConnection, Stamp, Want, holder, idle_oldest, open_count,
+    waiting_len,
 };
 use std::alloc::Global;
 use std::process::Abort;
@@ -175,29 +175,4 @@ fn a_base_forgets_which_numbers_were_closed(rt: HostRuntime) {
     let entries = entries_of(rt.alloc(), &OPENED_TWICE).expect(&rt, "memory");
     let whole = log_of(&rt, rt.alloc(), &entries).expect(&rt, "memory");
     check_eq(&rt, open_count(&whole), 0);
-}
-
-#[test]
-fn want_of_memory_leaves_a_log_uncut(rt: HostRuntime) {
-    let Ok(entries) = entries_of(rt.alloc(), &BUSY_HOST) else {
-        return;
-    };
-    let Ok(mut log) = log_of(&rt, rt.alloc(), &entries) else {
-        return;
-    };
-    let (before, room) = (answers(&log), log.room());
-    let part = match log.cut() {
-        Ok(part) => part,
-        Err(fault) => {
-            check_eq(
-                &rt,
-                (fault, log.len(), log.room()),
-                (LogFault::Memory, entries.len(), room),
-            );
-            check_answers(&rt, &log, &before);
-            log.cut().expect(&rt, "memory")
-        }
-    };
-    check_eq(&rt, part.as_slice(), entries.as_slice());
-    check_answers(&rt, &log, &before);
 }

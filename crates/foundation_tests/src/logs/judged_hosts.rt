@@ -1,10 +1,9 @@
-//! Several hosts under one total limit: each entry is judged at its host, and what is unsettled at
-//! rest is told in its order.
+//! Several hosts under one total limit: each entry is judged at its host.
 use crate::checks::check_eq;
 use crate::logs::entries::{Happened, Step, closed, entry_of, leased, limited, waited};
 use budget::Limits;
 use conn_log::Cause;
-use monitor::{Fault, Monitor, Unrest, Violation};
+use monitor::{Fault, Monitor, Violation};
 use std::alloc::Global;
 use std::process::Abort;
 
@@ -25,86 +24,6 @@ fn monitor_of(
         monitor.step(*site, entry_of(happened))?;
     }
     Ok(monitor)
-}
-
-const THREE: [(u32, Step); 3] = [
-    (0, (0, Happened::Opened(1, 1))),
-    (1, (0, Happened::Opened(1, 2))),
-    (2, (0, Happened::Opened(1, 3))),
-];
-
-const TWO_IDLE: [(u32, Step); 4] = [
-    (0, (0, Happened::Opened(1, 1))),
-    (1, (0, Happened::Opened(1, 2))),
-    (0, (1, Happened::Returned(1))),
-    (1, (1, Happened::Returned(1))),
-];
-
-const BESIDE_IDLE: [(u32, Step); 3] = [
-    (1, (0, Happened::Opened(1, 1))),
-    (1, (0, Happened::Waited(2))),
-    (1, (1, Happened::Returned(1))),
-];
-
-const BESIDE_ANOTHER: [(u32, Step); 4] = [
-    (0, (0, Happened::Opened(1, 1))),
-    (1, (0, Happened::Opened(1, 1))),
-    (0, (0, Happened::Waited(2))),
-    (1, (0, Happened::Returned(1))),
-];
-
-/// How many hosts there are, what happens there, how many steps of it are taken, and the rest that
-/// is told.
-type Row = (u32, &'static [(u32, Step)], usize, Option<Unrest>);
-
-static ROWS: [Row; 8] = [
-    (3, &THREE, 3, Some(Unrest::PastTotal { count: 3, limit: 2 })),
-    (
-        2,
-        &TWO_IDLE,
-        4,
-        Some(Unrest::PastKept { count: 2, limit: 1 }),
-    ),
-    (
-        3,
-        &BESIDE_IDLE,
-        3,
-        Some(Unrest::WaiterBesideIdle { site: 1, first: 2 }),
-    ),
-    (
-        3,
-        &BESIDE_IDLE,
-        2,
-        Some(Unrest::WaiterBesideRoom {
-            site: 1,
-            first: 2,
-            count: 1,
-            limit: 2,
-        }),
-    ),
-    (
-        2,
-        &BESIDE_ANOTHER,
-        4,
-        Some(Unrest::WaiterBesideRoom {
-            site: 0,
-            first: 2,
-            count: 1,
-            limit: 2,
-        }),
-    ),
-    (2, &BESIDE_ANOTHER, 3, None),
-    (2, &THREE, 2, None),
-    (0, &THREE, 0, None),
-];
-
-#[test]
-fn what_is_unsettled_is_told_in_order(rt: HostRuntime) {
-    for (hosts, steps, len, expected) in &ROWS {
-        let steps = steps.get(..*len).unwrap_or(&[]);
-        let monitor = monitor_of(&rt, rt.alloc(), *hosts, steps).expect(&rt, "memory");
-        check_eq(&rt, monitor.first_unrest(), *expected);
-    }
 }
 
 /// Two hosts: a connection is in use at the first, and idle at the second.

@@ -35,20 +35,6 @@ fn room_grows_geometrically(rt: HostRuntime) {
 }
 
 #[test]
-fn want_of_memory_leaves_the_log(rt: HostRuntime) {
-    let Ok(mut log) = Log::new(rt.alloc()) else {
-        return;
-    };
-    check_eq(&rt, add(&rt, &mut log, opened(1, 1, 7)), Ok(()));
-    let room = log.room();
-    match log.reserve(100) {
-        Ok(()) => assert!(rt; log.room() >= 100),
-        Err(fault) => check_eq(&rt, (fault, log.room()), (LogFault::Memory, room)),
-    }
-    check_eq(&rt, log.since(0), [opened(1, 1, 7)].as_slice());
-}
-
-#[test]
 fn faults_are_printed(rt: HostRuntime) {
     check_eq(
         &rt,

@@ -1,7 +1,6 @@
 //! What reading costs: valgrind's callgrind counts the instructions of each call of `feeds_each`,
 //! in the order of the tables (docs/measurements.md).
 use crate::checks::check_eq;
-use crate::responses::rows::repeated;
 use persistence::{Method, ResponseReader, persists};
 use std::alloc::{AllocError, Global};
 
@@ -100,4 +99,20 @@ fn head_of(alloc: Global, fields: usize, value_len: usize) -> Result<Vec<u8>, Al
     }
     head.extend_from_slice(b"\r\n")?;
     Ok(head)
+}
+
+/// The start, the piece so many times, and the end.
+fn repeated(
+    alloc: Global,
+    start: &str,
+    piece: &str,
+    count: usize,
+    end: &str,
+) -> Result<Vec<u8>, AllocError> {
+    let mut bytes = Vec::from_slice(alloc, start.as_bytes())?;
+    for _ in 0..count {
+        bytes.extend_from_slice(piece.as_bytes())?;
+    }
+    bytes.extend_from_slice(end.as_bytes())?;
+    Ok(bytes)
 }

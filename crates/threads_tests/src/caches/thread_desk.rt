@@ -122,33 +122,6 @@ impl<N: Names> Desk<N> {
         }
     }
 
-    /// The same, with room for so many leases and tickets, if there is memory for it.
-    pub fn with_room(
-        rt: &impl Wait,
-        alloc: Global,
-        cache: &SharedCache<Stream, N>,
-        room: usize,
-    ) -> Result<Self, Refusal> {
-        let leases = Vec::with_capacity(alloc, room)?;
-        let Ok(tickets) = Vec::with_capacity(alloc, room) else {
-            leases.destroy_empty();
-            return Err(Refusal::Memory);
-        };
-        match cache.pass(rt, alloc) {
-            Ok(pass) => Ok(Desk {
-                pass,
-                leases,
-                tickets,
-                of: PhantomData,
-            }),
-            Err(refusal) => {
-                leases.destroy_empty();
-                tickets.destroy_empty();
-                Err(refusal)
-            }
-        }
-    }
-
     /// Acquires a connection; the lease or the ticket stays at the desk.
     pub fn acquire(
         &mut self,

@@ -61,17 +61,6 @@ fn no_job_is_drawn_where_there_is_none(rt: HostRuntime) {
     check_drawn(&rt, &claim, &mut seat, 0);
 }
 
-// Whichever allocation fails: a claim that is refused comes when it is asked for again, and to draw
-// takes no memory.
-#[test]
-fn want_of_memory_refuses_a_claim(rt: HostRuntime) {
-    let (claim, mut seat) = new_claim(&rt, rt.alloc(), 2);
-    draw_job(&rt, &claim, &mut seat, 0);
-    draw_job(&rt, &claim, &mut seat, 1);
-    draw_nothing(&rt, &claim, &mut seat);
-    check_drawn(&rt, &claim, &mut seat, 2);
-}
-
 #[test]
 fn one_job_is_drawn_once(rt: HostRuntime) {
     let (claim, mut seat) = new_claim(&rt, rt.alloc(), 1);

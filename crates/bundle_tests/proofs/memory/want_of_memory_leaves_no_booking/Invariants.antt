@@ -1,5 +1,0 @@
-use Rattle.std.proofs.Common.{◌≡◌}
-use Rattle.bundle_tests.proofs.memory.want_of_memory_leaves_no_booking.Given as goal
-
-abbrev pub invariant-loop-transfer : goal.invariant-loop-transfer
-invariant-loop-transfer g l = l.lease.tables ≡ l.desk.here

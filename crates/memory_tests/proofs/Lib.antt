@@ -1,0 +1,2 @@
+pub mod DeskHost
+pub mod Homes

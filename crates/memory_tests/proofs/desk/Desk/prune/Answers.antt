@@ -1,0 +1,8 @@
+use Rattle.memory_tests.proofs.DeskHost.{after_unmarked}
+use Rattle.memory_tests.proofs.desk.Desk.prune.Goals as goal
+
+pub invariant_of-self : goal.invariant_of-self
+invariant_of-self c =
+    let desk = c.self.inside in
+    let call = c.prune.ensures in
+    after_unmarked desk.bundle c.prune.new.self _ _ _ _ _ _ _ _ _ c.self.invariant c.host.ensures c.at-permits.ensures.budget c.at-permits.ensures.host call.permits.stays.1 call.permits.stays.2 call.permits.part call.host.stays.same call.mark call.pass.seats

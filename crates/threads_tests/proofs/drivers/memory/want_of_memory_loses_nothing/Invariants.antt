@@ -1,4 +1,0 @@
-use Rattle.threads_tests.proofs.drivers.memory.want_of_memory_loses_nothing.Given as goal
-
-abbrev pub ghosts-whole_run : goal.ghosts-whole_run
-ghosts-whole_run g a = record { names = a.plan }
