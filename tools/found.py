@@ -1,10 +1,10 @@
 """Wrong bodies that no contract speaks of, and that a test has to find: `tools/wrong-bodies --found`.
 
 They are the edits in crates/CRATE/found, of the form of those in wrong-bodies, with a first line `found by: TEST`:
-`reference` for the scripts of tools/reference.py, which `measures script` carries out with a shared cache, or a crate
-of tests. Each is put into a copy of the sources, where `rt try` compiles and runs its test, unproved. The test has to
-fail there; it has to pass without an edit, which is tried first. A script that is not answered within SCRIPT_SECONDS,
-or a test that does not end within TEST_SECONDS, has failed: so a body that hangs is found too.
+`reference` for the scripts of tools/reference.py, which `tries script` runs over a shared cache, or a crate of tests.
+Each is put into a copy of the sources, where `rt try` compiles and runs its test, unproved. The test has to fail there;
+it has to pass without an edit, which is tried first. A script that is not answered within SCRIPT_SECONDS, or a test
+that does not end within TEST_SECONDS, has failed: so a body that hangs is found too.
 """
 import concurrent.futures
 import os
@@ -17,7 +17,7 @@ from typing import NamedTuple
 
 from program import TOP, Children, listed_crates
 from reference import fixed_and_drawn
-from tries import end_check_of_names
+from rt_try import end_check_of_names
 
 CRATES = os.path.join(TOP, "crates")
 FOUND_BY, FILE, OLD, NEW = "found by: ", "file: ", "old: ", "new: "
@@ -115,7 +115,7 @@ class Trial:
             is_reference = test == REFERENCE
             words = ["--cases", self.cases, "--", "script"] if is_reference else ["--test"]
             seconds = SCRIPT_SECONDS if is_reference else TEST_SECONDS
-            folder = os.path.join(top, "crates", "measures" if is_reference else test)
+            folder = os.path.join(top, "crates", "tries" if is_reference else test)
             run = self.children.start(["try", "--seconds", str(seconds), *words], folder)
             if run is None:
                 return None, "stopped"

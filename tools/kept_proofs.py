@@ -17,6 +17,11 @@ def rt_module():
     return module
 
 
+def keeps_proofs():
+    """True if this kit's `rt ci` keeps what it proved on this machine."""
+    return hasattr(rt_module(), "Kept")
+
+
 def kept_of(top):
     """The crates of that repository whose proof is kept, by the sums that `rt ci` makes of all that a proof reads. A
     library counts as it was built, so a crate is kept only if all below it are."""

@@ -9,14 +9,18 @@ import threading
 import time
 
 TOP = os.path.dirname(os.path.dirname(os.path.abspath(__file__)))
+# of crates.txt: the start of each heading, and words of those whose crates the gate does not prove
+HEADING = "# === "
+UNPROVED, BENCHMARKS = "run unproved", "benchmarks"
 NAME = "pool_cli"
 FOLDER = os.path.join(TOP, "crates", NAME)
 BUILT = os.path.join(FOLDER, "out", NAME)
-# the program that sends requests to servers, for the tools that try and measure
-REQUESTS = "requests"
-# one request, to where nobody listens
-FEWEST_REQUESTS = ["load", "1", "0", "1", "1"]
-# the program that measures, and runs scripts by a shared cache
+# the shell script at the top that starts the program
+LAUNCHER = "curlpool"
+# the program that tests the other crates, and the words of a short run: one request, to where nobody listens
+TRIES = "tries"
+SHORT_RUN = ["load", "each", "1", "0", "1", "1"]
+# the benchmarks
 MEASURES = "measures"
 FEWEST_ROUNDS = ["limits", "open-1", "1000"]
 
@@ -30,6 +34,25 @@ def listed_crates():
             if found:
                 listed[name.split()[0]] = libraries.split()
     return listed
+
+
+def crates_by_heading():
+    """The crates below each heading of crates.txt."""
+    found, below = {}, None
+    with open(os.path.join(TOP, "crates.txt"), encoding="utf8") as lines:
+        for line in lines:
+            name, is_crate, _ = line.split("#")[0].partition(":")
+            if line.startswith(HEADING):
+                below = found.setdefault(line.removeprefix(HEADING).strip(), [])
+            elif is_crate and below is not None:
+                below.append(name.split()[0])
+    return found
+
+
+def crates_below(*words):
+    """The crates below the headings of crates.txt that have one of these words in them."""
+    return [name for heading, crates in crates_by_heading().items() if any(word in heading for word in words)
+            for name in crates]
 
 
 def needed(crate=NAME):
@@ -102,11 +125,11 @@ def given(name):
 
 
 @functools.cache
-def built_requests():
-    """The program requests, which is built first if it is missing or older than its sources. REQUESTS names another one
-    that is built already, or BUILT a folder that has it."""
-    found = os.environ.get("REQUESTS") or given(REQUESTS)
-    return found or built(REQUESTS, "run", REQUESTS, FEWEST_REQUESTS)
+def built_tries():
+    """The program tries, which is built first if it is missing or older than its sources. TRIES names another one that
+    is built already, or BUILT a folder that has it."""
+    found = os.environ.get("TRIES") or given(TRIES)
+    return found or built(TRIES, "run", TRIES, SHORT_RUN)
 
 
 @functools.cache
@@ -118,9 +141,9 @@ def kit():
 
 @functools.cache
 def built_measures():
-    """The program measures, likewise; MEASURES names another one that is built, or BUILT a folder that has it."""
-    found = os.environ.get("MEASURES") or given(MEASURES)
-    return found or built(MEASURES, "run", MEASURES, FEWEST_ROUNDS)
+    """The program measures, which is built first if it is missing or older than its sources; MEASURES names another one
+    that is built already. The gate builds none, so BUILT has none."""
+    return os.environ.get("MEASURES") or built(MEASURES, "run", MEASURES, FEWEST_ROUNDS)
 
 
 def say(text):
@@ -159,8 +182,9 @@ def stop_by_exception():
 
 
 def start_rt(words, **streams):
-    """Starts rt with these words, in a process group of its own."""
-    return subprocess.Popen(["rt", *words], start_new_session=True, **streams)
+    """Starts rt with these words, in a separate process group, but without setsid: the system may share processors out
+    by setsid first, and priorities count only within that."""
+    return subprocess.Popen(["rt", *words], process_group=0, **streams)
 
 
 def end_rt(started):
@@ -171,23 +195,38 @@ def end_rt(started):
 
 
 class Children:
-    """The rt processes that threads of this one have started, of which stop ends all."""
+    """The processes that threads of this one have started, of which stop ends all. Their priority is lower by
+    `niceness`."""
 
-    def __init__(self):
-        self.lock = threading.Lock()
+    def __init__(self, niceness=0):
+        self.lock, self.niceness = threading.Lock(), niceness
         self.running = set()
         self.is_stopped = False
 
-    def start(self, words, folder, **streams):
-        """Starts rt there with these words, its output a pipe of text; nothing once all are stopped."""
+    def start_command(self, words, folder, **streams):
+        """Starts a command there, its output a pipe of text; nothing once all are stopped."""
+        nice = ["nice", "-n", str(self.niceness)] if self.niceness else []
         with self.lock:
             if self.is_stopped:
                 return None
-            run = start_rt(words, **{"cwd": folder, "text": True, "encoding": "utf8", "errors": "replace",
-                                     "stdin": subprocess.DEVNULL, "stdout": subprocess.PIPE,
-                                     "stderr": subprocess.STDOUT, **streams})
+            run = subprocess.Popen([*nice, *words], process_group=0, **{
+                "cwd": folder, "text": True, "encoding": "utf8", "errors": "replace", "stdin": subprocess.DEVNULL,
+                "stdout": subprocess.PIPE, "stderr": subprocess.STDOUT, **streams})
             self.running.add(run)
             return run
+
+    def start(self, words, folder, **streams):
+        """Starts rt there with these words, likewise."""
+        return self.start_command(["rt", *words], folder, **streams)
+
+    def run(self, words, folder):
+        """Runs a command there: its status, the lines that it writes, and the processor seconds that it takes."""
+        run = self.start_command(words, folder)
+        if run is None:
+            return -signal.SIGTERM, [], 0
+        lines = run.stdout.read().splitlines()
+        status, seconds = self.wait(run)
+        return status, lines, seconds
 
     def wait(self, run):
         """Waits until it ends: its status, and the processor seconds that it and what it waited for took."""

@@ -1,6 +1,6 @@
 """The scripts of the reference run: a shared cache has to carry out each as a pool does.
 
-They are fixed ones, those of `crates/measures/data`; the worked ones; and random ones, of few hosts and of up to 60,
+They are fixed ones, those of `crates/tries/data`; the worked ones; and random ones, of few hosts and of up to 60,
 which share three connections at most.
 """
 import os
@@ -10,7 +10,7 @@ from program import TOP
 from script_model.model import transcript
 from scripts import read, scripts_in, worked
 
-FIXED = os.path.join(TOP, "crates", "measures", "data")
+FIXED = os.path.join(TOP, "crates", "tries", "data")
 GENERATE = os.path.join(TOP, "tools", "script_model", "generate.py")
 # by kind: the seed, and the words for the generator
 DRAWS = {"few": (41, []), "many": (42, ["many"])}
@@ -18,7 +18,8 @@ DRAWS = {"few": (41, []), "many": (42, ["many"])}
 
 def fixed():
     """The fixed scripts, each with the transcript that the model gives."""
-    scripts = {name: read(FIXED, name) for name in sorted(os.listdir(FIXED))}
+    # the rows of responses have a suffix
+    scripts = {name: read(FIXED, name) for name in sorted(os.listdir(FIXED)) if "." not in name}
     return {name: (script, transcript(script.decode()).encode()) for name, script in scripts.items()}
 
 

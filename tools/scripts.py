@@ -1,9 +1,13 @@
-"""Scripts with the transcripts that they have to write: the worked ones, and those of a folder."""
+"""Scripts with the transcripts that they have to write: the worked ones, and those of a folder.
+
+A script NAME has its transcript in NAME.stdout. If its last line has a fault, NAME.stderr has the line that names it.
+"""
 import os
 import re
 
 from program import TOP
 
+WORKED = os.path.join(TOP, "tests", "scripts")
 OTHER_FAULT = re.compile(rb"line (?P<line>\d+): (?!out of memory).+\n")
 
 
@@ -12,19 +16,18 @@ def read(*parts):
         return file.read()
 
 
-def worked():
-    """The worked scripts, each with its transcript: what the program worked_scripts prints of it, but for its fault."""
-    folder, scripts, name = os.path.join(TOP, "crates", "worked_scripts"), {}, None
-    for line in read(folder, "stdout").splitlines(keepends=True):
-        if line.startswith(b"== "):
-            name = line[3:-1].decode()
-            scripts[name] = (read(folder, "data", name), [])
-        elif not OTHER_FAULT.fullmatch(line):
-            scripts[name][1].append(line)
-    return {name: (script, b"".join(lines)) for name, (script, lines) in scripts.items()}
-
-
 def scripts_in(folder):
     """The scripts of a folder, each with its transcript."""
-    names = sorted(name for name in os.listdir(folder) if not name.endswith(".stdout"))
+    names = sorted(name for name in os.listdir(folder) if not name.endswith((".stdout", ".stderr")))
     return {name: (read(folder, name), read(folder, f"{name}.stdout")) for name in names}
+
+
+def worked():
+    """The worked scripts, each with its transcript."""
+    return scripts_in(WORKED)
+
+
+def worked_faults():
+    """The line on standard error that each worked script ends with; empty if it has no fault."""
+    paths = {name: os.path.join(WORKED, f"{name}.stderr") for name in worked()}
+    return {name: read(path) if os.path.exists(path) else b"" for name, path in paths.items()}

@@ -1,5 +1,5 @@
 #!/usr/bin/env python3
-"""The corpus of `requests fuzz`: some 300 responses, of heads and bodies of our own.
+"""The corpus of `tries fuzz`: some 300 responses, of heads and bodies of our own.
 
 Run by itself, it writes them as the program reads them, to standard output or to the file that is named: each as four
 bytes, which are its length, the highest byte first, and its bytes. They are the same ones in each run.

@@ -2,7 +2,7 @@
 import json
 import re
 
-from program import built_requests
+from program import built_tries
 from real_servers import servers
 from real_servers.servers import nobody
 
@@ -45,7 +45,7 @@ def threads():
     for descriptors in range(6, 60, 6):
         with listening(*[servers.takes(0.002)] * 2) as hosts:
             ports = (str(one.port) for one in hosts)
-            done = under(descriptors, [built_requests(), "load", "each", "16", "0", "200", *ports])
+            done = under(descriptors, [built_tries(), "load", "each", "16", "0", "200", *ports])
         if done.status == 1 and not done.output:
             continue
         *lines, totals = done.output.splitlines() or [""]

@@ -1,14 +1,16 @@
-"""Fuzzing: responses of a corpus, damaged, are read at once and in pieces by the program requests, and both ways are to
-tell the same."""
+"""The reader of responses: mutated responses of a corpus, read at once and in pieces, and rows that state its reports."""
+import os
+import re
 import subprocess
 
-from program import built_requests
+from program import TOP, built_tries
 
 from . import corpus
 from .parts import Part, Wrong, check
 
 SEED, COUNT = 40, 1_000_000
 SECONDS = 600
+ROWS = os.path.join(TOP, "tests", "responses.rows")
 # from which it is known that a corpus is read, and that all its kinds of ends are met
 LISTED = 20_000
 ENDS = {"whole", "surplus", "until-end", "more", "BadHead", "BadLength", "BadChunk", "HeadTooLong", "TooManyInterims", "TrailerTooLong"}
@@ -16,7 +18,7 @@ ENDS = {"whole", "surplus", "until-end", "more", "BadHead", "BadLength", "BadChu
 
 def fuzz(*words):
     """What the program writes, and its status."""
-    done = subprocess.run([built_requests(), "fuzz", *map(str, words)], input=corpus.text(), stdout=subprocess.PIPE, timeout=SECONDS)
+    done = subprocess.run([built_tries(), "fuzz", *map(str, words)], input=corpus.text(), stdout=subprocess.PIPE, timeout=SECONDS)
     return done.returncode, done.stdout.decode()
 
 
@@ -42,4 +44,18 @@ def ends():
     return f"{LISTED:,} of them end in each of {len(ENDS)} ways"
 
 
-PARTS = [Part("fuzzing: responses at once and in pieces", both_ways), Part("fuzzing: responses end in each way", ends)]
+def rows():
+    """Each row of tests/responses.rows holds: at once, byte by byte, and cut in two at each byte."""
+    done = subprocess.run([built_tries(), "read", ROWS], stdout=subprocess.PIPE, encoding="utf8", timeout=SECONDS)
+    found = re.search(r"^(\d+) rows, 0 wrong\n\Z", done.stdout, re.MULTILINE)
+    with open(ROWS, encoding="utf8") as file:
+        count = sum(1 for line in file if line.strip() and not line.startswith("#"))
+    check(done.returncode == 0 and found and int(found[1]) == count, f"status {done.returncode}: {done.stdout[-2000:]}")
+    return f"{count} rows, each cut at every byte"
+
+
+PARTS = [
+    Part("fuzzing: rows of responses", rows),
+    Part("fuzzing: responses at once and in pieces", both_ways),
+    Part("fuzzing: responses end in each way", ends),
+]

@@ -21,24 +21,25 @@ from .programs import curlpool, run, tests_of, tool
 
 # the crates whose tests of allocation failures try the public calls that may be refused memory, and how many requests
 # are refused alone at least: all, but for a few of threads, which ask for some more or fewer each time
-CRATES = {
-    "bundle_tests": 151, "cache_tests": 85, "cli_tests": 503, "exchange_tests": 137, "foundation_tests": 87,
-    "threads_tests": 1_394,
-}
+CRATES = {"memory_tests": 690, "thread_memory_tests": 850}
 # the status of words that are refused
 REFUSED_WORDS = 2
 SECONDS = 60
 SECONDS_OF_ALL = 600
-WORDS_OF_LOAD = ["load", "--sites", "2", "--jobs", "12", "--workers", "2", "--host-limit", "1", "--total", "1"]
+JOBS, MOST_OPEN = 12, 1
+WORDS_OF_LOAD = ["load", "--sites", "2", "--jobs", str(JOBS), "--workers", "2", "--host-limit", str(MOST_OPEN), "--total",
+                 str(MOST_OPEN)]
 # words that are answered without a network or threads: five that are refused, and one that is not
 WORDS = (
     ("load", "--jobs", "0"), ("load", "--sites", "9"), ("get", "--timeout", "0", "http://127.0.0.1/"),
     ("get", "ftp://a/"), ("get", "http://127.0.0.1:65536/"), ("--help",),
 )
 # a trace that has several violations, and each way to tell them
-TRACE = os.path.join(TOP, "tools", "trace_model", "worked", "all-violations.trace")
+TRACE = os.path.join(TOP, "tests", "traces", "all-violations.trace")
 AUDITS = ([], ["--all", "--state"], ["--all", "--json"])
 BROKEN = 1
+# how many bytes an audit reads at a time, and those of a comment
+PIECE, COMMENT = 65_536, 2_000
 FAULT = re.compile(r"(?:Memory|Refused|Dial)(?: retried)? (\S+)\n")
 ALLOCATIONS = re.compile(r"\b(\d+) allocations", re.MULTILINE)
 REFUSED = re.compile(r"^refused: (\d+) alone, (\d+) for good$", re.MULTILINE)
@@ -116,12 +117,14 @@ REFUSED_LOADS = (b"run: out of memory\n", b"run: cannot listen\n", b"run: cannot
 
 
 def adds_up(lines):
-    """Whether the report's sums are those of its hosts, and each job was answered or failed."""
+    """Whether the report's sums are those of its hosts, no more are open than may be, and each job was answered or
+    failed."""
     hosts = [list(map(int, line.split()[2:])) for line in lines[:2]]
     sums = list(map(int, lines[2].split()[2:]))
     jobs, bad, *_, size = map(int, lines[3].split()[1:])
     is_closed = all(opened - closed == alive for opened, _, closed, _, alive in hosts)
-    return sums == [sum(one) for one in zip(*hosts, strict=True)] and is_closed and size == 2 * (jobs - bad)
+    is_sum = sums == [sum(one) for one in zip(*hosts, strict=True)]
+    return is_sum and is_closed and sums[-1] <= MOST_OPEN and (jobs, size) == (JOBS, 2 * (jobs - bad))
 
 
 def unreturned(run):
@@ -150,11 +153,11 @@ def refuse_all(words, wrong_with, may_vary=False, statuses=(0,)):
             f"{ends[False]} that say so")
 
 
-def get():
+def get(*options):
     with contextlib.ExitStack() as stack:
         ports = [stack.enter_context(Server(servers.lasts)).port for _ in range(2)]
         urls = [f"http://127.0.0.1:{port}/{number}" for number, port in zip((1, 2, 3), itertools.cycle(ports))]
-        return refuse_all([curlpool(), "get", *urls], functools.partial(wrong_get, urls=urls), may_vary=True)
+        return refuse_all([curlpool(), "get", *options, *urls], functools.partial(wrong_get, urls=urls), may_vary=True)
 
 
 def load(words):
@@ -169,8 +172,17 @@ def wrong_audit(run, ample):
     return None if is_told else f"status {run.status}, {run.output!r}, {run.errors!r}"
 
 
-def audit(options):
-    return refuse_all([curlpool(), "audit", *options, TRACE], wrong_audit, statuses=(BROKEN,))
+def audit(options, trace=TRACE):
+    return refuse_all([curlpool(), "audit", *options, trace], wrong_audit, statuses=(BROKEN,))
+
+
+def audit_in_pieces():
+    """The same behind comments, of which one goes over the end of the piece that is read first."""
+    with tempfile.TemporaryDirectory() as room, open(TRACE, "rb") as trace:
+        path = os.path.join(room, "long.trace")
+        with open(path, "wb") as file:
+            file.write((b"#" * COMMENT + b"\n") * (PIECE // COMMENT + 1) + trace.read())
+        return audit(["--all"], path)
 
 
 def wrong_answer(run, ample):
@@ -189,8 +201,10 @@ PARTS = [
     Part("memory: scripts", scripts),
     *(Part(f"memory: calls, in {crate}", functools.partial(calls_of, crate, least)) for crate, least in CRATES.items()),
     Part("memory: curlpool get", get),
+    Part("memory: curlpool get --head", functools.partial(get, "--head")),
     Part("memory: curlpool load", functools.partial(load, WORDS_OF_LOAD)),
     Part("memory: curlpool load --trace", functools.partial(load, [*WORDS_OF_LOAD, "--trace", os.devnull])),
     *(Part(" ".join(["memory: curlpool audit", *options]), functools.partial(audit, options)) for options in AUDITS),
+    Part("memory: curlpool audit in pieces", audit_in_pieces),
     *(Part(f"memory: curlpool {' '.join(words)}", functools.partial(words_of, words)) for words in WORDS),
 ]

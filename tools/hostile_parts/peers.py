@@ -6,7 +6,7 @@ import contextlib
 import re
 import time
 
-from program import built_requests
+from program import built_tries
 from real_servers import servers
 from real_servers.servers import Server, counted, nobody
 
@@ -103,7 +103,7 @@ def never_answered():
 
 def lines_of_load(workers, total, jobs, ports):
     """What came of each job, and the totals, where they are those of the jobs."""
-    done = run([built_requests(), "load", "each", str(workers), str(total), str(jobs), *map(str, ports)])
+    done = run([built_tries(), "load", "each", str(workers), str(total), str(jobs), *map(str, ports)])
     *lines, totals = done.output.splitlines() or [""]
     found = TOTALS.fullmatch(totals)
     check(done.status == 0 and found and len(lines) == jobs, f"{len(lines)} lines of {jobs} jobs: {done.told()}")

@@ -9,13 +9,12 @@ import subprocess
 import time
 from subprocess import PIPE
 
-from program import TOP, is_current
 from real_servers import servers
 
 from . import behaviours
 from .parts import Part, check_same
 from .peers import listening
-from .programs import curlpool, end, started
+from .programs import curlpool, end, launcher, started
 
 SIGNALS = (signal.SIGINT, signal.SIGTERM, signal.SIGHUP)
 SECONDS = 60
@@ -101,7 +100,7 @@ def check_interrupted(run, interrupt):
 
 def load_by_launcher(words):
     """The launcher is the parent, and the whole group gets the signal."""
-    with running([os.path.join(TOP, "curlpool"), *words], stdin=subprocess.DEVNULL) as run:
+    with running([launcher(), *words], stdin=subprocess.DEVNULL) as run:
         check_interrupted(run, lambda: os.killpg(run.pid, signal.SIGINT))
 
 
@@ -120,7 +119,7 @@ def interrupted_load():
     """Ctrl-C ends it with all its output."""
     words = ["load", "--seconds", "60", "--connections", "32", "--json", "--quiet"]
     load_with_pipe(words)
-    if not is_current():
+    if not launcher():
         return "its output is whole; the launcher was not tried"
     load_by_launcher(words)
     return "its output is whole"

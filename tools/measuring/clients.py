@@ -2,6 +2,7 @@
 import collections
 import contextlib
 import functools
+import json
 import os
 import resource
 import re
@@ -13,6 +14,8 @@ import time
 from subprocess import DEVNULL, PIPE
 from typing import Callable, NamedTuple
 
+from program import BUILT, build_unless_current
+
 from .commands import compiled, need, run, show, stop
 
 BODY_BYTES = 2
@@ -23,11 +26,35 @@ TOLD = re.compile(r"good (\d+) (?:.* )?opened (\d+) (?:.* )?bytes (\d+)\n")
 COUNT_CALLS_TO = ("strace", "-f", "-c", "-o")
 
 
+def counts_of_peer(said):
+    """Good requests, connections opened, and bytes of all bodies, as a peer of tools/peers prints them; or nothing."""
+    told = TOLD.search(said)
+    return told and tuple(map(int, told.groups()))
+
+
+def counts_of_get(said):
+    """The same of the lines of `curlpool get`."""
+    lines = [line.split() for line in said.splitlines()]
+    if any(len(line) < 4 or line[0] != "200" for line in lines):
+        return None
+    return len(lines), sum(line[2] == "new" for line in lines), sum(int(line[1]) for line in lines)
+
+
+def counts_of_load(said):
+    """The same of the object that `curlpool load --json` prints."""
+    told = json.loads(said)
+    return told["good"], told["connections"]["opened"], told["bytes"]
+
+
 class Client(NamedTuple):
     """A program that sends requests to each site in turn."""
 
     name: str
     words: Callable  # which start it, by the number of requests and the ports of the sites
+    counts: Callable = counts_of_peer
+    # numbers of requests of two runs, timed and traced
+    timed: tuple = (FEWER, MORE)
+    traced: tuple = (FEWER_TRACED, MORE_TRACED)
 
 
 class Cost(NamedTuple):
@@ -68,12 +95,19 @@ def serving(words, sites):
         yield started.stdout.readline().split()
 
 
-def connections(words, said, count):
-    """How many connections a run opened; ends all if not every request was good."""
-    told = TOLD.search(said)
-    if not told or (int(told[1]), int(told[3])) != (count, BODY_BYTES * count):
-        stop(f"{' '.join(words)} said {said}")
-    return int(told[2])
+def curlpool():
+    """The program curlpool, built. PROGRAM names another one."""
+    if not os.environ.get("PROGRAM"):
+        build_unless_current()
+    return os.environ.get("PROGRAM") or BUILT
+
+
+def connections(client, words, said, count):
+    """Connections that a run opened; ends all if not every request was good."""
+    counts = client.counts(said)
+    if not counts or (counts[0], counts[2]) != (count, BODY_BYTES * count):
+        stop(f"{' '.join(words)} said {said[-2000:]}")
+    return counts[1]
 
 
 def seconds_of_children():
@@ -88,13 +122,14 @@ def cost_of_run(client, count, ports):
     before, began = seconds_of_children(), time.monotonic()
     said = run(words, stdin=DEVNULL)
     cost = Cost(time.monotonic() - began, seconds_of_children() - before)
-    return cost, connections(words, said, count)
+    return cost, connections(client, words, said, count)
 
 
 def cost_of_request(client, ports):
     """What a request takes, and how many connections the longer run opens."""
-    (fewer, _), (more, opened) = (cost_of_run(client, count, ports) for count in (FEWER, MORE))
-    return Cost(*((long - short) / (MORE - FEWER) for long, short in zip(more, fewer, strict=True))), opened
+    (fewer, _), (more, opened) = (cost_of_run(client, count, ports) for count in client.timed)
+    count = client.timed[1] - client.timed[0]
+    return Cost(*((long - short) / count for long, short in zip(more, fewer, strict=True))), opened
 
 
 def costs_of(clients, ports, rounds):
@@ -130,7 +165,9 @@ def show_costs(clients, peers, ports, rounds, compares_speed):
                      *(f"{median_ratio(costs, found[peer], 'processors'):.2f}" for peer in peers), most[client]))
     show(("Client", "requests a second", *(f"of {peer.name}'s" for peer in compared),
           "processor microseconds a request", *(f"of {peer.name}'s" for peer in peers), "connections"), rows)
-    print(f"Medians of {rounds} rounds of {MORE - FEWER:,} requests, on {os.cpu_count()} processors; the load average was "
+    counts = sorted({more - fewer for fewer, more in (client.timed for client in clients)})
+    said = " or ".join(f"{count:,}" for count in counts)
+    print(f"Medians of {rounds} rounds of {said} requests, on {os.cpu_count()} processors; the load average was "
           f"{loads[0]:.1f} before them and {loads[1]:.1f} after them.\n")
 
 
@@ -138,7 +175,7 @@ def calls_of_run(client, count, ports):
     """How often a run makes each system call."""
     words = client.words(count, ports)
     with tempfile.NamedTemporaryFile("r", encoding="utf8") as file:
-        connections(words, run([*COUNT_CALLS_TO, file.name, *words], stdin=DEVNULL), count)
+        connections(client, words, run([*COUNT_CALLS_TO, file.name, *words], stdin=DEVNULL), count)
         lines = [line.split() for line in file]
     rows = [line for line in lines if len(line) > 4 and line[3].isdigit() and line[-1] != "total"]
     return collections.Counter({row[-1]: int(row[3]) for row in rows})
@@ -146,8 +183,8 @@ def calls_of_run(client, count, ports):
 
 def calls_of_request(client, ports):
     """How often a request makes each system call."""
-    fewer, more = (calls_of_run(client, count, ports) for count in (FEWER_TRACED, MORE_TRACED))
-    return {name: (more[name] - fewer[name]) / (MORE_TRACED - FEWER_TRACED) for name in more}
+    fewer, more = (calls_of_run(client, count, ports) for count in client.traced)
+    return {name: (more[name] - fewer[name]) / (client.traced[1] - client.traced[0]) for name in more}
 
 
 def show_calls(clients, server, sites):

@@ -4,9 +4,7 @@ import functools
 import statistics
 import tempfile
 
-from program import built_requests
-
-from .clients import Client, cost_of_request, make_peers, serving, show_calls, show_costs
+from .clients import Client, cost_of_request, counts_of_load, curlpool, make_peers, serving, show_calls, show_costs
 from .commands import compiled, show
 
 SITES, WORKERS = 2, 4
@@ -14,13 +12,15 @@ ROUNDS = 21
 ROUNDS_OF_ONE = 5
 
 
-def words_of_load(program, total, count, ports):
-    return [program, "load", str(WORKERS), str(total), str(count), *ports]
+def words_of_load(program, workers, total, count, ports):
+    """A load of paths at these ports, of which each thread has one request under way."""
+    urls = [f"--url=http://127.0.0.1:{port}/{number}" for number, port in enumerate(ports, 1)]
+    return [program, "load", *urls, "--workers", str(workers), "--total", str(total), "--jobs", str(count), "--json", "--quiet"]
 
 
 def show_one_connection(program, server):
     """What a job takes where all threads share one connection, and so wait for one another."""
-    client = Client("curlpool", functools.partial(words_of_load, program, 1))
+    client = Client("curlpool", functools.partial(words_of_load, program, WORKERS, 1), counts_of_load)
     rows = []
     for sites in (1, SITES):
         with serving([server], sites) as ports:
@@ -33,10 +33,10 @@ def show_one_connection(program, server):
 
 
 def load():
-    program = built_requests()
+    program = curlpool()
     with tempfile.TemporaryDirectory() as room:
         server = compiled("peers/server.c", room)
-        client = Client("curlpool, one shared cache", functools.partial(words_of_load, program, 0))
+        client = Client("curlpool, one shared cache", functools.partial(words_of_load, program, WORKERS, 0), counts_of_load)
         peers = make_peers(WORKERS, room)
         with serving([server], SITES) as ports:
             show_costs([client, *peers], peers, ports, ROUNDS, compares_speed=True)

@@ -1,4 +1,4 @@
-"""What a request takes while other connections are silent: the program requests beside nginx."""
+"""What a request takes while other connections are silent: `tries many` beside nginx."""
 import contextlib
 import re
 import socket
@@ -6,7 +6,7 @@ import statistics
 import threading
 import time
 
-from program import built_requests
+from program import built_tries
 from real_servers.nginx import free_ports
 
 from .commands import PLAIN_CLEARS, need, run, show
@@ -89,7 +89,7 @@ def show_one_of_eight(program):
 def silent():
     need("strace")
     need("valgrind")
-    program = built_requests()
+    program = built_tries()
     rows = []
     for places in PLACES:
         calls = calls_of_request(program, places)

@@ -1,27 +1,29 @@
 """The table sockets of tools/measure: what a request takes over sockets here, with libcurl and with raw epoll."""
 import functools
+import itertools
 import tempfile
 
-from program import built_requests
-
-from .clients import Client, make_peers, serving, show_calls, show_costs
+from .clients import Client, counts_of_get, counts_of_load, curlpool, make_peers, serving, show_calls, show_costs
 from .commands import compiled
+from .load import words_of_load
 
 SITES = 2
 ROUNDS = 41
-PAUSE, LIMIT = "0", "30"
+# curlpool get fetches at most 1,024 URLs over blocking sockets, and writes a line for each
+OF_GET = (24, 1_024)
 
 
-def words_of_sockets(program, kind, count, ports):
+def words_of_get(program, count, ports):
     urls = [f"http://127.0.0.1:{port}/{number}" for number, port in enumerate(ports, 1)]
-    return [program, "sockets", kind, PAUSE, LIMIT, str(count // SITES), *urls]
+    return [program, "get", *itertools.islice(itertools.cycle(urls), count)]
 
 
 def make_clients():
     """Those over sockets here."""
-    program = built_requests()
-    return [Client(f"curlpool, {kind} sockets", functools.partial(words_of_sockets, program, kind))
-            for kind in ("waiting", "polled")]
+    program = curlpool()
+    return [Client("curlpool get, blocking sockets", functools.partial(words_of_get, program), counts_of_get,
+                   timed=OF_GET, traced=OF_GET),
+            Client("curlpool load, nonblocking sockets", functools.partial(words_of_load, program, 1, 0), counts_of_load)]
 
 
 def sockets():

@@ -10,9 +10,7 @@ import threading
 import time
 from subprocess import DEVNULL, PIPE
 
-from program import BUILT, build_unless_current
-
-from .clients import seconds_of_children
+from .clients import curlpool, seconds_of_children
 from .commands import need, run, show
 from .many import WORKERS, nginx_by
 
@@ -28,13 +26,6 @@ FIRST, LAST = 60, 100
 URLS, AT_ONCE = 10_000, 64
 UNITS = {"us": 1, "ms": 1_000, "s": 1_000_000}
 OF_WRK = re.compile(r"^\s+(50|99)%\s+([\d.]+)(us|ms|s)$", re.MULTILINE)
-
-
-def curlpool():
-    """The program curlpool, built. PROGRAM names another one."""
-    if not os.environ.get("PROGRAM"):
-        build_unless_current()
-    return os.environ.get("PROGRAM") or BUILT
 
 
 def words_of_load(port, *more):

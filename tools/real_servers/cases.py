@@ -17,7 +17,8 @@ import re
 from . import servers
 from .servers import LATER, SOON, nobody
 
-KINDS = ("waiting", "polled")
+# options of curlpool get, for blocking sockets and for nonblocking ones; both write lines in the order of the URLs
+KINDS = ((), ("--parallel", "1"))
 
 
 @dataclasses.dataclass(frozen=True)
@@ -25,8 +26,8 @@ class Case:
     """Requests to servers in turn. A server is a behaviour, nginx by its name in nginx.py, or nobody.
 
     The order says what each request gives: `new, 9 reused` is ten, again and again; what stands before `then` comes
-    once. A fault is given by its name, or by two with `or` between. The counts are those of the line `good N ..`, and
-    where each server is a behaviour, they accept as many connections as are opened.
+    once. A fault is given by its name, or by two with `or` between. If each server is a behaviour, they accept as many
+    connections as are opened.
     """
 
     name: str
@@ -39,11 +40,7 @@ class Case:
     failed: int = 0
     status: int = 200
     has_bodies: bool = True
-    pause: int = 0
-    limit: int = 30
-    rounds: int = 1
     address: str = "127.0.0.1"
-    # of curlpool get, which has no line of counts
     options: tuple = ()
     # whether 127.0.0.1 has a name in the URLs
     is_named: bool = False
@@ -55,17 +52,10 @@ class Case:
         """What the order says of each request."""
         once, _, again = self.order.rpartition("then ")
         endless = itertools.chain(parts_of(once), itertools.cycle(parts_of(again)))
-        return list(itertools.islice(endless, self.requests * self.rounds))
+        return list(itertools.islice(endless, self.requests))
 
     def length(self, number):
         return number if self.has_bodies else 0
-
-    def line_of_counts(self):
-        answers = self.answers()
-        numbers = itertools.cycle(range(1, self.requests + 1))
-        size = sum(self.length(number) for number, answer in zip(numbers, answers, strict=False) if is_good(answer))
-        return (f"good {len(answers) - self.failed} failed {self.failed} opened {self.opened} reused {self.reused} "
-                f"retried {self.retried} bytes {size}")
 
     def lines(self, urls):
         """The lines that may come for each of the URLs."""
@@ -88,11 +78,13 @@ def is_good(answer):
     return answer.startswith(("new", "reused"))
 
 
-# by the program requests, with both kinds of sockets
+# a server that answers late: the connections of the other one are idle meanwhile
+LATE = servers.takes(LATER / 1_000)
+
+# over both kinds of sockets
 CASES = [
     # nginx closes with the thousandth response where nothing is set
-    Case("nginx, nothing set", ("nginx",), "new, 999 reused", 1_200, opened=2, reused=1_198),
-    Case("nginx, five rounds", ("nginx",), "new, then reused", 100, opened=1, reused=499, rounds=5),
+    Case("nginx, nothing set", ("nginx",), "new, 999 reused", 1_010, opened=2, reused=1_008),
     Case("nginx, keepalive_requests 10", ("nginx-ten",), "new, 9 reused", 300, opened=30, reused=270),
     Case("nginx, chunks by includes", ("nginx-includes",), "new, then reused", 300, opened=1, reused=299),
     Case("nginx and others in turn", ("nginx", servers.lasts, servers.ends_after(1)),
@@ -103,10 +95,10 @@ CASES = [
     Case("each third response ends its connection, unsaid", (servers.ends_after(3),),
          "new, 2 reused, then new retried, 2 reused", 300, opened=100, reused=200, retried=99),
     Case("surplus with each response", (servers.sends_surplus,), "new", 300, opened=300),
-    Case("surplus after each response", (servers.sends_late_surplus,), "new, then new retried", 5,
-         opened=5, retried=4, pause=LATER),
-    Case("an unasked answer", (servers.answers_unasked, servers.takes(LATER / 1_000)),
-         "2 new, then new retried, reused", 6, opened=4, reused=2, retried=2),
+    Case("surplus after each response", (servers.sends_late_surplus, LATE), "2 new, then new retried, reused", 9,
+         opened=6, reused=3, retried=4),
+    Case("an unasked answer", (servers.answers_unasked, LATE), "2 new, then new retried, reused", 6,
+         opened=4, reused=2, retried=2),
     Case("100 Continue before each response", (servers.sends_interim("100 Continue"),), "new, then reused", 300,
          opened=1, reused=299),
     Case("103 Early Hints before each response",
@@ -115,15 +107,15 @@ CASES = [
     Case("a chunk's line in two writes", (servers.cuts_chunk_lines,), "new, then reused", 300, opened=1, reused=299),
     Case("idle connections end, no pause", (servers.ends_idle_after(30),), "new, then reused", 300,
          opened=1, reused=299),
-    Case("idle connections end, a longer pause", (servers.ends_idle_after(SOON),), "new, then new retried", 5,
-         opened=5, retried=4, pause=LATER),
+    Case("idle connections end, a longer pause", (servers.ends_idle_after(SOON), LATE),
+         "2 new, then new retried, reused", 9, opened=6, reused=3, retried=4),
     Case("reset in place of the first answer", (servers.resets_at(1),), "Read or Write", 300, opened=300, failed=300),
     Case("reset in place of the second answer", (servers.resets_at(2),), "new, then new retried", 300,
          opened=300, retried=299),
     Case("reset in place of the second answer, and once more", (servers.resets_twice,),
          "new, Read retried or Write retried", 300, opened=300, failed=150),
     Case("half a body of each second, and then nothing", (servers.stalls,), "new, Cancelled", 4,
-         opened=2, failed=2, limit=3),
+         opened=2, failed=2, options=("--timeout", "3")),
     Case("both lengths", (servers.gives_both_lengths,), "new", 300, opened=300),
     Case("HTTP/1.0", (servers.answers_old(),), "new", 300, opened=300),
     Case("HTTP/1.0 with keep-alive", (servers.answers_old("Connection: keep-alive"),), "new, then reused", 300,
@@ -146,26 +138,19 @@ CASES = [
 ]
 
 # a response to A, one of B meanwhile, and one of A again
-UNASKED = Case("an unasked answer", (servers.answers_unasked, servers.takes(LATER / 1_000)), "2 new, new retried", 3,
+UNASKED = Case("an unasked answer, beside curl", (servers.answers_unasked, LATE), "2 new, new retried", 3,
                opened=3, retried=1)
 
-# by curlpool get
+# over blocking sockets alone, if no option says otherwise
 GET_CASES = [
-    Case("connections last", (servers.lasts,), "new, then reused", 100, opened=1, reused=99),
-    Case("nginx, nothing set", ("nginx",), "new, then reused", 100, opened=1, reused=99),
     Case("HEAD", (servers.lasts,), "new, then reused", 100, opened=1, reused=99, has_bodies=False,
          options=("--head",)),
     Case("HEAD of nginx", ("nginx",), "new, then reused", 100, opened=1, reused=99, has_bodies=False,
          options=("--head",)),
-    Case("nobody listens", (nobody,), "Dial", 10, opened=0, failed=10),
-    Case("half a body, and then nothing", (servers.stalls,), "new, Cancelled", 2, opened=1, failed=1,
-         options=("--timeout", "3")),
     # whole seconds are counted: after 3 a connection was idle for more than 1
     Case("idle for too long", (servers.lasts, servers.takes(3)), "3 new", 3, opened=3, options=("--max-age", "1")),
     UNASKED,
     Case("a name in /etc/hosts", (servers.lasts,), "new, then reused", 100, opened=1, reused=99, is_named=True),
     Case("a name in /etc/hosts, as a crawl", (servers.lasts,), "new, then reused", 100, opened=1, reused=99,
          options=("--parallel", "1"), is_named=True),
-    Case("reset in place of the second answer, and once more", (servers.resets_twice,),
-         "new, Read retried or Write retried", 4, opened=4, failed=2),
 ]

@@ -48,7 +48,6 @@ class Crowd:
         self.kind = kind
         self.text, self.behaviour, self.requests, self.may_fail = behaviour
         self.name = f"{kind}: {self.text}"
-        self.is_get = True
 
     def needs_nginx(self):
         return False
@@ -68,7 +67,6 @@ class LongFile:
     fetched meanwhile."""
 
     name = "get --parallel: the first requests of a long file have no answer"
-    is_get = True
     hung, answered, comments = 3, 200, 5_000
 
     def needs_nginx(self):

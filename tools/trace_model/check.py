@@ -4,7 +4,7 @@
     tools/trace_model/check.py [--drawn COUNT] [--scripts COUNT] [--loads COUNT] [--logs COUNT]
         [--options COUNT] [--jobs COUNT] [--beside PROGRAM]
 
-Each file worked/NAME.trace has the answer of worked/NAME.answer, whose first line has the options and the status. Those
+Each file tests/traces/NAME.trace has the answer of NAME.answer, whose first line has the options and the status. Those
 named for a rule break it alone, and no line of theirs can be left out. The scripts of `examples/` with their
 transcripts, and random scripts with what they caused, are lawful traces. Of random traces half and more break a rule,
 each rule in one of 100, and some are judged a second time, by searches of each host's log. With PROGRAM, `PROGRAM
@@ -41,7 +41,7 @@ from trace_model.by_log import Disagreement, DoubleAudit
 from trace_model.drawn import draw, scripted
 from trace_model.scripted import trace_of
 
-WORKED = os.path.join(TOOLS, "trace_model", "worked")
+WORKED = os.path.join(os.path.dirname(TOOLS), "tests", "traces")
 EXAMPLES = os.path.join(os.path.dirname(TOOLS), "examples")
 SEED = 60
 # of random traces: how many break a rule, and how many each rule
