@@ -6,7 +6,6 @@ import tempfile
 import threading
 import time
 
-from program import TOP
 from real_servers import servers
 from real_servers.servers import nobody
 
@@ -21,6 +20,9 @@ TRACE = f"{SCRIPT}closed 0.1 at 0\n"
 # the words of a load with figures
 MEASURED = ("load", "--sites", "1", "--jobs", "30", "--connections", "3")
 SIGN = {0: "<", 1: ">", 2: ">"}
+IS_FOLDER, NO_FILE = "Is a directory", "No such file or directory"
+# files that cannot be written, and the system's reason
+UNWRITABLE = {"/": IS_FOLDER, "/missing/file": NO_FILE, "/dev/full": "No space left on device"}
 
 
 def closing(closed, words):
@@ -106,11 +108,12 @@ def script_errors():
 
 
 def script_picture():
-    """A file that can't be made ends the program before the script; one that is full, after it."""
-    for file, output in (("/", ""), ("/missing/picture", ""), ("/dev/full", TRANSCRIPT)):
+    """A file that can't be created ends the program before the script; one that is full, after it."""
+    for file, reason in UNWRITABLE.items():
         done = run([curlpool(), "script", "--picture", file], text=SCRIPT)
-        check_same(done, (4, output, "run: cannot write\n"), file)
-    return "status 4, `cannot write`"
+        output = TRANSCRIPT if file == "/dev/full" else ""
+        check_same(done, (4, output, f"run: cannot write {file}: {reason}\n"), file)
+    return "status 4, `cannot write` with name and reason"
 
 
 def get_output():
@@ -168,21 +171,22 @@ def crawl_output():
 
 
 def crawl_input():
-    """A file that can't be read, by name or as standard input, is told; URLs among the words have their lines before."""
-    for file in ("/", "/missing/urls"):
-        check_same(run([curlpool(), "get", "--file", file]), (4, "", "run: cannot read\n"), file)
+    """A file that can't be read is named with the reason; URLs among the words have their lines before."""
+    for file, reason in (("/", IS_FOLDER), ("/missing/urls", NO_FILE)):
+        check_same(run([curlpool(), "get", "--file", file]), (4, "", f"run: cannot read {file}: {reason}\n"), file)
+    unread = "run: cannot read standard input\n"
     with crawl("-") as (words, lines):
-        check_same(run(closing([0], words)), (4, "", "run: cannot read\n"), "closed")
+        check_same(run(closing([0], words)), (4, "", unread), "closed")
         folder = os.open("/", os.O_RDONLY)
         try:
             first = lines.splitlines(keepends=True)[0]
             done = run([*words, first.split()[-1]], stdin=folder)
-            check_same(done, (4, first, "run: cannot read\n"), "a folder")
+            check_same(done, (4, first, unread), "a folder")
         finally:
             os.close(folder)
         text = "".join(f"{line.split()[-1]}\n" for line in lines.splitlines())
         check_same(run(words, text=text), (0, lines, ""), "a pipe")
-    return "status 4, `cannot read`"
+    return "status 4, `cannot read` with name and reason"
 
 
 def crawl_others():
@@ -200,11 +204,11 @@ def load_output():
 
 
 def load_trace():
-    """A trace that can't be written is told, and then there is no report; its file is made before the load."""
+    """Without a trace there is no report; the file is created before the load."""
     words = [curlpool(), "load", "--sites", "1", "--jobs", "3", "--workers", "1", "--trace"]
-    for name in ("/dev/full", "/", os.path.join(TOP, "no-such-folder", "load.trace")):
-        check_same(run([*words, name]), (4, "", "run: cannot write\n"), name)
-    return "status 4, `cannot write`"
+    for name, reason in UNWRITABLE.items():
+        check_same(run([*words, name]), (4, "", f"run: cannot write {name}: {reason}\n"), name)
+    return "status 4, `cannot write` with name and reason"
 
 
 def load_others():
@@ -222,9 +226,9 @@ def measured_output():
     for options in ([], ["--json"]):
         for name, done in outputs([curlpool(), *MEASURED, "--quiet", *options]):
             check_same((done.status, done.errors), (4, "run: cannot write\n"), f"{name} {options}")
-    for file in ("/dev/full", "/", os.path.join(TOP, "no-such-folder", "load.svg")):
+    for file, reason in UNWRITABLE.items():
         done = run([curlpool(), *MEASURED, "--quiet", "--picture", file])
-        check_same((done.status, done.errors), (4, "run: cannot write\n"), file)
+        check_same((done.status, done.errors), (4, f"run: cannot write {file}: {reason}\n"), file)
     return "status 4, `cannot write`"
 
 

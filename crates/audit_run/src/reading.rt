@@ -35,8 +35,8 @@ pub fn audit_file<F: ScriptFiles, W: Sink>(
         (W.sink output.new) result }
 {
     match files.open(name) {
-        Some(mut file) => audit_stream(alloc, name, telling, &mut file, output),
-        None => Err(AuditStop::Read),
+        Ok(mut file) => audit_stream(alloc, name, telling, &mut file, output),
+        Err(_) => Err(AuditStop::Read),
     }
 }
 

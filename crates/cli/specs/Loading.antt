@@ -5,6 +5,7 @@ use Rattle.script_text.specs.declared.fault.FaultKind.{FaultKind}
 use Rattle.script_run.specs.Streams.{Stream, Puts}
 use Rattle.cli.specs.declared.loading.plan.LoadPlan.{LoadPlan}
 use Rattle.cli.specs.declared.loading.outcome.LoadOutcome.{LoadOutcome}
+use Rattle.cli.specs.declared.loading.failure.LoadFailure.{LoadFailure}
 use Rattle.cli.specs.declared.loading.fault.LoadFault.{LoadFault}
 use Rattle.cli.specs.declared.loading.fault.LoadFault.TheVariants.{Load, Listen, Write}
 use Rattle.driver.specs.declared.fault.DriverFault.TheVariants.{Memory, BadWorkers, Poll, Doubled, Missing, Spawn}
@@ -24,7 +25,7 @@ load_fault_text Write = codes "cannot write"
 
 -- a load of that plan comes to this, or has this fault
 abbrev pub Loading : Type 1
-Loading = LoadPlan → Result LoadOutcome LoadFault → Type 0
+Loading = LoadPlan → Result LoadOutcome LoadFailure → Type 0
 
 -- 0 if a text was written whole, else 4
 abbrev pub written_status : {A : Type 0} → Result A FaultKind → ℕ
@@ -41,13 +42,13 @@ outcome_status status (Ok done) = status
 outcome_status status (Err kind) = 4
 
 -- the report is written, or a front of it if writing fails; if there is none, nothing is
-abbrev pub WritesReport : Result LoadOutcome LoadFault → Stream → Stream → ℕ → Type 0
+abbrev pub WritesReport : Result LoadOutcome LoadFailure → Stream → Stream → ℕ → Type 0
 WritesReport (Ok outcome) old new status =
     (result : Result (Unit {0}) FaultKind) × Puts old new (string_bytes outcome.report) result × (status ≡ outcome_status outcome.status result)
 WritesReport (Err fault) old new status = (new ≡ old) × (status ≡ 4)
 
 -- a load was carried out, and its report written
 pub record RunsLoad (Loads : Loading) (plan : LoadPlan) (old new : Stream) (status : ℕ) : Type 0 where
-  pub outcome : Result LoadOutcome LoadFault
+  pub outcome : Result LoadOutcome LoadFailure
   pub loads : Loads plan outcome
   pub writes : WritesReport outcome old new status

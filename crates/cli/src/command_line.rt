@@ -19,6 +19,7 @@ pub(crate) mod values;
 
 use crate::auditing::subcommand::audit_subcommand;
 use crate::auditing::words::{AuditWords, audit_words_of};
+use crate::build::{BUILD, version};
 use crate::get::subcommand::get_subcommand;
 use crate::get::words::{GetWords, get_words_of};
 use crate::loading::subcommand::load_subcommand;
@@ -61,7 +62,7 @@ fn command<'a>(alloc: Global) -> Result<Command<'a>, AllocError>
 {
     let program = Command::new(alloc, "curlpool")
         .bin_name("curlpool")?
-        .version("0.2.0")
+        .version(version(BUILD))
         .about("libcurl's connection cache: fetches URLs, runs scripts and loads, audits pools")
         .after_help(EXAMPLES)
         .subcommand_required(true)

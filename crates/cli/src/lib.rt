@@ -3,7 +3,9 @@
 #![tactic(auto)]
 
 mod auditing;
+mod build;
 mod command_line;
+mod file_fault;
 mod get;
 mod loading;
 mod program;
@@ -26,6 +28,7 @@ pub use get::plan::{GetPlan, GetRefusal, TurnPlan, UrlJob};
 pub use get::run_plan;
 pub use get::system_network::{SystemFetcher, SystemNetwork};
 pub use get::words::{CrawlWords, GetWords};
+pub use loading::failure::LoadFailure;
 pub use loading::fault::LoadFault;
 pub use loading::measured::plan::{MeasuredFlags, MeasuredNumbers, MeasuredPlan};
 pub use loading::measured::words::MeasuredWords;

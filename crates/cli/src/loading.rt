@@ -4,6 +4,7 @@ ghost use Rattle.std.specs.Prelude.{◌≡◌};
 ghost use Rattle.cli.specs.Loading.{RunsLoad};
 ghost use Rattle.script_run.specs.Streams.{CanCount};
 
+pub(crate) mod failure;
 pub(crate) mod fault;
 pub(crate) mod interrupt;
 pub(crate) mod measured;
@@ -19,6 +20,7 @@ pub(crate) mod system;
 pub(crate) mod tracing;
 pub(crate) mod words;
 
+use failure::LoadFailure;
 use fault::{LoadFault, OUT_OF_MEMORY};
 use outcome::LoadOutcome;
 use plan::LoadPlan;
@@ -30,9 +32,9 @@ use std::io::Write;
 /// The status if there is no report, or it was not written whole.
 const FAILED: u8 = 4;
 
-/// Carries out the plan by `load`, writes its report on `output`, and its note or its fault on
-/// `errors`. Gives the status: the load's if the report was written whole, else 4.
-pub fn run_load<L: FnOnce(Global, LoadPlan) -> Result<LoadOutcome, LoadFault>, W: Sink, E: Write>(
+/// Runs a load by `load`, and writes its report to `output` and its note, or the reason why there is
+/// no report, to `errors`. Returns the status: the load's if the report was written whole, else 4.
+pub fn run_load<L: FnOnce(Global, LoadPlan) -> Result<LoadOutcome, LoadFailure>, W: Sink, E: Write>(
     alloc: Global,
     plan: LoadPlan,
     load: L,
@@ -49,18 +51,18 @@ pub fn run_load<L: FnOnce(Global, LoadPlan) -> Result<LoadOutcome, LoadFault>, W
             let _ = errors.write_all(outcome.note.as_bytes());
             match output.put(outcome.report.as_bytes()) {
                 Ok(()) => outcome.status,
-                Err(FaultKind::Memory) => failed(errors, OUT_OF_MEMORY),
-                Err(_) => failed(errors, LoadFault::Write),
+                Err(FaultKind::Memory) => failed(errors, OUT_OF_MEMORY.into()),
+                Err(_) => failed(errors, LoadFault::Write.into()),
             }
         }
-        Err(fault) => failed(errors, fault),
+        Err(failure) => failed(errors, failure),
     }
 }
 
-/// Tells the fault, and gives the status.
-fn failed<E: Write>(errors: &mut E, fault: LoadFault) -> u8
+/// Writes the reason why there is no report, and returns the status.
+fn failed<E: Write>(errors: &mut E, failure: LoadFailure) -> u8
     ensures { result ≡ 4 }
 {
-    let _ = writeln!(errors, "run: {fault}");
+    let _ = writeln!(errors, "run: {failure}");
     FAILED
 }

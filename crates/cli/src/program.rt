@@ -13,7 +13,7 @@ use crate::command_line::memory::ArgsAlloc;
 use crate::command_line::request::{Request, asked_by};
 use crate::get::fetching::Network;
 use crate::get::run_plan;
-use crate::loading::fault::LoadFault;
+use crate::loading::failure::LoadFailure;
 use crate::loading::outcome::LoadOutcome;
 use crate::loading::plan::LoadPlan;
 use crate::loading::run_load;
@@ -55,7 +55,7 @@ pub fn run_program<
     M: ArgsAlloc,
     F: ScriptFiles,
     N: Network,
-    L: FnOnce(Global, LoadPlan) -> Result<LoadOutcome, LoadFault> + Drop,
+    L: FnOnce(Global, LoadPlan) -> Result<LoadOutcome, LoadFailure> + Drop,
     R: Source,
     W: Sink,
     E: Write,
@@ -105,7 +105,7 @@ fn asks_for_input(request: &Request) -> bool {
 pub fn answer_request<
     F: ScriptFiles,
     N: Network,
-    L: FnOnce(Global, LoadPlan) -> Result<LoadOutcome, LoadFault> + Drop,
+    L: FnOnce(Global, LoadPlan) -> Result<LoadOutcome, LoadFailure> + Drop,
     R: Source,
     W: Sink,
     E: Write,

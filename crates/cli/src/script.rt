@@ -11,6 +11,7 @@ mod picturing;
 pub(crate) mod subcommand;
 pub(crate) mod words;
 
+use crate::file_fault::{FileAction, write_file_fault};
 use input::ScriptInput;
 use picturing::Painter;
 use script_run::{ScriptFiles, Sink, Source, Unseen, Viewer, run_file_for, run_script_for};
@@ -81,16 +82,26 @@ fn run_pictured<F: ScriptFiles, R: Source, W: Sink, E: Write>(
         (R.source input.old) (R.source input.new) (W.sink output.old) (W.sink output.new) result }
     ensures unopened { name_of from ≡ None → files.new ≡ files.old }
 {
-    let Some(file) = files.create(name) else {
-        return unwritten(errors, FaultKind::Write);
+    let mut file = match files.create(name) {
+        Ok(file) => file,
+        Err(reason) => {
+            write_file_fault(alloc, errors, FileAction::Write, name, Some(reason));
+            return UNWRITTEN;
+        }
     };
-    let mut file = file;
     let mut painter = Painter::new(alloc);
     let viewer = &mut painter;
     let status = run_seen(alloc, is_traced, from, files, input, output, errors, viewer);
     match painter.write_to(&mut file) {
         Ok(()) => status,
-        Err(kind) => unwritten(errors, kind),
+        Err(FaultKind::Memory) => {
+            let _ = writeln!(errors, "run: out of memory");
+            UNWRITTEN
+        }
+        Err(_) => {
+            write_file_fault(alloc, errors, FileAction::Write, name, file.last_error());
+            UNWRITTEN
+        }
     }
 }
 
@@ -122,14 +133,6 @@ fn run_seen<F: ScriptFiles, R: Source, W: Sink, E: Write, V: Viewer>(
             status_told(errors, ran)
         }
     }
-}
-
-/// The status of a program that did not write its picture for that reason, which is told.
-fn unwritten<E: Write>(errors: &mut E, kind: FaultKind) -> u8
-    ensures { result ≡ 4 }
-{
-    let _ = writeln!(errors, "run: {kind}");
-    UNWRITTEN
 }
 
 /// The status of a program that ran a script; a fault is told.

@@ -119,7 +119,7 @@ fn get<R: RandomSource + AllocGlobal + Wait>(
         false,
         &mut files,
         &mut network,
-        |_, _| Err(LoadFault::Listen),
+        |_, _| Err(LoadFault::Listen.into()),
         &mut input,
         &mut output,
         &mut errors,

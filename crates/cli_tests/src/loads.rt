@@ -1,6 +1,6 @@
 //! What carries out no load: it keeps the plan, and answers what it is told to.
 
-use cli::{LoadFault, LoadOutcome, LoadPlan, MeasuredPlan};
+use cli::{LoadFailure, LoadFault, LoadOutcome, LoadPlan, MeasuredPlan};
 use driver::DriverFault;
 use load_run::LoadError;
 use std::alloc::Global;
@@ -27,7 +27,7 @@ impl<'a> FakeLoader<'a> {
     }
 
     /// Carries out no load.
-    pub fn load(&mut self, alloc: Global, plan: LoadPlan) -> Result<LoadOutcome, LoadFault> {
+    pub fn load(&mut self, alloc: Global, plan: LoadPlan) -> Result<LoadOutcome, LoadFailure> {
         let LoadPlan {
             options,
             trace,
@@ -46,7 +46,7 @@ impl<'a> FakeLoader<'a> {
         ];
         let report = self.answer?;
         let Ok(report) = String::from_str(alloc, report) else {
-            return Err(LoadFault::Load(LoadError::Run(DriverFault::Memory)));
+            return Err(LoadFault::Load(LoadError::Run(DriverFault::Memory)).into());
         };
         Ok(LoadOutcome {
             report,

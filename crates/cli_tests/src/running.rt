@@ -50,6 +50,9 @@ pub const ROW: Row = Row {
     status: 0,
 };
 
+/// The number of `No such file or directory` (errno(3)).
+const NO_SUCH_FILE: i32 = 2;
+
 /// URLs, a line each.
 const URLS: &str = "http://127.0.0.1/f\nhttp://127.0.0.1/gg\n";
 
@@ -65,19 +68,19 @@ impl ScriptFiles for FilesInMemory {
 
     ghost opens = { λ _ _ _ _. ⊤ };
 
-    fn open(&mut self, name: &str) -> Option<&'static [u8]> {
+    fn open(&mut self, name: &str) -> io::Result<&'static [u8]> {
         match name {
-            "broken" => Some(BROKEN.as_bytes()),
-            "urls" => Some(URLS.as_bytes()),
-            _ => None,
+            "broken" => Ok(BROKEN.as_bytes()),
+            "urls" => Ok(URLS.as_bytes()),
+            _ => Err(io::Error::from_raw_os_error(NO_SUCH_FILE)),
         }
     }
 
-    fn create(&self, name: &str) -> Option<FailureCounted<FakeFile>> {
+    fn create(&self, name: &str) -> io::Result<FailureCounted<FakeFile>> {
         match name {
-            "picture" => Some(FailureCounted::new(FakeFile { is_full: false })),
-            "full" => Some(FailureCounted::new(FakeFile { is_full: true })),
-            _ => None,
+            "picture" => Ok(FailureCounted::new(FakeFile { is_full: false })),
+            "full" => Ok(FailureCounted::new(FakeFile { is_full: true })),
+            _ => Err(io::Error::from_raw_os_error(NO_SUCH_FILE)),
         }
     }
 }

@@ -10,7 +10,7 @@ static ROWS: [Row; 2] = [
         name: "a picture whose file cannot be made: nothing is run",
         words: "script --picture folder/picture",
         script: REUSE,
-        errors: Text::Whole("run: cannot write\n"),
+        errors: Text::Whole("run: cannot write folder/picture: No such file or directory\n"),
         status: 4,
         ..ROW
     },
@@ -18,7 +18,7 @@ static ROWS: [Row; 2] = [
         name: "a picture that cannot be written, after a fault",
         words: "script --picture full broken",
         output: Text::Whole("opened 0.1 for 1 at 0\n"),
-        errors: Text::Whole("line 4: unknown command\nrun: cannot write\n"),
+        errors: Text::Whole("line 4: unknown command\nrun: cannot write full\n"),
         status: 4,
         ..ROW
     },

@@ -68,6 +68,8 @@ pub fn json_text(alloc: Global, report: &LoadReport) -> Result<String, AllocErro
 /// Adds what is known beside the figures.
 fn put_run(object: &mut Object, alloc: Global, run: &LoadRun) -> Result<(), AllocError> {
     object.put("version", Value::try_from_str(alloc, run.version)?)?;
+    let build = run.build.name();
+    object.put("build", Value::try_from_str(alloc, build)?)?;
     object.put("urls", urls_value(alloc, &run.urls)?)?;
     object.put("options", options_value(alloc, &run.options)?)?;
     object.put_number("elapsed_us", run.elapsed_us)?;

@@ -20,7 +20,7 @@ pub use job_counts::{FAULT_NAMES, JobCounts, STATUS_NAMES};
 pub use json::json_text;
 pub use outcome::{Outcome, outcome_of};
 pub use report::{
-    Bucket, Connections, HostRun, IntervalLatency, IntervalReport, JobReport, Latencies,
+    Bucket, Build, Connections, HostRun, IntervalLatency, IntervalReport, JobReport, Latencies,
     LoadReport, LoadRun, OptionValue, SaidOption,
 };
 pub use summary::Summary;

@@ -44,11 +44,32 @@ pub struct HostRun {
     pub connections: Connections,
 }
 
+/// How the program was built that made a load.
+#[derive(Clone, Copy, Debug, PartialEq, Eq)]
+pub enum Build {
+    /// The checker has proved it.
+    Proved,
+    /// It was compiled without proofs, with run-time checks in it, so it is slower.
+    Unproved,
+}
+
+impl Build {
+    /// The name of the build.
+    pub fn name(self) -> &'static str {
+        match self {
+            Build::Proved => "proved",
+            Build::Unproved => "unproved, checked",
+        }
+    }
+}
+
 /// What is known of a load beside its figures.
 #[derive(Drop)]
 pub struct LoadRun {
     /// The program's version.
     pub version: &'static str,
+    /// How the program was built.
+    pub build: Build,
     /// The URLs that were requested, in their order.
     pub urls: Vec<String>,
     /// The options that were given.

@@ -2,10 +2,11 @@
 
 use crate::job_counts::{FAULT_NAMES, STATUS_NAMES};
 use crate::rates::per_second;
-use crate::report::{Latencies, LoadReport};
+use crate::report::{Build, Latencies, LoadReport};
 use std::fmt;
 
-/// The summary of a load: six lines, each with its line end.
+/// The summary of a load: six lines, each with its line end, and one more if the program was compiled
+/// without proofs.
 #[derive(Drop)]
 pub struct Summary<'a>(pub &'a LoadReport);
 
@@ -17,8 +18,18 @@ impl fmt::Display for Summary<'_> {
         write!(f, "responses    ")?;
         write_counts(&STATUS_NAMES, &self.0.jobs.statuses, f)?;
         write!(f, "faults       ")?;
-        write_counts(&FAULT_NAMES, &self.0.jobs.faults, f)
+        write_counts(&FAULT_NAMES, &self.0.jobs.faults, f)?;
+        write_build(self.0.run.build, f)
     }
+}
+
+/// The line of the build, if its figures are not those of the proved program.
+fn write_build<W: fmt::Write>(build: Build, f: &mut fmt::Formatter<W>) -> fmt::Result {
+    if build == Build::Proved {
+        return Ok(());
+    }
+    let name = build.name();
+    write!(f, "build        {name}\n")
 }
 
 /// The lines of requests and bytes.

@@ -1,9 +1,14 @@
 -- What running the script in a file does.
-use Rattle.std.specs.Prelude.{◌≡◌, Bool, Option, Some, None, Result, IsErrAnd}
+use Rattle.std.specs.Prelude.{◌≡◌, Bool, Option, Some, None, Result, Ok, Err, IsErrAnd}
 use Rattle.script_text.specs.declared.fault.FaultKind.TheVariants.{Read}
 use Rattle.script_text.specs.declared.fault.ScriptFault.{ScriptFault}
 use Rattle.script_run.specs.Streams.{Stream}
 use Rattle.script_run.specs.Running.{RunsScript}
+
+-- the stream of a file, if it was opened
+abbrev pub opened_stream : {A E : Type 0} → (A → Stream) → Result A E → Option Stream
+opened_stream stream_of (Ok file) = Some (stream_of file)
+opened_stream stream_of (Err reason) = None
 
 -- a read failed, at no line, and nothing was written
 abbrev pub CannotRead : {A : Type 0} → Stream → Stream → Result A ScriptFault → Type 0

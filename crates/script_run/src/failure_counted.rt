@@ -1,5 +1,5 @@
-//! A reader or writer of the system's, with a count of its reads or writes that failed. Only the
-//! methods that stand here can count.
+//! A reader or writer of the system with a count of its failures and the reason for the last one.
+//! Only the methods of this file can count.
 
 ghost use Rattle.std.specs.Prelude.{◌≡◌, ◌<◌, IfOk, length};
 ghost use Rattle.std.specs.Io.KnownBytes.{ReadConsumes, WriteAppends};
@@ -7,7 +7,7 @@ ghost use Rattle.std.specs.Io.{ReadsAtMost, WritesAtMost};
 ghost use Rattle.script_run.specs.Streams.{CanCount, CountsFailure};
 ghost use Rattle.script_run.specs.Watching.{watched};
 
-use std::io::{Read, Write};
+use std::io::{self, Read, Write};
 use std::marker::Model;
 
 /// A read failed.
@@ -18,12 +18,13 @@ pub struct ReadFailed;
 #[derive(Clone, Copy, Debug, PartialEq, Eq)]
 pub struct WriteFailed;
 
-/// A reader or writer of the system's, with how many of its reads or writes failed. Contracts see
-/// the two.
+/// A reader or writer of the system, with the number of its reads or writes that failed. Contracts
+/// see the two, and not the reason for the last failure.
 #[derive(Drop)]
 pub struct FailureCounted<S> {
     stream: S,
     failures: u64,
+    last_error: Option<io::Error>,
 }
 
 impl<S> Model for FailureCounted<S> {
@@ -35,14 +36,21 @@ impl<S> Model for FailureCounted<S> {
 }
 
 impl<S> FailureCounted<S> {
-    /// That stream, of which nothing failed yet.
+    /// Wraps a stream of which nothing has failed yet.
     pub fn new(stream: S) -> FailureCounted<S>
         ensures { result ≡ record { stream = stream; failures = 0 } }
     {
         FailureCounted {
             stream,
             failures: 0,
+            last_error: None,
         }
+    }
+
+    /// The system's reason for the last read or write that failed. None if nothing failed, or if a
+    /// write took no byte.
+    pub fn last_error(&self) -> Option<io::Error> {
+        self.last_error
     }
 }
 
@@ -58,8 +66,9 @@ impl<R: Read> FailureCounted<R> {
     {
         match self.stream.read(buf) {
             Ok(count) => Ok(count),
-            Err(_) => {
+            Err(error) => {
                 self.failures += 1;
+                self.last_error = Some(error);
                 Err(ReadFailed)
             }
         }
@@ -85,8 +94,9 @@ impl<W: Write> FailureCounted<W> {
                 Err(WriteFailed)
             }
             Ok(count) => Ok(count),
-            Err(_) => {
+            Err(error) => {
                 self.failures += 1;
+                self.last_error = Some(error);
                 Err(WriteFailed)
             }
         }

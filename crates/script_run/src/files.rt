@@ -1,15 +1,16 @@
-//! The files that a script can be read from.
+//! The files that the words of a command name.
 
 ghost use Rattle.std.specs.Prelude.{⊤};
 
 use crate::failure_counted::FailureCounted;
 use crate::streams::{Sink, Source};
-use std::fs;
 use std::fs::File;
+use std::{fs, io};
 
-/// What opens and makes the files that words name.
+/// Opens and creates files by name.
 pub trait ScriptFiles {
-    ghost use Rattle.std.specs.Prelude.{ℕ, List, Option, IfSome, option_map};
+    ghost use Rattle.std.specs.Prelude.{ℕ, List, Option, IfOk};
+    ghost use Rattle.script_run.specs.Files.{opened_stream};
     ghost use Rattle.script_run.specs.Streams.{CanCount, Stream};
 
     /// A file that is open.
@@ -22,19 +23,27 @@ pub trait ScriptFiles {
     /// leaves the files so.
     ghost opens: { Self → Self → List ℕ → Option Stream → Type 0 };
 
-    /// Opens the file of that name; none, if it can't be opened.
-    fn open(&mut self, name: &str) -> Option<Self::File>
-        ensures opened { opens self.old self.new name.now (option_map Self.File.source result) }
-        ensures counts { IfSome result (λ file. CanCount (Self.File.source file)) };
+    /// Opens the file of that name.
+    ///
+    /// # Errors
+    ///
+    /// The system's reason why it cannot be opened.
+    fn open(&mut self, name: &str) -> io::Result<Self::File>
+        ensures opened { opens self.old self.new name.now (opened_stream Self.File.source result) }
+        ensures counts { IfOk result (λ file. CanCount (Self.File.source file)) };
 
     /// Whether the file of that name is a regular file, whose reads don't wait for anybody.
     fn is_regular(&self, _name: &str) -> bool {
         false
     }
 
-    /// Makes the file of that name, or empties it if it is there; none, if that can't be done.
-    fn create(&self, name: &str) -> Option<Self::Made>
-        ensures counts { IfSome result (λ file. CanCount (Self.Made.sink file)) };
+    /// Creates the file of that name, or truncates it if it is there.
+    ///
+    /// # Errors
+    ///
+    /// The system's reason why it cannot be created.
+    fn create(&self, name: &str) -> io::Result<Self::Made>
+        ensures counts { IfOk result (λ file. CanCount (Self.Made.sink file)) };
 }
 
 /// The files of the system. Which bytes they give nobody knows.
@@ -57,11 +66,9 @@ impl ScriptFiles for SystemFiles<'_> {
 
     ghost opens = { λ _ _ _ _. ⊤ };
 
-    fn open(&mut self, name: &str) -> Option<FailureCounted<File>> {
-        match fs::open(self.rt, name) {
-            Ok(file) => Some(FailureCounted::new(file)),
-            Err(_) => None,
-        }
+    fn open(&mut self, name: &str) -> io::Result<FailureCounted<File>> {
+        let file = fs::open(self.rt, name)?;
+        Ok(FailureCounted::new(file))
     }
 
     fn is_regular(&self, name: &str) -> bool {
@@ -71,10 +78,8 @@ impl ScriptFiles for SystemFiles<'_> {
         }
     }
 
-    fn create(&self, name: &str) -> Option<FailureCounted<File>> {
-        match fs::create(self.rt, name) {
-            Ok(file) => Some(FailureCounted::new(file)),
-            Err(_) => None,
-        }
+    fn create(&self, name: &str) -> io::Result<FailureCounted<File>> {
+        let file = fs::create(self.rt, name)?;
+        Ok(FailureCounted::new(file))
     }
 }

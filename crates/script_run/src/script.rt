@@ -89,8 +89,8 @@ pub fn run_file_for<F: ScriptFiles, W: Sink, V: Viewer>(
         (W.sink writer.new) result }
 {
     match files.open(name) {
-        Some(mut file) => run_script_for(alloc, is_traced, &mut file, writer, viewer),
-        None => Err(ScriptFault {
+        Ok(mut file) => run_script_for(alloc, is_traced, &mut file, writer, viewer),
+        Err(_) => Err(ScriptFault {
             line: 0,
             kind: FaultKind::Read,
         }),

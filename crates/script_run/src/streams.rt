@@ -9,7 +9,7 @@ ghost use Rattle.script_run.specs.Watching.{watched};
 use crate::failure_counted::{FailureCounted, ReadFailed};
 use script_text::FaultKind;
 use std::alloc::Global;
-use std::io::{Read, Write};
+use std::io::{self, Read, Write};
 
 /// The most bytes of a script.
 pub const SCRIPT_LIMIT: usize = 1_048_576;
@@ -33,6 +33,11 @@ pub trait Source {
         ensures bytes { ReadConsumes (source self.old).bytes
             (source self.new).bytes result buf.new }
         ensures failures { CountsFailure (source self.old) (source self.new) result };
+
+    /// The system's reason for the last read that failed, if it gave one.
+    fn last_error(&self) -> Option<io::Error> {
+        None
+    }
 }
 
 /// What a transcript is written to.
@@ -50,6 +55,11 @@ pub trait Sink {
     fn put(&mut self, bytes: &[u8]) -> Result<(), FaultKind>
         requires { CanCount (sink self.old) }
         ensures { Puts (sink self.old) (sink self.new) bytes.now result };
+
+    /// The system's reason for the last write that failed, if it gave one.
+    fn last_error(&self) -> Option<io::Error> {
+        None
+    }
 }
 
 impl Source for &[u8] {
@@ -77,6 +87,10 @@ impl<R: Read> Source for FailureCounted<R> {
     fn read_some(&mut self, buf: &mut [u8]) -> Result<usize, ReadFailed> {
         self.read(buf)
     }
+
+    fn last_error(&self) -> Option<io::Error> {
+        self.last_error()
+    }
 }
 
 impl<W: Write> Sink for FailureCounted<W> {
@@ -91,6 +105,10 @@ impl<W: Write> Sink for FailureCounted<W> {
             }
         }
         Ok(())
+    }
+
+    fn last_error(&self) -> Option<io::Error> {
+        self.last_error()
     }
 }
 

@@ -4,7 +4,7 @@
 use crate::checks::check_eq;
 use exchange::{Answer, Done, Fault};
 use load_figures::{
-    Connections, Figures, HostRun, LoadReport, LoadRun, Outcome, fails_above, outcome_of,
+    Build, Connections, Figures, HostRun, LoadReport, LoadRun, Outcome, fails_above, outcome_of,
 };
 use persistence::{Facts, Framing, Version};
 use std::alloc::{AllocError, Global};
@@ -157,6 +157,7 @@ pub(crate) fn two_hosts(alloc: Global) -> Result<LoadRun, AllocError> {
     })?;
     Ok(LoadRun {
         version: "0.2.0",
+        build: Build::Proved,
         urls,
         options: Vec::new(alloc),
         elapsed_us: 500_000,

@@ -3,8 +3,8 @@
 use crate::checks::check_eq;
 use crate::figures::{six_jobs, two_hosts};
 use load_figures::{
-    Connections, Figures, JobReport, Latencies, LoadReport, OptionValue, SaidOption, Summary,
-    json_text,
+    Build, Connections, Figures, JobReport, Latencies, LoadReport, OptionValue, SaidOption,
+    Summary, json_text,
 };
 use std::alloc::{AllocError, Global};
 
@@ -144,11 +144,24 @@ fn the_summary_has_six_lines(rt: HostRuntime) {
     }
 }
 
+#[test]
+fn figures_of_an_unproved_program_say_so(rt: HostRuntime) {
+    let alloc = rt.alloc();
+    let mut report = empty_report(alloc).expect(&rt, "memory");
+    report.run.build = Build::Unproved;
+    let text = Summary(&report).to_string(alloc).expect(&rt, "memory");
+    let last = text.as_str().lines().last();
+    check_eq(&rt, last, Some("build        unproved, checked"));
+    let json = json_text(alloc, &report).expect(&rt, "memory");
+    let front = "{\"build\":\"unproved, checked\",\"bytes\":0,";
+    check_eq(&rt, json.as_str().starts_with(front), true);
+}
+
 /// The JSON of a report of no job, with two options: written by Python's `json.dumps` with
 /// `sort_keys` and without spaces, from numbers worked by hand.
 const EMPTY: &str = "\
-    {\"bytes\":0,\"bytes_per_second\":0,\"connections\":{\"closed\":2,\"open\":2,\"opened\":4,\
-    \"reused\":2,\"waited\":4,\"waited_us\":40800},\"elapsed_us\":500000,\"failed\":0,\
+    {\"build\":\"proved\",\"bytes\":0,\"bytes_per_second\":0,\
+    \"connections\":{\"closed\":2,\"open\":2,\"opened\":4,\"reused\":2,\"waited\":4,\"waited_us\":40800},\"elapsed_us\":500000,\"failed\":0,\
     \"faults\":{\"BadResponse\":0,\"Cancelled\":0,\"Cut\":0,\"Dial\":0,\"Memory\":0,\
     \"Read\":0,\"Refused\":0,\"Write\":0},\"good\":0,\"histogram\":[],\"hosts\":[{\"bytes\":0,\
     \"closed\":2,\"failed\":0,\"faults\":{\"BadResponse\":0,\"Cancelled\":0,\"Cut\":0,\
@@ -168,7 +181,7 @@ const EMPTY: &str = "\
 
 /// The same of six jobs.
 const SIX: &str = "\
-    {\"bytes\":35,\"bytes_per_second\":70,\"connections\":{\"closed\":2,\"open\":2,\
+    {\"build\":\"proved\",\"bytes\":35,\"bytes_per_second\":70,\"connections\":{\"closed\":2,\"open\":2,\
     \"opened\":4,\"reused\":2,\"waited\":4,\"waited_us\":40800},\"elapsed_us\":500000,\
     \"failed\":2,\"faults\":{\"BadResponse\":0,\"Cancelled\":0,\"Cut\":1,\"Dial\":0,\
     \"Memory\":0,\"Read\":0,\"Refused\":0,\"Write\":0},\"good\":3,\"histogram\":[[100,1],[300,\

@@ -10,16 +10,16 @@ use crate::command_line::help::AUDITS;
 use clap::Command;
 use std::alloc::{AllocError, Global};
 
-/// What `--help` says of the subcommand, its options and the file.
-const ABOUT: &str = "Tells whether what a connection pool did is lawful, by a trace of it";
+/// The help of the subcommand, its options and the file.
+const ABOUT: &str = "Checks a connection-pool trace against the rules";
 
-const ALL_HELP: &str = "Tells each violation, in place of the first alone";
+const ALL_HELP: &str = "Report every violation, not only the first";
 
-const JSON_HELP: &str = "Prints one JSON object";
+const JSON_HELP: &str = "Print one JSON object";
 
-const STATE_HELP: &str = "Adds what was open at the host, and what waited there";
+const STATE_HELP: &str = "Add the host's connections and waiters before each violation";
 
-const FILE_HELP: &str = "The trace's file; standard input if it is - or left out";
+const FILE_HELP: &str = "The trace; standard input if it is - or left out";
 
 /// The subcommand `audit`: three flags, and a file.
 ///

@@ -24,6 +24,7 @@ pub(crate) mod urls;
 pub(crate) mod window;
 
 use crate::command_line::printable::Escaped;
+use crate::file_fault::{FileAction, write_file_fault};
 use crate::get::fetching::{Network, NetworkFault};
 use crate::get::looking_up::Resolver;
 use crawler::Crawler;
@@ -35,7 +36,7 @@ use script_run::{ScriptFiles, Sink, Source};
 use script_text::FaultKind;
 use std::alloc::{AllocError, Global};
 use std::collections::HashMap;
-use std::io::Write;
+use std::io::{self, Write};
 use std::sync::atomic::AtomicBool;
 use telling::{Tally, Telling};
 use thiserror::Error;
@@ -92,9 +93,10 @@ pub(crate) fn run_crawl<N: Network, F: ScriptFiles, R: Source, W: Sink, E: Write
     }
     let kind = kind_of(files, name.as_str());
     match files.open(name.as_str()) {
-        Some(mut file) => run_over(alloc, plan, kind, network, &mut file, output, errors),
-        None => {
-            let _ = writeln!(errors, "run: cannot read");
+        Ok(mut file) => run_over(alloc, plan, kind, network, &mut file, output, errors),
+        Err(reason) => {
+            let name = name.as_str();
+            write_file_fault(alloc, errors, FileAction::Read, name, Some(reason));
             FAILED
         }
     }
@@ -125,7 +127,7 @@ fn run_over<N: Network, R: Source, W: Sink, E: Write>(
     let CrawlPlan {
         options,
         urls,
-        file: _,
+        file,
         hosts,
     } = plan;
     let has_ended = AtomicBool::new(false);
@@ -147,7 +149,26 @@ fn run_over<N: Network, R: Source, W: Sink, E: Write>(
         },
         Err(_) => Err(CrawlFault::Stream(FaultKind::Memory)),
     };
+    if let Err(CrawlFault::Stream(FaultKind::Read)) = ended {
+        write_unread(alloc, errors, &file, input.last_error());
+        return FAILED;
+    }
     status_told(errors, telling.tally, ended)
+}
+
+// Writes that the file of URLs cannot be read. Standard input that was closed is another file by
+// now, so the system's reason would be wrong.
+fn write_unread<E: Write>(
+    alloc: Global,
+    errors: &mut E,
+    file: &Option<String>,
+    reason: Option<io::Error>,
+) {
+    let (name, reason) = match file {
+        Some(name) if name.as_str() != "-" => (name.as_str(), reason),
+        _ => ("standard input", None),
+    };
+    write_file_fault(alloc, errors, FileAction::Read, name, reason);
 }
 
 // Carries out the jobs of a source with a crawler, which is finished then. The fault of a line that

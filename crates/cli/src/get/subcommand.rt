@@ -12,42 +12,41 @@ use crate::loading::subcommand::{with_list, with_value};
 use clap::{Arg, Command};
 use std::alloc::{AllocError, Global};
 
-/// What help calls the value of an option that is a number, or a number of seconds.
+/// The names of values in help.
 const NUMBER: &str = "NUMBER";
 
 const SECONDS: &str = "SECONDS";
 
-/// The texts of help for the subcommand, its options and URLs.
-const ABOUT: &str = "Fetches URLs in turn, and tells how each transfer ended";
+/// The help of the subcommand, its options and its URLs.
+const ABOUT: &str = "Fetches URLs over reused connections, and prints a line for each";
 
-const HEAD_HELP: &str = "Sends HEAD in place of GET";
+const HEAD_HELP: &str = "Send HEAD instead of GET";
 
-const MAX_AGE_HELP: &str = "Most seconds idle for reuse; 118 if left out";
+const MAX_AGE_HELP: &str = "Reuse connections idle for at most this long [default: 118]";
 
-const TIMEOUT_HELP: &str = "Seconds after which a transfer is cancelled, 1 to 3600; 30 if left out";
+const TIMEOUT_HELP: &str = "Cancel a transfer after this long, 1 to 3600 [default: 30]";
 
-const FILE_HELP: &str = "Reads more URLs, a line each; - is standard input";
+const FILE_HELP: &str = "Read more URLs from a file, one a line; - is standard input";
 
-const PARALLEL_HELP: &str = "Most transfers at once, 1 to 256; 1 if left out";
+const PARALLEL_HELP: &str = "Transfers in flight at once, 1 to 256 [default: 1]";
 
-const HOST_LIMIT_HELP: &str =
-    "Most connections open to a host, 0 (no limit) to 65535; 0 if left out";
+const HOST_LIMIT_HELP: &str = "Maximum open connections to a host, up to 65535 [default: no limit]";
 
-const TOTAL_HELP: &str = "Most connections open in all, 0 (no limit) to 65535; 0 if left out";
+const TOTAL_HELP: &str = "Maximum open connections in total, up to 65535 [default: no limit]";
 
-const MAX_LIFE_HELP: &str = "Most seconds open for reuse, 0 (no limit) if left out";
+const MAX_LIFE_HELP: &str = "Reuse connections at most this old [default: no limit]";
 
-const RESOLVE_HELP: &str = "Connects to this address for HOST:PORT; may be repeated";
+const RESOLVE_HELP: &str = "Connect to this address for HOST:PORT; may be repeated";
 
-const FRESH_HELP: &str = "Opens a new connection for each URL";
+const FRESH_HELP: &str = "Open a new connection for each URL";
 
-const SKIP_BAD_HELP: &str = "Writes a line for a bad URL, and goes on";
+const SKIP_BAD_HELP: &str = "Report a bad URL in its line, and go on";
 
-const FAIL_HELP: &str = "Counts a status of 400 and above as failed";
+const FAIL_HELP: &str = "Count a status of 400 or above as failed";
 
-const JSON_HELP: &str = "Writes a JSON object for each URL in place of its line";
+const JSON_HELP: &str = "Print a JSON object for each URL instead of its line";
 
-const URL_HELP: &str = "An http URL; at most 1024, but for a crawl";
+const URL_HELP: &str = "An http URL; at most 1024, unless it is a crawl";
 
 /// The subcommand `get`: its options, and URLs.
 ///

@@ -11,62 +11,60 @@ use crate::command_line::help::REPORT;
 use clap::{Arg, ArgAction, Command};
 use std::alloc::{AllocError, Global};
 
-/// What `--help` says of the subcommand.
-const ABOUT: &str =
-    "Sends requests by threads to a server of its own, and reports what came of them";
+/// The help of the subcommand.
+const ABOUT: &str = "Load-tests a server, or the cache with a server in this process";
 
-/// What the value of an option is called that is a number.
+/// The name of a number in help.
 const NUMBER: &str = "NUMBER";
 
-/// What `--help` says of the options.
-const SITES_HELP: &str = "Ports that the server has, 1 to 8; 2 if left out";
+/// The help of the options.
+const SITES_HELP: &str = "Sites of the server in this process, 1 to 8 [default: 2]";
 
-const JOBS_HELP: &str = "Requests that are sent, 1 to 10000; 20 if left out";
+const JOBS_HELP: &str = "Number of requests, 1 to 10000, or more with --url [default: 20]";
 
-const WORKERS_HELP: &str = "Threads that send them, 1 to 64; 4 if left out";
+const WORKERS_HELP: &str = "Number of threads, 1 to 64 [default: 4]";
 
-const HOST_LIMIT_HELP: &str =
-    "Most connections open to a site, 0 (no limit) to 65535; 0 if left out";
+const HOST_LIMIT_HELP: &str = "Maximum open connections to a host, up to 65535 [default: no limit]";
 
-const TOTAL_HELP: &str = "Most connections open in all, 0 (no limit) to 65535; 0 if left out";
+const TOTAL_HELP: &str = "Maximum open connections in total, up to 65535 [default: no limit]";
 
-const CONNECTS_HELP: &str = "Most connections kept idle, 1 to 65535; 4 times the jobs if left out";
+const CONNECTS_HELP: &str = "Maximum idle connections, 1 to 65535 [default: 4 times the jobs]";
 
-const TRACE_HELP: &str = "Writes a trace of the connections to a file";
+const TRACE_HELP: &str = "Write a trace of the connections to a file, for curlpool audit";
 
-const PICTURE_HELP: &str = "Draws the load into a file, as SVG";
+const PICTURE_HELP: &str = "Draw requests, failures and latencies over time as SVG";
 
-/// What the value of an option is called that is a number of seconds.
+/// The name of a number of seconds in help.
 const SECONDS: &str = "SECONDS";
 
-/// What `--help` says of the options of a measured load.
-const URL_HELP: &str = "Requests this http URL, in turn with up to 7 others, of another server";
+/// The help of the options of a measured load.
+const URL_HELP: &str = "Request this http URL, in turn with up to 7 others";
 
-const RESOLVE_HELP: &str = "Connects to this address for HOST:PORT; may be repeated";
+const RESOLVE_HELP: &str = "Connect to this address for HOST:PORT; may be repeated";
 
-const CONNECTIONS_HELP: &str = "Requests at once, 1 to 1024; as many as threads if left out";
+const CONNECTIONS_HELP: &str = "Requests in flight at once, 1 to 1024 [default: one a thread]";
 
-const SECONDS_HELP: &str = "Sends requests for so many seconds, 1 to 86400, in place of --jobs";
+const SECONDS_HELP: &str = "Duration of the load, 1 to 86400; not with --jobs";
 
-const WARMUP_HELP: &str = "Seconds before them that are in no figure, 0 to 3600; 0 if left out";
+const WARMUP_HELP: &str = "Warm-up, excluded from the figures, up to 3600 [default: 0]";
 
-const RATE_HELP: &str = "Requests due in a second, 1 to 1000000; at once if left out";
+const RATE_HELP: &str = "Requests per second, 1 to 1000000 [default: as fast as possible]";
 
-const TIMEOUT_HELP: &str = "Seconds after which a request is cancelled, 1 to 3600; 30 with --url";
+const TIMEOUT_HELP: &str = "Cancel a request after this long, 1 to 3600 [default: 30 with --url]";
 
-const FAIL_ABOVE_HELP: &str = "Ends with status 5 if more than this percentage failed";
+const FAIL_ABOVE_HELP: &str = "Exit with status 5 if more than this percentage fails";
 
-const HEAD_HELP: &str = "Sends HEAD in place of GET";
+const HEAD_HELP: &str = "Send HEAD instead of GET";
 
-const FORBID_HELP: &str = "Reuses no connection";
+const FORBID_HELP: &str = "Reuse no connection";
 
-const FAIL_HELP: &str = "Counts a status of 400 and above as failed";
+const FAIL_HELP: &str = "Count a status of 400 or above as failed";
 
-const JSON_HELP: &str = "Writes a JSON object in place of the report";
+const JSON_HELP: &str = "Print one JSON object instead of the report";
 
-const QUIET_HELP: &str = "Leaves out the summary and the progress on standard error";
+const QUIET_HELP: &str = "Print neither summary nor progress";
 
-const NO_PROGRESS_HELP: &str = "Leaves out the progress on standard error";
+const NO_PROGRESS_HELP: &str = "Print no progress";
 
 /// The subcommand `load`: its options, and its flags.
 ///

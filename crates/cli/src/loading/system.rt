@@ -3,6 +3,8 @@
 ghost use Rattle.std.specs.Prelude.{◌≡◌, ◌≤◌, length, string_bytes, None, IfOk, IfSome};
 ghost use Rattle.cli.specs.SystemLoads.{CarriesOutLoad, ReportsLoad};
 
+use crate::file_fault::{FileAction, file_fault_text};
+use crate::loading::failure::LoadFailure;
 use crate::loading::fault::{LoadFault, NO_THREAD, OUT_OF_MEMORY, POLL_FAILED};
 use crate::loading::measured::system::load_measured;
 use crate::loading::options::LoadOptions;
@@ -35,13 +37,13 @@ use std::thread::{Builder, Threads, scope_env};
 ///
 /// # Errors
 ///
-/// The reason why there is no report; `Write` if the trace's file could not be made or written.
+/// The reason why there is no report, with the name of a file that could not be written.
 pub fn load_on_system<T: Threads + Wait + RandomSource + AllocGlobal + Sync>(
     threads: &T,
     system: &HostRuntime,
     alloc: Global,
     plan: LoadPlan,
-) -> Result<LoadOutcome, LoadFault>
+) -> Result<LoadOutcome, LoadFailure>
     ensures { IfOk result (λ outcome. plan.measured ≡ None
         → ReportsLoad plan.options (string_bytes outcome.report)) }
 {
@@ -52,7 +54,7 @@ pub fn load_on_system<T: Threads + Wait + RandomSource + AllocGlobal + Sync>(
     } = plan;
     match measured {
         None => {
-            let traced = named_file(system, &trace)?;
+            let traced = named_file(system, alloc, &trace)?;
             let report = report_once(threads, system, alloc, options, traced)?;
             Ok(LoadOutcome {
                 report,
@@ -71,29 +73,29 @@ fn report_once<T: Threads + Wait + RandomSource + AllocGlobal + Sync>(
     system: &HostRuntime,
     alloc: Global,
     options: LoadOptions,
-    traced: Option<FailureCounted<File>>,
-) -> Result<String, LoadFault>
-    requires counts { IfSome traced (λ file. file.failures ≡ 0) }
+    traced: Option<OutputFile<'_>>,
+) -> Result<String, LoadFailure>
+    requires counts { IfSome traced (λ output. output.file.failures ≡ 0) }
     ensures { IfOk result (λ report. ReportsLoad options (string_bytes report)) }
 {
     let server = match Server::listen(system, alloc, options.sites) {
         Ok(server) => server,
-        Err(error) => return Err(fault_of(&error, LoadFault::Listen)),
+        Err(error) => return Err(fault_of(&error, LoadFault::Listen).into()),
     };
     let Ok(sites) = sites_at(alloc, server.ports()) else {
-        return Err(OUT_OF_MEMORY);
+        return Err(OUT_OF_MEMORY.into());
     };
     let Ok(jobs) = load_jobs(alloc, options.jobs, server.ports()) else {
-        return Err(OUT_OF_MEMORY);
+        return Err(OUT_OF_MEMORY.into());
     };
     let Ok(ports) = ports_of(alloc, server.ports()) else {
-        return Err(OUT_OF_MEMORY);
+        return Err(OUT_OF_MEMORY.into());
     };
     let loaded = load_beside(threads, system, alloc, server, &sites, &jobs, options)?;
     write_to(alloc, options, &ports, &loaded.logs, traced)?;
     match report(alloc, &loaded.gathered, &loaded.results) {
         Ok(text) => Ok(text),
-        Err(_refusal) => Err(OUT_OF_MEMORY),
+        Err(_refusal) => Err(OUT_OF_MEMORY.into()),
     }
 }
 
@@ -113,19 +115,47 @@ pub fn sites_at(alloc: Global, ports: &[u16]) -> Result<Vec<SocketAddr>, AllocEr
     Ok(sites)
 }
 
-/// Makes the named file, if one is named, or truncates it.
-pub(crate) fn named_file(
+/// A file that a load writes, and its name.
+#[derive(Drop)]
+pub(crate) struct OutputFile<'a> {
+    pub name: &'a str,
+    pub file: FailureCounted<File>,
+}
+
+impl OutputFile<'_> {
+    /// The failure of a load that could not write the file.
+    pub(crate) fn failure(&self, alloc: Global) -> LoadFailure {
+        unwritten(alloc, self.name, self.file.last_error())
+    }
+}
+
+// The failure of a load that could not write the named file.
+fn unwritten(alloc: Global, name: &str, reason: Option<Error>) -> LoadFailure {
+    match file_fault_text(alloc, FileAction::Write, name, reason) {
+        Ok(text) => LoadFailure::File(text),
+        Err(_) => LoadFailure::Fault(OUT_OF_MEMORY),
+    }
+}
+
+/// Creates the named file, if one is named, or truncates it.
+pub(crate) fn named_file<'a>(
     system: &HostRuntime,
-    name: &Option<String>,
-) -> Result<Option<FailureCounted<File>>, LoadFault>
-    ensures { IfOk result (λ made. IfSome made (λ file. file.failures ≡ 0)) }
+    alloc: Global,
+    name: &'a Option<String>,
+) -> Result<Option<OutputFile<'a>>, LoadFailure>
+    ensures { IfOk result (λ made. IfSome made (λ output. output.file.failures ≡ 0)) }
 {
     let Some(name) = name else {
         return Ok(None);
     };
-    match fs::create(system, name.as_str()) {
-        Ok(file) => Ok(Some(FailureCounted::new(file))),
-        Err(error) => Err(fault_of(&error, LoadFault::Write)),
+    let name = name.as_str();
+    match fs::create(system, name) {
+        Ok(file) => Ok(Some(OutputFile {
+            name,
+            file: FailureCounted::new(file),
+        })),
+        Err(error) if error.kind() == ErrorKind::OutOfMemory => Err(OUT_OF_MEMORY.into()),
+        Err(error) => Err(unwritten(alloc, name, Some(error))),
     }
 }
 
@@ -135,17 +165,18 @@ pub(crate) fn write_to(
     options: LoadOptions,
     ports: &[u16],
     logs: &[Vec<Entry>],
-    traced: Option<FailureCounted<File>>,
-) -> Result<(), LoadFault>
+    traced: Option<OutputFile<'_>>,
+) -> Result<(), LoadFailure>
     requires few { length logs.now ≤ 1024 }
-    requires counts { IfSome traced (λ file. file.failures ≡ 0) }
+    requires counts { IfSome traced (λ output. output.file.failures ≡ 0) }
 {
-    match traced {
-        None => Ok(()),
-        Some(file) => {
-            let mut file = file;
-            write_trace(alloc, options, ports, logs, &mut file)
-        }
+    let Some(mut output) = traced else {
+        return Ok(());
+    };
+    match write_trace(alloc, options, ports, logs, &mut output.file) {
+        Ok(()) => Ok(()),
+        Err(LoadFault::Write) => Err(output.failure(alloc)),
+        Err(fault) => Err(fault.into()),
     }
 }
 

@@ -11,14 +11,14 @@ use crate::loading::subcommand::with_value;
 use clap::Command;
 use std::alloc::{AllocError, Global};
 
-/// What `--help` says of the subcommand, its options and the file.
-const ABOUT: &str = "Runs a script and writes its transcript";
+/// The help of the subcommand, its options and the file.
+const ABOUT: &str = "Runs a script of pool events, and prints its transcript";
 
-const TRACE_HELP: &str = "Writes a trace: each line of the script, and what it causes";
+const TRACE_HELP: &str = "Print a trace: each command, followed by its effects";
 
-const PICTURE_HELP: &str = "Draws what the script does into a file, as SVG";
+const PICTURE_HELP: &str = "Draw the connections over time as SVG";
 
-const FILE_HELP: &str = "The script's file; standard input if it is - or left out";
+const FILE_HELP: &str = "The script; standard input if it is - or left out";
 
 /// The subcommand `script`: a flag, an option with one value, and a file.
 ///

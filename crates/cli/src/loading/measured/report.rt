@@ -2,11 +2,14 @@
 
 ghost use Rattle.std.specs.Prelude.{◌≡◌, IfSome};
 
+use crate::build::{BUILD, VERSION};
+use crate::loading::failure::LoadFailure;
 use crate::loading::fault::{LoadFault, OUT_OF_MEMORY};
 use crate::loading::measured::plan::{MeasuredNumbers, MeasuredPlan};
 use crate::loading::measured::sites::LoadSites;
 use crate::loading::options::LoadOptions;
 use crate::loading::outcome::LoadOutcome;
+use crate::loading::system::OutputFile;
 use cache_report::report_of;
 use load_figures::{
     Connections, HostRun, LoadReport, LoadRun, OptionValue, SaidOption, Summary, fails_above,
@@ -14,14 +17,10 @@ use load_figures::{
 };
 use load_picture::picture_of;
 use load_run::LoadedMany;
-use script_run::{FailureCounted, Sink};
+use script_run::Sink;
 use script_text::FaultKind;
 use std::alloc::{AllocError, Global};
 use std::fmt::Write;
-use std::fs::File;
-
-/// The program's version.
-const VERSION: &str = "0.2.0";
 
 /// The status if more jobs failed than may fail.
 const FAILED_ABOVE: u8 = 5;
@@ -72,21 +71,18 @@ pub(crate) fn report_of_load(
 pub(crate) fn write_picture(
     alloc: Global,
     report: &LoadReport,
-    pictured: Option<FailureCounted<File>>,
-) -> Result<(), LoadFault>
-    requires counts { IfSome pictured (λ file. file.failures ≡ 0) }
+    pictured: Option<OutputFile<'_>>,
+) -> Result<(), LoadFailure>
+    requires counts { IfSome pictured (λ output. output.file.failures ≡ 0) }
 {
-    let Some(file) = pictured else {
+    let Some(mut output) = pictured else {
         return Ok(());
     };
-    let mut file = file;
-    let Ok(picture) = picture_of(alloc, report) else {
-        return Err(OUT_OF_MEMORY);
-    };
-    match file.put(picture.as_bytes()) {
+    let picture = picture_of(alloc, report)?;
+    match output.file.put(picture.as_bytes()) {
         Ok(()) => Ok(()),
-        Err(FaultKind::Memory) => Err(OUT_OF_MEMORY),
-        Err(_) => Err(LoadFault::Write),
+        Err(FaultKind::Memory) => Err(OUT_OF_MEMORY.into()),
+        Err(_) => Err(output.failure(alloc)),
     }
 }
 
@@ -161,6 +157,7 @@ fn run_of(
     }
     Ok(LoadRun {
         version: VERSION,
+        build: BUILD,
         urls,
         options: said_options(alloc, options, measured)?,
         elapsed_us: loaded.elapsed,

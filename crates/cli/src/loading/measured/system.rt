@@ -2,6 +2,7 @@
 
 ghost use Rattle.std.specs.Prelude.{◌≡◌, IfSome};
 
+use crate::loading::failure::LoadFailure;
 use crate::loading::fault::{LoadFault, NO_THREAD, OUT_OF_MEMORY, POLL_FAILED};
 use crate::loading::measured::plan::MeasuredPlan;
 use crate::loading::measured::report::{outcome_of, report_of_load, write_picture};
@@ -10,15 +11,13 @@ use crate::loading::measured::targets::job_of;
 use crate::loading::options::LoadOptions;
 use crate::loading::outcome::LoadOutcome;
 use crate::loading::progress::ProgressLine;
-use crate::loading::system::{fault_of, named_file, ports_of, write_to};
+use crate::loading::system::{OutputFile, fault_of, named_file, ports_of, write_to};
 use bundle::MOST_HOSTS;
 use conn_key::Target;
 use exchange::Job;
 use load_run::{LoadError, LoadTimes, LoadedMany, ManyPlan, Rate, load_many};
 use loopback_server::Server;
-use script_run::FailureCounted;
 use std::alloc::{AllocError, AllocGlobal, Global};
-use std::fs::File;
 use std::random::RandomSource;
 use std::sync::Wait;
 use std::sync::atomic::{AtomicBool, Ordering};
@@ -44,34 +43,38 @@ pub(crate) fn load_measured<R: Threads + Wait + RandomSource + AllocGlobal + Syn
     options: LoadOptions,
     measured: MeasuredPlan,
     trace: &Option<String>,
-) -> Result<LoadOutcome, LoadFault> {
+) -> Result<LoadOutcome, LoadFailure> {
     if !measured.urls.is_empty() {
         return load_sites(rt, system, alloc, options, &measured, trace, &[]);
     }
     let server = match Server::listen(system, alloc, options.sites) {
         Ok(server) => server,
-        Err(error) => return Err(fault_of(&error, LoadFault::Listen)),
+        Err(error) => return Err(fault_of(&error, LoadFault::Listen).into()),
     };
     let Ok(ports) = ports_of(alloc, server.ports()) else {
-        return Err(OUT_OF_MEMORY);
+        return Err(OUT_OF_MEMORY.into());
     };
     let mut measured = measured;
     if add_own(alloc, &mut measured, &ports).is_err() {
-        return Err(OUT_OF_MEMORY);
+        return Err(OUT_OF_MEMORY.into());
     }
     let ended = AtomicBool::new(false);
-    thread::scope(scope_env(), rt, |scope| -> Result<LoadOutcome, LoadFault> {
-        let serving = match Builder::new().spawn_scoped(scope, || server.serve(rt, &ended)) {
-            Ok(serving) => serving,
-            Err(error) => return Err(fault_of(&error, NO_THREAD)),
-        };
-        let outcome = load_sites(rt, system, alloc, options, &measured, trace, &ports);
-        ended.store(true, Ordering::SeqCst);
-        match serving.join(rt) {
-            Ok(_requests) => outcome,
-            Err(error) => Err(fault_of(&error, POLL_FAILED)),
-        }
-    })
+    thread::scope(
+        scope_env(),
+        rt,
+        |scope| -> Result<LoadOutcome, LoadFailure> {
+            let serving = match Builder::new().spawn_scoped(scope, || server.serve(rt, &ended)) {
+                Ok(serving) => serving,
+                Err(error) => return Err(fault_of(&error, NO_THREAD).into()),
+            };
+            let outcome = load_sites(rt, system, alloc, options, &measured, trace, &ports);
+            ended.store(true, Ordering::SeqCst);
+            match serving.join(rt) {
+                Ok(_requests) => outcome,
+                Err(error) => Err(fault_of(&error, POLL_FAILED).into()),
+            }
+        },
+    )
 }
 
 // Adds a URL for each port of the load's own server.
@@ -93,9 +96,9 @@ fn add_own(alloc: Global, measured: &mut MeasuredPlan, ports: &[u16]) -> Result<
 
 /// The files that a load writes, if they are named.
 #[derive(Drop)]
-struct LoadFiles {
-    traced: Option<FailureCounted<File>>,
-    pictured: Option<FailureCounted<File>>,
+struct LoadFiles<'a> {
+    traced: Option<OutputFile<'a>>,
+    pictured: Option<OutputFile<'a>>,
 }
 
 // Carries out a load of these jobs, once its files are made.
@@ -107,13 +110,13 @@ fn load_sites<R: Threads + Wait + RandomSource + AllocGlobal + Sync>(
     measured: &MeasuredPlan,
     trace: &Option<String>,
     ports: &[u16],
-) -> Result<LoadOutcome, LoadFault> {
-    let traced = named_file(system, trace)?;
-    let pictured = named_file(system, &measured.picture)?;
+) -> Result<LoadOutcome, LoadFailure> {
+    let traced = named_file(system, alloc, trace)?;
+    let pictured = named_file(system, alloc, &measured.picture)?;
     let files = LoadFiles { traced, pictured };
     match LoadSites::of(system, alloc, &measured.jobs, &measured.resolved) {
         Ok(sites) => load_at(rt, system, alloc, options, measured, &sites, files, ports),
-        Err(SiteFault::Memory) => Err(OUT_OF_MEMORY),
+        Err(SiteFault::Memory) => Err(OUT_OF_MEMORY.into()),
         Err(SiteFault::Unknown(host)) => unknown(alloc, host),
     }
 }
@@ -126,11 +129,11 @@ fn load_at<R: Threads + Wait + RandomSource + AllocGlobal + Sync>(
     options: LoadOptions,
     measured: &MeasuredPlan,
     sites: &LoadSites<'_>,
-    files: LoadFiles,
+    files: LoadFiles<'_>,
     ports: &[u16],
-) -> Result<LoadOutcome, LoadFault>
-    requires trace { IfSome files.traced (λ file. file.failures ≡ 0) }
-    requires picture { IfSome files.pictured (λ file. file.failures ≡ 0) }
+) -> Result<LoadOutcome, LoadFailure>
+    requires trace { IfSome files.traced (λ output. output.file.failures ≡ 0) }
+    requires picture { IfSome files.pictured (λ output. output.file.failures ≡ 0) }
 {
     let progress = ProgressLine::new(system, !measured.flags.quiet && !measured.flags.no_progress);
     let keeps_logs = files.traced.is_some();
@@ -154,29 +157,27 @@ fn written(
     options: LoadOptions,
     measured: &MeasuredPlan,
     sites: &LoadSites<'_>,
-    files: LoadFiles,
+    files: LoadFiles<'_>,
     ports: &[u16],
     loaded: &LoadedMany,
-) -> Result<LoadOutcome, LoadFault>
-    requires trace { IfSome files.traced (λ file. file.failures ≡ 0) }
-    requires picture { IfSome files.pictured (λ file. file.failures ≡ 0) }
+) -> Result<LoadOutcome, LoadFailure>
+    requires trace { IfSome files.traced (λ output. output.file.failures ≡ 0) }
+    requires picture { IfSome files.pictured (λ output. output.file.failures ≡ 0) }
 {
     // There is a log for each site.
     if loaded.logs.len() > MOST_HOSTS as usize {
-        return Err(LoadFault::Load(LoadError::Gather));
+        return Err(LoadFault::Load(LoadError::Gather).into());
     }
     let LoadFiles { traced, pictured } = files;
     write_to(alloc, options, ports, &loaded.logs, traced)?;
     let report = report_of_load(alloc, options, measured, sites, loaded)?;
     write_picture(alloc, &report, pictured)?;
-    outcome_of(alloc, measured, &report, loaded)
+    Ok(outcome_of(alloc, measured, &report, loaded)?)
 }
 
 // The outcome if the system does not know a host.
-fn unknown(alloc: Global, host: &str) -> Result<LoadOutcome, LoadFault> {
-    let Ok(note) = format!(in alloc; "run: unknown host {host}\n") else {
-        return Err(OUT_OF_MEMORY);
-    };
+fn unknown(alloc: Global, host: &str) -> Result<LoadOutcome, LoadFailure> {
+    let note = format!(in alloc; "run: unknown host {host}\n")?;
     Ok(LoadOutcome {
         report: String::new(alloc),
         note,
