@@ -10,7 +10,7 @@ GATE = os.path.join(TOP, "out", "gate")
 
 
 class Checkout(NamedTuple):
-    """The commit, if it is known, and whether all files are as it has them."""
+    """The commit, if it is known, and True if no file differs from it."""
 
     commit: Optional[str]
     is_clean: bool
@@ -21,9 +21,10 @@ class Checkout(NamedTuple):
 
 def git(*words):
     """The output of git here; nothing if this is no checkout, or git is not installed."""
-    above = {"GIT_CEILING_DIRECTORIES": os.path.dirname(TOP)}
+    # it neither takes a repository above for this one, nor writes
+    variables = {**os.environ, "GIT_CEILING_DIRECTORIES": os.path.dirname(TOP), "GIT_OPTIONAL_LOCKS": "0"}
     try:
-        done = subprocess.run(["git", "-C", TOP, "-c", f"safe.directory={TOP}", *words], env={**os.environ, **above},
+        done = subprocess.run(["git", "-C", TOP, "-c", f"safe.directory={TOP}", *words], env=variables,
                               capture_output=True, text=True, check=True)
     except (OSError, subprocess.CalledProcessError):
         return None

@@ -1,9 +1,9 @@
-"""Reads what an x86-64 program needs: its libraries, and the versions of their symbols."""
+"""Reads the requirements of an x86-64 program: its libraries, and the versions of their symbols."""
 import struct
 from typing import NamedTuple
 
 MAGIC = b"\x7fELF\x02\x01"
-# where the head has the table of sections, and the size and the number of these
+# places in the head: the table of sections, and the size and the number of these
 TABLE, SIZES = 40, 58
 SECTION = struct.Struct("<4xI16xQQI")
 DYNAMIC, VERSIONS = 6, 0x6FFFFFFE
@@ -27,7 +27,7 @@ class Program:
 
     def __init__(self, data):
         if not data.startswith(MAGIC):
-            raise ValueError("it is no program for x86-64")
+            raise ValueError("the file is no program for x86-64")
         (table,), (size, number) = struct.unpack_from("<Q", data, TABLE), struct.unpack_from("<HH", data, SIZES)
         self.data = data
         self.sections = [Section(*SECTION.unpack_from(data, table + size * each)) for each in range(number)]

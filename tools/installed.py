@@ -47,7 +47,7 @@ class Built(NamedTuple):
 
 
 def proved_program():
-    """The program that `./curlpool --build` built of the present sources; it ends this process if there is none. PROGRAM
+    """The program that `./curlpool --build` built of the present sources; ends this process if there is none. PROGRAM
     names another one, of which no proof is known."""
     named = os.environ.get("PROGRAM")
     if named:
@@ -95,7 +95,7 @@ def files(built):
 
 
 def make_folder(path):
-    """Makes a folder and those above it, unless they are there, with the same mode whatever the umask is."""
+    """Makes a folder and those above it unless they are there, all with the same mode whatever the umask is."""
     if not os.path.isdir(path):
         make_folder(os.path.dirname(path))
         os.mkdir(path)
@@ -103,7 +103,7 @@ def make_folder(path):
 
 
 def write(found, top):
-    """Writes these files below that folder. A file that is run stays as it is for those who run it."""
+    """Writes these files below that folder. Each replaces an older one by a rename, so a running program goes on."""
     for path, file in found.items():
         at = os.path.join(top, path)
         make_folder(os.path.dirname(at))
