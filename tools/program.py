@@ -15,8 +15,8 @@ UNPROVED, BENCHMARKS = "run unproved", "benchmarks"
 NAME = "pool_cli"
 FOLDER = os.path.join(TOP, "crates", NAME)
 BUILT = os.path.join(FOLDER, "out", NAME)
-# the shell script at the top that starts the program
-LAUNCHER = "curlpool"
+# the shell script at the top that starts the program, and the one that it sources
+LAUNCHER, LAUNCH = "curlpool", os.path.join("tools", "launch.sh")
 # the program that tests the other crates, and the words of a short run: one request, to where nobody listens
 TRIES = "tries"
 SHORT_RUN = ["load", "each", "1", "0", "1", "1"]
