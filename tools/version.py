@@ -5,28 +5,29 @@ import re
 from program import TOP
 
 HEADER = "c/curlpool.h"
-# how each file names it; of several the first counts, which is the latest version in CHANGELOG
+CHANGES = "CHANGELOG.md"
+# how each file names it
 NAMING = {
     HEADER: r'#define CURLPOOL_VERSION "(.+)"',
-    "CHANGELOG.md": r"## (\d\S*)",
-    "crates/cli/src/command_line.rt": r'\s*\.version\("(.+)"\)',
-    "crates/cli/src/loading/measured/report.rt": r'const VERSION: &str = "(.+)";',
+    CHANGES: r"## (\d\S*)",
+    "crates/cli/src/build.rt": r'.*"(\d+\.\d+\.\d+)',
     "rust/curlpool/Cargo.toml": r'version = "(.+)"',
     "rust/curlpool-sys/Cargo.toml": r'version = "(.+)"',
 }
 
 
-def version_in(name):
-    """The version that this file names, or nothing."""
+def versions_in(name):
+    """The versions that this file names; of CHANGELOG the latest alone, which comes first."""
     with open(os.path.join(TOP, name), encoding="utf8") as file:
-        found = re.search(f"^{NAMING[name]}", file.read(), re.MULTILINE)
-    return found[1] if found else None
+        found = re.findall(f"^{NAMING[name]}", file.read(), re.MULTILINE)
+    return set(found[:1] if name == CHANGES else found)
 
 
 def version():
-    return version_in(HEADER)
+    return versions_in(HEADER).pop()
 
 
 def differing():
-    """The files that name another version than the header, each with what it names."""
-    return {name: version_in(name) for name in NAMING if version_in(name) != version()}
+    """The files that name another version than the header, each with those that it names."""
+    found = {name: versions_in(name) for name in NAMING}
+    return {name: ", ".join(sorted(named)) for name, named in found.items() if named != {version()}}
