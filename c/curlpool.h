@@ -29,7 +29,7 @@
 #include <stddef.h>
 #include <stdint.h>
 
-#define CURLPOOL_VERSION "0.2.0"
+#define CURLPOOL_VERSION "0.3.0"
 
 #ifdef __cplusplus
 extern "C" {

@@ -7,12 +7,12 @@ use load_figures::Build;
 pub(crate) const BUILD: Build = Build::Proved;
 
 /// The number of the program's version.
-pub(crate) const VERSION: &str = "0.2.0";
+pub(crate) const VERSION: &str = "0.3.0";
 
 /// Returns the version that `--version` prints.
 pub(crate) fn version(build: Build) -> &'static str {
     match build {
         Build::Proved => VERSION,
-        Build::Unproved => "0.2.0 (unproved, with run-time checks)",
+        Build::Unproved => "0.3.0 (unproved, with run-time checks)",
     }
 }

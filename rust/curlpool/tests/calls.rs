@@ -58,7 +58,7 @@ fn errors_are_told() {
     assert_eq!(Target::of("ftp://a/").unwrap_err().status, status::NOT_HTTP);
     let target = Target { host: "a.test".into(), port: 81, path: "/b?c".into() };
     assert_eq!(Target::of("http://A.test:81/b?c#d").unwrap(), target);
-    assert_eq!(curlpool::version(), "0.2.0");
+    assert_eq!(curlpool::version(), "0.3.0");
 }
 
 #[test]
