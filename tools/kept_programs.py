@@ -4,7 +4,7 @@ HASH is that of the sources (tools/source-hash). LEVEL is `O0`, which compiles f
 `HASH/module` has the LLVM module from the first to the second. If the repository can't be written, all of this is in
 `curlpool` in the user's cache.
 
-Files are made in `CRATE.new`, and moved to their place when they are complete. A lock for each crate lets one process
+Files are made in `CRATE.new-..`, and moved to their place when they are complete. A lock for each crate lets one process
 compile at a time; the next one takes what the first one made. Programs are kept of the present sources, and of one
 older state of them.
 """
@@ -14,6 +14,7 @@ import glob
 import os
 import shutil
 import sys
+import tempfile
 import threading
 import time
 
@@ -23,9 +24,9 @@ from lowering import CannotCompile, compile_module, lower
 FIRST, OPTIMISED = "O0", "O3"
 # those that serve a command that asks for this one
 SERVING = {FIRST: (OPTIMISED, FIRST), OPTIMISED: (OPTIMISED,)}
-# seconds that each step took on a machine that ran `measure_speed` in that many
-LOWERING, COMPILING, REFERENCE = 122, {FIRST: 40, OPTIMISED: 220}, 0.095
-ROUNDS = 1_000_000
+# seconds of each step on a busy machine, on which the fastest of some loops of `measure_speed` took that many
+LOWERING, COMPILING, REFERENCE = 122, {FIRST: 40, OPTIMISED: 200}, 0.0125
+LOOPS, ROUNDS = 8, 200_000
 OLDER = 1
 WAIT = 0.2
 
@@ -48,10 +49,13 @@ def writable_folder():
 
 def measure_speed():
     """How many times longer this machine takes than the one on which the steps were measured."""
-    began, total = time.process_time(), 0
-    for number in range(ROUNDS):
-        total += number & 7
-    return (time.process_time() - began) / REFERENCE
+    def loop():
+        began, total = time.process_time(), 0
+        for number in range(ROUNDS):
+            total += number & 7
+        return time.process_time() - began
+
+    return min(loop() for _ in range(LOOPS)) / REFERENCE
 
 
 def minutes(seconds):
@@ -126,9 +130,9 @@ class Kept:
         """Compiles the program at that level, and moves it to its place."""
         self.remove_older(folder)
         is_new = not os.path.isdir(self.place(folder, "module"))
-        room = os.path.join(folder, f"{self.crate}.new")
-        shutil.rmtree(room, ignore_errors=True)
-        os.makedirs(os.path.join(room, level))
+        # a name that no process which outlived its parent writes to
+        room = tempfile.mkdtemp(prefix=f"{self.crate}.new-", dir=folder)
+        os.mkdir(os.path.join(room, level))
         try:
             with self.progress(*self.announcement(level, is_new)):
                 if is_new:
@@ -175,7 +179,9 @@ class Kept:
         return text, measure_speed() * (LOWERING * is_new + COMPILING[level])
 
     def remove_older(self, folder):
-        """Removes what is kept of older sources of the crate, but for the latest of them."""
+        """Removes what is kept of older sources of the crate, but for the latest of them, and what a killed process left."""
+        for left in glob.glob(os.path.join(folder, f"{self.crate}.new-*")):
+            shutil.rmtree(left, ignore_errors=True)
         paths = glob.glob(os.path.join(folder, "*", "*", self.crate))
         others = {os.path.dirname(os.path.dirname(path)) for path in paths} - {self.place(folder)}
         for older in sorted(others, key=os.path.getmtime, reverse=True)[OLDER:]:
