@@ -129,7 +129,7 @@ class Kept:
     def make(self, level, folder):
         """Compiles the program at that level, and moves it to its place."""
         self.remove_older(folder)
-        is_new = not os.path.isdir(self.place(folder, "module"))
+        is_new, is_first = not os.path.isdir(self.place(folder, "module")), not self.found(FIRST)
         # a name that no process which outlived its parent writes to
         room = tempfile.mkdtemp(prefix=f"{self.crate}.new-", dir=folder)
         os.mkdir(os.path.join(room, level))
@@ -148,7 +148,7 @@ class Kept:
             shutil.rmtree(room, ignore_errors=True)
         if level == OPTIMISED:
             shutil.rmtree(self.place(folder, "module"))
-        if is_new and not self.is_quiet:
+        if is_first and not self.is_quiet:
             program.say("compiled without proofs, with run-time checks; ./curlpool --build proves it (40 minutes)")
         return self.place(folder, level, self.crate)
 
