@@ -12,10 +12,12 @@ import tempfile
 import threading
 
 import bodies
+from kept_programs import OPTIMISED, Kept
 from kept_proofs import rt_module
+from lowering import CannotCompile
 from machine import free_bytes, processors
 from outcome import Outcome, sum_in
-from program import BENCHMARKS, TOP, UNPROVED, Children, crates_below, needed
+from program import BENCHMARKS, NAME, TOP, TRIES, UNPROVED, Children, crates_below, needed
 from room import Proofs, Spare, jobs_of_ci, most_bytes_together
 from unproved import Run, Unproved, copy_sources
 
@@ -172,6 +174,30 @@ class Tests:
     def of_crate(self, unproved, crate, skipped):
         with self.spare.processor(BYTES_OF_TESTS):
             return unproved.one(Run(crate, skipped.get(crate, [])))
+
+
+class Programs:
+    """The part `programs`: those that the other parts run, compiled without proofs and optimised. A folder gets links to
+    them."""
+
+    def __init__(self, spare, folder):
+        self.spare, self.folder = spare, folder
+        self.children = Children()
+
+    def of_crate(self, crate):
+        """Makes a program: a line if that fails, or nothing."""
+        try:
+            with self.spare.processor(BYTES_OF_TESTS):
+                path = Kept(crate, self.children, is_quiet=True).made(OPTIMISED)
+        except (CannotCompile, OSError) as fault:
+            return f"failed  {crate}: {fault}"
+        os.symlink(path, os.path.join(self.folder, crate))
+        return None
+
+    def run(self):
+        found = side_by_side(self.of_crate, [NAME, TRIES])
+        wrong = tuple(line for line in found if line)
+        return Outcome(len(found) - len(wrong), len(wrong), 0, wrong)
 
 
 class Benchmarks:

@@ -15,6 +15,8 @@ UNPROVED, BENCHMARKS = "run unproved", "benchmarks"
 NAME = "pool_cli"
 FOLDER = os.path.join(TOP, "crates", NAME)
 BUILT = os.path.join(FOLDER, "out", NAME)
+# the hash of the sources that this program was built from, and its sum
+BUILT_FROM = os.path.join(FOLDER, "out", "sources.hash")
 # the shell script at the top that starts the program, and the one that it sources
 LAUNCHER, LAUNCH = "curlpool", os.path.join("tools", "launch.sh")
 # the program that tests the other crates, and the words of a short run: one request, to where nobody listens
@@ -86,13 +88,41 @@ def is_newest(path, crate=NAME):
     return all(os.stat(source).st_mtime_ns <= built for source in sources(crate))
 
 
+def source_hash(crate=NAME):
+    """The hash of the sources that the crate is built from: names and contents, not dates."""
+    command = [os.path.join(TOP, "tools", "source-hash"), crate]
+    return subprocess.run(command, stdout=subprocess.PIPE, check=True, text=True).stdout.strip()
+
+
+def built_from(sources):
+    """The text of the file that says that the program as it is was built from sources with that hash."""
+    with open(BUILT, "rb") as file:
+        done = subprocess.run(["cksum"], stdin=file, stdout=subprocess.PIPE, check=True, text=True)
+    return f"{sources} {done.stdout}"
+
+
+def note_built_from(sources):
+    """Writes down that the program was built from sources with that hash."""
+    with open(f"{BUILT_FROM}.new", "w", encoding="utf8") as file:
+        file.write(built_from(sources))
+    os.replace(f"{BUILT_FROM}.new", BUILT_FROM)
+
+
 def is_current():
-    """Whether the program is built, and nothing that it is built from is newer."""
-    return is_built() and is_newest(BUILT)
+    """True if the program was built from the present sources."""
+    if not is_built() or not os.path.exists(BUILT_FROM):
+        return False
+    with open(BUILT_FROM, encoding="utf8") as file:
+        return file.read() == built_from(source_hash())
+
+
+def launched(path):
+    """The words that start the program at that path as ./curlpool does; words for it can follow."""
+    return ["/bin/sh", "-c", '. "$0" && launch "$@"', os.path.join(TOP, LAUNCH), path]
 
 
 def build_unless_current():
-    """Builds the program if it is missing or older than its sources."""
+    """Builds the program if it is missing or was built from other sources."""
     if not is_current() and subprocess.run([os.path.join(TOP, "tools", "build-program")]).returncode != 0:
         sys.exit("tools/build-program did not build the program")
 
@@ -170,7 +200,7 @@ ENDING = (signal.SIGINT, signal.SIGTERM, signal.SIGHUP)
 
 
 def stop_by_exception():
-    """From now on a signal that asks this process to end raises Stopped in the main thread."""
+    """From now on a signal that asks this process to end raises Stopped in the main thread, unless it is ignored."""
     def stop(number, _):
         # once is enough: what is done then is not to be cut short
         for one in ENDING:
@@ -178,7 +208,8 @@ def stop_by_exception():
         raise Stopped(number)
 
     for number in ENDING:
-        signal.signal(number, stop)
+        if signal.getsignal(number) != signal.SIG_IGN:
+            signal.signal(number, stop)
 
 
 def start_rt(words, **streams):

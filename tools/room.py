@@ -13,7 +13,7 @@ import threading
 import time
 
 from machine import free_bytes, processors
-from program import BENCHMARKS, LAUNCH, LAUNCHER, TOP, UNPROVED, crates_below, listed_crates
+from program import BENCHMARKS, TOP, UNPROVED, crates_below, listed_crates
 from rt_try import processes_of
 
 LEFT_OUT = shutil.ignore_patterns("out", "must-fail", "wrong-bodies", "found")
@@ -38,9 +38,7 @@ def copy_crates(crates, room):
     """Makes a repository there of these crates alone, with what is proved and run of them."""
     for name in crates:
         shutil.copytree(os.path.join(TOP, "crates", name), os.path.join(room, "crates", name), ignore=LEFT_OUT)
-    os.makedirs(os.path.join(room, "tools"), exist_ok=True)
-    for name in ("HANDLES", LAUNCHER, LAUNCH):
-        shutil.copy(os.path.join(TOP, name), os.path.join(room, name))
+    shutil.copy(os.path.join(TOP, "HANDLES"), room)
     with open(os.path.join(TOP, "crates.txt"), encoding="utf8") as lines:
         heads = [(line.split("#")[0].partition(":")[0].split()[:1], line) for line in lines]
     with open(os.path.join(room, "crates.txt"), "w", encoding="utf8") as file:

@@ -199,7 +199,8 @@ def words_of(words):
 
 PARTS = [
     Part("memory: scripts", scripts),
-    *(Part(f"memory: calls, in {crate}", functools.partial(calls_of, crate, least)) for crate, least in CRATES.items()),
+    *(Part(f"memory: calls, in {crate}", functools.partial(calls_of, crate, least), needs_tests=True)
+      for crate, least in CRATES.items()),
     Part("memory: curlpool get", get),
     Part("memory: curlpool get --head", functools.partial(get, "--head")),
     Part("memory: curlpool load", functools.partial(load, WORDS_OF_LOAD)),

@@ -10,6 +10,8 @@ class Wrong(Exception):
 class Part(NamedTuple):
     name: str
     do: Callable[[], str]
+    # the built tests of a crate
+    needs_tests: bool = False
 
     def run(self):
         """Whether it passed, and its line. Whatever it raises fails it, but for what asks this process to end."""

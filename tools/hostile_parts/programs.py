@@ -11,7 +11,7 @@ from subprocess import DEVNULL, PIPE
 from typing import NamedTuple, Optional
 
 from program import BUILT as BUILT_CURLPOOL
-from program import LAUNCHER, NAME, TOP, build_unless_current, built, given, is_current
+from program import TOP, build_unless_current, built, given
 
 # no run takes a tenth of that
 SECONDS = 60
@@ -38,16 +38,6 @@ def curlpool():
     if not found:
         build_unless_current()
     return found or BUILT_CURLPOOL
-
-
-def launcher():
-    """The launcher of the built program, at the top of the same repository or room; nothing if it would not start that
-    program."""
-    built = os.path.realpath(curlpool())
-    top = os.path.abspath(os.path.join(built, *[os.pardir] * 4))
-    path = os.path.join(top, LAUNCHER)
-    is_its = built == os.path.join(top, "crates", NAME, "out", NAME) and os.access(path, os.X_OK)
-    return path if is_its and (top != TOP or is_current()) else None
 
 
 def tests_of(crate):

@@ -9,12 +9,13 @@ import subprocess
 import time
 from subprocess import PIPE
 
+from program import launched
 from real_servers import servers
 
 from . import behaviours
 from .parts import Part, check_same
 from .peers import listening
-from .programs import curlpool, end, launcher, started
+from .programs import curlpool, end, started
 
 SIGNALS = (signal.SIGINT, signal.SIGTERM, signal.SIGHUP)
 SECONDS = 60
@@ -99,13 +100,13 @@ def check_interrupted(run, interrupt):
 
 
 def load_by_launcher(words):
-    """The launcher is the parent, and the whole group gets the signal."""
-    with running([launcher(), *words], stdin=subprocess.DEVNULL) as run:
+    """As ./curlpool starts it: a shell is the parent, and the whole group gets the signal."""
+    with running([*launched(curlpool()), *words], stdin=subprocess.DEVNULL) as run:
         check_interrupted(run, lambda: os.killpg(run.pid, signal.SIGINT))
 
 
 def load_with_pipe(words):
-    """The program as the launcher starts it: descriptor 3 is a pipe whose other end is closed then."""
+    """The program alone: descriptor 3 is a pipe whose other end is closed then."""
     ours, theirs = os.pipe()
     try:
         with running([curlpool(), *words], stdin=subprocess.DEVNULL, pass_fds=(3,),
@@ -119,8 +120,6 @@ def interrupted_load():
     """Ctrl-C ends it with all its output."""
     words = ["load", "--seconds", "60", "--connections", "32", "--json", "--quiet"]
     load_with_pipe(words)
-    if not launcher():
-        return "its output is whole; the launcher was not tried"
     load_by_launcher(words)
     return "its output is whole"
 

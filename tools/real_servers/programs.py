@@ -7,7 +7,7 @@ from typing import NamedTuple, Optional
 
 from program import TOP
 
-# no case takes a tenth of that; but ./curlpool takes a minute or more before it runs the program unproved
+# no case takes a tenth of that; but ./curlpool may have to compile and optimise the program first
 SECONDS = 60
 SECONDS_UNPROVED = 900
 SECONDS_TO_END = 10

@@ -1,6 +1,8 @@
 """What curl and curlpool make of a response that nobody asked for."""
+import os
 import shutil
 
+from kept_programs import FIRST, Kept
 from program import is_current
 
 from . import programs
@@ -40,8 +42,9 @@ def length_by_curl():
 
 
 def said_of_wait():
-    """That curlpool is compiled first, if it is not built."""
-    return "" if is_current() else " (not built: compiled first, which takes minutes)"
+    """That curlpool is compiled first, if no program of the present sources is there."""
+    is_there = os.environ.get("PROGRAM") or is_current() or Kept().found(FIRST)
+    return "" if is_there else " (compiled first, which takes minutes)"
 
 
 def show():
