@@ -30,7 +30,7 @@ COPIED = {
 PROOFS, CHANGES, COPYRIGHT = (f"{DOC}/{name}" for name in ("PROOFS", "changelog.gz", "copyright"))
 PATHS = (*COPIED, PROGRAM, PROOFS, CHANGES, COPYRIGHT)
 NO_LICENCE = "curlpool has no licence: its owner has not chosen one yet.\n"
-UNPROVED = "none: compiled without proof"
+UNPROVED = "none: compiled without proofs"
 
 
 class File(NamedTuple):
