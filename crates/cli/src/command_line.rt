@@ -63,7 +63,7 @@ fn command<'a>(alloc: Global) -> Result<Command<'a>, AllocError>
     let program = Command::new(alloc, "curlpool")
         .bin_name("curlpool")?
         .version(version(BUILD))
-        .about("libcurl's connection cache: fetches URLs, runs scripts and loads, audits pools")
+        .about("HTTP/1.1 connection pool: fetches URLs, load-tests servers, audits pools")
         .after_help(EXAMPLES)
         .subcommand_required(true)
         .disable_help_subcommand(true);

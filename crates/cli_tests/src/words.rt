@@ -42,7 +42,7 @@ fn words_that_could_not_be_had(rt: HostRuntime) {
 
 #[test]
 fn help_that_cannot_be_written(rt: HostRuntime) {
-    for &(words, front) in &[("--help", "libcurl's conn"), ("--version", "curlpool 0.")] {
+    for &(words, front) in &[("--help", "HTTP/1.1 conne"), ("--version", "curlpool 0.")] {
         let row = Row {
             name: words,
             words,

@@ -13,11 +13,11 @@ statuses and each option of a command.";
 
 /// Commands, transcripts and faults of scripts, as tables of at most 80 columns.
 pub const COMMANDS: &str = "\
-A script is a list of commands, one a line. Empty lines and lines that begin
-with # are skipped. Only spaces separate words: a tab, and a byte-order mark
-before the first line, are part of a word. T is a transfer, S a site (0 is the
-first), L a lane (a connection is reused only within its lane), and M a moment
-in seconds; a moment before the host's last one counts as that one.
+A script lists commands, one per line. Empty lines and lines that begin with #
+are skipped. Only spaces separate words: a tab, and a byte-order mark before the
+first line, are part of a word. T is a transfer, S a site (0 is the first), L a
+lane (a connection is reused only within its lane), and M a time in seconds; one
+before the host's latest counts as the latest.
 
 Command             Meaning
 limits H T C        The first command: at most H connections are open to a
@@ -32,8 +32,8 @@ leave T S at M      T stops waiting, or gives up what was granted to it
 limit S N at M      The host's limit becomes N: idle connections above it are
                     closed; refused if more are granted or in use
 prune A F at M      Closes all idle connections that have been idle for more
-                    than A seconds, or open for more than F (0: no limit)
-upkeep              Keeps connections alive: none, since HTTP/1.1 has no way to
+                    than A seconds, or open for more than F (F 0: no limit)
+upkeep              Does nothing: HTTP/1.1 has no keep-alive ping
 look S              Counts the connections and waiters of the host
 
 Options of get, each at most once and in any order:
@@ -47,7 +47,7 @@ keep                lets its connection persist
 close               has the connection option close
 old                 is HTTP/1.0 without keep-alive
 old-keep            is HTTP/1.0 with keep-alive, so its connection persists
-eof                 has a body that ended with the connection
+eof                 has a body delimited by the end of the connection
 cut                 was not read to its end
 surplus             was followed by more bytes
 
@@ -62,15 +62,15 @@ A script has at most 1048576 bytes, a line 2304, and a URL 2048.
 
 Line of transcript  Meaning; H.C is connection C of site H
 opened H.C for T at M
-                    It was opened for T, which claims it first if T was waiting
+                    It was opened for T, which must claim it if it waited
 leased H.C to T at M
-                    It is reused by T, which claims it first if T was waiting
+                    It is reused by T, which must claim it if it waited
 returned H.C by T at M
                     T returned it
 closed H.C CAUSE at M
                     It was closed for this CAUSE
 waits T host H at M
-                    T waits, after all others that wait there
+                    T waits, behind all others waiting there
 left T host H at M  T stopped waiting
 limit H N at M      The host's limit is N from now on
 claimed H.C         Reply to claim: T has it
@@ -92,21 +92,21 @@ CAUSE               Why the connection was closed
 cut                 The response was not read to its end
 forbidden           Otherwise, its get had the option forbid
 not-persistent      Otherwise, the response does not let it persist
-too-old             It was idle or open for longer than a get of its lane allows
+too-old             It was idle or open longer than a get in its lane allows
 host-room           To make room for a connection to its host, or for a lower
                     limit
 total-room          To make room in the total
-cache-full          It had been idle for the longest when another one was
-                    returned and C were idle
+cache-full          It had been idle longest when another was returned and C
+                    were already idle
 dropped             T abandoned it
 withdrawn           T left before it claimed it
-pruned              It was idle or open for longer than prune allows
+pruned              It was idle or open longer than prune allows
 
-line N: ..          Why the script stopped at line N (0: before its first line,
-                    or after its last)
+line N: ..          On standard error: why the script stopped at line N (0:
+                    before its first line, or after its last)
 unknown command     The first word of the line is not a command
-wrong form          A word is missing, one is extra, or one is invalid, such as
-                    a number that is too large
+wrong form          A word is missing, extra or invalid, such as a number that
+                    is too large
 wrong place         A limits that is not first, a site after other commands, or
                     a command before limits
 bad limits          C is 0, or a number is above 65535
@@ -141,27 +141,27 @@ back 2 0 keep at 4  returned 0.1 by 2 at 4";
 pub const LINES: &str = "\
 A URL begins with http:// and has no control characters. Requests to the same
 host and port reuse its connection. The system looks a host name up once, unless
-it is localhost, an address, or given by --resolve. Each URL has a line, written
-when its transfer ends: in the order of the URLs or, with --parallel above 1, in
-the order in which transfers end.
+it is localhost, an address, or given by --resolve. Bodies are counted, and not
+printed. Each URL has a line, written when its transfer ends: in the order of
+the URLs or, with --parallel above 1, in the order in which transfers end.
 
 STATUS LENGTH reused|new [retried] URL
                     The response's status code, and the length of its body in
                     bytes; whether its connection had been used before; retried:
-                    an idle connection had ended, failed or received unsolicited
-                    bytes, so the request was made on a new one, and the server
-                    may have received it twice
+                    a reused connection closed, failed or had unsolicited bytes
+                    before any response byte arrived, so the request was made on
+                    a new one, and the server may have received it twice
 FAULT [retried] URL There is no good response
 BadUrl URL          With --skip-bad: the URL is invalid
 
-With any of the options from --file to --json, get is a crawl: it takes any
-number of URLs, first those of the command line and then those of the file, one
-a line. Empty lines and lines that begin with # are skipped. It reads at most
-4096 lines ahead, while transfers are in flight, but a read that may block, as
-of a pipe, begins only when none is. More than 1024 hosts take turns: the idle
-connections of one are closed before another takes its slot. A JSON object has
-the members url, status, length, reused, retried, fault, reason, waited_us,
-dialled_us, first_byte_us and whole_us; what does not apply is null.
+Any option from --file to --json makes get a crawl, which takes any number of
+URLs: first those of the command line, then the file's, one per line. Empty
+lines and lines that begin with # are skipped. It reads at most 4096 lines
+ahead, while transfers are in flight, but a read that may block, say on a pipe,
+waits until none are. Above 1024, hosts take turns: one's idle connections are
+closed before another takes its slot. A JSON object has the members url, status,
+length, reused, retried, fault, reason, and waited_us, dialled_us, first_byte_us
+and whole_us, each since the transfer began; null if not applicable.
 
 FAULT               Why
 Memory              An allocation failed
@@ -169,23 +169,23 @@ Dial                No connection could be opened, or the host is unknown
 Read                A read failed
 Write               A write failed
 BadResponse         The bytes are not an HTTP/1.0 or HTTP/1.1 response, or its
-                    length is ambiguous, or it passes a limit: 16384 bytes of a
-                    head, 100 fields of a head or a trailer section, 8 interim
-                    responses, 1024 bytes of a chunk line, 8192 bytes of a
+                    length is ambiguous, or it exceeds a limit: 16384 bytes in a
+                    head, 100 fields in a head or trailer section, 8 interim
+                    responses, 1024 bytes in a chunk line, 8192 bytes in a
                     trailer section
-Cut                 The connection ended in the middle of the response
-Refused             The cache refused a connection
+Cut                 The connection closed in mid-response
+Refused             The cache, not the server, refused a connection
 Cancelled           The transfer took longer than --timeout, or the system's
                     clock or poll failed
 
 run: ..             Why the status is 4
-N of M failed       N of M URLs have no good response; with --fail, or have a
-                    status of 400 or above
+N of M failed       N of M URLs have no good response or, with --fail, a status
+                    of 400 or above
 out of memory       An allocation failed
 cannot read FILE: REASON
                     The file of URLs could not be read
 too few descriptors The process or the system cannot open more files
-poll failed         The system has no means to wait for connections
+poll failed         The system cannot wait for connections
 cannot write        A line could not be written; no more URLs were fetched
 
 line N: bad URL     The status is 2: line N of the file is not a URL
@@ -193,9 +193,9 @@ line N: bad URL     The status is 2: line N of the file is not a URL
 Status              0: each URL has a good response; 2: invalid command line,
                     and nothing was requested, or a line of the file is not a
                     URL; 4: a URL failed, its line could not be written, or
-                    there was no memory or no network
+                    memory or the network failed
 
-Examples, of a server on this machine
+Examples, with a server on this host
 curlpool get http://localhost:8000/a http://localhost:8000/b
 200 103 new http://localhost:8000/a
 200 602 reused http://localhost:8000/b
@@ -206,20 +206,22 @@ curlpool get --file urls.txt --parallel 64 --skip-bad --json";
 
 /// The report of `load`, and its statuses.
 pub const REPORT: &str = "\
-Without --url, a server in this process listens on 127.0.0.1, at a port for each
+Without --url, a server in this process listens on 127.0.0.1, on one port per
 site, and answers each request with the body ok. Threads that share one cache of
 connections take the jobs 0, 1, 2 ..; job K requests /K from site K modulo the
-number of sites. With --trace, what the cache was asked and did is written to a
-file, for curlpool audit. A number is decimal digits without a sign.
+number of sites. With --trace, the calls to the cache and their effects go to a
+file for curlpool audit. Numbers are unsigned decimal integers.
 
-With --url, --connections, --seconds, --rate or another option after --trace
-above, each thread has many requests in flight, job K requests URL K modulo the
-number of URLs (or / of a site of this process), and a summary is printed on
-standard error. The system looks a host name up, unless it is localhost, an
-address, or given by --resolve. Requests in flight when the seconds are over
-are stopped: they are neither done nor failed. With --rate, the latency of a
-request starts when it was due. Figures include the opening of connections;
---warmup leaves it out.
+With any option after --trace above, each thread has many requests in flight,
+job K requests URL K modulo the number of URLs (or / of a site of this process),
+and a summary is printed on standard error: requests, bytes of bodies, latency,
+connections (and the time that requests waited for one, in total), statuses and
+faults. Without --seconds, the load ends after --jobs requests. The system looks
+a host name up, unless it is localhost, an address, or given by --resolve.
+Requests in flight when time is up are stopped, and count as neither done nor
+failed. --rate is the rate of all connections, and latency is timed from when a
+request was due. Figures include opening connections; a --warmup, which comes
+before the seconds, excludes it. --json has the summary's figures, and more.
 
 Line of report      Its numbers in order
 host                For each site: its index; connections opened, reused and
@@ -242,7 +244,7 @@ cannot gather       The counts of the threads could not be combined
 cannot write        The report could not be written
 cannot write FILE: REASON
                     The trace or the picture could not be written
-unknown host NAME   The system knows no address of a URL's host
+unknown host NAME   A URL's host could not be resolved
 
 Status              0: the report was written, whatever became of the requests;
                     2: invalid command line, and nothing was done; 4: no report,
@@ -265,9 +267,10 @@ curlpool load --url http://127.0.0.1:8080/ --connections 64 --seconds 10";
 
 /// The language of traces, and the answers of `audit`.
 pub const AUDITS: &str = "\
-A trace lists what a connection pool was asked and what it did, one line each,
-in the order of time. Lines, words, comments and numbers are those of a script
-(curlpool help script). Limits come first, then sites, then everything else.
+A trace lists the calls to a connection pool and their effects, one per line, in
+time order. Lines, words, comments and numbers are those of a script (curlpool
+help script). Limits come first, then sites, then everything else. A pool is at
+rest once all effects of its last call are listed.
 
 Line of trace       Meaning
 order host          The first line of all: lines are in order only within each
@@ -282,7 +285,7 @@ claim, drop, leave, prune, look, upkeep
                     at rest before
 opened, leased, returned, closed, waits, left, limit
                     As in a transcript: what the pool did. A cause may be left
-                    out; the number of a closed connection may be used again
+                    out; a closed connection's number may be reused
 rest                The pool is at rest here. If the first line after the sites
                     is rest, the pool is at rest only at such lines and at the
                     end
@@ -297,7 +300,7 @@ FILE:LINE: host H: 0.1 idle since M, 0.2 leased to T; waiting T
                     they were opened, and its wait queue, before the event
 
 Without --all, only the first one is reported. With it, an event that breaks a
-rule changes nothing. Standard input is called trace. JSON has the members
+rule is skipped. Standard input shows as trace. JSON has the members
 lawful, events, hosts, open and violations, and each violation line, rule, text
 and earlier; there is no JSON if the trace cannot be read to its end.
 

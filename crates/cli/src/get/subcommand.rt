@@ -26,7 +26,7 @@ const MAX_AGE_HELP: &str = "Reuse connections idle for at most this long [defaul
 
 const TIMEOUT_HELP: &str = "Cancel a transfer after this long, 1 to 3600 [default: 30]";
 
-const FILE_HELP: &str = "Read more URLs from a file, one a line; - is standard input";
+const FILE_HELP: &str = "Read more URLs from a file, one per line; - for standard input";
 
 const PARALLEL_HELP: &str = "Transfers in flight at once, 1 to 256 [default: 1]";
 
@@ -40,13 +40,13 @@ const RESOLVE_HELP: &str = "Connect to this address for HOST:PORT; may be repeat
 
 const FRESH_HELP: &str = "Open a new connection for each URL";
 
-const SKIP_BAD_HELP: &str = "Report a bad URL in its line, and go on";
+const SKIP_BAD_HELP: &str = "Report a bad URL in its line; continue";
 
 const FAIL_HELP: &str = "Count a status of 400 or above as failed";
 
 const JSON_HELP: &str = "Print a JSON object for each URL instead of its line";
 
-const URL_HELP: &str = "An http URL; at most 1024, unless it is a crawl";
+const URL_HELP: &str = "An http URL; at most 1024, except in a crawl";
 
 /// The subcommand `get`: its options, and URLs.
 ///

@@ -12,13 +12,13 @@ use clap::{Arg, ArgAction, Command};
 use std::alloc::{AllocError, Global};
 
 /// The help of the subcommand.
-const ABOUT: &str = "Load-tests a server, or the cache with a server in this process";
+const ABOUT: &str = "Load-tests a server, or the cache against a built-in server";
 
 /// The name of a number in help.
 const NUMBER: &str = "NUMBER";
 
 /// The help of the options.
-const SITES_HELP: &str = "Sites of the server in this process, 1 to 8 [default: 2]";
+const SITES_HELP: &str = "Sites of the built-in server, 1 to 8 [default: 2]";
 
 const JOBS_HELP: &str = "Number of requests, 1 to 10000, or more with --url [default: 20]";
 
@@ -38,21 +38,21 @@ const PICTURE_HELP: &str = "Draw requests, failures and latencies over time as S
 const SECONDS: &str = "SECONDS";
 
 /// The help of the options of a measured load.
-const URL_HELP: &str = "Request this http URL, in turn with up to 7 others";
+const URL_HELP: &str = "An http URL to request; repeat for up to 8, used in turn";
 
 const RESOLVE_HELP: &str = "Connect to this address for HOST:PORT; may be repeated";
 
-const CONNECTIONS_HELP: &str = "Requests in flight at once, 1 to 1024 [default: one a thread]";
+const CONNECTIONS_HELP: &str = "Requests in flight at once, 1 to 1024 [default: one per thread]";
 
 const SECONDS_HELP: &str = "Duration of the load, 1 to 86400; not with --jobs";
 
-const WARMUP_HELP: &str = "Warm-up, excluded from the figures, up to 3600 [default: 0]";
+const WARMUP_HELP: &str = "Warm-up before that, excluded from the figures, up to 3600 [default: 0]";
 
 const RATE_HELP: &str = "Requests per second, 1 to 1000000 [default: as fast as possible]";
 
 const TIMEOUT_HELP: &str = "Cancel a request after this long, 1 to 3600 [default: 30 with --url]";
 
-const FAIL_ABOVE_HELP: &str = "Exit with status 5 if more than this percentage fails";
+const FAIL_ABOVE_HELP: &str = "Exit with status 5 if over PERCENT of requests fail";
 
 const HEAD_HELP: &str = "Send HEAD instead of GET";
 
