@@ -148,7 +148,7 @@ class Kept:
             shutil.rmtree(room, ignore_errors=True)
         if level == OPTIMISED:
             shutil.rmtree(self.place(folder, "module"))
-        if is_first and not self.is_quiet:
+        if is_first and not self.is_quiet and self.crate == program.NAME:
             program.say("compiled without proofs, with run-time checks; ./curlpool --build proves it (40 minutes)")
         return self.place(folder, level, self.crate)
 
