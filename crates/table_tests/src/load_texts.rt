@@ -147,8 +147,10 @@ fn the_summary_has_six_lines(rt: HostRuntime) {
 #[test]
 fn figures_of_an_unproved_program_say_so(rt: HostRuntime) {
     let alloc = rt.alloc();
-    let mut report = empty_report(alloc).expect(&rt, "memory");
-    report.run.build = Build::Unproved;
+    let mut run = two_hosts(alloc).expect(&rt, "memory");
+    run.build = Build::Unproved;
+    let none = Figures::new(alloc, 2).expect(&rt, "memory");
+    let report = LoadReport::new(alloc, run, &none).expect(&rt, "memory");
     let text = Summary(&report).to_string(alloc).expect(&rt, "memory");
     let last = text.as_str().lines().last();
     check_eq(&rt, last, Some("build        unproved, checked"));
