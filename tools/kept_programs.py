@@ -67,7 +67,7 @@ class Progress:
 
     def __init__(self, text, seconds=None):
         self.text, self.ends = text, f" of about {minutes(seconds)}" if seconds else ""
-        self.about = f", in about {minutes(seconds)} minutes" if seconds else ""
+        self.about = f" (about {minutes(seconds)})" if seconds else ""
         self.is_over, self.began = threading.Event(), time.monotonic()
         self.thread = threading.Thread(target=self.tick, daemon=True)
 
@@ -173,9 +173,9 @@ class Kept:
     def announcement(self, level, is_new):
         """The work that leads to a program, and about how many seconds it takes."""
         if level == OPTIMISED and not is_new:
-            text = f"optimising {self.name}"
+            text = f"optimising {self.name}, once"
         else:
-            text = f"compiling {self.name}, without proofs"
+            text = f"compiling {self.name}, once, without proofs"
         return text, measure_speed() * (LOWERING * is_new + COMPILING[level])
 
     def remove_older(self, folder):
