@@ -199,8 +199,9 @@ class Stopped(BaseException):
 ENDING = (signal.SIGINT, signal.SIGTERM, signal.SIGHUP)
 
 
-def stop_by_exception():
-    """From now on a signal that asks this process to end raises Stopped in the main thread, unless it is ignored."""
+def stop_by_exception(keeps_ignored=False):
+    """From now on a signal that asks this process to end raises Stopped in the main thread. `keeps_ignored` leaves out
+    those that it ignores, as a shell has a command in the background ignore Ctrl-C."""
     def stop(number, _):
         # once is enough: what is done then is not to be cut short
         for one in ENDING:
@@ -208,7 +209,7 @@ def stop_by_exception():
         raise Stopped(number)
 
     for number in ENDING:
-        if signal.getsignal(number) != signal.SIG_IGN:
+        if not keeps_ignored or signal.getsignal(number) != signal.SIG_IGN:
             signal.signal(number, stop)
 
 
